@@ -198,7 +198,7 @@ def tie_is_there() -> None:
     for it in ("pub fn serve<", "record ServedExchange ", "record HoldsOfExchange ", "record AppliesAnswer ", "IsAllowedMove :", "Exchanges :"):
         holds(it in first, f"docs/STATEMENT.md hasn't {it!r}")
     rest = "\n".join(text for _, text in [*fenced("agda", second()), *fenced("rust", second())])
-    for it in ("MayServe :", "pub fn play_in(", "record Plays ", "PlaysPrefix :", "record ConnectionStep ", "record Served ", "Serves :", "record Headline "):
+    for it in ("MayServe :", "pub fn play_in(", "record Plays ", "PlaysPrefix :", "record ConnectionStep ", "record HasServed ", "Serves :", "record Headline "):
         holds(it in rest, f"the second page hasn't {it!r}")
 
 

@@ -5,7 +5,7 @@ use Rattle.ob0_scan.specs.Refused.{IsRightRescanRefusal}
 use Rattle.ob0_scan.specs.TextWithTokens.{TextWithTokens}
 use Rattle.ob0_scan.specs.declared.incremental_scan.RescanRefusal.{RescanRefusal}
 use Rattle.ob0_scan.specs.declared.incremental_scan.RescanRefusal.TheVariants as rescanned
-use Rattle.ob0_parse.specs.KeptTokens.{AreKept}
+use Rattle.ob0_parse.specs.KeptTokens.{AreInPlace}
 use Rattle.ob0_parse.specs.declared.kept.KeptTrees.{KeptTrees}
 use Rattle.ob0_parse_descent.specs.declared.refusal.ParseRefusal.{ParseRefusal}
 use Rattle.ob0_tree.specs.ParsedModule.{IsParsed, parsed_module}
@@ -15,18 +15,18 @@ use Rattle.ob0_scope_table.specs.Resolution.{IsResolution}
 use Rattle.ob0_scope_table.specs.declared.resolved.Bindings.{Bindings}
 use Rattle.ob0_types.specs.CheckedModules.{AreTypesOf}
 use Rattle.ob0_types.specs.declared.checked.ModuleTypes.{ModuleTypes}
-use Rattle.ob0_analysis.specs.Before.{IsFailureAfterModule, IsFailureAfterRefusal}
-use Rattle.ob0_analysis.specs.Found.{IsRefusedByParser}
+use Rattle.ob0_analysis.specs.ReuseConditions.{IsFailureAfterModule, IsFailureAfterRefusal}
+use Rattle.ob0_analysis.specs.AnalysisInvariants.{IsRefusedByParser}
 use Rattle.ob0_analysis.specs.LastModule.{IsLastModuleOf}
 use Rattle.ob0_analysis.specs.declared.last_module.LastModule.{LastModule}
 
 pub refusal_given_back : (old : TextWithTokens) (text : List ℕ) (refusal : ParseRefusal) (kept : KeptTrees) (last : Option LastModule) (unread : RescanRefusal) → IsRightRescanRefusal old text unread
-    → IsRefusedByParser old refusal → AreKept old.tokens kept → IfSome last (IsLastModuleOf old) → IsFailureAfterRefusal text refusal kept last unread
+    → IsRefusedByParser old refusal → AreInPlace old.tokens kept → IfSome last (IsLastModuleOf old) → IsFailureAfterRefusal text refusal kept last unread
 refusal_given_back old text refusal kept last (rescanned.Faults faults tokens) by r k l = (
   by.0,
   by.1,
   subst (λ (s : TextWithTokens). IsRefusedByParser s refusal) (sym by.2) r,
-  subst (λ (s : TextWithTokens). AreKept s.tokens kept) (sym by.2) k,
+  subst (λ (s : TextWithTokens). AreInPlace s.tokens kept) (sym by.2) k,
   subst (λ (s : TextWithTokens). IfSome last (IsLastModuleOf s)) (sym by.2) l,
 )
 refusal_given_back old text refusal kept last rescanned.Memory by r k l = tt

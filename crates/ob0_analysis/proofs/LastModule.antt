@@ -2,9 +2,9 @@
 use Rattle.std.proofs.Common.{◌≡◌, ◌≤◌, ◌+◌, ◌-◌, ℕ, List, Some, take, drop, length, sym, ap, ◌∙◌, arith, length-drop}
 use Rattle.std.proofs.lemmas.List.{drop-drop, length-map, take-take}
 use Rattle.ob0_scan.specs.declared.lexeme.Token.{Token}
-use Rattle.ob0_scan.specs.declared.tokens.SameTokens.{SameTokens}
+use Rattle.ob0_scan.specs.declared.tokens.SameParts.{SameParts}
 use Rattle.ob0_scan.specs.Reused.{kinds, kind_without_value, words_of_tokens}
-use Rattle.ob0_scan.specs.SameKinds.{HasSameTokens, HasSameWords}
+use Rattle.ob0_scan.specs.SameKinds.{HasSameKinds, HasSameWords}
 use Rattle.ob0_scan.specs.TextWithTokens.{IsScan, TextWithTokens}
 use Rattle.ob0_tree.specs.declared.tree.ModuleTree.{ModuleTree}
 use Rattle.ob0_scope_table.specs.BodyPlaces.{body_place_around, module_tree_of}
@@ -25,13 +25,13 @@ count_kinds : (ts : List Token) → length (kinds ts) ≡ length ts
 count_kinds ts = length-map ts (λ (t : Token). kind_without_value t.kind)
 
 -- Both texts have the same number of tokens after the range of differences.
-as_many : (s : SameTokens) (old new : List Token) → HasSameTokens s old new → length new + s.old_suffix ≡ length old + s.new_suffix
+as_many : (s : SameParts) (old new : List Token) → HasSameKinds s old new → length new + s.old_suffix ≡ length old + s.new_suffix
 as_many s old new h =
     let left : length (kinds new) - s.new_suffix ≡ length (kinds old) - s.old_suffix =
     sym (length-drop s.new_suffix (kinds new)) ∙ (ap length h.back ∙ length-drop s.old_suffix (kinds old)) in
     omega (arith, left, count_kinds new, count_kinds old, h.new_inside, h.old_inside)
 
-module _ (s wider : SameTokens) (still : WidensDifference s wider) where
+module _ (s wider : SameParts) (still : WidensDifference s wider) where
   abbrev more : ℕ
   more = wider.old_suffix - s.old_suffix
 
@@ -39,14 +39,14 @@ module _ (s wider : SameTokens) (still : WidensDifference s wider) where
   there = omega (arith, still.back)
 
   here : s.new_suffix + more ≡ wider.new_suffix
-  here = omega (arith, still.back, still.as_far)
+  here = omega (arith, still.back, still.same_shift)
 
-  tokens_still : (old new : List Token) → HasSameTokens s old new → wider.old_suffix ≤ length old → HasSameTokens wider old new
+  tokens_still : (old new : List Token) → HasSameKinds s old new → wider.old_suffix ≤ length old → HasSameKinds wider old new
   tokens_still old new h inside = record {
     old_range = omega (arith, still.front, still.back, h.old_range);
-    new_range = omega (arith, still.front, still.back, still.as_far, h.new_range);
+    new_range = omega (arith, still.front, still.back, still.same_shift, h.new_range);
     old_inside = inside;
-    new_inside = omega (arith, still.as_far, inside, as_many s old new h);
+    new_inside = omega (arith, still.same_shift, inside, as_many s old new h);
     front = less_front wider.prefix s.prefix (kinds new) (kinds old) still.front h.front;
     back = less_back s.new_suffix s.old_suffix more wider.new_suffix wider.old_suffix (kinds new) (kinds old) here there h.back;
   }
@@ -58,12 +58,12 @@ module _ (s wider : SameTokens) (still : WidensDifference s wider) where
   }
 
   -- A wider range that ends inside the new text also ends inside the old text.
-  inside_old : (old new : List Token) → HasSameTokens s old new → wider.new_suffix ≤ length new → wider.old_suffix ≤ length old
-  inside_old old new h inside = omega (arith, still.as_far, inside, as_many s old new h)
+  inside_old : (old new : List Token) → HasSameKinds s old new → wider.new_suffix ≤ length new → wider.old_suffix ≤ length old
+  inside_old old new h inside = omega (arith, still.same_shift, inside, as_many s old new h)
 
 -- ---- two changes
 
-joined : (s t : SameTokens) (old mid new : List Token) → t.prefix ≡ s.prefix → t.old_suffix ≡ s.new_suffix → HasSameTokens s old mid → HasSameTokens t mid new → HasSameTokens (record { prefix = s.prefix; old_suffix = s.old_suffix; new_suffix = t.new_suffix }) old new
+joined : (s t : SameParts) (old mid new : List Token) → t.prefix ≡ s.prefix → t.old_suffix ≡ s.new_suffix → HasSameKinds s old mid → HasSameKinds t mid new → HasSameKinds (record { prefix = s.prefix; old_suffix = s.old_suffix; new_suffix = t.new_suffix }) old new
 joined s t old mid new p q h k = record {
   old_range = h.old_range;
   new_range = omega (arith, p, k.new_range);
@@ -73,7 +73,7 @@ joined s t old mid new p q h k = record {
   back = k.back ∙ (ap (λ n. drop n (kinds mid)) q ∙ h.back);
 }
 
-joined_words : (s t : SameTokens) (old mid new : TextWithTokens) → t.prefix ≡ s.prefix → t.old_suffix ≡ s.new_suffix → HasSameWords s old mid → HasSameWords t mid new → HasSameWords (record { prefix = s.prefix; old_suffix = s.old_suffix; new_suffix = t.new_suffix }) old new
+joined_words : (s t : SameParts) (old mid new : TextWithTokens) → t.prefix ≡ s.prefix → t.old_suffix ≡ s.new_suffix → HasSameWords s old mid → HasSameWords t mid new → HasSameWords (record { prefix = s.prefix; old_suffix = s.old_suffix; new_suffix = t.new_suffix }) old new
 joined_words s t old mid new p q h k = record {
   front = ap (λ n. take n (words_of_tokens new.text new.tokens)) (sym p) ∙ (k.front ∙ (ap (λ n. take n (words_of_tokens mid.text mid.tokens)) p ∙ h.front));
   back = k.back ∙ (ap (λ n. drop n (words_of_tokens mid.text mid.tokens)) q ∙ h.back);
@@ -82,11 +82,11 @@ joined_words s t old mid new p q h k = record {
 -- ---- the last module
 
 -- The module of the previous text is the last module if the range of differences is widened within one of its bodies.
-pub is_last : (new : TextWithTokens) (tree : ModuleTree) (b : Bindings) (types : ModuleTypes) (s wider : SameTokens) (place : BodyPlace) → IsEarlierModule new tree b types s → WidensDifference s wider → wider.new_suffix ≤ length new.tokens
+pub is_last : (new : TextWithTokens) (tree : ModuleTree) (b : Bindings) (types : ModuleTypes) (s wider : SameParts) (place : BodyPlace) → IsEarlierModule new tree b types s → WidensDifference s wider → wider.new_suffix ≤ length new.tokens
     → body_place_around wider.prefix wider.old_suffix (module_tree_of tree) ≡ Some place → IsLastModuleOf new (record { bindings = b; types = types; same = wider; place = place })
 is_last new tree b types s wider place h still inside placed = record {
   tree = tree;
-  had = record {
+  earlier_module = record {
     old = h.old;
     old_scan = h.old_scan;
     new_scan = h.new_scan;
@@ -100,21 +100,21 @@ is_last new tree b types s wider place h still inside placed = record {
 }
 
 -- The last module is still the last module after a further change.
-pub last_stays : (mid new : TextWithTokens) (last : LastModule) (change wider : SameTokens) → IsLastModuleOf mid last → HasSameTokens change mid.tokens new.tokens → HasSameWords change mid new → IsScan new → WidensDifference change wider → wider.prefix ≡ last.same.prefix → wider.old_suffix ≡ last.same.new_suffix
+pub last_stays : (mid new : TextWithTokens) (last : LastModule) (change wider : SameParts) → IsLastModuleOf mid last → HasSameKinds change mid.tokens new.tokens → HasSameWords change mid new → IsScan new → WidensDifference change wider → wider.prefix ≡ last.same.prefix → wider.old_suffix ≡ last.same.new_suffix
     → IsLastModuleOf new (record { bindings = last.bindings; types = last.types; same = record { prefix = last.same.prefix; old_suffix = last.same.old_suffix; new_suffix = wider.new_suffix }; place = last.place })
 last_stays mid new last change wider w tokens words scan still p q =
-    let inside : wider.old_suffix ≤ length mid.tokens = omega (arith, q, w.had.same.new_inside) in
+    let inside : wider.old_suffix ≤ length mid.tokens = omega (arith, q, w.earlier_module.same.new_inside) in
     record {
       tree = w.tree;
-      had = record {
-        old = w.had.old;
-        old_scan = w.had.old_scan;
+      earlier_module = record {
+        old = w.earlier_module.old;
+        old_scan = w.earlier_module.old_scan;
         new_scan = scan;
-        parsed = w.had.parsed;
-        resolved = w.had.resolved;
-        types_are = w.had.types_are;
-        same = joined last.same wider w.had.old.tokens mid.tokens new.tokens p q w.had.same (tokens_still change wider still mid.tokens new.tokens tokens inside);
-        written = joined_words last.same wider w.had.old mid new p q w.had.written (words_still change wider still mid new words);
+        parsed = w.earlier_module.parsed;
+        resolved = w.earlier_module.resolved;
+        types_are = w.earlier_module.types_are;
+        same = joined last.same wider w.earlier_module.old.tokens mid.tokens new.tokens p q w.earlier_module.same (tokens_still change wider still mid.tokens new.tokens tokens inside);
+        written = joined_words last.same wider w.earlier_module.old mid new p q w.earlier_module.written (words_still change wider still mid new words);
       };
       placed = w.placed;
     }

@@ -7,25 +7,25 @@ use Rattle.ob0_scan.specs.declared.lexeme.TokenKind.{TokenKind}
 use Rattle.ob0_scan.specs.declared.lexeme.TokenKind.TheVariants as kind
 use Rattle.ob0_scan.specs.declared.lexeme.ReservedWord.TheVariants as reserved
 use Rattle.ob0_scan.specs.declared.tokens.RescanInPlace.{RescanInPlace}
-use Rattle.ob0_scan.specs.declared.tokens.SameTokens.{SameTokens}
+use Rattle.ob0_scan.specs.declared.tokens.SameParts.{SameParts}
 use Rattle.ob0_scan.specs.Reused.{kinds, words_of_tokens}
-use Rattle.ob0_scan.specs.SameKinds.{HasSameTokens, HasSameWords}
+use Rattle.ob0_scan.specs.SameKinds.{HasSameKinds, HasSameWords}
 use Rattle.ob0_scan.specs.TextWithTokens.{IsScan, TextWithTokens, Word}
-use Rattle.ob0_tree.specs.Lexeme.{EndOfText, Mark, Name, Number, Terminal, mapped_terminal}
+use Rattle.ob0_tree.specs.Lexeme.{EndOfText, WordOrSymbol, Name, Number, Terminal, mapped_terminal}
 use Rattle.ob0_tree.specs.Order.{names_without_roles}
 use Rattle.ob0_tree.specs.ParsedModule.{IsParsed, ParsedModule, parsed_module, tree_of}
 use Rattle.ob0_tree.specs.declared.tree.ModuleTree.{ModuleTree}
-use Rattle.ob0_tree.specs.Tree.{Tree, begins, body, identifiers, item, mapped, maybe, module_text, none, one, spell}
+use Rattle.ob0_tree.specs.Tree.{Tree, begins, body, identifiers, item, mapped_tree, maybe, module_text, none, one, spell}
 use Rattle.ob0_tree.specs.declared.tree.Role.{Role}
 use Rattle.ob0_tree.specs.declared.tree.Role.TheVariants as role
 use Rattle.ob0_tree.proofs.Leaves.{leaves_spelled, lexeme_names}
 use Rattle.ob0_tree.proofs.Mapped.{spell_mapped}
 use Rattle.ob0_parse_descent.proofs.Unique.{same}
-use Rattle.ob0_scope.specs.NewBody.{WasBoundElsewhere}
+use Rattle.ob0_scope.specs.NewBody.{WasBoundBeforeNewBody}
 use Rattle.ob0_scope_table.specs.Bindings.{resolution_with}
 use Rattle.ob0_scope_table.specs.BodyPlaces.{body_place_around, module_tree_of}
 use Rattle.ob0_tree.specs.FirstIdentifier.{first_token_of}
-use Rattle.ob0_scope_table.specs.BodyReplaced.{IsBodyReplaced, PathToBody, body_at, closing_name_in_module, moved_token_index, way_in_module, module_without_body}
+use Rattle.ob0_scope_table.specs.BodyReplaced.{IsBodyReplaced, PathToBody, body_at_path, closing_name_in_module, moved_token_index, path_to_body_in_module, module_without_body}
 use Rattle.ob0_scope_table.specs.OneBody.{is_outside}
 use Rattle.ob0_scope_table.proofs.BodyPlaces.{body_place_read}
 use Rattle.ob0_scope_table.proofs.Moved.{moved_above, moved_below, out_cases}
@@ -33,7 +33,7 @@ use Rattle.ob0_scope_table.specs.declared.one_body.BodyPlace.{BodyPlace}
 use Rattle.ob0_scope_table.specs.declared.resolved.Bindings.{Bindings}
 use Rattle.ob0_types.specs.NewBody.{WereTypesBeforeNewBody}
 use Rattle.ob0_types.specs.declared.checked.ModuleTypes.{ModuleTypes}
-use Rattle.ob0_analysis.specs.Before.{IsModuleBefore}
+use Rattle.ob0_analysis.specs.ReuseConditions.{IsModuleBefore}
 use Rattle.ob0_analysis.specs.LastModule.{IsEarlierModule, IsLastModuleOf}
 use Rattle.ob0_analysis.specs.NewBody.{IsSameBody}
 use Rattle.ob0_analysis.specs.declared.last_module.LastModule.{LastModule}
@@ -54,7 +54,7 @@ up_to_name : (xs : List (Terminal ℕ)) (n : ℕ) (ns : List ℕ) → lexeme_nam
 up_to_name [] n ns e = absurd (cc (e))
 up_to_name (Name k ∷ xs) n ns e = let same_name : k ≡ n = cc (e) in record { front = []; back = xs; is = ap (λ (m : ℕ). Name m ∷ xs) same_name }
 up_to_name (Number k ∷ xs) n ns e = let h = up_to_name xs n ns e in record { front = Number k ∷ h.front; back = h.back; is = ap (λ l. Number k ∷ l) h.is }
-up_to_name (Mark k ∷ xs) n ns e = let h = up_to_name xs n ns e in record { front = Mark k ∷ h.front; back = h.back; is = ap (λ l. Mark k ∷ l) h.is }
+up_to_name (WordOrSymbol k ∷ xs) n ns e = let h = up_to_name xs n ns e in record { front = WordOrSymbol k ∷ h.front; back = h.back; is = ap (λ l. WordOrSymbol k ∷ l) h.is }
 up_to_name (EndOfText ∷ xs) n ns e = let h = up_to_name xs n ns e in record { front = EndOfText ∷ h.front; back = h.back; is = ap (λ l. EndOfText ∷ l) h.is }
 
 of_some : {a b : ℕ} → Some a ≡ Some b → a ≡ b
@@ -97,11 +97,11 @@ up_to_last f b u n v z = ap (λ l. f ++ (b ∷ l)) (append_assoc u (n ∷ v) z) 
 up_to_end : {A : Type 0} (f x : List A) (e c : A) (z : List A) → f ++ (x ++ (e ∷ c ∷ z)) ≡ ((f ++ x) ++ (e ∷ [])) ++ (c ∷ z)
 up_to_end f x e c z = sym (append_assoc f x (e ∷ c ∷ z)) ∙ sym (append_assoc (f ++ x) (e ∷ []) (c ∷ z))
 
-record Halves (m : ParsedModule) (way : PathToBody) (first closing : ℕ) : Type 0 where
+record Halves (m : ParsedModule) (path : PathToBody) (first closing : ℕ) : Type 0 where
   pub front : List (Terminal ℕ)
   pub inside : List (Terminal ℕ)
   pub back : List (Terminal ℕ)
-  pub less : spell (module_without_body way (tree_of m)) ≡ front ++ back
+  pub less : spell (module_without_body path (tree_of m)) ≡ front ++ back
   pub until : take first (marked 0 (kinds m.source.tokens)) ≡ front ++ (begin_mark ∷ inside)
   pub plain : NoBegin inside
   pub shorter : length front < first
@@ -110,21 +110,21 @@ record Halves (m : ParsedModule) (way : PathToBody) (first closing : ℕ) : Type
   pub closes : before + 1 ≡ closing
   pub back_is : back ≡ drop before (marked 0 (kinds m.source.tokens))
 
-halves : (m : ParsedModule) → IsParsed m → (way : PathToBody) (first closing : ℕ) → first_token_of (identifiers role.Declaring (body_at way (tree_of m))) ≡ Some first → closing_name_in_module way (tree_of m) ≡ closing → Halves m way first closing
-halves m parsed way first closing is_first is_closing =
+halves : (m : ParsedModule) → IsParsed m → (path : PathToBody) (first closing : ℕ) → first_token_of (identifiers role.Declaring (body_at_path path (tree_of m))) ≡ Some first → closing_name_in_module path (tree_of m) ≡ closing → Halves m path first closing
+halves m parsed path first closing is_first is_closing =
     let t : Tree ℕ module_text = tree_of m in
-    let c : ℕ = closing_name_in_module way t in
-    let o = opened (body_at way t) first is_first in
-    let a = around_body way t o.written o.is in
-    let end_mark : Terminal ℕ = Mark (kind.ReservedWord reserved.End) in
+    let c : ℕ = closing_name_in_module path t in
+    let o = opened (body_at_path path t) first is_first in
+    let a = around_body path t o.written o.is in
+    let end_mark : Terminal ℕ = WordOrSymbol (kind.ReservedWord reserved.End) in
     let back : List (Terminal ℕ) = end_mark ∷ Name c ∷ a.back in
     let all : List (Terminal ℕ) = marked 0 (kinds m.source.tokens) in
     let start : List (Terminal ℕ) = a.front ++ (begin_mark ∷ o.front) in
-    let upper : List (Terminal ℕ) = a.front ++ spell (body_at way t) in
-    let whole : all ≡ a.front ++ (spell (body_at way t) ++ back) = sym (spelled_marked m parsed) ∙ a.whole_is in
+    let upper : List (Terminal ℕ) = a.front ++ spell (body_at_path path t) in
+    let whole : all ≡ a.front ++ (spell (body_at_path path t) ++ back) = sym (spelled_marked m parsed) ∙ a.whole_is in
     let at_first : all ≡ start ++ (Name first ∷ (o.back ++ back)) =
     whole ∙ (ap (λ l. a.front ++ (l ++ back)) o.spelled ∙ up_to_last a.front begin_mark o.front (Name first) o.back back) in
-    let at_closing : all ≡ (upper ++ (end_mark ∷ [])) ++ (Name c ∷ a.back) = whole ∙ up_to_end a.front (spell (body_at way t)) end_mark (Name c) a.back in
+    let at_closing : all ≡ (upper ++ (end_mark ∷ [])) ++ (Name c ∷ a.back) = whole ∙ up_to_end a.front (spell (body_at_path path t)) end_mark (Name c) a.back in
     let first_index : first ≡ 0 + length start = name_index 0 first (kinds m.source.tokens) start (o.back ++ back) at_first in
     let closing_index : c ≡ 0 + length (upper ++ (end_mark ∷ [])) = name_index 0 c (kinds m.source.tokens) (upper ++ (end_mark ∷ [])) a.back at_closing in
     let first_count : length start ≡ length a.front + length (begin_mark ∷ o.front) = length-append a.front (begin_mark ∷ o.front) in
@@ -137,10 +137,10 @@ halves m parsed way first closing is_first is_closing =
       until = ap (take first) at_first ∙ take_at start (Name first ∷ (o.back ++ back)) first (omega (arith, first_index));
       plain = o.plain;
       shorter = omega (arith, first_index, first_count);
-      front_is = sym (ap (take (length a.front)) whole ∙ take_at a.front (spell (body_at way t) ++ back) (length a.front) refl);
+      front_is = sym (ap (take (length a.front)) whole ∙ take_at a.front (spell (body_at_path path t) ++ back) (length a.front) refl);
       before = length upper;
       closes = omega (arith, closing_index, closing_count, is_closing);
-      back_is = sym (ap (drop (length upper)) (whole ∙ sym (append_assoc a.front (spell (body_at way t)) back)) ∙ drop_at upper back (length upper) refl);
+      back_is = sym (ap (drop (length upper)) (whole ∙ sym (append_assoc a.front (spell (body_at_path path t)) back)) ∙ drop_at upper back (length upper) refl);
     }
 
 -- ---- the tokens of both
@@ -150,7 +150,7 @@ take_short zero xs = omega arith
 take_short (suc n) [] = omega arith
 take_short (suc n) (x ∷ xs) = let h = take_short n xs in omega (arith, h)
 
-module _ (s : SameTokens) (old_range : s.prefix ≤ s.old_suffix) (new_range : s.prefix ≤ s.new_suffix) where
+module _ (s : SameParts) (old_range : s.prefix ≤ s.old_suffix) (new_range : s.prefix ≤ s.new_suffix) where
   -- A moved token is on the same side of the range of differences as before.
   same_side : (c : ℕ) → nat_lt (moved_token_index s c) s.prefix ≡ nat_lt c s.prefix
   same_side c = one (nat_lt c s.prefix) refl
@@ -160,18 +160,18 @@ module _ (s : SameTokens) (old_range : s.prefix ≤ s.old_suffix) (new_range : s
       one false e = le-ltb (s.new_suffix + (c - s.old_suffix)) s.prefix (omega (arith, new_range))
 
   -- The way to the body in the new module is the way in the old module.
-  same_way : (old new : ParsedModule) → module_without_body (way_in_module s.prefix (tree_of new)) (tree_of new) ≡ mapped (moved_token_index s) (moved_token_index s) (module_without_body (way_in_module s.prefix (tree_of old)) (tree_of old)) → way_in_module s.prefix (tree_of new) ≡ way_in_module s.prefix (tree_of old)
+  same_way : (old new : ParsedModule) → module_without_body (path_to_body_in_module s.prefix (tree_of new)) (tree_of new) ≡ mapped_tree (moved_token_index s) (moved_token_index s) (module_without_body (path_to_body_in_module s.prefix (tree_of old)) (tree_of old)) → path_to_body_in_module s.prefix (tree_of new) ≡ path_to_body_in_module s.prefix (tree_of old)
   same_way old new e =
-      sym (way_less s.prefix (way_in_module s.prefix (tree_of new)) (tree_of new))
-      ∙ (ap (way_in_module s.prefix) e
-      ∙ (way_moved s.prefix (moved_token_index s) same_side (module_without_body (way_in_module s.prefix (tree_of old)) (tree_of old))
-      ∙ way_less s.prefix (way_in_module s.prefix (tree_of old)) (tree_of old)))
+      sym (way_less s.prefix (path_to_body_in_module s.prefix (tree_of new)) (tree_of new))
+      ∙ (ap (path_to_body_in_module s.prefix) e
+      ∙ (way_moved s.prefix (moved_token_index s) same_side (module_without_body (path_to_body_in_module s.prefix (tree_of old)) (tree_of old))
+      ∙ way_less s.prefix (path_to_body_in_module s.prefix (tree_of old)) (tree_of old)))
 
-module _ (old new : ParsedModule) (s : SameTokens) (tokens : HasSameTokens s old.source.tokens new.source.tokens) where
+module _ (old new : ParsedModule) (s : SameParts) (tokens : HasSameKinds s old.source.tokens new.source.tokens) where
   -- The new module without its body is the old module without its body, with its tokens moved.
-  without_same : (way new_way : PathToBody) (first closing now_closing : ℕ) → Halves old way first closing → Halves new new_way first now_closing → first < s.prefix → s.old_suffix < closing → now_closing + s.old_suffix ≡ closing + s.new_suffix
-      → module_without_body new_way (tree_of new) ≡ mapped (moved_token_index s) (moved_token_index s) (module_without_body way (tree_of old))
-  without_same way new_way first closing now_closing was is front_side back_side same_closing =
+  without_same : (path new_path : PathToBody) (first closing now_closing : ℕ) → Halves old path first closing → Halves new new_path first now_closing → first < s.prefix → s.old_suffix < closing → now_closing + s.old_suffix ≡ closing + s.new_suffix
+      → module_without_body new_path (tree_of new) ≡ mapped_tree (moved_token_index s) (moved_token_index s) (module_without_body path (tree_of old))
+  without_same path new_path first closing now_closing was is front_side back_side same_closing =
       let ks : List TokenKind = kinds old.source.tokens in
       let js : List TokenKind = kinds new.source.tokens in
       let r : Terminal ℕ → Terminal ℕ = mapped_terminal (moved_token_index s) (moved_token_index s) in
@@ -196,16 +196,16 @@ module _ (old new : ParsedModule) (s : SameTokens) (tokens : HasSameTokens s old
       λ e less. let high : s.old_suffix ≤ was.before + e = omega (arith, there) in moved_above s (was.before + e) tokens.old_range high ∙ omega (arith, there, here) in
       let back_moved : map r was.back ≡ is.back =
       ap (map r) back_marked ∙ (moved_on (moved_token_index s) was.before is.before (drop was.before ks) goes ∙ (ap (marked is.before) same_drop ∙ (sym (drop_marked is.before 0 is.before js (omega arith)) ∙ sym is.back_is))) in
-      let spelled : spell (module_without_body new_way (tree_of new)) ≡ spell (mapped (moved_token_index s) (moved_token_index s) (module_without_body way (tree_of old))) =
+      let spelled : spell (module_without_body new_path (tree_of new)) ≡ spell (mapped_tree (moved_token_index s) (moved_token_index s) (module_without_body path (tree_of old))) =
       is.less
       ∙ (sym (ap (λ l. l ++ is.back) front_moved ∙ ap (λ l. is.front ++ l) refl)
       ∙ (sym (ap (λ l. map r was.front ++ l) back_moved)
-      ∙ (sym (map-append r was.front was.back) ∙ (ap (map r) (sym was.less) ∙ sym (spell_mapped (moved_token_index s) (moved_token_index s) (module_without_body way (tree_of old))))))) in
-      (same (module_without_body new_way (tree_of new)) (mapped (moved_token_index s) (moved_token_index s) (module_without_body way (tree_of old))) [] [] tt tt (ap (λ l. l ++ []) spelled)).0
+      ∙ (sym (map-append r was.front was.back) ∙ (ap (map r) (sym was.less) ∙ sym (spell_mapped (moved_token_index s) (moved_token_index s) (module_without_body path (tree_of old))))))) in
+      (same (module_without_body new_path (tree_of new)) (mapped_tree (moved_token_index s) (moved_token_index s) (module_without_body path (tree_of old))) [] [] tt tt (ap (λ l. l ++ []) spelled)).0
 
 -- ---- tokens outside the range have the same spelling
 
-words_outside : (s : SameTokens) (old new : TextWithTokens) → HasSameWords s old new → s.prefix ≤ s.old_suffix → (i : ℕ) → is_outside s.prefix s.old_suffix i ≡ true
+words_outside : (s : SameParts) (old new : TextWithTokens) → HasSameWords s old new → s.prefix ≤ s.old_suffix → (i : ℕ) → is_outside s.prefix s.old_suffix i ≡ true
     → slice_get (words_of_tokens new.text new.tokens) (moved_token_index s i) ≡ slice_get (words_of_tokens old.text old.tokens) i
 words_outside s old new written range i out = ⊎_elim
     (λ less. ap (slice_get (words_of_tokens new.text new.tokens)) (moved_below s i less)
@@ -217,23 +217,23 @@ words_outside s old new written range i out = ⊎_elim
     ∙ (ap (λ (l : List Word). slice_get l (i - s.old_suffix)) written.back ∙ get_dropped s.old_suffix (words_of_tokens old.text old.tokens) (i - s.old_suffix) i here)))
     (out_cases s.prefix s.old_suffix i out)
 
-pub body_replaced : (old new : ParsedModule) (s : SameTokens) → IsScan old.source → IsScan new.source → IsParsed old → IsParsed new → HasSameTokens s old.source.tokens new.source.tokens → HasSameWords s old.source new.source
-    → (was : BodyPlace) → body_place_around s.prefix s.old_suffix (tree_of old) ≡ Some was → IsSameBody was (body_place_around s.prefix s.new_suffix (tree_of new)) s → IsBodyReplaced old new (way_in_module s.prefix (tree_of old)) s
+pub body_replaced : (old new : ParsedModule) (s : SameParts) → IsScan old.source → IsScan new.source → IsParsed old → IsParsed new → HasSameKinds s old.source.tokens new.source.tokens → HasSameWords s old.source new.source
+    → (was : BodyPlace) → body_place_around s.prefix s.old_suffix (tree_of old) ≡ Some was → IsSameBody was (body_place_around s.prefix s.new_suffix (tree_of new)) s → IsBodyReplaced old new (path_to_body_in_module s.prefix (tree_of old)) s
 body_replaced old new s old_scan new_scan old_parsed new_parsed tokens written place placed b =
-    let way : PathToBody = way_in_module s.prefix (tree_of old) in
-    let new_way : PathToBody = way_in_module s.prefix (tree_of new) in
+    let path : PathToBody = path_to_body_in_module s.prefix (tree_of old) in
+    let new_path : PathToBody = path_to_body_in_module s.prefix (tree_of new) in
     let first : ℕ = place.first in
     let p = body_place_read s.prefix s.old_suffix (tree_of old) place placed in
     let q = body_place_read s.prefix s.new_suffix (tree_of new) b.place b.is in
-    let is_first : first_token_of (identifiers role.Declaring (body_at new_way (tree_of new))) ≡ Some first = q.first ∙ ap Some (sym b.first) in
-    let was = halves old old_parsed way first place.closing p.first p.closes in
-    let is = halves new new_parsed new_way first b.place.closing is_first q.closes in
-    let moved_too : module_without_body new_way (tree_of new) ≡ mapped (moved_token_index s) (moved_token_index s) (module_without_body way (tree_of old)) =
-    without_same old new s tokens way new_way first place.closing b.place.closing was is b.front b.back b.closing in
+    let is_first : first_token_of (identifiers role.Declaring (body_at_path new_path (tree_of new))) ≡ Some first = q.first ∙ ap Some (sym b.first) in
+    let was = halves old old_parsed path first place.closing p.first p.closes in
+    let is = halves new new_parsed new_path first b.place.closing is_first q.closes in
+    let moved_too : module_without_body new_path (tree_of new) ≡ mapped_tree (moved_token_index s) (moved_token_index s) (module_without_body path (tree_of old)) =
+    without_same old new s tokens path new_path first place.closing b.place.closing was is b.front b.back b.closing in
     let back : s.old_suffix ≤ place.closing = omega (arith, b.back) in
-    let closes : closing_name_in_module new_way (tree_of new) ≡ moved_token_index s (closing_name_in_module way (tree_of old)) =
+    let closes : closing_name_in_module new_path (tree_of new) ≡ moved_token_index s (closing_name_in_module path (tree_of old)) =
     q.closes ∙ sym (ap (moved_token_index s) p.closes ∙ (moved_above s place.closing tokens.old_range back ∙ omega (arith, b.closing, back))) in
-    let one_way : new_way ≡ way = same_way s tokens.old_range tokens.new_range old new moved_too in
+    let one_way : new_path ≡ path = same_way s tokens.old_range tokens.new_range old new moved_too in
     record {
       old_range = tokens.old_range;
       new_range = tokens.new_range;
@@ -241,18 +241,18 @@ body_replaced old new s old_scan new_scan old_parsed new_parsed tokens written p
       new_scan = new_scan;
       old_parsed = old_parsed;
       new_parsed = new_parsed;
-      outside = subst (λ w. module_without_body w (tree_of new) ≡ mapped (moved_token_index s) (moved_token_index s) (module_without_body way (tree_of old))) one_way moved_too;
+      outside = subst (λ w. module_without_body w (tree_of new) ≡ mapped_tree (moved_token_index s) (moved_token_index s) (module_without_body path (tree_of old))) one_way moved_too;
       words = words_outside s old.source new.source written tokens.old_range;
-      old_way = refl;
-      new_way = one_way;
+      old_path = refl;
+      new_path = one_way;
       old_in_body = p.is_bound_to_declaration;
       new_in_body = q.is_bound_to_declaration;
       first = first;
       old_first = p.first;
-      new_first = subst (λ w. first_token_of (identifiers role.Declaring (body_at w (tree_of new))) ≡ Some first) one_way is_first;
+      new_first = subst (λ w. first_token_of (identifiers role.Declaring (body_at_path w (tree_of new))) ≡ Some first) one_way is_first;
       front = b.front;
       back = subst (λ n. s.old_suffix < n) (sym p.closes) b.back;
-      closing = subst (λ w. closing_name_in_module w (tree_of new) ≡ moved_token_index s (closing_name_in_module way (tree_of old))) one_way closes;
+      closing = subst (λ w. closing_name_in_module w (tree_of new) ≡ moved_token_index s (closing_name_in_module path (tree_of old))) one_way closes;
     }
 
 -- ---- the reused results
@@ -272,15 +272,15 @@ had_module c tree b types places h = record {
 
 module _ (new : TextWithTokens) (tree : ModuleTree) (last : LastModule) (now : Option BodyPlace) (h : IsLastModuleOf new last) (placed : now ≡ body_place_around last.same.prefix last.same.new_suffix (module_tree_of tree)) (parsed : IsParsed (parsed_module new tree)) (one_body : IsSameBody last.place now last.same) where
   abbrev before_it : ParsedModule
-  before_it = parsed_module h.had.old h.tree
+  before_it = parsed_module h.earlier_module.old h.tree
 
-  is_replaced : IsBodyReplaced before_it (parsed_module new tree) (way_in_module last.same.prefix (tree_of before_it)) last.same
+  is_replaced : IsBodyReplaced before_it (parsed_module new tree) (path_to_body_in_module last.same.prefix (tree_of before_it)) last.same
   is_replaced =
-      body_replaced before_it (parsed_module new tree) last.same h.had.old_scan h.had.new_scan h.had.parsed parsed h.had.same h.had.written
+      body_replaced before_it (parsed_module new tree) last.same h.earlier_module.old_scan h.earlier_module.new_scan h.earlier_module.parsed parsed h.earlier_module.same h.earlier_module.written
       last.place h.placed (subst (λ o. IsSameBody last.place o last.same) placed one_body)
 
-  pub was_bound_elsewhere : WasBoundElsewhere (parsed_module new tree) last.bindings last.same
-  was_bound_elsewhere = record { old = before_it; way = way_in_module last.same.prefix (tree_of before_it); replaced = is_replaced; resolved = h.had.resolved }
+  pub was_bound_elsewhere : WasBoundBeforeNewBody (parsed_module new tree) last.bindings last.same
+  was_bound_elsewhere = record { old = before_it; path = path_to_body_in_module last.same.prefix (tree_of before_it); replaced = is_replaced; resolved = h.earlier_module.resolved }
 
   pub were_types_elsewhere : (c : Bindings) → WereTypesBeforeNewBody (resolution_with (parsed_module new tree) c) last.types last.same
-  were_types_elsewhere c = record { old = resolution_with before_it last.bindings; way = way_in_module last.same.prefix (tree_of before_it); replaced = is_replaced; types_are = h.had.types_are }
+  were_types_elsewhere c = record { old = resolution_with before_it last.bindings; path = path_to_body_in_module last.same.prefix (tree_of before_it); replaced = is_replaced; types_are = h.earlier_module.types_are }

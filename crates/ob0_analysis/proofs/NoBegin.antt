@@ -4,7 +4,7 @@ use Rattle.std.proofs.Common.{◌≡◌, Bool, true, false, ◌||◌, Option, So
 use Rattle.ob0_scan.specs.declared.lexeme.TokenKind.{TokenKind}
 use Rattle.ob0_scan.specs.declared.lexeme.TokenKind.TheVariants as kind
 use Rattle.ob0_scan.specs.declared.lexeme.ReservedWord.TheVariants as reserved
-use Rattle.ob0_tree.specs.Lexeme.{Terminal, Mark, add_operator_token, multiply_operator_token, relation_token, sign_tokens}
+use Rattle.ob0_tree.specs.Lexeme.{Terminal, WordOrSymbol, add_operator_token, multiply_operator_token, relation_token, sign_tokens}
 use Rattle.ob0_tree.specs.declared.tree.AddOperator.{AddOperator}
 use Rattle.ob0_tree.specs.declared.tree.AddOperator.TheVariants as add_operator
 use Rattle.ob0_tree.specs.declared.tree.MultiplyOperator.{MultiplyOperator}
@@ -13,19 +13,19 @@ use Rattle.ob0_tree.specs.declared.tree.Relation.{Relation}
 use Rattle.ob0_tree.specs.declared.tree.Relation.TheVariants as relation
 use Rattle.ob0_tree.specs.declared.tree.Sign.{Sign}
 use Rattle.ob0_tree.specs.declared.tree.Sign.TheVariants as sign
-use Rattle.ob0_tree.specs.Tree.{Item, selector, multiplier, addend, comparison, arguments, further_argument, further_statement, elsif_part, else_part, further_name, further_fields, formals, further_section, constant, constants, type_name, type_names, variable, variables, procedure, body, Sort, item, items, maybe, expression, simple, term, factor, statement, sequence, names, written_type, fields, section, declarations, block, module_text, Tree, none, one, end, more, compares, relates, sum, adds, product, multiplies, designator, integer, parenthesised, negation, field, index, empty, assigns, calls, branches, while_loop, repeat_loop, no_arguments, some_arguments, then_argument, runs, then_statement, elsif_branch, else_branch, listed, then_name, named_type, array_type, record_type, no_fields, some_fields, then_fields, no_formals, some_formals, value_section, variable_section, then_section, declares_constant, declares_constants, declares_type, declares_types, declares_variable, declares_variables, declares_procedure, declares, begins, has_body, is_module, spell}
+use Rattle.ob0_tree.specs.Tree.{Item, selector, multiplier, addend, comparison, arguments, further_argument, further_statement, elsif_part, else_part, further_name, further_fields, formals, further_section, constant, constants, type_definition, type_definitions, variable, variables, procedure, body, Sort, item, items, maybe, expression, simple, term, factor, statement, sequence, names, written_type, fields, section, declarations, block, module_text, Tree, none, one, end, more, compares, relates, sum, adds, product, multiplies, designator, integer, parenthesised, negation, field, index, empty, assigns, calls, branches, while_loop, repeat_loop, no_arguments, some_arguments, then_argument, runs, then_statement, elsif_branch, else_branch, listed, then_name, named_type, array_type, record_type, no_fields, some_fields, then_fields, no_formals, some_formals, value_section, variable_section, then_section, declares_constant, declares_constants, declares_type, declares_types, declares_variable, declares_variables, declares_procedure, declares, begins, forms_block, is_module, spell}
 use Rattle.ob0_parse_descent.proofs.Unique.{head_of, tail_of}
 
 -- the token BEGIN
 abbrev pub begin_mark : {N : Type 0} → Terminal N
-begin_mark = Mark (kind.ReservedWord reserved.Begin)
+begin_mark = WordOrSymbol (kind.ReservedWord reserved.Begin)
 
 abbrev is_begin_kind : TokenKind → Bool
 is_begin_kind (kind.ReservedWord reserved.Begin) = true
 is_begin_kind _ = false
 
 abbrev is_begin : {N : Type 0} → Terminal N → Bool
-is_begin (Mark k) = is_begin_kind k
+is_begin (WordOrSymbol k) = is_begin_kind k
 is_begin _ = false
 
 abbrev has_begin : {N : Type 0} → List (Terminal N) → Bool
@@ -119,8 +119,8 @@ is_bodiless_item formals = true
 is_bodiless_item further_section = true
 is_bodiless_item constant = true
 is_bodiless_item constants = true
-is_bodiless_item type_name = true
-is_bodiless_item type_names = true
+is_bodiless_item type_definition = true
+is_bodiless_item type_definitions = true
 is_bodiless_item variable = true
 is_bodiless_item variables = true
 
@@ -198,5 +198,5 @@ no_begin (declares_variables vs) p = put_before refl (no_begin vs refl)
 no_begin (declares_procedure name fs b closing) p = absurd (is_not p)
 no_begin (declares cs ts vs ps) p = absurd (is_not p)
 no_begin (begins s) p = absurd (is_not p)
-no_begin (has_body ds b) p = absurd (is_not p)
+no_begin (forms_block ds b) p = absurd (is_not p)
 no_begin (is_module name b closing) p = absurd (is_not p)

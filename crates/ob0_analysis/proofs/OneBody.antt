@@ -4,14 +4,14 @@ use Rattle.std.proofs.Common.{◌≡◌, ◌<◌, ◌≤◌, ℕ, zero, suc, ◌
 use Rattle.std.proofs.lemmas.Bool.Decides.{nat_tests}
 use Rattle.std.proofs.lemmas.List.{length-map}
 use Rattle.ob0_scan.specs.Reused.{kinds, kind_without_value, words_of_tokens}
-use Rattle.ob0_scan.specs.SameKinds.{HasSameTokens, HasSameWords}
+use Rattle.ob0_scan.specs.SameKinds.{HasSameKinds, HasSameWords}
 use Rattle.ob0_scan.specs.TextWithTokens.{TextWithTokens, Word, word_of_token}
 use Rattle.ob0_scan.specs.declared.lexeme.Token.{Token}
-use Rattle.ob0_scan.specs.declared.tokens.SameTokens.{SameTokens}
+use Rattle.ob0_scan.specs.declared.tokens.SameParts.{SameParts}
 use Rattle.ob0_tree.specs.ParsedModule.{IsParsed, parsed_module, tree_of}
 use Rattle.ob0_tree.specs.declared.tree.ModuleTree.{ModuleTree}
 use Rattle.ob0_scope.proofs.Rebound.{ordinals_outside}
-use Rattle.ob0_scope.specs.Rebound.{WasBound}
+use Rattle.ob0_scope.specs.Rebound.{WasBoundBeforeChange}
 use Rattle.ob0_scope_table.specs.Bindings.{resolution_with}
 use Rattle.ob0_scope_table.specs.OneBody.{IsBodyChange, is_in_body, is_outside}
 use Rattle.ob0_scope_table.specs.Resolution.{IsResolution}
@@ -32,7 +32,7 @@ get_dropped (suc k) [] i j e = refl
 get_dropped (suc k) (x ∷ xs) i zero e = absurd (omega (arith, e))
 get_dropped (suc k) (x ∷ xs) i (suc j) e = get_dropped k xs i j (omega (arith, e))
 
-module _ (s : SameTokens) (old new : TextWithTokens) (alike : kinds new.tokens ≡ kinds old.tokens) (same : HasSameTokens s old.tokens new.tokens) (written : HasSameWords s old new) where
+module _ (s : SameParts) (old new : TextWithTokens) (alike : kinds new.tokens ≡ kinds old.tokens) (same : HasSameKinds s old.tokens new.tokens) (written : HasSameWords s old new) where
   abbrev before : List Word
   before = words_of_tokens old.text old.tokens
 
@@ -67,30 +67,30 @@ module _ (s : SameTokens) (old new : TextWithTokens) (alike : kinds new.tokens �
           past true f g = grind (arith, nat_tests)
           past false f g = absurd (cc)
 
-module _ {new : TextWithTokens} {tree : ModuleTree} {b : Bindings} {types : ModuleTypes} {s : SameTokens} (h : IsEarlierModuleWithSameKinds new tree b types s) (lies : is_in_body s.prefix s.old_suffix (tree_of (parsed_module new tree)) ≡ true) where
-  body_change : IsBodyChange h.had.old (parsed_module new tree) s.prefix s.old_suffix
+module _ {new : TextWithTokens} {tree : ModuleTree} {b : Bindings} {types : ModuleTypes} {s : SameParts} (h : IsEarlierModuleWithSameKinds new tree b types s) (lies : is_in_body s.prefix s.old_suffix (tree_of (parsed_module new tree)) ≡ true) where
+  body_change : IsBodyChange h.earlier_module.old (parsed_module new tree) s.prefix s.old_suffix
   body_change = record {
-    old_scan = h.had.old_scan;
-    new_scan = h.had.new_scan;
+    old_scan = h.earlier_module.old_scan;
+    new_scan = h.earlier_module.new_scan;
     same_kinds = h.same_kinds;
-    same_words = same_outside s h.had.old new h.same_kinds h.had.same h.had.written;
+    same_words = same_outside s h.earlier_module.old new h.same_kinds h.earlier_module.same h.earlier_module.written;
     in_body = lies;
   }
 
-  pub was_bound : IsParsed (parsed_module new tree) → WasBound (parsed_module new tree) b s.prefix s.old_suffix
-  was_bound parsed = record { old = h.had.old; change = body_change; parsed = parsed; resolved = h.had.resolved }
+  pub was_bound : IsParsed (parsed_module new tree) → WasBoundBeforeChange (parsed_module new tree) b s.prefix s.old_suffix
+  was_bound parsed = record { old = h.earlier_module.old; change = body_change; parsed = parsed; resolved = h.earlier_module.resolved }
 
   -- The old results for types can be reused if the names were bound again.
   pub were_types : (c : Bindings) → IsResolution (resolution_with (parsed_module new tree) c) → WereTypesBeforeChange (resolution_with (parsed_module new tree) c) types s.prefix
   were_types c resolved = record {
     high = s.old_suffix;
-    old = h.had.old;
+    old = h.earlier_module.old;
     bindings = b;
     change = body_change;
-    bound = ordinals_outside h.had.old (parsed_module new tree) s.prefix s.old_suffix b c body_change h.had.resolved resolved;
-    types_are = h.had.types_are;
+    bound = ordinals_outside h.earlier_module.old (parsed_module new tree) s.prefix s.old_suffix b c body_change h.earlier_module.resolved resolved;
+    types_are = h.earlier_module.types_are;
   }
 
   -- The old results for types can be reused if the bindings are kept.
   pub kept_types : WereTypesBeforeChange (resolution_with (parsed_module new tree) b) types s.prefix
-  kept_types = record { high = s.old_suffix; old = h.had.old; bindings = b; change = body_change; bound = λ token e. refl; types_are = h.had.types_are }
+  kept_types = record { high = s.old_suffix; old = h.earlier_module.old; bindings = b; change = body_change; bound = λ token e. refl; types_are = h.earlier_module.types_are }

@@ -7,7 +7,7 @@ use Rattle.ob0_parse.specs.IsRightParseRefusal.{IsRightParseRefusal}
 use Rattle.ob0_parse_descent.specs.declared.refusal.Expected.{Expected}
 use Rattle.ob0_parse_descent.specs.declared.refusal.ParseRefusal.{ParseRefusal}
 use Rattle.ob0_parse_descent.specs.declared.refusal.ParseRefusal.TheVariants.{Syntax, TooDeep, Memory}
-use Rattle.ob0_analysis.specs.Diagnosed.{Complaint, ReportsRefusal, RefusalIsUnique, syntax_error, depth_error, token_span_or_end}
+use Rattle.ob0_analysis.specs.Diagnosed.{ReportedDiagnosis, ReportsRefusal, RefusalIsUnique, syntax_error, depth_error, token_span_or_end}
 use Rattle.ob0_analysis.proofs.Scanning.{OneScan}
 
 same_place : {i j : ℕ} {x y : Expected} → Expects i x ≡ Expects j y → (i ≡ j) × (x ≡ y)
@@ -19,7 +19,7 @@ same_depth e = cc
 not_deep : {i j : ℕ} {x : Expected} → Expects i x ≡ Deep j → ⊥
 not_deep e = cc
 
-same_complaint : (s : TextWithTokens) (p q : ParseRefusal) (c d : Complaint) → StopIsUnique → IsRightParseRefusal s p → IsRightParseRefusal s q → ReportsRefusal s p c → ReportsRefusal s q d → c ≡ d
+same_complaint : (s : TextWithTokens) (p q : ParseRefusal) (c d : ReportedDiagnosis) → StopIsUnique → IsRightParseRefusal s p → IsRightParseRefusal s q → ReportsRefusal s p c → ReportsRefusal s q d → c ≡ d
 same_complaint s (Syntax i x) (Syntax j y) c d one p q a b =
     let same = same_place (one _ _ _ _ _ p.2 q.2) in
     a ∙ (ap (λ k. syntax_error (expected_text x) (token_span_or_end s k)) same.0 ∙ (ap (λ z. syntax_error (expected_text z) (token_span_or_end s j)) same.1 ∙ sym b))
@@ -33,5 +33,5 @@ pub refusal_is_unique : OneScan → StopIsUnique → RefusalIsUnique
 refusal_is_unique scans stops text a b p q =
     let same : q.scanned ≡ p.scanned = scans q.scanned p.scanned q.scan.scan p.scan.scan (q.scan.of ∙ sym p.scan.of) in
     let refused : IsRightParseRefusal p.scanned q.refusal = subst (λ (s : TextWithTokens). IsRightParseRefusal s q.refusal) same q.refused in
-    let says : ReportsRefusal p.scanned q.refusal q.complaint = subst (λ (s : TextWithTokens). ReportsRefusal s q.refusal q.complaint) same q.says in
-    p.alone ∙ (ap (λ c. c ∷ []) (same_complaint p.scanned p.refusal q.refusal p.complaint q.complaint stops p.refused refused p.says says) ∙ sym q.alone)
+    let reports_refusal : ReportsRefusal p.scanned q.refusal q.complaint = subst (λ (s : TextWithTokens). ReportsRefusal s q.refusal q.complaint) same q.reports_refusal in
+    p.only_complaint ∙ (ap (λ c. c ∷ []) (same_complaint p.scanned p.refusal q.refusal p.complaint q.complaint stops p.refused refused p.reports_refusal reports_refusal) ∙ sym q.only_complaint)

@@ -16,9 +16,9 @@ use Rattle.ob0_scope_table.specs.Resolution.{Resolution}
 use Rattle.ob0_tree.specs.ParsedModule.{ParsedModule, named_tree_of}
 use Rattle.ob0_types.specs.CheckedModules.{CheckedModule, IsChecked, IsWellTyped}
 use Rattle.ob0_language_types.specs.WellTyped.{WellTyped}
-use Rattle.ob0_analysis.specs.Analysed.{IsModuleIn}
-use Rattle.ob0_analysis.specs.Found.{IsNotLackOfMemory}
-use Rattle.ob0_analysis.specs.Diagnosed.{Complaint, IsWellTypedModule, ReportsRefusal, Reports, ReportsFaults, complaint_of_fault}
+use Rattle.ob0_analysis.specs.Analysed.{IsResolvedWellTypedModule}
+use Rattle.ob0_analysis.specs.AnalysisInvariants.{IsNotLackOfMemory}
+use Rattle.ob0_analysis.specs.Diagnosed.{ReportedDiagnosis, IsWellTypedModule, ReportsRefusal, Reports, ReportsFaults, reported_diagnosis_of_fault}
 use Rattle.ob0_analysis.specs.Texts.{utf8}
 
 -- The UTF-8 bytes of a text's characters are the bytes of the text.
@@ -31,7 +31,7 @@ OneScan = (s t : TextWithTokens) → IsScan s → IsScan t → s.text ≡ t.text
 scannable : (text : List ℕ) → IsWellTypedModule text → IsScannable text
 scannable text w = subst IsScannable w.text_of.scan.of (w.text_of.scan.scan.short, (w.text_of.scan.scan.lexemes, w.text_of.scan.scan.lexed))
 
-pub finds_lexemes : (text : List ℕ) (faults : List Fault) (reported : List Complaint) → (IsScannable text → ⊥) → AreFaults text faults → reported ≡ map complaint_of_fault faults
+pub finds_lexemes : (text : List ℕ) (faults : List Fault) (reported : List ReportedDiagnosis) → (IsScannable text → ⊥) → AreFaults text faults → reported ≡ map reported_diagnosis_of_fault faults
     → ¬ IsWellTypedModule text × ReportsFaults text reported
 finds_lexemes text faults reported bad are is =
     (λ w. bad (scannable text w), inl (record { unscannable = bad; faults = faults; of_text = are; all = is }))
@@ -56,12 +56,12 @@ refused_is_none s (Syntax i expected) one scan by decided = unformed s i one sca
 refused_is_none s (TooDeep i) one scan by decided = unformed s i one scan by.1
 refused_is_none s Memory one scan by decided = absurd decided
 
-pub finds_parser : (s : TextWithTokens) (refusal : ParseRefusal) (c : Complaint) → OneScan → IsScan s → IsRightParseRefusal s refusal → ReportsRefusal s refusal c
+pub finds_parser : (s : TextWithTokens) (refusal : ParseRefusal) (c : ReportedDiagnosis) → OneScan → IsScan s → IsRightParseRefusal s refusal → ReportsRefusal s refusal c
     → ¬ IsWellTypedModule s.text × ReportsFaults s.text (c ∷ [])
 finds_parser s (Syntax i expected) c one scan by at =
-    (unformed s i one scan by.1, inr (inl (record { scanned = s; scan = record { of = refl; scan = scan }; refusal = Syntax i expected; refused = by; complaint = c; says = at; alone = refl })))
+    (unformed s i one scan by.1, inr (inl (record { scanned = s; scan = record { of = refl; scan = scan }; refusal = Syntax i expected; refused = by; complaint = c; reports_refusal = at; only_complaint = refl })))
 finds_parser s (TooDeep i) c one scan by at =
-    (unformed s i one scan by.1, inr (inl (record { scanned = s; scan = record { of = refl; scan = scan }; refusal = TooDeep i; refused = by; complaint = c; says = at; alone = refl })))
+    (unformed s i one scan by.1, inr (inl (record { scanned = s; scan = record { of = refl; scan = scan }; refusal = TooDeep i; refused = by; complaint = c; reports_refusal = at; only_complaint = refl })))
 finds_parser s Memory c one scan by at = absurd at
 
 abbrev pub OneTree : Type 0
@@ -77,7 +77,7 @@ some_of : (faults : List Fault) → (faults ≡ [] → ⊥) → 0 < length fault
 some_of [] some = absurd (some refl)
 some_of (f ∷ fs) some = omega arith
 
-pub finds_types : (c : CheckedModule) (reported : List Complaint) → OneScan → OneTree → IsScan c.names.module_read.source → IsChecked c → (c.faults ≡ [] → ⊥) → reported ≡ map complaint_of_fault c.faults
+pub finds_types : (c : CheckedModule) (reported : List ReportedDiagnosis) → OneScan → OneTree → IsScan c.names.module_read.source → IsChecked c → (c.faults ≡ [] → ⊥) → reported ≡ map reported_diagnosis_of_fault c.faults
     → ¬ IsWellTypedModule c.names.module_read.source.text × ReportsFaults c.names.module_read.source.text reported
 finds_types c reported one only scan checked bad is =
     let s : TextWithTokens = c.names.module_read.source in
@@ -105,11 +105,11 @@ faulty_is_none text c m is one only read checked bad =
     subst (λ (t : List ℕ). IsWellTypedModule t → ⊥) here.of (ill_typed s (named_tree_of c.names.module_read) one only here.scan checked.resolved.parsed.module_of (λ w. bad (checked.reported.1 w)))
 
 -- If the checked module is a scan of the text and is well-typed, it is the text's module.
-pub module_in : (text : List ℕ) (names m : Resolution) → names ≡ m → IsScanOf text m.module_read.source → IsWellTyped names → IsModuleIn text names
+pub module_in : (text : List ℕ) (names m : Resolution) → names ≡ m → IsScanOf text m.module_read.source → IsWellTyped names → IsResolvedWellTypedModule text names
 module_in text names m is read w = record { scan = subst (λ (r : Resolution). IsScanOf text r.module_read.source) (sym is) read; well_typed = w }
 
 -- A text that has a well-typed module with its bindings is a well-typed module.
-abbrev pub is_module : (text : List ℕ) (names : Resolution) → IsModuleIn text names → IsWellTypedModule text
+abbrev pub is_module : (text : List ℕ) (names : Resolution) → IsResolvedWellTypedModule text names → IsWellTypedModule text
 is_module text names h =
     record { tree = named_tree_of names.module_read; text_of = record { scanned = names.module_read.source; scan = h.scan; module_of = h.well_typed.resolved.parsed.module_of }; well_typed = h.well_typed.well_typed }
 
@@ -118,13 +118,13 @@ some_or_none [] = inl refl
 some_or_none (f ∷ fs) = inr (λ e. absurd (omega (arith, ap length e)))
 
 -- The report of a text with a tree is empty exactly if the module is well-typed.
-pub reports_module : (c : CheckedModule) (reported : List Complaint) → OneScan → OneTree → IsScan c.names.module_read.source → IsChecked c → reported ≡ map complaint_of_fault c.faults
+pub reports_module : (c : CheckedModule) (reported : List ReportedDiagnosis) → OneScan → OneTree → IsScan c.names.module_read.source → IsChecked c → reported ≡ map reported_diagnosis_of_fault c.faults
     → Reports c.names.module_read.source.text reported
 reports_module c reported one only scan checked is =
     let m : ParsedModule = c.names.module_read in
     elim (some_or_none c.faults) [
       | inl none ↦
           let fits : IsWellTyped c.names = record { resolved = checked.resolved; well_typed = checked.reported.0 none } in
-          inl (is_module m.source.text c.names (module_in m.source.text c.names c.names refl (record { of = refl; scan = scan }) fits), is ∙ ap (map complaint_of_fault) none)
+          inl (is_module m.source.text c.names (module_in m.source.text c.names c.names refl (record { of = refl; scan = scan }) fits), is ∙ ap (map reported_diagnosis_of_fault) none)
       | inr some ↦ inr (finds_types c reported one only scan checked some is)
     ]

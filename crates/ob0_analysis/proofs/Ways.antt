@@ -3,17 +3,17 @@ use Rattle.std.proofs.Common.{◌≡◌, ℕ, zero, suc, nat_lt, if◌then◌els
 use Rattle.ob0_scan.specs.declared.lexeme.TokenKind.TheVariants as kind
 use Rattle.ob0_scan.specs.declared.lexeme.ReservedWord.TheVariants as reserved
 use Rattle.ob0_scan.specs.declared.lexeme.Symbol.TheVariants as symbol
-use Rattle.ob0_tree.specs.Lexeme.{Terminal, Name, Mark}
-use Rattle.ob0_tree.specs.Tree.{Tree, block, body, declares, declares_procedure, end, has_body, is_module, item, items, mapped, maybe, module_text, more, one, procedure, spell}
-use Rattle.ob0_scope_table.specs.BodyReplaced.{PathToBody, block_without, body_among, body_at, body_in, body_inside, closing_name_in_procedures, closing_name_in_module, closing_name_in_block, closing_name_in_procedure, shift_way, procedure_without, procedures_without, way_in_procedures, way_in_block, way_in_module, module_without_body}
+use Rattle.ob0_tree.specs.Lexeme.{Terminal, Name, WordOrSymbol}
+use Rattle.ob0_tree.specs.Tree.{Tree, block, body, declares, declares_procedure, end, forms_block, is_module, item, items, mapped_tree, maybe, module_text, more, one, procedure, spell}
+use Rattle.ob0_scope_table.specs.BodyReplaced.{PathToBody, block_without, body_at_path_in_procedures, body_at_path, body_at_path_in_block, body_at_path_in_procedure, closing_name_in_procedures, closing_name_in_module, closing_name_in_block, closing_name_in_procedure, shift_path, procedure_without, procedures_without, path_to_body_in_procedures, path_to_body_in_block, path_to_body_in_module, module_without_body}
 
 -- Holds if `whole` and `less` are the tokens of a part with a body and without it. Both have the same tokens before the
 -- body, and the END and the closing name of its block after it.
 pub record Around {N : Type 0} (whole less : List (Terminal N)) (statements : Tree N (maybe body)) (closing : N) : Type 0 where
   pub front : List (Terminal N)
   pub back : List (Terminal N)
-  pub whole_is : whole ≡ front ++ (spell statements ++ (Mark (kind.ReservedWord reserved.End) ∷ Name closing ∷ back))
-  pub less_is : less ≡ front ++ (Mark (kind.ReservedWord reserved.End) ∷ Name closing ∷ back)
+  pub whole_is : whole ≡ front ++ (spell statements ++ (WordOrSymbol (kind.ReservedWord reserved.End) ∷ Name closing ∷ back))
+  pub less_is : less ≡ front ++ (WordOrSymbol (kind.ReservedWord reserved.End) ∷ Name closing ∷ back)
 
 body_last : {A : Type 0} (d s r : List A) → (d ++ s) ++ r ≡ d ++ (s ++ r)
 body_last d s r = append_assoc d s r
@@ -41,88 +41,88 @@ in_heading x n semi fs b e r f z is =
     ∙ sym (append_assoc fs (semi ∷ f) z)))
 
 mutual
-  around_block : {N : Type 0} (way : PathToBody) (own : N) (b : Tree N block) (after : List (Terminal N)) (y : Tree N (item body)) → body_in way b ≡ one y
-      → Around (spell b ++ (Mark (kind.ReservedWord reserved.End) ∷ Name own ∷ after)) (spell (block_without way b) ++ (Mark (kind.ReservedWord reserved.End) ∷ Name own ∷ after)) (body_in way b) (closing_name_in_block way own b)
-  around_block [] own (has_body ds statements) after y e =
+  around_block : {N : Type 0} (path : PathToBody) (own : N) (b : Tree N block) (after : List (Terminal N)) (y : Tree N (item body)) → body_at_path_in_block path b ≡ one y
+      → Around (spell b ++ (WordOrSymbol (kind.ReservedWord reserved.End) ∷ Name own ∷ after)) (spell (block_without path b) ++ (WordOrSymbol (kind.ReservedWord reserved.End) ∷ Name own ∷ after)) (body_at_path_in_block path b) (closing_name_in_block path own b)
+  around_block [] own (forms_block ds statements) after y e =
       record { front = spell ds; back = after; whole_is = append_assoc (spell ds) (spell statements) _; less_is = append_assoc (spell ds) [] _ }
-  around_block (k ∷ way) own (has_body (declares cs ts vs ps) statements) after y e =
-      let r : List (Terminal _) = Mark (kind.ReservedWord reserved.End) ∷ Name own ∷ after in
-      let h = around_among k way own ps (spell statements ++ r) y e in
+  around_block (k ∷ path) own (forms_block (declares cs ts vs ps) statements) after y e =
+      let r : List (Terminal _) = WordOrSymbol (kind.ReservedWord reserved.End) ∷ Name own ∷ after in
+      let h = around_among k path own ps (spell statements ++ r) y e in
       record {
         front = spell cs ++ (spell ts ++ (spell vs ++ h.front));
         back = h.back;
         whole_is = in_declarations (spell cs) (spell ts) (spell vs) (spell ps) (spell statements) r h.front _ h.whole_is;
-        less_is = in_declarations (spell cs) (spell ts) (spell vs) (spell (procedures_without k way ps)) (spell statements) r h.front _ h.less_is;
+        less_is = in_declarations (spell cs) (spell ts) (spell vs) (spell (procedures_without k path ps)) (spell statements) r h.front _ h.less_is;
       }
 
-  around_among : {N : Type 0} (k : ℕ) (way : PathToBody) (own : N) (ps : Tree N (items procedure)) (after : List (Terminal N)) (y : Tree N (item body)) → body_among k way ps ≡ one y
-      → Around (spell ps ++ after) (spell (procedures_without k way ps) ++ after) (body_among k way ps) (closing_name_in_procedures k way own ps)
-  around_among k way own end after y e = absurd (cc (e))
-  around_among zero way own (more p ps) after y e =
-      let h = around_procedure way p (spell ps ++ after) y e in
+  around_among : {N : Type 0} (k : ℕ) (path : PathToBody) (own : N) (ps : Tree N (items procedure)) (after : List (Terminal N)) (y : Tree N (item body)) → body_at_path_in_procedures k path ps ≡ one y
+      → Around (spell ps ++ after) (spell (procedures_without k path ps) ++ after) (body_at_path_in_procedures k path ps) (closing_name_in_procedures k path own ps)
+  around_among k path own end after y e = absurd (cc (e))
+  around_among zero path own (more p ps) after y e =
+      let h = around_procedure path p (spell ps ++ after) y e in
       record {
         front = h.front;
         back = h.back;
         whole_is = in_first (spell p) (spell ps) after h.front _ h.whole_is;
-        less_is = in_first (spell (procedure_without way p)) (spell ps) after h.front _ h.less_is;
+        less_is = in_first (spell (procedure_without path p)) (spell ps) after h.front _ h.less_is;
       }
-  around_among (suc k) way own (more p ps) after y e =
-      let h = around_among k way own ps after y e in
+  around_among (suc k) path own (more p ps) after y e =
+      let h = around_among k path own ps after y e in
       record {
         front = spell p ++ h.front;
         back = h.back;
         whole_is = in_later (spell p) (spell ps) after h.front _ h.whole_is;
-        less_is = in_later (spell p) (spell (procedures_without k way ps)) after h.front _ h.less_is;
+        less_is = in_later (spell p) (spell (procedures_without k path ps)) after h.front _ h.less_is;
       }
 
-  around_procedure : {N : Type 0} (way : PathToBody) (p : Tree N (item procedure)) (after : List (Terminal N)) (y : Tree N (item body)) → body_inside way p ≡ one y
-      → Around (spell p ++ after) (spell (procedure_without way p) ++ after) (body_inside way p) (closing_name_in_procedure way p)
-  around_procedure way (declares_procedure n fs b c) after y e =
-      let last : List (Terminal _) = Mark (kind.ReservedWord reserved.End) ∷ Name c ∷ Mark (kind.Symbol symbol.Semicolon) ∷ [] in
-      let h = around_block way c b (Mark (kind.Symbol symbol.Semicolon) ∷ after) y e in
+  around_procedure : {N : Type 0} (path : PathToBody) (p : Tree N (item procedure)) (after : List (Terminal N)) (y : Tree N (item body)) → body_at_path_in_procedure path p ≡ one y
+      → Around (spell p ++ after) (spell (procedure_without path p) ++ after) (body_at_path_in_procedure path p) (closing_name_in_procedure path p)
+  around_procedure path (declares_procedure n fs b c) after y e =
+      let last : List (Terminal _) = WordOrSymbol (kind.ReservedWord reserved.End) ∷ Name c ∷ WordOrSymbol (kind.Symbol symbol.Semicolon) ∷ [] in
+      let h = around_block path c b (WordOrSymbol (kind.Symbol symbol.Semicolon) ∷ after) y e in
       record {
-        front = Mark (kind.ReservedWord reserved.Procedure) ∷ Name n ∷ (spell fs ++ (Mark (kind.Symbol symbol.Semicolon) ∷ h.front));
+        front = WordOrSymbol (kind.ReservedWord reserved.Procedure) ∷ Name n ∷ (spell fs ++ (WordOrSymbol (kind.Symbol symbol.Semicolon) ∷ h.front));
         back = h.back;
         whole_is = in_heading _ _ _ (spell fs) (spell b) last after h.front _ h.whole_is;
-        less_is = in_heading _ _ _ (spell fs) (spell (block_without way b)) last after h.front _ h.less_is;
+        less_is = in_heading _ _ _ (spell fs) (spell (block_without path b)) last after h.front _ h.less_is;
       }
 
-pub around_body : {N : Type 0} (way : PathToBody) (t : Tree N module_text) (y : Tree N (item body)) → body_at way t ≡ one y → Around (spell t) (spell (module_without_body way t)) (body_at way t) (closing_name_in_module way t)
-around_body way (is_module n b c) y e =
-    let h = around_block way c b (Mark (kind.Symbol symbol.Dot) ∷ []) y e in
+pub around_body : {N : Type 0} (path : PathToBody) (t : Tree N module_text) (y : Tree N (item body)) → body_at_path path t ≡ one y → Around (spell t) (spell (module_without_body path t)) (body_at_path path t) (closing_name_in_module path t)
+around_body path (is_module n b c) y e =
+    let h = around_block path c b (WordOrSymbol (kind.Symbol symbol.Dot) ∷ []) y e in
     record {
-      front = Mark (kind.ReservedWord reserved.Module) ∷ Name n ∷ Mark (kind.Symbol symbol.Semicolon) ∷ h.front;
+      front = WordOrSymbol (kind.ReservedWord reserved.Module) ∷ Name n ∷ WordOrSymbol (kind.Symbol symbol.Semicolon) ∷ h.front;
       back = h.back;
-      whole_is = ap (λ l. Mark (kind.ReservedWord reserved.Module) ∷ Name n ∷ Mark (kind.Symbol symbol.Semicolon) ∷ l) h.whole_is;
-      less_is = ap (λ l. Mark (kind.ReservedWord reserved.Module) ∷ Name n ∷ Mark (kind.Symbol symbol.Semicolon) ∷ l) h.less_is;
+      whole_is = ap (λ l. WordOrSymbol (kind.ReservedWord reserved.Module) ∷ Name n ∷ WordOrSymbol (kind.Symbol symbol.Semicolon) ∷ l) h.whole_is;
+      less_is = ap (λ l. WordOrSymbol (kind.ReservedWord reserved.Module) ∷ Name n ∷ WordOrSymbol (kind.Symbol symbol.Semicolon) ∷ l) h.less_is;
     }
 
 -- ---- a way leads through procedures, so it doesn't depend on a body
 
 mutual
-  way_less_block : (low : ℕ) (way : PathToBody) (b : Tree ℕ block) → way_in_block low (block_without way b) ≡ way_in_block low b
-  way_less_block low [] (has_body (declares cs ts vs ps) statements) = refl
-  way_less_block low (k ∷ way) (has_body (declares cs ts vs ps) statements) = way_less_among low k way ps
+  way_less_block : (low : ℕ) (path : PathToBody) (b : Tree ℕ block) → path_to_body_in_block low (block_without path b) ≡ path_to_body_in_block low b
+  way_less_block low [] (forms_block (declares cs ts vs ps) statements) = refl
+  way_less_block low (k ∷ path) (forms_block (declares cs ts vs ps) statements) = way_less_among low k path ps
 
-  way_less_among : (low k : ℕ) (way : PathToBody) (ps : Tree ℕ (items procedure)) → way_in_procedures low (procedures_without k way ps) ≡ way_in_procedures low ps
-  way_less_among low k way end = refl
-  way_less_among low zero way (more (declares_procedure n fs b c) ps) = ap (λ w. if nat_lt c low then shift_way (way_in_procedures low ps) else zero ∷ w) (way_less_block low way b)
-  way_less_among low (suc k) way (more (declares_procedure n fs b c) ps) = ap (λ w. if nat_lt c low then shift_way w else zero ∷ way_in_block low b) (way_less_among low k way ps)
+  way_less_among : (low k : ℕ) (path : PathToBody) (ps : Tree ℕ (items procedure)) → path_to_body_in_procedures low (procedures_without k path ps) ≡ path_to_body_in_procedures low ps
+  way_less_among low k path end = refl
+  way_less_among low zero path (more (declares_procedure n fs b c) ps) = ap (λ w. if nat_lt c low then shift_path (path_to_body_in_procedures low ps) else zero ∷ w) (way_less_block low path b)
+  way_less_among low (suc k) path (more (declares_procedure n fs b c) ps) = ap (λ w. if nat_lt c low then shift_path w else zero ∷ path_to_body_in_block low b) (way_less_among low k path ps)
 
-pub way_less : (low : ℕ) (way : PathToBody) (t : Tree ℕ module_text) → way_in_module low (module_without_body way t) ≡ way_in_module low t
-way_less low way (is_module n b c) = way_less_block low way b
+pub way_less : (low : ℕ) (path : PathToBody) (t : Tree ℕ module_text) → path_to_body_in_module low (module_without_body path t) ≡ path_to_body_in_module low t
+way_less low path (is_module n b c) = way_less_block low path b
 
 module _ (low : ℕ) (f : ℕ → ℕ) (side : (c : ℕ) → nat_lt (f c) low ≡ nat_lt c low) where
   mutual
-    way_moved_block : (b : Tree ℕ block) → way_in_block low (mapped f f b) ≡ way_in_block low b
-    way_moved_block (has_body (declares cs ts vs ps) statements) = way_moved_among ps
+    way_moved_block : (b : Tree ℕ block) → path_to_body_in_block low (mapped_tree f f b) ≡ path_to_body_in_block low b
+    way_moved_block (forms_block (declares cs ts vs ps) statements) = way_moved_among ps
 
-    way_moved_among : (ps : Tree ℕ (items procedure)) → way_in_procedures low (mapped f f ps) ≡ way_in_procedures low ps
+    way_moved_among : (ps : Tree ℕ (items procedure)) → path_to_body_in_procedures low (mapped_tree f f ps) ≡ path_to_body_in_procedures low ps
     way_moved_among end = refl
     way_moved_among (more (declares_procedure n fs b c) ps) =
-        ap (λ x. if x then shift_way (way_in_procedures low (mapped f f ps)) else zero ∷ way_in_block low (mapped f f b)) (side c)
-        ∙ (ap (λ w. if nat_lt c low then shift_way w else zero ∷ way_in_block low (mapped f f b)) (way_moved_among ps)
-        ∙ ap (λ w. if nat_lt c low then shift_way (way_in_procedures low ps) else zero ∷ w) (way_moved_block b))
+        ap (λ x. if x then shift_path (path_to_body_in_procedures low (mapped_tree f f ps)) else zero ∷ path_to_body_in_block low (mapped_tree f f b)) (side c)
+        ∙ (ap (λ w. if nat_lt c low then shift_path w else zero ∷ path_to_body_in_block low (mapped_tree f f b)) (way_moved_among ps)
+        ∙ ap (λ w. if nat_lt c low then shift_path (path_to_body_in_procedures low ps) else zero ∷ w) (way_moved_block b))
 
-  pub way_moved : (t : Tree ℕ module_text) → way_in_module low (mapped f f t) ≡ way_in_module low t
+  pub way_moved : (t : Tree ℕ module_text) → path_to_body_in_module low (mapped_tree f f t) ≡ path_to_body_in_module low t
   way_moved (is_module n b c) = way_moved_block b

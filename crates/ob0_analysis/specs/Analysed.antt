@@ -9,12 +9,12 @@ use Rattle.ob0_types.specs.CheckedModules.{IsWellTyped}
 use Rattle.ob0_analysis.specs.Diagnosed.{IsWellTypedModule}
 
 -- states that the text is a well-typed module, and `names` is this module with its names bound
-pub record IsModuleIn (text : List ℕ) (names : Resolution) : Type 0 where
+pub record IsResolvedWellTypedModule (text : List ℕ) (names : Resolution) : Type 0 where
   pub scan : IsScanOf text names.module_read.source
   pub well_typed : IsWellTyped names
 
 -- states that the text is a well-typed module, and `m` has the tokens and the tree of the text
-pub record IsReadAs (text : List ℕ) (m : ParsedModule) : Type 0 where
+pub record IsParsedWellTypedModule (text : List ℕ) (m : ParsedModule) : Type 0 where
   pub scan : IsScanOf text m.source
   pub parsed : IsParsed m
   pub well_typed : WellTyped (named_tree_of m)
@@ -24,5 +24,5 @@ pub record IsReadAs (text : List ℕ) (m : ParsedModule) : Type 0 where
 -- well-typed module.
 abbrev pub AnswersIfWellTyped : {A : Type 0} → List ℕ → (Resolution → A → Type 0) → Option A → Type 0
 AnswersIfWellTyped text answers (Some answer) =
-    (names : Resolution) × IsModuleIn text names × answers names answer
+    (names : Resolution) × IsResolvedWellTypedModule text names × answers names answer
 AnswersIfWellTyped text answers None = ¬ IsWellTypedModule text

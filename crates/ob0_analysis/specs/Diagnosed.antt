@@ -25,14 +25,14 @@ use Rattle.ob0_analysis.specs.declared.diagnoses.Diagnosis.{Diagnosis}
 -- In this file a text is the list of its UTF-8 bytes. Spans count these bytes.
 
 -- a reported error of a text: the name of its code, its message and its span in bytes
-pub record Complaint : Type 0 where
+pub record ReportedDiagnosis : Type 0 where
   pub code : List ℕ
-  pub said : List ℕ
+  pub message : List ℕ
   pub span : Span
 
 -- returns the code, message and span of a diagnosis
-abbrev pub complaint_of_diagnosis : Diagnosis → Complaint
-complaint_of_diagnosis d = record { code = d.code.now; said = string_bytes d.message; span = d.span }
+abbrev pub reported_diagnosis_of : Diagnosis → ReportedDiagnosis
+reported_diagnosis_of d = record { code = d.code.now; message = string_bytes d.message; span = d.span }
 
 -- states that the text is a module with this tree
 pub record IsTextOf (tree : Tree Name module_text) (text : List ℕ) : Type 0 where
@@ -49,17 +49,17 @@ pub record IsWellTypedModule (text : List ℕ) : Type 0 where
 -- ---- the errors of a text with lexical faults
 
 -- returns the complaint about one fault of lexemes, names or types
-abbrev pub complaint_of_fault : Fault → Complaint
-complaint_of_fault fault =
-    record { code = code_name fault.code; said = code_message fault.code; span = fault.span }
+abbrev pub reported_diagnosis_of_fault : Fault → ReportedDiagnosis
+reported_diagnosis_of_fault fault =
+    record { code = code_name fault.code; message = code_message fault.code; span = fault.span }
 
 -- States that the text can't be scanned and that the list reports its lexical faults, at most the
 -- first hundred.
-pub record ReportsLexemes (text : List ℕ) (reported : List Complaint) : Type 0 where
+pub record ReportsLexemes (text : List ℕ) (reported : List ReportedDiagnosis) : Type 0 where
   pub unscannable : IsScannable text → ⊥
   pub faults : List Fault
   pub of_text : AreFaults text faults
-  pub all : reported ≡ map complaint_of_fault faults
+  pub all : reported ≡ map reported_diagnosis_of_fault faults
 
 -- ---- the error of a text that scans and that the parser refuses
 
@@ -75,37 +75,37 @@ token_span_or_end s token = span_or_end s.text (slice_get s.tokens token)
 
 -- Returns the complaint about a syntax error at this span. The message is `expected` followed by
 -- this word.
-abbrev pub syntax_error : List ℕ → Span → Complaint
+abbrev pub syntax_error : List ℕ → Span → ReportedDiagnosis
 syntax_error word place =
-    record { code = codes "Syntax"; said = codes "expected " ++ word; span = place }
+    record { code = codes "Syntax"; message = codes "expected " ++ word; span = place }
 
 -- returns the complaint that a construct at this span is nested too deep
-abbrev pub depth_error : Span → Complaint
-depth_error place = record { code = codes "TooDeep"; said = codes "nested too deep"; span = place }
+abbrev pub depth_error : Span → ReportedDiagnosis
+depth_error place = record { code = codes "TooDeep"; message = codes "nested too deep"; span = place }
 
 -- States that the complaint reports this refusal, at the token that the parser refused. Never holds
 -- if the refusal is lack of memory.
-abbrev pub ReportsRefusal : TextWithTokens → ParseRefusal → Complaint → Type 0
+abbrev pub ReportsRefusal : TextWithTokens → ParseRefusal → ReportedDiagnosis → Type 0
 ReportsRefusal s (Syntax token expected) c = c ≡ syntax_error (expected_text expected) (token_span_or_end s token)
 ReportsRefusal s (TooDeep token) c = c ≡ depth_error (token_span_or_end s token)
 ReportsRefusal s Memory c = ⊥
 
 -- states that the parser refuses the text, and that the list has only one complaint, which reports
 -- this refusal
-pub record ReportsParser (text : List ℕ) (reported : List Complaint) : Type 0 where
+pub record ReportsParser (text : List ℕ) (reported : List ReportedDiagnosis) : Type 0 where
   pub scanned : TextWithTokens
   pub scan : IsScanOf text scanned
   pub refusal : ParseRefusal
   pub refused : IsRightParseRefusal scanned refusal
-  pub complaint : Complaint
-  pub says : ReportsRefusal scanned refusal complaint
-  pub alone : reported ≡ complaint ∷ []
+  pub complaint : ReportedDiagnosis
+  pub reports_refusal : ReportsRefusal scanned refusal complaint
+  pub only_complaint : reported ≡ complaint ∷ []
 
 -- ---- the errors of a text with a tree that isn't well-typed
 
 -- States that the text has a tree that isn't well-typed. The list must report the first faults of
 -- the text's names and types: at least one, and at most a hundred.
-pub record ReportsTypes (text : List ℕ) (reported : List Complaint) : Type 0 where
+pub record ReportsTypes (text : List ℕ) (reported : List ReportedDiagnosis) : Type 0 where
   pub names : Resolution
   pub resolved : IsResolution names
   pub scan : IsScanOf text names.module_read.source
@@ -114,19 +114,19 @@ pub record ReportsTypes (text : List ℕ) (reported : List Complaint) : Type 0 w
   pub first : AreFirstFaults names faults
   pub some : 0 < length faults
   pub few : length faults ≤ max_faults
-  pub all : reported ≡ map complaint_of_fault faults
+  pub all : reported ≡ map reported_diagnosis_of_fault faults
 
 -- ---- the errors of any text
 
 -- States that the list reports the errors of a text that isn't a well-typed module. These are the
 -- text's lexical faults, or the parser's refusal, or the faults of names and types.
-abbrev pub ReportsFaults : List ℕ → List Complaint → Type 0
+abbrev pub ReportsFaults : List ℕ → List ReportedDiagnosis → Type 0
 ReportsFaults text reported =
     ReportsLexemes text reported ⊎ (ReportsParser text reported ⊎ ReportsTypes text reported)
 
 -- States that the list has exactly the errors to report for the text. The list is empty if the text
 -- is a well-typed module. Otherwise the list reports the text's errors.
-abbrev pub Reports : List ℕ → List Complaint → Type 0
+abbrev pub Reports : List ℕ → List ReportedDiagnosis → Type 0
 Reports text reported =
     (IsWellTypedModule text × (reported ≡ []))
     ⊎ (¬ IsWellTypedModule text × ReportsFaults text reported)
@@ -136,4 +136,4 @@ Reports text reported =
 -- States that two reports of the parser's refusal are equal if they are about the same text.
 abbrev pub RefusalIsUnique : Type 0
 RefusalIsUnique =
-    (text : List ℕ) (a b : List Complaint) → ReportsParser text a → ReportsParser text b → a ≡ b
+    (text : List ℕ) (a b : List ReportedDiagnosis) → ReportsParser text a → ReportsParser text b → a ≡ b

@@ -1,9 +1,9 @@
 -- Defines the last text that was a module, and the tokens that the current text shares with it.
 -- Rule: none; for private contracts: the results that an analysis reuses.
 use Rattle.std.specs.Prelude.{◌≡◌, ◌≤◌, ◌+◌, IfSome, Option, Some}
-use Rattle.ob0_scan.specs.SameKinds.{HasSameTokens, HasSameWords}
+use Rattle.ob0_scan.specs.SameKinds.{HasSameKinds, HasSameWords}
 use Rattle.ob0_scan.specs.TextWithTokens.{IsScan, TextWithTokens}
-use Rattle.ob0_scan.specs.declared.tokens.SameTokens.{SameTokens}
+use Rattle.ob0_scan.specs.declared.tokens.SameParts.{SameParts}
 use Rattle.ob0_tree.specs.declared.tree.ModuleTree.{ModuleTree}
 use Rattle.ob0_tree.specs.ParsedModule.{IsParsed, parsed_module}
 use Rattle.ob0_scope_table.specs.Bindings.{resolution_with}
@@ -19,7 +19,7 @@ use Rattle.ob0_analysis.specs.declared.last_module.LastModule.{LastModule}
 -- text `new`, and the tokens that end both texts. These tokens must have the same kinds and
 -- spellings in both texts.
 pub record IsEarlierModule
-    (new : TextWithTokens) (tree : ModuleTree) (b : Bindings) (types : ModuleTypes) (s : SameTokens)
+    (new : TextWithTokens) (tree : ModuleTree) (b : Bindings) (types : ModuleTypes) (s : SameParts)
     : Type 0 where
   pub old : TextWithTokens
   pub old_scan : IsScan old
@@ -27,7 +27,7 @@ pub record IsEarlierModule
   pub parsed : IsParsed (parsed_module old tree)
   pub resolved : IsResolution (resolution_with (parsed_module old tree) b)
   pub types_are : AreTypesOf (resolution_with (parsed_module old tree) b) types
-  pub same : HasSameTokens s old.tokens new.tokens
+  pub same : HasSameKinds s old.tokens new.tokens
   pub written : HasSameWords s old new
 
 -- States that `last` has the names and types of an earlier text that was a module. All tokens of
@@ -35,26 +35,26 @@ pub record IsEarlierModule
 -- `last.place`.
 pub record IsLastModuleOf (new : TextWithTokens) (last : LastModule) : Type 0 where
   pub tree : ModuleTree
-  pub had : IsEarlierModule new tree last.bindings last.types last.same
+  pub earlier_module : IsEarlierModule new tree last.bindings last.types last.same
   pub placed : body_place_around last.same.prefix last.same.old_suffix (module_tree_of tree) ≡ Some last.place
 
--- States that the tokens that may differ according to `wider` include the tokens that may differ
--- according to `same`. At the end of the range, `wider` must add as many tokens in the old text as
+-- States that the tokens that may differ according to `wide` include the tokens that may differ
+-- according to `narrow`. At the end of the range, `wide` must add as many tokens in the old text as
 -- in the new text.
-pub record WidensDifference (same wider : SameTokens) : Type 0 where
-  pub front : wider.prefix ≤ same.prefix
-  pub back : same.old_suffix ≤ wider.old_suffix
-  pub as_far : wider.new_suffix + same.old_suffix ≡ same.new_suffix + wider.old_suffix
+pub record WidensDifference (narrow wide : SameParts) : Type 0 where
+  pub front : wide.prefix ≤ narrow.prefix
+  pub back : narrow.old_suffix ≤ wide.old_suffix
+  pub same_shift : wide.new_suffix + narrow.old_suffix ≡ narrow.new_suffix + wide.old_suffix
 
 -- States that a change from an old text to a new text keeps the last module right: if `before`
 -- belongs to the old text, then `after` belongs to the new text. This must hold for any old text
 -- and any scanned new text (`IsScan`) that share the tokens described by `change`. Always holds if
 -- `after` is None.
-abbrev pub KeepsLastModule : Option LastModule → SameTokens → Option LastModule → Type 0
+abbrev pub KeepsLastModule : Option LastModule → SameParts → Option LastModule → Type 0
 KeepsLastModule before change after =
     (old new : TextWithTokens)
     → IfSome before (IsLastModuleOf old)
-    → HasSameTokens change old.tokens new.tokens
+    → HasSameKinds change old.tokens new.tokens
     → HasSameWords change old new
     → IsScan new
     → IfSome after (IsLastModuleOf new)

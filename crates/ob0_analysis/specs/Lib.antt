@@ -1,7 +1,7 @@
 pub mod Analysed
 pub mod Diagnosed
-pub mod Found
-pub mod Before
+pub mod AnalysisInvariants
+pub mod ReuseConditions
 pub mod LastModule
 pub mod OneBody
 pub mod NewBody

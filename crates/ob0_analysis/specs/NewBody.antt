@@ -2,14 +2,14 @@
 -- which statements were replaced.
 -- Rule: none; for private contracts: the results that an analysis reuses.
 use Rattle.std.specs.Prelude.{◌≡◌, ◌<◌, ◌+◌, Option, Some}
-use Rattle.ob0_scan.specs.declared.tokens.SameTokens.{SameTokens}
+use Rattle.ob0_scan.specs.declared.tokens.SameParts.{SameParts}
 use Rattle.ob0_scope_table.specs.declared.one_body.BodyPlace.{BodyPlace}
 
 -- States that the earlier module's body at `was` and the current module's body at `now` are the
 -- same body. Its first identifier is at the same token index in both modules, before the tokens
 -- that may differ. The closing name of its block is at the same distance after these tokens in both
 -- modules. Never holds if `now` is None.
-pub record IsSameBody (was : BodyPlace) (now : Option BodyPlace) (s : SameTokens) : Type 0 where
+pub record IsSameBody (was : BodyPlace) (now : Option BodyPlace) (s : SameParts) : Type 0 where
   pub place : BodyPlace
   pub is : now ≡ Some place
   pub first : was.first ≡ place.first

@@ -7,11 +7,11 @@
 //!   `ScannedText` before it.
 //!
 //! In contracts, the value of an `Analysis` is only the text. Its invariant says that the analysis
-//! is right for that text (`IsValidAnalysisResult`, `IsValidOutcome`). So `of` and
-//! `after` have the same clause, and contracts don't mention which results are reused. The
+//! is right for that text (`IsValidAnalysisResult`, `IsValidOutcome`). So `analyse_text` and
+//! `reanalyse` have the same clause, and contracts don't mention which results are reused. The
 //! crates above don't depend on how much is reused.
 //!
-//! `after` finds the common beginning and end of the old and the new text
+//! `reanalyse` finds the common beginning and end of the old and the new text
 //! (`Difference::between`). It scans only the rest, and replaces the old tokens there
 //! (`rescan_in_place`). The next step depends on the tokens:
 //! - All tokens have the same kinds as before, and the old text has a tree: the tree is kept. It
@@ -48,7 +48,7 @@ ghost use Rattle.std.specs.Prelude.{◌≡◌, ◌≤◌, IfErr, IfOk, MatchOpti
 ghost use Rattle.std.specs.Str.{IsUtf8};
 ghost use Rattle.ob0_scan.specs.Refused.{AreFaults};
 ghost use Rattle.ob0_scan.specs.TextWithTokens.{IsScannable, IsScanOf};
-ghost use Rattle.ob0_analysis.specs.Diagnosed.{IsWellTypedModule, Reports, complaint_of_diagnosis};
+ghost use Rattle.ob0_analysis.specs.Diagnosed.{IsWellTypedModule, Reports, reported_diagnosis_of};
 
 use crate::diagnoses::{Diagnosis, diagnoses_of_faults};
 use crate::parts::ModuleParts;
@@ -81,7 +81,7 @@ pub(crate) enum AnalysisResult {
 /// The analysis of a text. In contracts its value is only the text, because an analysis that reuses
 /// earlier results answers like one from scratch.
 pub struct Analysis {
-    found: AnalysisResult,
+    outcome: AnalysisResult,
     /// The length, in bytes, of the longest earlier text with lexemes since the last analysis from
     /// scratch, or 0 if there is none. Lists keep their capacity, so reused lists may have room for
     /// a text of that length.
@@ -93,7 +93,7 @@ pub struct Analysis {
 impl Drop for Analysis {
     fn drop(self) {
         let Analysis {
-            found: _found,
+            outcome: _found,
             room: _,
         } = self;
     }
@@ -104,23 +104,23 @@ impl Model for Analysis {
 
     ghost Value = { List ℕ };
 
-    ghost use Rattle.ob0_analysis.specs.Found.{text_of, IsValidAnalysisResult};
+    ghost use Rattle.ob0_analysis.specs.AnalysisInvariants.{text_of, IsValidAnalysisResult};
 
-    ghost view = { λ a. text_of a.found };
+    ghost view = { λ a. text_of a.outcome };
 
-    ghost invariant = { λ a. IsValidAnalysisResult a.found };
+    ghost invariant = { λ a. IsValidAnalysisResult a.outcome };
 }
 
 impl Analysis {
     /// Analyses a text from scratch. Fails only if an allocation fails.
-    pub fn of(alloc: Global, text: &str) -> Result<Analysis, AllocError>
+    pub fn analyse_text(alloc: Global, text: &str) -> Result<Analysis, AllocError>
         ensures { IfOk result (λ a. a ≡ text.now) }
     {
         match scan(alloc, text) {
             Ok(tokens) => {
                 let read = ScannedText::parse_tokens(alloc, tokens, KeptTrees::empty(alloc), None)?;
                 Ok(Analysis {
-                    found: AnalysisResult::Read(read),
+                    outcome: AnalysisResult::Read(read),
                     room: 0,
                 })
             }
@@ -134,13 +134,13 @@ impl Analysis {
     }
 
     /// Analyses a changed text, and reuses results for the parts that the old and the new text have
-    /// in common (`ScannedText::after`). If the new text has lexical faults, the results for
+    /// in common (`ScannedText::reanalyse`). If the new text has lexical faults, the results for
     /// the last text that had lexemes are kept.
-    pub fn after(self, alloc: Global, text: &str) -> Result<Analysis, AllocError>
+    pub fn reanalyse(self, alloc: Global, text: &str) -> Result<Analysis, AllocError>
         ensures { IfOk result (λ a. a ≡ text.now) }
     {
-        let Analysis { found, room } = self;
-        match found {
+        let Analysis { outcome, room } = self;
+        match outcome {
             AnalysisResult::NoLexemes(ill) => Analysis::analyse_after_faults(
                 alloc, ill, room, text,
             ),
@@ -168,7 +168,7 @@ impl Analysis {
             last,
         } = ill;
         match last {
-            None => Analysis::of(alloc, text),
+            None => Analysis::analyse_text(alloc, text),
             Some(last) => Analysis::analyse_after_scanned(alloc, last, room, text),
         }
     }
@@ -185,11 +185,11 @@ impl Analysis {
         ensures { IfOk result (λ a. a ≡ text.now) }
     {
         if room / 2 > text.len().saturating_add(MAX_SPARE_BYTES) {
-            return Analysis::of(alloc, text);
+            return Analysis::analyse_text(alloc, text);
         }
-        match read.after(alloc, text) {
+        match read.reanalyse(alloc, text) {
             Ok(read) => Ok(Analysis {
-                found: AnalysisResult::Read(read),
+                outcome: AnalysisResult::Read(read),
                 room,
             }),
             Err(refusal) => match refusal {
@@ -217,7 +217,7 @@ impl Analysis {
     {
         let text = String::from_str(alloc, text)?;
         Ok(Analysis {
-            found: AnalysisResult::NoLexemes(UnscannableText { text, faults, last }),
+            outcome: AnalysisResult::NoLexemes(UnscannableText { text, faults, last }),
             room,
         })
     }
@@ -226,7 +226,7 @@ impl Analysis {
     pub fn text(&self) -> &str
         ensures { result.now ≡ self.now }
     {
-        match &self.found {
+        match &self.outcome {
             AnalysisResult::NoLexemes(ill) => ill.text.as_str(),
             AnalysisResult::Read(read) => read.text(),
         }
@@ -239,7 +239,7 @@ impl Analysis {
         ensures { length self.now ≤ result }
     {
         let own = self.text().len();
-        match &self.found {
+        match &self.outcome {
             AnalysisResult::NoLexemes(_) => own.saturating_add(self.room),
             AnalysisResult::Read(_) => own.max(self.room),
         }
@@ -251,7 +251,7 @@ impl Analysis {
         ensures { MatchOption result (¬ IsWellTypedModule self.now)
             (λ m. IsScanOf self.now m.now.module_read.source) }
     {
-        match &self.found {
+        match &self.outcome {
             AnalysisResult::NoLexemes(_) => None,
             AnalysisResult::Read(read) => read.module_parts(),
         }
@@ -264,12 +264,12 @@ impl Analysis {
     ///   where parsing stops.
     /// - If the text has a tree, the errors are the first hundred faults of names and types.
     pub fn diagnoses(&self, alloc: Global) -> Result<Vec<Diagnosis>, AllocError>
-        ensures reported { IfOk result (λ list. Reports self.now (map complaint_of_diagnosis list.items)) }
+        ensures reported { IfOk result (λ list. Reports self.now (map reported_diagnosis_of list.items)) }
         ensures utf8 { IsUtf8 self.now }
     {
         // The proof needs the invariant of the analysis, which this call's contract states.
         let _text = self.text();
-        match &self.found {
+        match &self.outcome {
             AnalysisResult::NoLexemes(ill) => diagnoses_of_faults(alloc, ill.faults.as_slice()),
             AnalysisResult::Read(read) => read.diagnoses(alloc),
         }

@@ -7,7 +7,7 @@
 //! A question is a struct with `impl Question`. The impl has the type `Answer` of the answers, the
 //! function `answer`, and a ghost member `answers = { λ question names answer. .. }`, which is the
 //! contract of `answer`. To state something about the characters `content` of the text, `answers`
-//! is an implication. Its conditions are `IsModuleIn (utf8 content) names` and
+//! is an implication. Its conditions are `IsResolvedWellTypedModule (utf8 content) names` and
 //! `content ≡ chars names.module_read.source.text`. If a question can be asked about only one text,
 //! the ghost member `is_about` states this, and callers of `ask` must prove it.
 

@@ -1,7 +1,7 @@
 //! Makes the errors that are reported for a text.
 
 ghost use Rattle.std.specs.Prelude.{◌≡◌, IfOk, map};
-ghost use Rattle.ob0_analysis.specs.Diagnosed.{ReportsRefusal, complaint_of_diagnosis, complaint_of_fault, syntax_error as expected_at, depth_error as too_deep_at, token_span_or_end as span_or_end};
+ghost use Rattle.ob0_analysis.specs.Diagnosed.{ReportsRefusal, reported_diagnosis_of, reported_diagnosis_of_fault, syntax_error as expected_at, depth_error as too_deep_at, token_span_or_end as span_or_end};
 
 use ob0_parse_descent::ParseRefusal;
 use ob0_scan::{Fault, Span, Tokens};
@@ -17,7 +17,7 @@ pub struct Diagnosis {
 
 /// Returns a diagnosis for each of these faults of lexemes, names or types, in the same order.
 pub fn diagnoses_of_faults(alloc: Global, faults: &[Fault]) -> Result<Vec<Diagnosis>, AllocError>
-    ensures { IfOk result (λ list. map complaint_of_diagnosis list.items ≡ map complaint_of_fault faults.now) }
+    ensures { IfOk result (λ list. map reported_diagnosis_of list.items ≡ map reported_diagnosis_of_fault faults.now) }
 {
     let mut list = Vec::new(alloc);
     for fault in faults {
@@ -28,7 +28,7 @@ pub fn diagnoses_of_faults(alloc: Global, faults: &[Fault]) -> Result<Vec<Diagno
 
 /// Returns the diagnosis of one fault, with its code's name and message.
 fn diagnosis_of_fault(alloc: Global, fault: &Fault) -> Result<Diagnosis, AllocError>
-    ensures { IfOk result (λ d. complaint_of_diagnosis d ≡ complaint_of_fault fault.now) }
+    ensures { IfOk result (λ d. reported_diagnosis_of d ≡ reported_diagnosis_of_fault fault.now) }
 {
     Ok(Diagnosis {
         code: fault.code.name(),
@@ -44,7 +44,7 @@ pub fn diagnosis_of_refusal(
     tokens: &Tokens,
     refusal: &ParseRefusal,
 ) -> Result<Diagnosis, AllocError>
-    ensures { IfOk result (λ d. ReportsRefusal tokens.now refusal.now (complaint_of_diagnosis d)) }
+    ensures { IfOk result (λ d. ReportsRefusal tokens.now refusal.now (reported_diagnosis_of d)) }
 {
     match refusal {
         ParseRefusal::Syntax { token, expected } => syntax_error(
@@ -60,7 +60,7 @@ pub fn diagnosis_of_refusal(
 /// Returns the diagnosis of a syntax error at this span. The message is `expected` followed by this
 /// word.
 fn syntax_error(alloc: Global, word: &str, span: Span) -> Result<Diagnosis, AllocError>
-    ensures { IfOk result (λ d. complaint_of_diagnosis d ≡ expected_at word.now span) }
+    ensures { IfOk result (λ d. reported_diagnosis_of d ≡ expected_at word.now span) }
 {
     Ok(Diagnosis {
         code: "Syntax",
@@ -71,7 +71,7 @@ fn syntax_error(alloc: Global, word: &str, span: Span) -> Result<Diagnosis, Allo
 
 /// Returns the diagnosis of a construct at this span that is nested too deep.
 fn depth_error(alloc: Global, span: Span) -> Result<Diagnosis, AllocError>
-    ensures { IfOk result (λ d. complaint_of_diagnosis d ≡ too_deep_at span) }
+    ensures { IfOk result (λ d. reported_diagnosis_of d ≡ too_deep_at span) }
 {
     Ok(Diagnosis {
         code: "TooDeep",

@@ -4,11 +4,11 @@ ghost use Rattle.std.specs.Prelude.{◌≡◌, ◌+◌, ◌-◌, ◌<◌, ◌≤
 ghost use Rattle.ob0_scan.specs.Reused.{ReplacesRange};
 ghost use Rattle.ob0_analysis.specs.Pieces.{IsCommonPiece};
 
-/// A difference between two texts: the `removed` bytes at the byte offset `from` of the first text
+/// A difference between two texts: the `removed` bytes at the byte offset `start` of the first text
 /// are replaced by `added` bytes in the second text.
 #[derive(Clone, Copy, Debug, Drop, PartialEq, Eq)]
 pub(crate) struct Difference {
-    pub(crate) from: usize,
+    pub(crate) start: usize,
     pub(crate) removed: usize,
     pub(crate) added: usize,
 }
@@ -17,15 +17,15 @@ impl Difference {
     /// Returns the difference between two texts. The difference contains neither their common
     /// prefix nor the common suffix of the remaining bytes.
     pub(crate) fn between(old: &str, new: &str) -> Difference
-        ensures { ReplacesRange old.now new.now result.from result.removed result.added }
+        ensures { ReplacesRange old.now new.now result.start result.removed result.added }
     {
         let (old, new) = (old.as_bytes(), new.as_bytes());
-        let from = common_prefix_length(old, new);
-        let following = common_suffix_length(old, new, from);
+        let start = common_prefix_length(old, new);
+        let following = common_suffix_length(old, new, start);
         Difference {
-            from,
-            removed: old.len() - from - following,
-            added: new.len() - from - following,
+            start,
+            removed: old.len() - start - following,
+            added: new.len() - start - following,
         }
     }
 }
@@ -62,16 +62,16 @@ fn extend_prefix(a: &[u8], b: &[u8], known: usize, size: usize) -> usize
     count
 }
 
-/// Returns the length of the common suffix of two texts, in bytes. The first `from` bytes of each
+/// Returns the length of the common suffix of two texts, in bytes. The first `start` bytes of each
 /// text aren't part of the suffix.
-fn common_suffix_length(a: &[u8], b: &[u8], from: usize) -> usize
-    requires in_a { from ≤ length a.now }
-    requires in_b { from ≤ length b.now }
-    ensures inside_a { result + from ≤ length a.now }
-    ensures inside_b { result + from ≤ length b.now }
+fn common_suffix_length(a: &[u8], b: &[u8], start: usize) -> usize
+    requires in_a { start ≤ length a.now }
+    requires in_b { start ≤ length b.now }
+    ensures inside_a { result + start ≤ length a.now }
+    ensures inside_b { result + start ≤ length b.now }
     ensures same { drop (length a.now - result) a.now ≡ drop (length b.now - result) b.now }
 {
-    let most = (a.len() - from).min(b.len() - from);
+    let most = (a.len() - start).min(b.len() - start);
     let known = extend_suffix(a, b, most, 0, COMPARISON_BLOCK);
     extend_suffix(a, b, most, known, 1)
 }

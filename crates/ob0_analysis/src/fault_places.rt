@@ -3,25 +3,25 @@
 
 ghost use Rattle.std.specs.Prelude.{◌≡◌, ◌==◌, true, IfOk, map};
 ghost use Rattle.ob0_scope_table.specs.FaultTokens.{fault_at, first_token_start};
-ghost use Rattle.ob0_analysis.specs.Before.{AreFaultPlacesOf, HasFaultsAt, HasTypesAt};
+ghost use Rattle.ob0_analysis.specs.ReuseConditions.{AreFaultPlacesOf, HasFaultsAt, HasTypesAt};
 
 use ob0_scan::Tokens;
 use ob0_scope_table::{Bindings, FaultByTokens, faults_at_tokens, faults_by_tokens, token_span};
 use ob0_types::ModuleTypes;
 use std::alloc::{AllocError, Global};
 
-/// The tokens at which a module has faults of names and of types. `front` is true if
+/// The tokens at which a module has faults of names and of types. `starts_with_token` is true if
 /// the text begins with a token or has no tokens.
 #[derive(Drop)]
 pub(crate) struct FaultPlaces {
     pub(crate) names: Vec<FaultByTokens>,
     pub(crate) types: Vec<FaultByTokens>,
-    pub(crate) front: bool,
+    pub(crate) starts_with_token: bool,
 }
 
 impl FaultPlaces {
     /// Returns the tokens at which a module has faults of names and of types.
-    pub(crate) fn of(
+    pub(crate) fn from_faults(
         alloc: Global,
         tokens: &Tokens,
         bindings: &Bindings,
@@ -34,16 +34,16 @@ impl FaultPlaces {
         Ok(FaultPlaces {
             names,
             types,
-            front: begins_with_token(tokens),
+            starts_with_token: begins_with_token(tokens),
         })
     }
 
     /// Returns whether a text and the module's text both begin with a token, or neither of them
     /// does. A text without tokens counts as one that begins with a token.
-    pub(crate) fn has_same_front(&self, tokens: &Tokens) -> bool
-        ensures { result ≡ true → (first_token_start tokens.now == 0) ≡ self.now.front }
+    pub(crate) fn begins_alike(&self, tokens: &Tokens) -> bool
+        ensures { result ≡ true → (first_token_start tokens.now == 0) ≡ self.now.starts_with_token }
     {
-        begins_with_token(tokens) == self.front
+        begins_with_token(tokens) == self.starts_with_token
     }
 }
 
@@ -94,12 +94,12 @@ pub(crate) fn move_type_faults(
         known,
         fields,
         faults: _,
-        faulty,
+        bodies_with_faults,
     } = types;
     Ok(ModuleTypes {
         known,
         fields,
         faults,
-        faulty,
+        bodies_with_faults,
     })
 }

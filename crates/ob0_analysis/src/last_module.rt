@@ -9,12 +9,12 @@
 //!
 //! The tree is dropped when the parser refuses the first of these texts, so the body can't be found
 //! again later. After that, the whole body counts as different (`widen_to_body`), and any further
-//! change must lie in the same body (`after`).
+//! change must lie in the same body (`keep_if_any`).
 
 ghost use Rattle.std.specs.Prelude.{◌≡◌, ◌≤◌, IfSome, Some};
 ghost use Rattle.ob0_analysis.specs.LastModule.{IsEarlierModule, WidensDifference, KeepsLastModule, IsLastModuleOf};
 
-use ob0_scan::{SameTokens, Tokens};
+use ob0_scan::{SameParts, Tokens};
 use ob0_scope_table::{Bindings, BodyPlace, body_place_in_tree};
 use ob0_tree::ModuleTree;
 use ob0_types::ModuleTypes;
@@ -26,7 +26,7 @@ use ob0_types::ModuleTypes;
 pub(crate) struct LastModule {
     pub(crate) bindings: Bindings,
     pub(crate) types: ModuleTypes,
-    pub(crate) same: SameTokens,
+    pub(crate) same: SameParts,
     pub(crate) place: BodyPlace,
 }
 
@@ -34,12 +34,12 @@ impl LastModule {
     /// Keeps the names and types of the previous module (`tree`, `bindings`, `types`) for a changed
     /// text with these tokens. Returns None unless all tokens that may differ (outside `same`) lie
     /// in one body, after its first identifier.
-    pub(crate) fn of(
+    pub(crate) fn keep_module(
         tokens: &Tokens,
         tree: &ModuleTree,
         bindings: Bindings,
         types: ModuleTypes,
-        same: SameTokens,
+        same: SameParts,
     ) -> Option<LastModule>
         requires { IsEarlierModule tokens.now tree.now bindings types same }
         ensures { IfSome result (IsLastModuleOf tokens.now) }
@@ -58,11 +58,11 @@ impl LastModule {
     /// Keeps the names and types of the last module when the text changes again. `change` describes
     /// the tokens that this change keeps. Returns None if `last` is None, or if the change doesn't
     /// lie in the body that contains all earlier differences.
-    pub(crate) fn after(last: Option<LastModule>, change: SameTokens) -> Option<LastModule>
+    pub(crate) fn keep_if_any(last: Option<LastModule>, change: SameParts) -> Option<LastModule>
         ensures { KeepsLastModule last change result }
     {
         match last {
-            Some(last) => last.keep_after(change),
+            Some(last) => last.keep_across_change(change),
             None => None,
         }
     }
@@ -70,7 +70,7 @@ impl LastModule {
     /// Keeps the names and types of the last module when the text changes again. `change` describes
     /// the tokens that this change keeps. Returns None if the change doesn't lie in the body that
     /// contains all earlier differences.
-    fn keep_after(self, change: SameTokens) -> Option<LastModule>
+    fn keep_across_change(self, change: SameParts) -> Option<LastModule>
         ensures { KeepsLastModule (Some self) change result }
     {
         let LastModule {
@@ -83,7 +83,7 @@ impl LastModule {
         Some(LastModule {
             bindings,
             types,
-            same: SameTokens {
+            same: SameParts {
                 prefix: same.prefix,
                 old_suffix: same.old_suffix,
                 new_suffix: wider.new_suffix,
@@ -97,7 +97,7 @@ impl LastModule {
 /// extended range begins after the body's first identifier and ends before the END of its block.
 /// Returns None if a token that may differ lies outside this range, or if the range would end after
 /// the current text's `count` tokens.
-fn widen_to_body(same: SameTokens, body: BodyPlace, count: usize) -> Option<SameTokens>
+fn widen_to_body(same: SameParts, body: BodyPlace, count: usize) -> Option<SameParts>
     ensures { IfSome result (λ wider. WidensDifference same wider × (wider.new_suffix ≤ count)) }
 {
     let prefix = body.first.checked_add(1)?;
@@ -112,7 +112,7 @@ fn widen_to_body(same: SameTokens, body: BodyPlace, count: usize) -> Option<Same
 /// Extends the range of tokens that may differ (`same`) to the range `prefix..old_suffix` of token
 /// indexes in the old text. Returns None if the range `prefix..old_suffix` doesn't contain the
 /// range of `same`.
-fn widen_difference(same: SameTokens, prefix: usize, old_suffix: usize) -> Option<SameTokens>
+fn widen_difference(same: SameParts, prefix: usize, old_suffix: usize) -> Option<SameParts>
     ensures wider { IfSome result (WidensDifference same) }
     ensures prefix { IfSome result (λ wider. wider.prefix ≡ prefix) }
     ensures suffix { IfSome result (λ wider. wider.old_suffix ≡ old_suffix) }
@@ -122,7 +122,7 @@ fn widen_difference(same: SameTokens, prefix: usize, old_suffix: usize) -> Optio
     }
     let more = old_suffix.checked_sub(same.old_suffix)?;
     let new_suffix = same.new_suffix.checked_add(more)?;
-    Some(SameTokens {
+    Some(SameParts {
         prefix,
         old_suffix,
         new_suffix,

@@ -3,7 +3,7 @@
 
 ghost use Rattle.std.specs.Prelude.{◌≡◌, true, IfOk};
 ghost use Rattle.ob0_tree.specs.ParsedModule.{IsParsed, parsed_module};
-ghost use Rattle.ob0_scope.specs.NewBody.{WasBoundElsewhere};
+ghost use Rattle.ob0_scope.specs.NewBody.{WasBoundBeforeNewBody};
 ghost use Rattle.ob0_scope_table.specs.Bindings.{resolution_with};
 ghost use Rattle.ob0_scope_table.specs.Resolution.{IsResolution};
 ghost use Rattle.ob0_types.specs.CheckedModules.{AreTypesOf};
@@ -13,7 +13,7 @@ ghost use Rattle.ob0_analysis.specs.NewBody.{IsSameBody};
 
 use crate::last_module::LastModule;
 use crate::parts::ModuleParts;
-use ob0_scan::{SameTokens, Tokens};
+use ob0_scan::{SameParts, Tokens};
 use ob0_scope::rebind_new_body;
 use ob0_scope_table::{Bindings, BodyPlace, Resolved, body_place_in_tree};
 use ob0_tree::{Module, ModuleTree};
@@ -41,7 +41,7 @@ pub(crate) fn reuse_last_module(
     } = last;
     let now = body_place_in_tree(&tree, same.prefix, same.new_suffix);
     if !is_same_body(place, now, same) {
-        return ModuleParts::of(alloc, tokens, tree);
+        return ModuleParts::bind_and_check(alloc, tokens, tree);
     }
     let names = bind_new_body(alloc, &tokens, &tree, bindings, same)?;
     let types = check_new_body(alloc, &tokens, &tree, &names, types, same)?;
@@ -52,7 +52,7 @@ pub(crate) fn reuse_last_module(
 /// same body. Its first identifier must be at the same token index in both modules, before the
 /// tokens that may differ. The closing name of its block must be at the same distance after these
 /// tokens in both modules. Returns false if `now` is None.
-fn is_same_body(was: BodyPlace, now: Option<BodyPlace>, same: SameTokens) -> bool
+fn is_same_body(was: BodyPlace, now: Option<BodyPlace>, same: SameParts) -> bool
     ensures { result ≡ true → IsSameBody was now same }
 {
     let Some(place) = now else {
@@ -80,10 +80,10 @@ fn bind_new_body(
     tokens: &Tokens,
     tree: &ModuleTree,
     bindings: Bindings,
-    same: SameTokens,
+    same: SameParts,
 ) -> Result<Bindings, AllocError>
     requires parsed { IsParsed (parsed_module tokens.now tree.now) }
-    requires before { WasBoundElsewhere (parsed_module tokens.now tree.now) bindings same }
+    requires before { WasBoundBeforeNewBody (parsed_module tokens.now tree.now) bindings same }
     ensures { IfOk result (λ b. IsResolution (resolution_with (parsed_module tokens.now tree.now) b)) }
 {
     let read = Module::from_parts(tokens, tree);
@@ -97,7 +97,7 @@ fn check_new_body(
     tree: &ModuleTree,
     bindings: &Bindings,
     types: ModuleTypes,
-    same: SameTokens,
+    same: SameParts,
 ) -> Result<ModuleTypes, AllocError>
     requires parsed { IsParsed (parsed_module tokens.now tree.now) }
     requires resolved { IsResolution (resolution_with (parsed_module tokens.now tree.now) bindings.now) }

@@ -3,7 +3,7 @@
 
 ghost use Rattle.std.specs.Prelude.{◌≡◌, true, IfOk};
 ghost use Rattle.ob0_tree.specs.ParsedModule.{IsParsed, parsed_module, tree_of};
-ghost use Rattle.ob0_scope.specs.Rebound.{WasBound};
+ghost use Rattle.ob0_scope.specs.Rebound.{WasBoundBeforeChange};
 ghost use Rattle.ob0_scope_table.specs.Bindings.{resolution_with};
 ghost use Rattle.ob0_scope_table.specs.OneBody.{is_in_body};
 ghost use Rattle.ob0_scope_table.specs.Resolution.{IsResolution};
@@ -11,7 +11,7 @@ ghost use Rattle.ob0_types.specs.CheckedModules.{AreTypesOf};
 ghost use Rattle.ob0_types.specs.OneBody.{WereTypesBeforeChange};
 
 use crate::parts::check_types;
-use ob0_scan::{SameTokens, Tokens};
+use ob0_scan::{SameParts, Tokens};
 use ob0_scope::{bindings_of, rebind_body};
 use ob0_scope_table::{Bindings, Resolved, is_in_body};
 use ob0_tree::{Module, ModuleTree};
@@ -19,7 +19,7 @@ use ob0_types::{ModuleTypes, types_after_body_change};
 use std::alloc::{AllocError, Global};
 
 /// Returns whether all tokens that may differ in spelling from the previous text lie in one body.
-pub(crate) fn differs_in_one_body(tokens: &Tokens, tree: &ModuleTree, same: SameTokens) -> bool
+pub(crate) fn differs_in_one_body(tokens: &Tokens, tree: &ModuleTree, same: SameParts) -> bool
     requires { IsParsed (parsed_module tokens.now tree.now) }
     ensures { result
         ≡ is_in_body same.prefix same.old_suffix (tree_of (parsed_module tokens.now tree.now)) }
@@ -35,12 +35,12 @@ pub(crate) fn rebind_names(
     tokens: &Tokens,
     tree: &ModuleTree,
     bindings: Bindings,
-    same: SameTokens,
+    same: SameParts,
     in_body: bool,
 ) -> Result<Bindings, AllocError>
     requires parsed { IsParsed (parsed_module tokens.now tree.now) }
     requires before { in_body ≡ true
-        → WasBound (parsed_module tokens.now tree.now) bindings same.prefix same.old_suffix }
+        → WasBoundBeforeChange (parsed_module tokens.now tree.now) bindings same.prefix same.old_suffix }
     ensures { IfOk result (λ b. IsResolution (resolution_with (parsed_module tokens.now tree.now) b)) }
 {
     let read = Module::from_parts(tokens, tree);
@@ -60,7 +60,7 @@ pub(crate) fn recheck_types(
     tree: &ModuleTree,
     bindings: &Bindings,
     types: ModuleTypes,
-    same: SameTokens,
+    same: SameParts,
     in_body: bool,
 ) -> Result<ModuleTypes, AllocError>
     requires parsed { IsParsed (parsed_module tokens.now tree.now) }

@@ -51,7 +51,7 @@ impl Model for ModuleParts {
 
 impl ModuleParts {
     /// Binds the names of a module and checks its types. Fails only if an allocation fails.
-    pub(crate) fn of(
+    pub(crate) fn bind_and_check(
         alloc: Global,
         tokens: Tokens,
         tree: ModuleTree,

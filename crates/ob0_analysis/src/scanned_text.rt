@@ -4,18 +4,18 @@
 ghost use Rattle.std.specs.Prelude.{◌≡◌, [], true, IfErr, IfOk, IfSome, MatchOption, map};
 ghost use Rattle.ob0_scan.specs.Refused.{AreFaults, IsRightRescanRefusal};
 ghost use Rattle.ob0_scan.specs.Reused.{kinds, names_in, words_of_tokens};
-ghost use Rattle.ob0_scan.specs.SameKinds.{HasSameTokens, HasSameWords};
+ghost use Rattle.ob0_scan.specs.SameKinds.{HasSameKinds, HasSameWords};
 ghost use Rattle.ob0_scan.specs.TextWithTokens.{IsScan, IsScanOf};
 ghost use Rattle.ob0_tree.specs.ParsedModule.{IsParsed, parsed_module};
 ghost use Rattle.ob0_scope_table.specs.Bindings.{resolution_with};
 ghost use Rattle.ob0_scope_table.specs.Resolution.{IsResolution};
-ghost use Rattle.ob0_parse.specs.KeptTokens.{AreKept};
-ghost use Rattle.ob0_analysis.specs.Found.{IsValidOutcome, IsRefusedByParser, IsReanalysisFailure};
-ghost use Rattle.ob0_analysis.specs.Before.{AreKeptBefore, IsModuleBefore, IsFailureAfterModule, IsFailureAfterRefusal, IsModuleWithSameSpelling};
+ghost use Rattle.ob0_parse.specs.KeptTokens.{AreInPlace};
+ghost use Rattle.ob0_analysis.specs.AnalysisInvariants.{IsValidOutcome, IsRefusedByParser, IsReanalysisFailure};
+ghost use Rattle.ob0_analysis.specs.ReuseConditions.{AreKeptBefore, IsModuleBefore, IsFailureAfterModule, IsFailureAfterRefusal, IsModuleWithSameSpelling};
 ghost use Rattle.ob0_analysis.specs.LastModule.{IsEarlierModule, IsLastModuleOf};
 ghost use Rattle.ob0_analysis.specs.declared.scanned_text.ReanalysisFailure.TheVariants as not_read;
 ghost use Rattle.ob0_analysis.specs.declared.scanned_text.ParseOutcome.TheVariants.{NoTree};
-ghost use Rattle.ob0_analysis.specs.Diagnosed.{IsWellTypedModule, Reports, complaint_of_diagnosis};
+ghost use Rattle.ob0_analysis.specs.Diagnosed.{IsWellTypedModule, Reports, reported_diagnosis_of};
 ghost use Rattle.ob0_analysis.specs.OneBody.{IsEarlierModuleWithSameKinds};
 ghost use Rattle.ob0_types.specs.OneBody.{WereTypesBeforeChange};
 
@@ -30,7 +30,7 @@ use crate::text_errors::{diagnose_module, diagnose_refusal};
 use ob0_parse::{KeptTrees, reparse_tree};
 use ob0_parse_descent::ParseRefusal;
 use ob0_scan::laws::scan_is_unique;
-use ob0_scan::{Fault, RescanInPlace, RescanRefusal, SameTokens, Tokens, rescan_in_place};
+use ob0_scan::{Fault, RescanInPlace, RescanRefusal, SameParts, Tokens, rescan_in_place};
 use ob0_scope::laws::{bindings_depend_on_names, bindings_move_with_tokens};
 use ob0_scope_table::Bindings;
 use ob0_tree::ModuleTree;
@@ -69,7 +69,7 @@ impl Model for ScannedText {
 
     ghost Value = { List ℕ };
 
-    ghost use Rattle.ob0_analysis.specs.Found.{text_of_outcome, IsValidOutcome};
+    ghost use Rattle.ob0_analysis.specs.AnalysisInvariants.{text_of_outcome, IsValidOutcome};
 
     ghost view = { λ r. text_of_outcome r.reading };
 
@@ -101,7 +101,7 @@ impl ScannedText {
         kept: KeptTrees,
         last: Option<LastModule>,
     ) -> Result<ScannedText, AllocError>
-        requires kept { AreKept tokens.tokens kept }
+        requires kept { AreInPlace tokens.tokens kept }
         requires last { IfSome last (IsLastModuleOf tokens) }
         ensures { IfOk result (λ r. r ≡ tokens.text) }
     {
@@ -134,7 +134,7 @@ impl ScannedText {
     {
         let parts = match last {
             Some(last) => reuse_last_module(alloc, tokens, tree, last)?,
-            None => ModuleParts::of(alloc, tokens, tree)?,
+            None => ModuleParts::bind_and_check(alloc, tokens, tree)?,
         };
         Ok(ScannedText::from_module(parts))
     }
@@ -157,7 +157,11 @@ impl ScannedText {
     ///
     /// If the new text has lexical faults, the error has these faults and the analysis of the
     /// previous text.
-    pub(crate) fn after(self, alloc: Global, text: &str) -> Result<ScannedText, ReanalysisFailure>
+    pub(crate) fn reanalyse(
+        self,
+        alloc: Global,
+        text: &str,
+    ) -> Result<ScannedText, ReanalysisFailure>
         ensures ok { IfOk result (λ r. r ≡ text.now) }
         ensures err { IfErr result (IsReanalysisFailure text.now) }
     {
@@ -231,20 +235,20 @@ impl ScannedText {
         kept: KeptTrees,
         last: Option<LastModule>,
     ) -> Result<ScannedText, AllocError>
-        requires alike { changed.alike ≡ true → IsRefusedByParser changed.rescan.tokens refusal }
+        requires same_kinds { changed.same_kinds ≡ true → IsRefusedByParser changed.rescan.tokens refusal }
         requires before { AreKeptBefore changed kept last }
         ensures { IfOk result (λ r. r ≡ changed.rescan.tokens.text) }
     {
         let RescanInPlace {
             rescan,
             same,
-            alike,
+            same_kinds,
             same_names: _,
             same_words: _,
         } = changed;
         let tokens = rescan.tokens;
-        let last = LastModule::after(last, same);
-        if !alike {
+        let last = LastModule::keep_if_any(last, same);
+        if !same_kinds {
             let kept = kept.relocate(alloc, same)?;
             return ScannedText::parse_tokens(alloc, tokens, kept, last);
         }
@@ -268,7 +272,7 @@ impl ScannedText {
         ensures err { IfErr result (IsReanalysisFailure text.now) }
     {
         let (tokens, tree, bindings, types) = old.into_parts();
-        let places = FaultPlaces::of(alloc, &tokens, &bindings, &types)?;
+        let places = FaultPlaces::from_faults(alloc, &tokens, &bindings, &types)?;
         // The proof needs the invariant of the tokens, which this call's contract states.
         let _text = tokens.text();
         match rescan_text(alloc, tokens, text) {
@@ -320,7 +324,7 @@ impl ScannedText {
         let RescanInPlace {
             rescan,
             same,
-            alike: same_kinds,
+            same_kinds,
             same_names,
             same_words,
         } = changed;
@@ -329,7 +333,7 @@ impl ScannedText {
             return ScannedText::reanalyse_changed_kinds(alloc, tokens, tree, bindings, types, same);
         }
         if same_words {
-            if places.has_same_front(&tokens) {
+            if places.begins_alike(&tokens) {
                 return ScannedText::reanalyse_same_words(
                     alloc, tokens, tree, bindings, types, places,
                 );
@@ -347,12 +351,12 @@ impl ScannedText {
         tree: ModuleTree,
         bindings: Bindings,
         types: ModuleTypes,
-        same: SameTokens,
+        same: SameParts,
     ) -> Result<ScannedText, AllocError>
         requires { IsEarlierModule tokens tree bindings types same }
         ensures { IfOk result (λ r. r ≡ tokens.text) }
     {
-        let last = LastModule::of(&tokens, &tree, bindings, types, same);
+        let last = LastModule::keep_module(&tokens, &tree, bindings, types, same);
         let kept = KeptTrees::from_tree(alloc, tree).relocate(alloc, same)?;
         ScannedText::parse_tokens(alloc, tokens, kept, last)
     }
@@ -366,7 +370,7 @@ impl ScannedText {
         tree: ModuleTree,
         bindings: Bindings,
         types: ModuleTypes,
-        same: SameTokens,
+        same: SameParts,
         same_names: bool,
     ) -> Result<ScannedText, AllocError>
         requires parsed { IsParsed (parsed_module tokens tree) }
@@ -394,7 +398,7 @@ impl ScannedText {
         tree: ModuleTree,
         bindings: Bindings,
         types: ModuleTypes,
-        same: SameTokens,
+        same: SameParts,
         in_body: bool,
     ) -> Result<ScannedText, AllocError>
         requires parsed { IsParsed (parsed_module tokens tree) }
@@ -462,7 +466,7 @@ impl ScannedText {
 
     /// Returns the errors of the text: the parser's refusal, or the faults of names and types.
     pub(crate) fn diagnoses(&self, alloc: Global) -> Result<Vec<Diagnosis>, AllocError>
-        ensures { IfOk result (λ list. Reports self.now (map complaint_of_diagnosis list.items)) }
+        ensures { IfOk result (λ list. Reports self.now (map reported_diagnosis_of list.items)) }
     {
         match &self.reading {
             ParseOutcome::NoTree(ill) => diagnose_refusal(alloc, &ill.tokens, &ill.refusal),
@@ -475,10 +479,10 @@ impl ScannedText {
 /// has lexical faults, the error has these faults and the old tokens.
 fn rescan_text(alloc: Global, old: Tokens, text: &str) -> Result<RescanInPlace, RescanRefusal>
     ensures ok { IfOk result (λ r. IsScanOf text.now r.rescan.tokens) }
-    ensures same { IfOk result (λ r. HasSameTokens r.same old.tokens r.rescan.tokens.tokens) }
+    ensures same { IfOk result (λ r. HasSameKinds r.same old.tokens r.rescan.tokens.tokens) }
     ensures written { IfOk result (λ r. HasSameWords r.same old r.rescan.tokens) }
-    ensures alike { IfOk result
-        (λ r. r.alike ≡ true → kinds r.rescan.tokens.tokens ≡ kinds old.tokens) }
+    ensures same_kinds { IfOk result
+        (λ r. r.same_kinds ≡ true → kinds r.rescan.tokens.tokens ≡ kinds old.tokens) }
     ensures same_names { IfOk result
         (λ r. r.same_names ≡ true → names_in r.rescan.tokens.text r.rescan.tokens.tokens
         ≡ names_in old.text old.tokens) }
@@ -488,5 +492,5 @@ fn rescan_text(alloc: Global, old: Tokens, text: &str) -> Result<RescanInPlace, 
     ensures err { IfErr result (IsRightRescanRefusal old text.now) }
 {
     let change = Difference::between(old.text(), text);
-    rescan_in_place(alloc, old, text, change.from, change.removed, change.added)
+    rescan_in_place(alloc, old, text, change.start, change.removed, change.added)
 }

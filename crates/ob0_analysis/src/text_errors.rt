@@ -2,7 +2,7 @@
 
 ghost use Rattle.std.specs.Prelude.{IfOk, map};
 ghost use Rattle.ob0_parse.specs.IsRightParseRefusal.{IsRightParseRefusal};
-ghost use Rattle.ob0_analysis.specs.Diagnosed.{Reports, complaint_of_diagnosis};
+ghost use Rattle.ob0_analysis.specs.Diagnosed.{Reports, reported_diagnosis_of};
 
 use crate::diagnoses::{Diagnosis, diagnoses_of_faults, diagnosis_of_refusal};
 use crate::parts::ModuleParts;
@@ -20,7 +20,7 @@ pub(crate) fn diagnose_refusal(
     refusal: &ParseRefusal,
 ) -> Result<Vec<Diagnosis>, AllocError>
     requires { IsRightParseRefusal tokens.now refusal.now }
-    ensures { IfOk result (λ list. Reports tokens.now.text (map complaint_of_diagnosis list.items)) }
+    ensures { IfOk result (λ list. Reports tokens.now.text (map reported_diagnosis_of list.items)) }
 {
     scan_is_unique();
     // The proof needs the invariant of the tokens, which this call's contract states.
@@ -37,7 +37,7 @@ pub(crate) fn diagnose_module(
     parts: &ModuleParts,
 ) -> Result<Vec<Diagnosis>, AllocError>
     ensures { IfOk result
-        (λ list. Reports parts.now.module_read.source.text (map complaint_of_diagnosis list.items)) }
+        (λ list. Reports parts.now.module_read.source.text (map reported_diagnosis_of list.items)) }
 {
     scan_is_unique();
     tree_is_unique();

@@ -20,7 +20,7 @@ use Rattle.clap.specs.declared.parser.matches.ArgMatches.TheViews.{out-ArgMatche
 use Rattle.clap.specs.declared.parser.matches.SubCommand.{SubCommand}
 use Rattle.std.specs.Box.{box_value}
 use Rattle.clap.proofs.OnLiterals.{clap_on_literals}
-use Rattle.ob0_cli.specs.Given.{FoundCommand, HasBoundedValue, IsCompleteCommand, HasCoordinateValue, HasTextValue, HasNeededValues, max_option_value}
+use Rattle.ob0_cli.specs.Given.{FoundSubcommand, HasBoundedValue, IsCompleteCommand, HasCoordinateValue, HasTextValue, HasNeededValues, max_option_value}
 use Rattle.ob0_cli.specs.Lines.{calls_rule, number_rule, ob0_app, turns_rule, word_rule}
 use Rattle.ob0_cli.proofs.Rows.{Each, Fits, HasPassed, default_passed, found_of, passed_by, required_passed}
 use Rattle.ob0_cli.proofs.Stops.{IsNoHelp, walk_stops}
@@ -252,5 +252,5 @@ pub entered_is : (m given : ArgMatches) (name : Text) → IsCompleteCommand (sub
 entered_is m given name (called, found, is, needs) n r =
     let rows = rows_of (found_in given) in
     let here = named_rows m name rows n r in
-    let same : (called, found) ≡ (name, rows) = ap (λ (o : FoundCommand). option_map_or (λ p. p) o (called, found)) (sym is ∙ here) in
+    let same : (called, found) ≡ (name, rows) = ap (λ (o : FoundSubcommand). option_map_or (λ p. p) o (called, found)) (sym is ∙ here) in
     (here, subst (λ (p : Text × List Row). HasNeededValues p.0 p.1) same needs)

@@ -16,8 +16,8 @@ use Rattle.ob0_cli.specs.declared.line.CommandFault.TheVariants.{Refused, Memory
 
 -- The subcommand that clap found: its name and the values of its arguments. None means that no
 -- subcommand was found.
-abbrev pub FoundCommand : Type 0
-FoundCommand = Option (Text × List Row)
+abbrev pub FoundSubcommand : Type 0
+FoundSubcommand = Option (Text × List Row)
 
 -- States that the value of the argument `id` is the number `n`. The value was given or is the
 -- default.
@@ -54,14 +54,14 @@ HasFilePath (Rename file position new) path = file.now ≡ path
 
 -- States that a subcommand was found, and that the command is that subcommand with the values found
 -- for its arguments.
-abbrev pub YieldsCommandLine : FoundCommand → CommandLine → Type 0
+abbrev pub YieldsCommandLine : FoundSubcommand → CommandLine → Type 0
 YieldsCommandLine found line =
     (name : Text) × (rows : List Row) × (found ≡ Some (name, rows)) × HasFoundValues name rows line
 
 -- States that clap's definition of `ob0` finds no fault in the words, and that the words request
 -- this command.
 pub record SpellsCommand (words : List Text) (line : CommandLine) : Type 0 where
-  pub fine : fault_of ob0_app words ≡ []
+  pub has_no_fault : fault_of ob0_app words ≡ []
   pub read : YieldsCommandLine (subcommand_of ob0_app words) line
 
 -- States that the words may be refused with this fault. A clap error has a kind that clap's
@@ -113,6 +113,6 @@ HasNeededValues name rows = (name ≡ codes "serve") ⊎ ((name ≡ codes "check
 
 -- States that a subcommand was found, and that it has a value of the right kind for each argument
 -- that it needs.
-abbrev pub IsCompleteCommand : FoundCommand → Type 0
+abbrev pub IsCompleteCommand : FoundSubcommand → Type 0
 IsCompleteCommand found =
     (name : Text) × (rows : List Row) × (found ≡ Some (name, rows)) × HasNeededValues name rows

@@ -389,7 +389,7 @@ fn client_argument<'a>(alloc: Global) -> Arg<'a>
 fn check_definition<'a>(alloc: Global) -> Result<Command<'a>, AllocError>
     ensures { IfOk result (λ c. app_of c ≡ check_lines) }
 {
-    let file = word(alloc, "file", "FILE", "The file with the module");
+    let file = word_argument(alloc, "file", "FILE", "The file with the module");
     command_with_help(
         alloc,
         "check",
@@ -402,7 +402,7 @@ fn check_definition<'a>(alloc: Global) -> Result<Command<'a>, AllocError>
 fn run_definition<'a>(alloc: Global) -> Result<Command<'a>, AllocError>
     ensures { IfOk result (λ c. app_of c ≡ run_lines) }
 {
-    let file = word(alloc, "file", "FILE", "The file with the module");
+    let file = word_argument(alloc, "file", "FILE", "The file with the module");
     let alone = command_with_help(
         alloc,
         "run",
@@ -417,7 +417,7 @@ fn run_definition<'a>(alloc: Global) -> Result<Command<'a>, AllocError>
 fn rename_definition<'a>(alloc: Global) -> Result<Command<'a>, AllocError>
     ensures { IfOk result (λ c. app_of c ≡ rename_lines) }
 {
-    let file = word(alloc, "file", "FILE", "The file with the module");
+    let file = word_argument(alloc, "file", "FILE", "The file with the module");
     let alone = command_with_help(
         alloc,
         "rename",
@@ -425,26 +425,29 @@ fn rename_definition<'a>(alloc: Global) -> Result<Command<'a>, AllocError>
         RENAME_NOTES,
     );
     let with_file = add_argument(Ok(alone), file);
-    let line = number(
+    let line = number_argument(
         alloc,
         "line",
         "LINE",
         "The line of the name, counted from 0",
     );
     let with_line = add_argument(with_file, line);
-    let column = number(
+    let column = number_argument(
         alloc,
         "column",
         "COLUMN",
         "Its column, counted from 0 in UTF-16 units",
     );
     let with_column = add_argument(with_line, column);
-    add_argument(with_column, word(alloc, "name", "NAME", "The new name"))
+    add_argument(
+        with_column,
+        word_argument(alloc, "name", "NAME", "The new name"),
+    )
 }
 
 /// Makes a required argument whose value is a word. `shown` is the name of the value in the help,
 /// and `help` explains the argument.
-fn word<'a>(alloc: Global, id: &'a str, shown: &'a str, help: &'a str) -> Arg<'a>
+fn word_argument<'a>(alloc: Global, id: &'a str, shown: &'a str, help: &'a str) -> Arg<'a>
     ensures rule { rule_of result ≡ word_rule id.entry.now }
     ensures own { result.global ≡ false }
 {
@@ -457,11 +460,11 @@ fn word<'a>(alloc: Global, id: &'a str, shown: &'a str, help: &'a str) -> Arg<'a
 
 /// Makes a required argument whose value is an unsigned number of 64 bits. `shown` is the name of
 /// the value in the help, and `help` explains the argument.
-fn number<'a>(alloc: Global, id: &'a str, shown: &'a str, help: &'a str) -> Arg<'a>
+fn number_argument<'a>(alloc: Global, id: &'a str, shown: &'a str, help: &'a str) -> Arg<'a>
     ensures rule { rule_of result ≡ number_rule id.entry.now }
     ensures own { result.global ≡ false }
 {
-    word(alloc, id, shown, help).value_parser(value_parser!(u64))
+    word_argument(alloc, id, shown, help).value_parser(value_parser!(u64))
 }
 
 fn calls_argument<'a>(alloc: Global) -> Arg<'a>

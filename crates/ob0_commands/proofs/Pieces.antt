@@ -23,7 +23,7 @@ item_written a b c xs k d x text left h less is m =
     ap (λ ys. output_text (output_items ys)) (drop_more xs k d less ∙ ap (λ z. z ∷ drop (k + 1) xs) (sym is)) in
     record {
       written = h.written ++ m.written;
-      grew = both_appended a b c h.written m.written h.grew m.grew;
+      appends_written = both_appended a b c h.written m.written h.appends_written m.appends_written;
       split = h.split
           ∙ ap (λ l. h.written ++ l) (ap (λ l. text ++ l) next ∙ sym (append_assoc text (output_item_text (item_of x)) rest) ∙ ap (λ l. l ++ rest) m.split ∙ append_assoc m.written left rest)
           ∙ sym (append_assoc h.written m.written (left ++ rest));

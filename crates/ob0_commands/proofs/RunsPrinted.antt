@@ -53,7 +53,7 @@ prints_done file given c t n before after o printed is zero = (run_of o, printed
 pub prints_other : (file : List ℕ) (given : Option (List ℕ)) (c t n : ℕ) (before after : Option (List ℕ)) (o : Outcome) → PrintsRun file given c t before after (run_of o) → n ≡ run_end_status o.end → n ≡ 1
     → (IsPrintedOnStderr : Option (List ℕ) → Type 0) → IsPrintedOnStderr (run_end_line o.end) → PrintsErrorsOrStoppedRun file given c t before after IsPrintedOnStderr
 prints_other file given c t n before after o printed is one IsPrintedOnStderr says =
-    inr (record { r = run_of o; prints = printed; otherwise = ended_otherwise o.end n is one; last = o.end; ends = refl; said = says })
+    inr (record { r = run_of o; prints = printed; not_done = ended_otherwise o.end n is one; last = o.end; ends = refl; said = says })
 
 pub prints_wrong : (file text : List ℕ) (given : Option (List ℕ)) (c t : ℕ) (before mid after : Option (List ℕ)) → text ≡ file → mid ≡ before → PrintsDiagnostics text mid after
     → (IsPrintedOnStderr : Option (List ℕ) → Type 0) → IsPrintedOnStderr None → PrintsErrorsOrStoppedRun file given c t before after IsPrintedOnStderr

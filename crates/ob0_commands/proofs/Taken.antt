@@ -5,5 +5,5 @@ use Rattle.std.proofs.KnownBytes.{Consumes-trans}
 use Rattle.ob0_commands.specs.Inputs.{TakesAtMost}
 
 pub more_taken : (n : ℕ) (a b c : Option (List ℕ)) (bs cs : List ℕ) → Consumes a b bs → Consumes b c cs → length bs + length cs ≤ n → TakesAtMost n a c
-more_taken n a b c bs cs first second few =
-    record { bytes = bs ++ cs; taken = Consumes-trans a b c bs cs first second; few = omega (arith, length-append bs cs) }
+more_taken n a b c bs cs first second at_most_n =
+    record { bytes = bs ++ cs; taken = Consumes-trans a b c bs cs first second; at_most_n = omega (arith, length-append bs cs) }

@@ -43,18 +43,18 @@ abbrev pub RunsFile : {O I : Type 0}
     → (file : List ℕ)
     → (remaining : I → Option (List ℕ))
     → (input_failed : I → Bool)
-    → (input left : I)
+    → (input input_after : I)
     → (c t : ℕ)
     → ℕ
     → Type 0
-RunsFile contents is_flushed has_failed before after IsPrintedOnStderr file remaining input_failed input left c t status =
+RunsFile contents is_flushed has_failed before after IsPrintedOnStderr file remaining input_failed input input_after c t status =
     RunEndsWithoutFault contents is_flushed before after IsPrintedOnStderr file (remaining input) c t
     (¬ IsNonUtf8File file × (has_failed after ≡ has_failed before)
-    × (input_failed left ≡ input_failed input))
+    × (input_failed input_after ≡ input_failed input))
     status
     ⊎ EndsByFault has_failed before after file
-    (λ fault. StopsRunning file (remaining input) (input_failed left) fault
-    × KeepsInputFailureUnlessInput (input_failed input) (input_failed left) fault)
+    (λ fault. StopsRunning file (remaining input) (input_failed input_after) fault
+    × KeepsInputFailureUnlessInput (input_failed input) (input_failed input_after) fault)
     IsPrintedOnStderr status
 
 -- States that `rename` ends with this status. With status 0, the file's text is printed with the
@@ -77,7 +77,7 @@ RenamesInFile contents is_flushed has_failed before after IsPrintedOnStderr file
     ⊎ EndsByFault has_failed before after file (StopsPrintingFaults file) IsPrintedOnStderr status
 
 -- States that the command of this command line ends with this status, as `ChecksFile`, `RunsFile`
--- or `RenamesInFile` says. `input` and `left` are the input before and after the call. Only `run`
+-- or `RenamesInFile` says. `input` and `input_after` are the input before and after the call. Only `run`
 -- reads from the input: at most one byte over the limit `max_input`, and nothing if the file isn't a
 -- well-typed module. Never holds for `serve`, which isn't a command on a file.
 abbrev pub PerformsOnFile : {O I : Type 0}
@@ -88,18 +88,18 @@ abbrev pub PerformsOnFile : {O I : Type 0}
     → (file : List ℕ)
     → (remaining : I → Option (List ℕ))
     → (input_failed : I → Bool)
-    → (input left : I)
+    → (input input_after : I)
     → CommandLine
     → ℕ
     → Type 0
-PerformsOnFile contents is_flushed has_failed before after IsPrintedOnStderr file remaining input_failed input left Serve status =
+PerformsOnFile contents is_flushed has_failed before after IsPrintedOnStderr file remaining input_failed input input_after Serve status =
     ⊥
-PerformsOnFile contents is_flushed has_failed before after IsPrintedOnStderr file remaining input_failed input left (Check path) status =
-    ChecksFile contents is_flushed has_failed before after IsPrintedOnStderr file status × (left ≡ input)
-PerformsOnFile contents is_flushed has_failed before after IsPrintedOnStderr file remaining input_failed input left (Run path c t) status =
-    RunsFile contents is_flushed has_failed before after IsPrintedOnStderr file remaining input_failed input left c t status
-    × TakesAtMost (suc max_input) (remaining input) (remaining left)
-    × (¬ IsWellTypedModule file → left ≡ input)
-PerformsOnFile contents is_flushed has_failed before after IsPrintedOnStderr file remaining input_failed input left (Rename path position new) status =
+PerformsOnFile contents is_flushed has_failed before after IsPrintedOnStderr file remaining input_failed input input_after (Check path) status =
+    ChecksFile contents is_flushed has_failed before after IsPrintedOnStderr file status × (input_after ≡ input)
+PerformsOnFile contents is_flushed has_failed before after IsPrintedOnStderr file remaining input_failed input input_after (Run path c t) status =
+    RunsFile contents is_flushed has_failed before after IsPrintedOnStderr file remaining input_failed input input_after c t status
+    × TakesAtMost (suc max_input) (remaining input) (remaining input_after)
+    × (¬ IsWellTypedModule file → input_after ≡ input)
+PerformsOnFile contents is_flushed has_failed before after IsPrintedOnStderr file remaining input_failed input input_after (Rename path position new) status =
     RenamesInFile contents is_flushed has_failed before after IsPrintedOnStderr file position new.now status
-    × (left ≡ input)
+    × (input_after ≡ input)

@@ -3,7 +3,7 @@
 -- the output or the input has failed. Any other status is the status of a fault.
 -- `StopsPrintingFaults` and `StopsRunning` state the reason for the fault. A run is printed only if
 -- the bytes of its input are a list of numbers (`IsInputOf`) or aren't known. Status 5 may occur
--- with any input. `decode_text` allocates nothing, so status 5 occurs only for a file that isn't too
+-- with any input. `decode_or_print_too_long` allocates nothing, so status 5 occurs only for a file that isn't too
 -- long (`AllocatesOnlyIfShort`). Each command prints after its last allocation. So a fault other
 -- than `Write` leaves the output unchanged (`PrintsNothingUnlessWrite`).
 -- Rule: docs/PROTOCOL.md, The program 5 to 8.
@@ -15,7 +15,7 @@ use Rattle.ob0_commands.specs.declared.faults.FileFault.{FileFault}
 -- States that no fault stops the command. The status is 0 and `Good` holds, or the status is 1 and
 -- `Other` holds. With either status, `Both` holds.
 pub record EndsWithoutFault (Good Other Both : Type 0) (status : ℕ) : Type 0 where
-  pub low : status ≤ 1
+  pub status_at_most_one : status ≤ 1
   pub good : status ≡ 0 → Good
   pub other : status ≡ 1 → Other
   pub both : Both
@@ -25,10 +25,10 @@ pub record EndsWithoutFault (Good Other Both : Type 0) (status : ℕ) : Type 0 w
 -- unchanged, unless the fault is `Write`. The fault is `Memory` only if the file isn't too long.
 pub record EndsByFault {O : Type 0} (has_failed : O → Bool) (before after : O) (file : List ℕ)
     (Stops : FileFault → Type 0) (IsPrintedOnStderr : Option (List ℕ) → Type 0) (status : ℕ) : Type 0 where
-  pub why : FileFault
-  pub is : status ≡ status_of why
-  pub stops : Stops why
-  pub failed : OutputFailureMatches (has_failed before) (has_failed after) why
-  pub kept : PrintsNothingUnlessWrite before after why
-  pub memory : AllocatesOnlyIfShort file why
-  pub said : IsPrintedOnStderr (Some (fault_line why))
+  pub ending_fault : FileFault
+  pub is : status ≡ status_of ending_fault
+  pub stops : Stops ending_fault
+  pub failed : OutputFailureMatches (has_failed before) (has_failed after) ending_fault
+  pub kept : PrintsNothingUnlessWrite before after ending_fault
+  pub memory : AllocatesOnlyIfShort file ending_fault
+  pub said : IsPrintedOnStderr (Some (fault_line ending_fault))

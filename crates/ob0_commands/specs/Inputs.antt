@@ -17,4 +17,4 @@ input_failed input = input.has_failed
 pub record TakesAtMost (n : ℕ) (before after : Option (List ℕ)) : Type 0 where
   pub bytes : List ℕ
   pub taken : Consumes before after bytes
-  pub few : length bytes ≤ n
+  pub at_most_n : length bytes ≤ n

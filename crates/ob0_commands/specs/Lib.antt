@@ -5,6 +5,6 @@ pub mod Outputs
 pub mod CommandEffects
 pub mod Printed
 pub mod Renamed
-pub mod IsPrintedOnStderr
+pub mod StderrLines
 pub mod Statuses
 pub mod TextRuns

@@ -2,7 +2,7 @@
 -- Rule: docs/PROTOCOL.md, The program 2 and 6.
 use Rattle.std.specs.Prelude.{◌≡◌, ◌≢◌, ◌≤◌, ◌⊎◌, ℕ, ℤ, List, [], ◌∷◌, ◌++◌, Bool, true, Option, IfSome, IsTrue, ⊤, length, slice_index}
 use Rattle.std.specs.Str.Parse.{IsNumeral, signed_digits_value, without_leading_sign}
-use Rattle.ob0_run_machine.specs.Evaluation.{fits}
+use Rattle.ob0_run_machine.specs.Evaluation.{fits_in_32_bits}
 use Rattle.ob0_scan.specs.Classes.{is_space}
 
 -- States that the word spells this number of 32 bits: one or more decimal digits, optionally after
@@ -11,7 +11,7 @@ pub record SpellsNumber (word : List ℕ) (n : ℤ) : Type 0 where
   pub no_plus : slice_index word 0 ≢ 43
   pub digits : IsNumeral 10 (without_leading_sign word)
   pub value : n ≡ signed_digits_value 10 word
-  pub small : fits n ≡ true
+  pub fits_in_32_bits : fits_in_32_bits n ≡ true
 
 -- States that a word ends before this text: the text is empty or begins with white space.
 abbrev pub IsAtWordEnd : List ℕ → Type 0

@@ -9,7 +9,7 @@ use Rattle.ob0_run_machine.specs.declared.running.End.{End}
 use Rattle.ob0_run_machine.specs.declared.running.End.TheVariants as end
 use Rattle.ob0_scan.specs.TextWithTokens.{max_text}
 use Rattle.ob0_scan.specs.declared.fault.FaultCode.TheVariants.{TooLong}
-use Rattle.ob0_analysis.specs.Diagnosed.{Complaint, IsWellTypedModule, ReportsFaults, complaint_of_fault}
+use Rattle.ob0_analysis.specs.Diagnosed.{ReportedDiagnosis, IsWellTypedModule, ReportsFaults, reported_diagnosis_of_fault}
 use Rattle.ob0_text.specs.Texts.{position_of}
 use Rattle.ob0_text.specs.Units.{width_of}
 use Rattle.ob0_text.specs.declared.position_types.Position.{Position}
@@ -27,39 +27,39 @@ fault_line fault.Input = codes "fault: Input\n"
 fault_line fault.Write = codes "fault: Write\n"
 fault_line fault.Memory = codes "fault: Memory\n"
 
--- ---- the errors of a file: one line for each diagnostic (a `Complaint`)
+-- ---- the errors of a file: one line for each diagnostic (a `ReportedDiagnosis`)
 
 -- Returns the line `L:C: FaultCode: message` that reports a diagnostic at this position.
-abbrev pub complaint_line_at : Position → Complaint → List ℕ
-complaint_line_at p c =
+abbrev pub diagnosis_line_at : Position → ReportedDiagnosis → List ℕ
+diagnosis_line_at p c =
     decimal p.line
     ++ (codes ":"
-    ++ (decimal p.character ++ (codes ": " ++ (c.code ++ (codes ": " ++ (c.said ++ codes "\n"))))))
+    ++ (decimal p.character ++ (codes ": " ++ (c.code ++ (codes ": " ++ (c.message ++ codes "\n"))))))
 
 -- Returns the lines that report these diagnostics, in order. The n-th diagnostic starts at the n-th
 -- position.
-abbrev pub complaint_lines_at : List Position → List Complaint → List ℕ
-complaint_lines_at [] cs = []
-complaint_lines_at (p ∷ ps) [] = []
-complaint_lines_at (p ∷ ps) (c ∷ cs) = complaint_line_at p c ++ complaint_lines_at ps cs
+abbrev pub diagnosis_lines_at : List Position → List ReportedDiagnosis → List ℕ
+diagnosis_lines_at [] cs = []
+diagnosis_lines_at (p ∷ ps) [] = []
+diagnosis_lines_at (p ∷ ps) (c ∷ cs) = diagnosis_line_at p c ++ diagnosis_lines_at ps cs
 
 -- Returns the line that reports a diagnostic of the text, with the position of the diagnostic's
 -- start. Lines and UTF-16 units are counted from 0.
-abbrev pub complaint_line : List ℕ → Complaint → List ℕ
-complaint_line text c = complaint_line_at (position_of (width_of Utf16) (chars text) c.span.start) c
+abbrev pub diagnosis_line : List ℕ → ReportedDiagnosis → List ℕ
+diagnosis_line text c = diagnosis_line_at (position_of (width_of Utf16) (chars text) c.span.start) c
 
 -- Returns the lines that report these diagnostics of the text, in order.
-abbrev pub complaint_lines : List ℕ → List Complaint → List ℕ
-complaint_lines text [] = []
-complaint_lines text (c ∷ cs) = complaint_line text c ++ complaint_lines text cs
+abbrev pub all_diagnosis_lines : List ℕ → List ReportedDiagnosis → List ℕ
+all_diagnosis_lines text [] = []
+all_diagnosis_lines text (c ∷ cs) = diagnosis_line text c ++ all_diagnosis_lines text cs
 
 -- The diagnostic of a text that is too long.
-abbrev pub too_long_complaint : Complaint
-too_long_complaint = complaint_of_fault (record { code = TooLong; span = record { start = 0; end = 0 } })
+abbrev pub too_long_diagnosis : ReportedDiagnosis
+too_long_diagnosis = reported_diagnosis_of_fault (record { code = TooLong; span = record { start = 0; end = 0 } })
 
 -- The line that reports a text that is too long.
 abbrev pub too_long_line : List ℕ
-too_long_line = complaint_line_at (record { line = 0; character = 0 }) too_long_complaint
+too_long_line = diagnosis_line_at (record { line = 0; character = 0 }) too_long_diagnosis
 
 -- States that the file has errors, and that their lines are appended to the output. If the file has
 -- more bytes than a text may have, only `too_long_line` is appended. Otherwise the text isn't a
@@ -68,10 +68,10 @@ too_long_line = complaint_line_at (record { line = 0; character = 0 }) too_long_
 abbrev pub PrintsDiagnostics : List ℕ → Option (List ℕ) → Option (List ℕ) → Type 0
 PrintsDiagnostics file before after =
     ((max_text < length file) × Appends before after too_long_line)
-    ⊎ ((reported : List Complaint)
+    ⊎ ((reported : List ReportedDiagnosis)
     × (¬ IsWellTypedModule file)
     × ReportsFaults file reported
-    × Appends before after (complaint_lines file reported))
+    × Appends before after (all_diagnosis_lines file reported))
 
 -- ---- the output of a run, and the line that reports its end
 
@@ -89,7 +89,7 @@ output_text (w ∷ ws) = output_item_text w ++ output_text ws
 -- aren't known, nothing is stated about them.
 pub record IsWrittenExcept (before after : Option (List ℕ)) (text left : List ℕ) : Type 0 where
   pub written : List ℕ
-  pub grew : Appends before after written
+  pub appends_written : Appends before after written
   pub split : text ≡ written ++ left
 
 -- Returns the line that reports the end of a run, or None for Done.

@@ -11,11 +11,11 @@ use Rattle.ob0_text.specs.declared.position_types.Position.{Position}
 use Rattle.ob0_text.specs.declared.position_types.Unit.{Unit}
 use Rattle.ob0_text.specs.declared.position_types.Unit.TheVariants.{Utf16}
 use Rattle.ob0_text.specs.declared.refusals.EditRefusal.{EditRefusal}
-use Rattle.ob0_edits.specs.Renamings.{IsRefusedIn, RenamesIn}
+use Rattle.ob0_edits.specs.Renamings.{IsRenameRefusedIn, RenamesIn}
 use Rattle.ob0_commands.specs.Endings.{EndsWithoutFault}
 use Rattle.ob0_commands.specs.Outputs.{IsFlushedOrUnchanged}
 use Rattle.ob0_commands.specs.Printed.{PrintsDiagnostics}
-use Rattle.ob0_commands.specs.IsPrintedOnStderr.{refusal_line}
+use Rattle.ob0_commands.specs.StderrLines.{refusal_line}
 use Rattle.ob0_commands.specs.Statuses.{IsTextFile}
 
 -- States that the edits can be applied to the text, and that the edited text is printed in UTF-8.
@@ -62,7 +62,7 @@ pub record RefusesName (file : List ℕ) (position : Position) (new : List ℕ)
     (before after : Option (List ℕ)) (IsPrintedOnStderr : Option (List ℕ) → Type 0) : Type 0 where
   pub has_text : IsTextFile file
   pub refusal : EditRefusal
-  pub refused : IsRefusedIn Utf16 (chars file) position new refusal
+  pub refused : IsRenameRefusedIn Utf16 (chars file) position new refusal
   pub nothing : after ≡ before
   pub said : IsPrintedOnStderr (Some (refusal_line refusal))
 

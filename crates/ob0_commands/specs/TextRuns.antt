@@ -59,7 +59,7 @@ pub record PrintsStoppedRun (file : List ℕ) (given : Option (List ℕ)) (c t :
     (before after : Option (List ℕ)) (IsPrintedOnStderr : Option (List ℕ) → Type 0) : Type 0 where
   pub r : Run
   pub prints : PrintsRun file given c t before after r
-  pub otherwise : r.ending ≢ meaning_of_end end.Done
+  pub not_done : r.ending ≢ meaning_of_end end.Done
   pub last : End
   pub ends : r.ending ≡ meaning_of_end last
   pub said : IsPrintedOnStderr (run_end_line last)

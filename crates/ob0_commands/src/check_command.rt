@@ -7,15 +7,15 @@ ghost use Rattle.std.specs.Prelude.{◌≡◌, ◌≢◌, ◌<◌, ◌≤◌, []
 ghost use Rattle.std.specs.Io.KnownBytes.{Appends};
 ghost use Rattle.std.specs.Mem.{manually_drop_value};
 ghost use Rattle.ob0_commands.specs.CommandEffects.{ChecksFile};
-ghost use Rattle.ob0_commands.specs.Printed.{PrintsDiagnostics, complaint_lines, complaint_line_at, complaint_lines_at, too_long_line};
-ghost use Rattle.ob0_commands.specs.IsPrintedOnStderr.{PrintsLine};
+ghost use Rattle.ob0_commands.specs.Printed.{PrintsDiagnostics, all_diagnosis_lines, diagnosis_line_at, diagnosis_lines_at, too_long_line};
+ghost use Rattle.ob0_commands.specs.StderrLines.{PrintsLine};
 ghost use Rattle.ob0_commands.specs.Statuses.{AllocatesOnlyIfShort, IsNonUtf8File, OutputFailureMatches, PrintsNothingUnlessWrite, StopsPrinting, StopsPrintingFaults};
 ghost use Rattle.ob0_commands.specs.declared.faults.FileFault.TheVariants as faults;
 ghost use Rattle.ob0_scan.specs.TextWithTokens.{max_text};
-ghost use Rattle.ob0_analysis.specs.Diagnosed.{Reports, complaint_of_diagnosis};
+ghost use Rattle.ob0_analysis.specs.Diagnosed.{Reports, reported_diagnosis_of};
 
 use crate::faults::{FileFault, print_fault};
-use crate::reading::MAX_FILE;
+use crate::reading::MAX_BYTES_READ;
 use crate::tracked_output::{Output, print};
 use ob0_analysis::{Analysis, Diagnosis};
 use ob0_text::{Lines, Position, TextStore};
@@ -59,7 +59,7 @@ pub fn check_file<'f, O: Output>(
     ensures memory { IfErr result (AllocatesOnlyIfShort file.entry.now) }
     ensures kept { IfErr result (PrintsNothingUnlessWrite out.old out.new) }
 {
-    let Some(text) = decode_text(file, out)? else {
+    let Some(text) = decode_or_print_too_long(file, out)? else {
         return Ok(None);
     };
     let reported = diagnose(alloc, text)?;
@@ -72,7 +72,7 @@ pub fn check_file<'f, O: Output>(
 
 /// Analyses a text and returns its diagnostics.
 fn diagnose(alloc: Global, text: &str) -> Result<Vec<Diagnosis>, AllocError>
-    ensures { IfOk result (λ list. Reports text.now (map complaint_of_diagnosis list.items)) }
+    ensures { IfOk result (λ list. Reports text.now (map reported_diagnosis_of list.items)) }
 {
     let analysis = analyse(alloc, text)?;
     analysis.diagnoses(alloc)
@@ -83,13 +83,16 @@ fn diagnose(alloc: Global, text: &str) -> Result<Vec<Diagnosis>, AllocError>
 pub fn analyse(alloc: Global, text: &str) -> Result<ManuallyDrop<Analysis>, AllocError>
     ensures { IfOk result (λ analysis. manually_drop_value analysis ≡ text.now) }
 {
-    let analysis = Analysis::of(alloc, text)?;
+    let analysis = Analysis::analyse_text(alloc, text)?;
     Ok(ManuallyDrop::new(analysis))
 }
 
 /// Returns the text of a file. If the file is too long, prints the diagnostic for that, flushes and
 /// returns None. If the bytes aren't UTF-8, the fault is `Utf8`.
-pub fn decode_text<'f, O: Output>(file: &'f [u8], out: &mut O) -> Result<Option<&'f str>, FileFault>
+pub fn decode_or_print_too_long<'f, O: Output>(
+    file: &'f [u8],
+    out: &mut O,
+) -> Result<Option<&'f str>, FileFault>
     ensures found { IfOk result (λ found. MatchOption found ((max_text < length file.entry.now)
         × Appends (O.contents out.old) (O.contents out.new) too_long_line)
         (λ text. (text.now ≡ file.entry.now) × (out.new ≡ out.old))) }
@@ -103,7 +106,7 @@ pub fn decode_text<'f, O: Output>(file: &'f [u8], out: &mut O) -> Result<Option<
     ensures memory { IfErr result (λ fault. fault ≢ faults.Memory) }
     ensures kept { IfErr result (PrintsNothingUnlessWrite out.old out.new) }
 {
-    if file.len() >= MAX_FILE {
+    if file.len() >= MAX_BYTES_READ {
         print(out, "0:0: TooLong: text too long\n")?;
         return Ok(None);
     }
@@ -121,7 +124,7 @@ pub fn print_diagnoses<O: Output>(
     out: &mut O,
 ) -> Result<(), FileFault>
     ensures printed { OnOk result (Appends (O.contents out.old) (O.contents out.new)
-        (complaint_lines text.now (map complaint_of_diagnosis reported.now))) }
+        (all_diagnosis_lines text.now (map reported_diagnosis_of reported.now))) }
     ensures flushed { OnOk result (O.is_flushed out.new ≡ true) }
     ensures unfailed { OnOk result (O.has_failed out.new ≡ O.has_failed out.old) }
     ensures fault { IfErr result StopsPrinting }
@@ -135,12 +138,12 @@ pub fn print_diagnoses<O: Output>(
 /// Returns the lines that report the diagnostics of a text, in order.
 fn diagnosis_lines(alloc: Global, text: &str, reported: &[Diagnosis]) -> Result<String, AllocError>
     ensures { IfOk result
-        (λ lines. string_bytes lines ≡ complaint_lines text.now (map complaint_of_diagnosis reported.now)) }
+        (λ lines. string_bytes lines ≡ all_diagnosis_lines text.now (map reported_diagnosis_of reported.now)) }
 {
     let store = Lines::from_str(alloc, text)?;
     let starts = diagnosis_starts(alloc, reported)?;
     let positions = store.positions(alloc, starts.as_slice())?;
-    complaint_lines_at(alloc, reported, positions.as_slice())
+    diagnosis_lines_at(alloc, reported, positions.as_slice())
 }
 
 /// Returns the start of each diagnostic in order, as a byte offset in the text.
@@ -155,30 +158,30 @@ fn diagnosis_starts(alloc: Global, reported: &[Diagnosis]) -> Result<Vec<usize>,
 
 /// Returns the lines that report these diagnostics, in order. The n-th diagnostic starts at the
 /// n-th position.
-fn complaint_lines_at(
+fn diagnosis_lines_at(
     alloc: Global,
     reported: &[Diagnosis],
     positions: &[Position],
 ) -> Result<String, AllocError>
     ensures { IfOk result
-        (λ lines. string_bytes lines ≡ complaint_lines_at positions.now (map complaint_of_diagnosis reported.now)) }
+        (λ lines. string_bytes lines ≡ diagnosis_lines_at positions.now (map reported_diagnosis_of reported.now)) }
 {
     let mut lines = String::new(alloc);
     for (diagnosis, position) in reported.iter().zip(positions) {
-        let line = complaint_line_at(alloc, diagnosis, *position)?;
+        let line = diagnosis_line_at(alloc, diagnosis, *position)?;
         lines.push_str(line.as_str())?;
     }
     Ok(lines)
 }
 
 /// Returns the line `L:C: FaultCode: message` of a diagnostic that starts at this position.
-fn complaint_line_at(
+fn diagnosis_line_at(
     alloc: Global,
     diagnosis: &Diagnosis,
     position: Position,
 ) -> Result<String, AllocError>
     ensures { IfOk result
-        (λ line. string_bytes line ≡ complaint_line_at position (complaint_of_diagnosis diagnosis.now)) }
+        (λ line. string_bytes line ≡ diagnosis_line_at position (reported_diagnosis_of diagnosis.now)) }
 {
     let (line, character) = (position.line, position.character);
     let code = diagnosis.code;

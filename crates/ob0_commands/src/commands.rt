@@ -3,7 +3,7 @@
 ghost use Rattle.std.specs.Prelude.{◌≢◌};
 ghost use Rattle.ob0_cli.specs.declared.line.CommandLine.TheVariants.{Serve};
 ghost use Rattle.ob0_commands.specs.CommandEffects.{PerformsOnFile};
-ghost use Rattle.ob0_commands.specs.IsPrintedOnStderr.{PrintsLine};
+ghost use Rattle.ob0_commands.specs.StderrLines.{PrintsLine};
 
 use crate::check_command::check_text;
 use crate::reading::Input;

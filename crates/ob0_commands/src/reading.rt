@@ -21,7 +21,7 @@ use std::alloc::Global;
 use std::io::{self, Read};
 
 /// The most bytes of a file that are read: one more than a text may have.
-pub const MAX_FILE: usize = MAX_TEXT + 1;
+pub const MAX_BYTES_READ: usize = MAX_TEXT + 1;
 
 /// The most bytes that the input of a run may have.
 const MAX_INPUT: usize = 16_777_216;
@@ -99,7 +99,7 @@ pub fn read_file<R: Input>(alloc: Global, file: &mut R) -> Result<Vec<u8>, FileF
     ensures fault { IfErr result (IsFaultOrMemory faults.File (R.has_failed file.new ≡ true)
         (R.has_failed file.new ≡ R.has_failed file.old)) }
 {
-    read_up_to(alloc, file, MAX_FILE, FileFault::File)
+    read_up_to(alloc, file, MAX_BYTES_READ, FileFault::File)
 }
 
 /// Returns all bytes of the input. If a read fails, the fault is `Input`. If the input has more

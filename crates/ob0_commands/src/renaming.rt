@@ -11,10 +11,10 @@ ghost use Rattle.std.specs.Prelude.{◌≡◌, true, IfOk, IfErr, OnErr};
 ghost use Rattle.ob0_commands.specs.Endings.{EndsWithoutFault};
 ghost use Rattle.ob0_commands.specs.CommandEffects.{RenamesInFile};
 ghost use Rattle.ob0_commands.specs.Renamed.{PrintsRefusal, PrintsEditedText, RenameEndsWithoutFault};
-ghost use Rattle.ob0_commands.specs.IsPrintedOnStderr.{PrintsLine};
+ghost use Rattle.ob0_commands.specs.StderrLines.{PrintsLine};
 ghost use Rattle.ob0_commands.specs.Statuses.{AllocatesOnlyIfShort, IsNonUtf8File, OutputFailureMatches, PrintsNothingUnlessWrite, StopsPrinting, StopsPrintingFaults};
 
-use crate::check_command::{analyse, decode_text, print_diagnoses};
+use crate::check_command::{analyse, decode_or_print_too_long, print_diagnoses};
 use crate::faults::{FileFault, print_fault};
 use crate::tracked_output::{Output, print};
 use ob0_edits::rename_edits;
@@ -38,14 +38,14 @@ pub fn rename_text<O: Output, E: Output>(
         (PrintsLine E.contents E.is_flushed E.has_failed err.old err.new) file.now position new.now
         result }
 {
-    match rename_file(alloc, file, position, new, out, err) {
+    match rename_in_file(alloc, file, position, new, out, err) {
         Ok(status) => status,
         Err(fault) => print_fault(fault, err),
     }
 }
 
 /// Does the work of `rename_text`, but returns a fault instead of printing its line.
-fn rename_file<O: Output, E: Output>(
+fn rename_in_file<O: Output, E: Output>(
     alloc: Global,
     file: &[u8],
     position: Position,
@@ -63,7 +63,7 @@ fn rename_file<O: Output, E: Output>(
     ensures kept { IfErr result (PrintsNothingUnlessWrite out.old out.new) }
     ensures unsaid { OnErr result (err.new ≡ err.old) }
 {
-    let Some(text) = decode_text(file, out)? else {
+    let Some(text) = decode_or_print_too_long(file, out)? else {
         return Ok(1);
     };
     rename_utf8_text(alloc, text, position, new, out, err)

@@ -22,12 +22,12 @@ ghost use Rattle.ob0_commands.specs.Inputs.{TakesAtMost};
 ghost use Rattle.ob0_commands.specs.Numbers.{max_input};
 ghost use Rattle.ob0_commands.specs.CommandEffects.{RunsFile};
 ghost use Rattle.ob0_commands.specs.Printed.{IsWrittenExcept, PrintsDiagnostics, run_end_line, output_text, output_item_text};
-ghost use Rattle.ob0_commands.specs.IsPrintedOnStderr.{PrintsLine};
+ghost use Rattle.ob0_commands.specs.StderrLines.{PrintsLine};
 ghost use Rattle.ob0_commands.specs.Statuses.{AllocatesOnlyIfShort, IsNonUtf8File, KeepsInputFailureUnlessInput, OutputFailureMatches, PrintsNothingUnlessWrite, StopsPrinting, StopsRunning, run_end_status};
 ghost use Rattle.ob0_commands.specs.declared.faults.FileFault.TheVariants as faults;
 ghost use Rattle.ob0_commands.specs.TextRuns.{IsLoweredTo, RunEndsWithoutFault, TextRunsAs};
 
-use crate::check_command::{decode_text, print_diagnoses};
+use crate::check_command::{decode_or_print_too_long, print_diagnoses};
 use crate::faults::{FileFault, print_fault};
 use crate::numbers::read_numbers;
 use crate::reading::Input;
@@ -106,10 +106,10 @@ fn run_file<R: Input, O: Output, E: Output>(
     ensures unread { ¬ IsWellTypedModule file.now → input.new ≡ input.old }
     ensures unsaid { OnErr result (err.new ≡ err.old) }
 {
-    let Some(text) = decode_text(file, out)? else {
+    let Some(text) = decode_or_print_too_long(file, out)? else {
         return Ok(1);
     };
-    let Some(program) = lower_text(alloc, text, out)? else {
+    let Some(program) = lower_or_print_diagnoses(alloc, text, out)? else {
         return Ok(1);
     };
     let numbers = read_numbers(alloc, input)?;
@@ -120,7 +120,7 @@ fn run_file<R: Input, O: Output, E: Output>(
 /// Returns the program that a text is lowered to. If the text isn't a well-typed module, prints its
 /// diagnostics and returns None. The analysis is dropped on return, because a run may take long and
 /// needs only the program.
-fn lower_text<O: Output>(
+fn lower_or_print_diagnoses<O: Output>(
     alloc: Global,
     text: &str,
     out: &mut O,
@@ -135,7 +135,7 @@ fn lower_text<O: Output>(
         (OutputFailureMatches (O.has_failed out.old) (O.has_failed out.new)) }
     ensures kept { IfErr result (PrintsNothingUnlessWrite out.old out.new) }
 {
-    let analysis = Analysis::of(alloc, text)?;
+    let analysis = Analysis::analyse_text(alloc, text)?;
     match ask(alloc, &analysis, &LoweringQuestion {})? {
         Some(program) => Ok(Some(program)),
         None => {

@@ -17,7 +17,7 @@ ghost use Rattle.std.specs.Io.{WritesAtMost};
 ghost use Rattle.std.specs.Io.KnownBytes.{Appends, Keeps, WriteAppends};
 ghost use Rattle.ob0_commands.specs.declared.faults.FileFault.TheVariants as faults;
 ghost use Rattle.ob0_commands.specs.Outputs.{wrapped_writer, output_failed, has_flushed};
-ghost use Rattle.ob0_commands.specs.IsPrintedOnStderr.{PrintsLine};
+ghost use Rattle.ob0_commands.specs.StderrLines.{PrintsLine};
 
 use crate::faults::FileFault;
 use std::io::{self, Write};

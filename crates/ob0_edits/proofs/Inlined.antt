@@ -2,7 +2,7 @@
 use Rattle.std.proofs.Common.{◌≡◌, ℕ, List, Option, Some, None, Result, Vec, Global, inl, inr, refl, subst}
 use Rattle.std.specs.Str.{chars, IsUtf8}
 use Rattle.ob0_inline.specs.Everywhere.{tree_inlined_everywhere}
-use Rattle.ob0_inline.specs.Inlined.{LeavesModule}
+use Rattle.ob0_inline.specs.Inlined.{EditsGiveModule}
 use Rattle.ob0_inline.specs.Uses.{tree_inlined_here}
 use Rattle.ob0_language_runs.specs.EditLaws.{HaveSameRuns}
 use Rattle.ob0_language_names.specs.Names.{Name}
@@ -14,11 +14,11 @@ use Rattle.ob0_tree.specs.ParsedModule.{ParsedModule, named_tree_of}
 use Rattle.ob0_tree.specs.Tree.{Tree, module_text}
 use Rattle.ob0_language_types.specs.WellTyped.{WellTyped}
 use Rattle.ob0_edits.specs.Inlinings.{AnswersInlining, FindsInlineResults, IsInlineResult, InlinesIn, AreEditsUnlessRefused, OffersInlining}
-use Rattle.ob0_analysis.specs.Analysed.{AnswersIfWellTyped, IsModuleIn, IsReadAs}
+use Rattle.ob0_analysis.specs.Analysed.{AnswersIfWellTyped, IsResolvedWellTypedModule, IsParsedWellTypedModule}
 use Rattle.ob0_analysis.specs.Diagnosed.{IsTextOf, IsWellTypedModule}
 use Rattle.ob0_analysis.specs.Texts.{utf8}
 use Rattle.ob0_edits.specs.declared.inlinings.Inlining.{Inlining}
-use Rattle.ob0_edits.specs.declared.inlinings.Inlining.TheVariants.{Here, Everywhere}
+use Rattle.ob0_edits.specs.declared.inlinings.Inlining.TheVariants.{OneUse, Everywhere}
 use Rattle.ob0_edits.specs.declared.inlinings.Inlinings.{Inlinings}
 use Rattle.ob0_analysis.proofs.Scanning.{is_module, utf8_of}
 
@@ -31,12 +31,12 @@ offered_of how unit text m offset answer None h (refusal, other, is) = (refusal,
 
 -- ---- from the module to its text
 
-pub read_as : (text : List ℕ) (names : Resolution) → IsModuleIn text names → IsReadAs text names.module_read
+pub read_as : (text : List ℕ) (names : Resolution) → IsResolvedWellTypedModule text names → IsParsedWellTypedModule text names.module_read
 read_as text names h = record { scan = h.scan; parsed = h.well_typed.resolved.parsed; well_typed = h.well_typed.well_typed }
 
 -- Edits that leave the text of a module with the same runs inline the constant.
-kept : (how : Inlining) (unit : Unit) (text : List ℕ) (offset : ℕ) (edits : Vec Edit Global) (names : Resolution) (t : Tree Name module_text) → IsModuleIn (utf8 text) names
-    → LeavesModule unit text edits.items t → WellTyped t → HaveSameRuns t (named_tree_of names.module_read) → IsInlineResult how unit text names.module_read offset (Some edits) → InlinesIn how unit text offset edits
+kept : (how : Inlining) (unit : Unit) (text : List ℕ) (offset : ℕ) (edits : Vec Edit Global) (names : Resolution) (t : Tree Name module_text) → IsResolvedWellTypedModule (utf8 text) names
+    → EditsGiveModule unit text edits.items t → WellTyped t → HaveSameRuns t (named_tree_of names.module_read) → IsInlineResult how unit text names.module_read offset (Some edits) → InlinesIn how unit text offset edits
 kept how unit text offset edits names t h leaves well same inlines =
     let after : List ℕ = chars leaves.after.text in
     let text_of : IsTextOf t (utf8 after) =
@@ -51,25 +51,25 @@ kept how unit text offset edits names t h leaves well same inlines =
       runs = record { old = is_module (utf8 text) names h; new = record { tree = t; text_of = text_of; well_typed = well }; same = same };
     }
 
-inlines_in : (how : Inlining) (unit : Unit) (text : List ℕ) (offset : ℕ) (edits : Vec Edit Global) (names : Resolution) → IsModuleIn (utf8 text) names
+inlines_in : (how : Inlining) (unit : Unit) (text : List ℕ) (offset : ℕ) (edits : Vec Edit Global) (names : Resolution) → IsResolvedWellTypedModule (utf8 text) names
     → IsInlineResult how unit text names.module_read offset (Some edits) → InlinesIn how unit text offset edits
-inlines_in Here unit text offset edits names h (inl (u, at, answer)) =
-    kept Here unit text offset edits names (tree_inlined_here names.module_read u) h answer.1.leaves answer.1.well_typed answer.1.same_runs (inl (u, at, answer))
-inlines_in Here unit text offset edits names h (inr (is, none)) = cc
+inlines_in OneUse unit text offset edits names h (inl (u, at, answer)) =
+    kept OneUse unit text offset edits names (tree_inlined_here names.module_read u) h answer.1.leaves answer.1.well_typed answer.1.same_runs (inl (u, at, answer))
+inlines_in OneUse unit text offset edits names h (inr (is, none)) = cc
 inlines_in Everywhere unit text offset edits names h (inl (c, at, answer)) =
     kept Everywhere unit text offset edits names (tree_inlined_everywhere names.module_read c) h answer.1.leaves answer.1.well_typed answer.1.same_runs (inl (c, at, answer))
 inlines_in Everywhere unit text offset edits names h (inr (is, none)) = cc
 
-offers : (how : Inlining) (unit : Unit) (text : List ℕ) (offset : ℕ) (edits : Option (Vec Edit Global)) (names : Resolution) → IsModuleIn (utf8 text) names
+offers : (how : Inlining) (unit : Unit) (text : List ℕ) (offset : ℕ) (edits : Option (Vec Edit Global)) (names : Resolution) → IsResolvedWellTypedModule (utf8 text) names
     → IsInlineResult how unit text names.module_read offset edits → OffersInlining how unit text offset edits
 offers how unit text offset (Some edits) names h inlines = inlines_in how unit text offset edits names h inlines
 offers how unit text offset None names h refused = record { module_read = names.module_read; read = read_as (utf8 text) names h; refused = refused }
 
 pub inlinings_found : (unit : Unit) (bytes text : List ℕ) (offset : ℕ) (found : Option Inlinings) → IsUtf8 bytes → chars bytes ≡ text
-    → AnswersIfWellTyped bytes (λ names answer. IsInlineResult Here unit text names.module_read offset answer.here × IsInlineResult Everywhere unit text names.module_read offset answer.everywhere) found
+    → AnswersIfWellTyped bytes (λ names answer. IsInlineResult OneUse unit text names.module_read offset answer.here × IsInlineResult Everywhere unit text names.module_read offset answer.everywhere) found
     → FindsInlineResults unit text offset found
 inlinings_found unit bytes text offset (Some found) u is h =
     let names : Resolution = h.0 in
-    let module_in : IsModuleIn (utf8 text) names = subst (λ (t : List ℕ). IsModuleIn t names) (utf8_of bytes text u is) h.1 in
-    (offers Here unit text offset found.here names module_in h.2.0, offers Everywhere unit text offset found.everywhere names module_in h.2.1)
+    let module_in : IsResolvedWellTypedModule (utf8 text) names = subst (λ (t : List ℕ). IsResolvedWellTypedModule t names) (utf8_of bytes text u is) h.1 in
+    (offers OneUse unit text offset found.here names module_in h.2.0, offers Everywhere unit text offset found.everywhere names module_in h.2.1)
 inlinings_found unit bytes text offset None u is h = subst (λ (t : List ℕ). IsWellTypedModule t → ⊥) (utf8_of bytes text u is) h

@@ -2,7 +2,7 @@
 use Rattle.std.proofs.Common.{◌≡◌, ◌≤◌, ◌<◌, ◌⊎◌, ◌∙◌, ℕ, List, Option, Some, None, Result, Ok, Err, IfOk, IfErr, IsErrOf, Vec, Global, map, length, inl, inr, refl, sym, ap, subst}
 use Rattle.std.specs.Str.{chars, IsUtf8}
 use Rattle.std.proofs.lemmas.Str.{encodes-chars}
-use Rattle.ob0_scan.specs.Lexed.{Lexeme, Lexed}
+use Rattle.ob0_scan.specs.Lexed.{Lexeme, LexesInto}
 use Rattle.ob0_scan.specs.TextWithTokens.{TextWithTokens, IsScan, max_text, tokens_from, comments_from}
 use Rattle.ob0_scope_table.specs.Resolution.{Resolution}
 use Rattle.ob0_text.specs.Patches.{patched}
@@ -18,7 +18,7 @@ use Rattle.ob0_layout.specs.Gaps.{edit_content, edit_of, changed_gaps, all_gaps}
 use Rattle.ob0_layout.specs.LineRoles.{line_roles}
 use Rattle.ob0_text.specs.declared.refusals.EditRefusal.{EditRefusal}
 use Rattle.ob0_text.specs.declared.refusals.EditRefusal.TheVariants.{TooLong, Memory}
-use Rattle.ob0_analysis.specs.Analysed.{AnswersIfWellTyped, IsModuleIn}
+use Rattle.ob0_analysis.specs.Analysed.{AnswersIfWellTyped, IsResolvedWellTypedModule}
 use Rattle.ob0_analysis.specs.Diagnosed.{IsTextOf, IsWellTypedModule}
 use Rattle.ob0_analysis.specs.Texts.{utf8}
 use Rattle.ob0_edits.specs.Layouts.{FindsFormatResult, IsFormatResult, IsTooLongFormatted, FormatsIn, layout_changes, layout_of}
@@ -30,7 +30,7 @@ ModuleStays =
     → (t : TextWithTokens) → IsScan t → t.text ≡ layout indent tree scan.lexemes → ModuleOf t tree
 
 -- If the formatted text isn't too long, it is a text of the same module.
-stays_module : (indent : Indent) (text : List ℕ) (m : IsWellTypedModule text) → IsUtf8 (layout_of indent m) → Lexed (layout_of indent m) (formatted_lexemes indent m.tree m.text_of.scan.scan.lexemes)
+stays_module : (indent : Indent) (text : List ℕ) (m : IsWellTypedModule text) → IsUtf8 (layout_of indent m) → LexesInto (layout_of indent m) (formatted_lexemes indent m.tree m.text_of.scan.scan.lexemes)
     → length (layout_of indent m) ≤ max_text → ModuleStays → IsTextOf m.tree (utf8 (chars (layout_of indent m)))
 stays_module indent text m u lexed short law =
     let laid : List ℕ = layout_of indent m in
@@ -41,7 +41,7 @@ stays_module indent text m u lexed short law =
 
 pub lays_out : (unit : Unit) (indent : Indent) (text : List ℕ) (edits : List Edit) (m : IsWellTypedModule (utf8 text)) → map edit_content edits ≡ layout_changes unit indent text m
     → patched (width_of unit) text edits ≡ Some (chars (layout_of indent m)) → length (layout_of indent m) ≤ max_text
-    → IsUtf8 (layout_of indent m) → Lexed (layout_of indent m) (formatted_lexemes indent m.tree m.text_of.scan.scan.lexemes) → ModuleStays
+    → IsUtf8 (layout_of indent m) → LexesInto (layout_of indent m) (formatted_lexemes indent m.tree m.text_of.scan.scan.lexemes) → ModuleStays
     → FormatsIn unit indent text edits
 lays_out unit indent text edits m changes made short u lexed law =
     let stays : IsTextOf m.tree (utf8 (chars (layout_of indent m))) = stays_module indent (utf8 text) m u lexed short law in
@@ -63,9 +63,9 @@ Made unit indent text edits m =
     × ((scan : IsScan m.source) → text ≡ chars m.source.text → patched (width_of unit) text edits ≡ Some (chars (layout indent (named_tree_of m) scan.lexemes)))
 
 pub formats : (unit : Unit) (indent : Indent) (text : List ℕ) (edits : List Edit) (names : Resolution) (m : ParsedModule) → m ≡ names.module_read
-    → IsModuleIn (utf8 text) names → text ≡ chars names.module_read.source.text → Made unit indent text edits m
+    → IsResolvedWellTypedModule (utf8 text) names → text ≡ chars names.module_read.source.text → Made unit indent text edits m
     → ((indent : Indent) (s : TextWithTokens) (scan : IsScan s) (tree : Tree (List ℕ) module_text) → IsUtf8 (layout indent tree scan.lexemes))
-    → ((indent : Indent) (s : TextWithTokens) (scan : IsScan s) (tree : Tree (List ℕ) module_text) → ModuleOf s tree → Lexed (layout indent tree scan.lexemes) (formatted_lexemes indent tree scan.lexemes))
+    → ((indent : Indent) (s : TextWithTokens) (scan : IsScan s) (tree : Tree (List ℕ) module_text) → ModuleOf s tree → LexesInto (layout indent tree scan.lexemes) (formatted_lexemes indent tree scan.lexemes))
     → ModuleStays → FormatsIn unit indent text edits
 formats unit indent text edits names m is h same made u lexed law =
     let w = is_module (utf8 text) names h in
@@ -75,7 +75,7 @@ formats unit indent text edits names m is h same made u lexed law =
     lays_out unit indent text edits w (is_made.0 scan) (is_made.2 scan same) (is_made.1 scan) (u indent source scan w.tree) (lexed indent source scan w.tree w.text_of.module_of) law
 
 -- If no allocation failed, the only refusal is that the formatted text is too long.
-pub too_long : (indent : Indent) (text : List ℕ) (names : Resolution) (m : ParsedModule) (refusal : EditRefusal) → m ≡ names.module_read → IsModuleIn (utf8 text) names
+pub too_long : (indent : Indent) (text : List ℕ) (names : Resolution) (m : ParsedModule) (refusal : EditRefusal) → m ≡ names.module_read → IsResolvedWellTypedModule (utf8 text) names
     → ((scan : IsScan m.source) → refusal ≡ TooLong → max_text < length (layout indent (named_tree_of m) scan.lexemes))
     → (refusal ≡ TooLong) ⊎ (refusal ≡ Memory) → (refusal ≡ Memory → ⊥) → (refusal ≡ TooLong) × IsTooLongFormatted indent text
 too_long indent text names m refusal is h long (inr wants) other = absurd (other wants)
@@ -85,14 +85,14 @@ too_long indent text names m refusal is h long (inl longer) other =
 
 -- If no allocation failed, the result is edits or the refusal, by the contract of `format`.
 pub formats_or_not : (unit : Unit) (indent : Indent) (text : List ℕ) (names : Resolution) (m : ParsedModule) (r : Result (Vec Edit Global) EditRefusal) → m ≡ names.module_read
-    → IsModuleIn (utf8 text) names → text ≡ chars names.module_read.source.text
+    → IsResolvedWellTypedModule (utf8 text) names → text ≡ chars names.module_read.source.text
     → ((scan : IsScan m.source) → IfOk r (λ edits. map edit_content edits.items ≡ map (edit_of (width_of unit) text) (changed_gaps m.source.text (all_gaps indent m.source.text (line_roles 0 (named_tree_of m)) scan.lexemes))))
     → ((scan : IsScan m.source) → IfOk r (λ edits. length (layout indent (named_tree_of m) scan.lexemes) ≤ max_text))
     → ((scan : IsScan m.source) → text ≡ chars m.source.text → IfOk r (λ edits. patched (width_of unit) text edits.items ≡ Some (chars (layout indent (named_tree_of m) scan.lexemes))))
     → ((scan : IsScan m.source) → IsErrOf r TooLong → max_text < length (layout indent (named_tree_of m) scan.lexemes))
     → IfErr r (λ refusal. (refusal ≡ TooLong) ⊎ (refusal ≡ Memory)) → IfErr r (λ refusal. refusal ≡ Memory → ⊥)
     → ((indent : Indent) (s : TextWithTokens) (scan : IsScan s) (tree : Tree (List ℕ) module_text) → IsUtf8 (layout indent tree scan.lexemes))
-    → ((indent : Indent) (s : TextWithTokens) (scan : IsScan s) (tree : Tree (List ℕ) module_text) → ModuleOf s tree → Lexed (layout indent tree scan.lexemes) (formatted_lexemes indent tree scan.lexemes))
+    → ((indent : Indent) (s : TextWithTokens) (scan : IsScan s) (tree : Tree (List ℕ) module_text) → ModuleOf s tree → LexesInto (layout indent tree scan.lexemes) (formatted_lexemes indent tree scan.lexemes))
     → ModuleStays → IsFormatResult unit indent text r
 formats_or_not unit indent text names m (Ok edits) is h same changes short made long refusals other u lexed law =
     formats unit indent text edits.items names m is h same (changes, short, made) u lexed law
@@ -101,8 +101,8 @@ formats_or_not unit indent text names m (Err refusal) is h same changes short ma
 
 -- The result of asking for the formatting is the result of formatting the text.
 pub layout_found : (unit : Unit) (indent : Indent) (bytes text : List ℕ) (found : Option (Result (Vec Edit Global) EditRefusal)) → IsUtf8 bytes → chars bytes ≡ text
-    → AnswersIfWellTyped bytes (λ names outcome. IsModuleIn (utf8 text) names → text ≡ chars names.module_read.source.text → IsFormatResult unit indent text outcome) found
+    → AnswersIfWellTyped bytes (λ names outcome. IsResolvedWellTypedModule (utf8 text) names → text ≡ chars names.module_read.source.text → IsFormatResult unit indent text outcome) found
     → FindsFormatResult unit indent text found
 layout_found unit indent bytes text (Some outcome) u is h =
-    h.2 (subst (λ (t : List ℕ). IsModuleIn t h.0) (utf8_of bytes text u is) h.1) (sym is ∙ ap chars (sym h.1.scan.of))
+    h.2 (subst (λ (t : List ℕ). IsResolvedWellTypedModule t h.0) (utf8_of bytes text u is) h.1) (sym is ∙ ap chars (sym h.1.scan.of))
 layout_found unit indent bytes text None u is h = subst (λ (t : List ℕ). IsWellTypedModule t → ⊥) (utf8_of bytes text u is) h

@@ -14,7 +14,7 @@ use Rattle.ob0_text.specs.declared.refusals.EditRefusal.{EditRefusal}
 use Rattle.ob0_text.specs.declared.refusals.EditRefusal.TheVariants.{Memory}
 use Rattle.ob0_tree.specs.ParsedModule.{named_tree_of}
 use Rattle.ob0_tree.specs.Tree.{Tree, module_text}
-use Rattle.ob0_analysis.specs.Analysed.{AnswersIfWellTyped, IsModuleIn}
+use Rattle.ob0_analysis.specs.Analysed.{AnswersIfWellTyped, IsResolvedWellTypedModule}
 use Rattle.ob0_analysis.specs.Diagnosed.{IsTextOf, IsWellTypedModule}
 use Rattle.ob0_analysis.specs.Texts.{utf8}
 use Rattle.ob0_edits.specs.Renamings.{FindsRenameResult, RenamesIn, IsRenameResult}
@@ -31,7 +31,7 @@ settled r answer (Ok edits) h is other = subst (λ (a : Result (Vec Edit Global)
 settled r answer (Err refusal) h is other = not_memory r refusal (subst (λ (a : Result (Vec Edit Global) EditRefusal). RenameAnswers r a) (sym is) h) other
 
 -- If edits leave a text of a well-typed tree with the same runs, they rename in the text.
-renames_in : (unit : Unit) (text : List ℕ) (place : Position) (new : List ℕ) (edits : List Edit) (names : Resolution) → IsModuleIn (utf8 text) names
+renames_in : (unit : Unit) (text : List ℕ) (place : Position) (new : List ℕ) (edits : List Edit) (names : Resolution) → IsResolvedWellTypedModule (utf8 text) names
     → AreRenameEdits (renaming_of unit text names place new) edits → (tokens : List ℕ) (tree : Tree Name module_text) → WritesName (renaming_of unit text names place new) tokens tree edits
     → RenamesIn unit text place new edits
 renames_in unit text place new edits names h are tokens tree made =
@@ -48,18 +48,18 @@ renames_in unit text place new edits names h are tokens tree made =
       runs = record { old = is_module (utf8 text) names h; new = record { tree = tree; text_of = text_of; well_typed = made.well_typed }; same = made.same_runs };
     }
 
-renamed_writing : (unit : Unit) (text : List ℕ) (place : Position) (new : List ℕ) (edits : List Edit) (names : Resolution) → IsModuleIn (utf8 text) names
+spellings_after_rename : (unit : Unit) (text : List ℕ) (place : Position) (new : List ℕ) (edits : List Edit) (names : Resolution) → IsResolvedWellTypedModule (utf8 text) names
     → AreRenameEdits (renaming_of unit text names place new) edits → RenamesIn unit text place new edits
-renamed_writing unit text place new edits names h (inl (d, means, renames)) =
+spellings_after_rename unit text place new edits names h (inl (d, means, renames)) =
     renames_in unit text place new edits names h (inl (d, means, renames)) (tokens_to_rename names.module_read d new) (renamed (named_tree_of names.module_read) d new) renames.writes
-renamed_writing unit text place new edits names h (inr (k, (f, means, renames))) =
+spellings_after_rename unit text place new edits names h (inr (k, (f, means, renames))) =
     renames_in unit text place new edits names h (inr (k, (f, means, renames))) (field_tokens_to_rename names k f new) (with_renamed_field (named_tree_of names.module_read) k f new) renames.writes
 
 pub new_name_found : (unit : Unit) (bytes text : List ℕ) (place : Position) (new : List ℕ) (found : Option (Result (Vec Edit Global) EditRefusal)) → IsUtf8 bytes → chars bytes ≡ text
     → AnswersIfWellTyped bytes (λ names outcome. IsRenameResult (renaming_of unit text names place new) outcome) found → FindsRenameResult unit text place new found
 new_name_found unit bytes text place new (Some (Ok edits)) u is h =
-    renamed_writing unit text place new edits.items h.0 (subst (λ (t : List ℕ). IsModuleIn t h.0) (utf8_of bytes text u is) h.1) h.2
+    spellings_after_rename unit text place new edits.items h.0 (subst (λ (t : List ℕ). IsResolvedWellTypedModule t h.0) (utf8_of bytes text u is) h.1) h.2
 new_name_found unit bytes text place new (Some (Err refusal)) u is h =
-    record { names = h.0; read = subst (λ (t : List ℕ). IsModuleIn t h.0) (utf8_of bytes text u is) h.1; refused = h.2 }
+    record { names = h.0; read = subst (λ (t : List ℕ). IsResolvedWellTypedModule t h.0) (utf8_of bytes text u is) h.1; refused = h.2 }
 new_name_found unit bytes text place new None u is h =
     subst (λ (t : List ℕ). IsWellTypedModule t → ⊥) (utf8_of bytes text u is) h

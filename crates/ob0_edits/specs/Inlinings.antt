@@ -12,11 +12,11 @@ use Rattle.ob0_tree.specs.ParsedModule.{ParsedModule}
 use Rattle.ob0_inline.specs.Everywhere.{AnswersInlineEverywhere}
 use Rattle.ob0_inline.specs.Uses.{AnswersInlineHere}
 use Rattle.ob0_analysis.specs.Texts.{utf8}
-use Rattle.ob0_analysis.specs.Analysed.{IsReadAs}
+use Rattle.ob0_analysis.specs.Analysed.{IsParsedWellTypedModule}
 use Rattle.ob0_analysis.specs.Diagnosed.{IsWellTypedModule}
 use Rattle.ob0_analysis.specs.RunsKept.{RunsAsBefore}
 use Rattle.ob0_edits.specs.declared.inlinings.Inlining.{Inlining}
-use Rattle.ob0_edits.specs.declared.inlinings.Inlining.TheVariants.{Here, Everywhere}
+use Rattle.ob0_edits.specs.declared.inlinings.Inlining.TheVariants.{OneUse, Everywhere}
 use Rattle.ob0_edits.specs.declared.inlinings.Inlinings as found_inlinings
 
 -- States that this is the right answer to inlining at a byte offset of a module, edits or a refusal,
@@ -28,7 +28,7 @@ abbrev pub AnswersInlining : Inlining
     → ℕ
     → Result (Vec Edit Global) EditRefusal
     → Type 0
-AnswersInlining Here unit text m offset answer = AnswersInlineHere unit text m offset answer
+AnswersInlining OneUse unit text m offset answer = AnswersInlineHere unit text m offset answer
 AnswersInlining Everywhere unit text m offset answer = AnswersInlineEverywhere unit text m offset answer
 
 -- States that these are the edits of an inlining at a byte offset of a module. None means that the
@@ -45,16 +45,16 @@ IsInlineResult how unit text m offset None =
 pub record InlinesIn (how : Inlining) (unit : Unit) (text : List ℕ) (offset : ℕ)
     (edits : Vec Edit Global) : Type 0 where
   pub module_read : ParsedModule
-  pub read : IsReadAs (utf8 text) module_read
+  pub read : IsParsedWellTypedModule (utf8 text) module_read
   pub inlines : IsInlineResult how unit text module_read offset (Some edits)
   pub after : List ℕ
   pub made : patched (width_of unit) text edits.items ≡ Some after
   pub runs : RunsAsBefore (utf8 text) (utf8 after)
 
 -- States that the text is a well-typed module and that this inlining is refused.
-pub record IsNotInlinedIn (how : Inlining) (unit : Unit) (text : List ℕ) (offset : ℕ) : Type 0 where
+pub record IsInliningRefusedIn (how : Inlining) (unit : Unit) (text : List ℕ) (offset : ℕ) : Type 0 where
   pub module_read : ParsedModule
-  pub read : IsReadAs (utf8 text) module_read
+  pub read : IsParsedWellTypedModule (utf8 text) module_read
   pub refused : IsInlineResult how unit text module_read offset None
 
 -- ---- answers to inlinings at a byte offset of a text: edits or None
@@ -69,11 +69,11 @@ AreEditsUnlessRefused answer None = (refusal : EditRefusal) × ¬ (refusal ≡ M
 -- text is a well-typed module and this inlining is refused.
 abbrev pub OffersInlining : Inlining → Unit → List ℕ → ℕ → Option (Vec Edit Global) → Type 0
 OffersInlining how unit text offset (Some edits) = InlinesIn how unit text offset edits
-OffersInlining how unit text offset None = IsNotInlinedIn how unit text offset
+OffersInlining how unit text offset None = IsInliningRefusedIn how unit text offset
 
 -- States that these are the results of both kinds of inlining at a byte offset of a text. None
 -- means that the text isn't a well-typed module.
 abbrev pub FindsInlineResults : Unit → List ℕ → ℕ → Option found_inlinings.Inlinings → Type 0
 FindsInlineResults unit text offset (Some found) =
-    OffersInlining Here unit text offset found.here × OffersInlining Everywhere unit text offset found.everywhere
+    OffersInlining OneUse unit text offset found.here × OffersInlining Everywhere unit text offset found.everywhere
 FindsInlineResults unit text offset None = ¬ IsWellTypedModule (utf8 text)

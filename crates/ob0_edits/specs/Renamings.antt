@@ -9,7 +9,7 @@ use Rattle.ob0_text.specs.declared.position_types.Position.{Position}
 use Rattle.ob0_text.specs.declared.position_types.Unit.{Unit}
 use Rattle.ob0_text.specs.declared.refusals.EditRefusal.{EditRefusal}
 use Rattle.ob0_scope_table.specs.Resolution.{Resolution}
-use Rattle.ob0_analysis.specs.Analysed.{IsModuleIn}
+use Rattle.ob0_analysis.specs.Analysed.{IsResolvedWellTypedModule}
 use Rattle.ob0_analysis.specs.Diagnosed.{IsWellTypedModule}
 use Rattle.ob0_analysis.specs.RunsKept.{RunsAsBefore}
 use Rattle.ob0_analysis.specs.Texts.{utf8}
@@ -27,17 +27,17 @@ IsRenameResult r (Err refusal) = IsRenameRefusal r refusal
 pub record RenamesIn (unit : Unit) (text : List ℕ) (place : Position) (new : List ℕ)
     (edits : List Edit) : Type 0 where
   pub names : Resolution
-  pub read : IsModuleIn (utf8 text) names
+  pub read : IsResolvedWellTypedModule (utf8 text) names
   pub are_edits : AreRenameEdits (renaming_of unit text names place new) edits
   pub after : List ℕ
   pub made : patched (width_of unit) text edits ≡ Some after
   pub runs : RunsAsBefore (utf8 text) (utf8 after)
 
 -- States that the text is a well-typed module and that the renaming is refused for this reason.
-pub record IsRefusedIn (unit : Unit) (text : List ℕ) (place : Position) (new : List ℕ)
+pub record IsRenameRefusedIn (unit : Unit) (text : List ℕ) (place : Position) (new : List ℕ)
     (refusal : EditRefusal) : Type 0 where
   pub names : Resolution
-  pub read : IsModuleIn (utf8 text) names
+  pub read : IsResolvedWellTypedModule (utf8 text) names
   pub refused : IsRenameRefusal (renaming_of unit text names place new) refusal
 
 -- States that this is the result of renaming in a text: edits, or the refusal. None means that the
@@ -49,5 +49,5 @@ abbrev pub FindsRenameResult : Unit
     → Option (Result (Vec Edit Global) EditRefusal)
     → Type 0
 FindsRenameResult unit text place new (Some (Ok edits)) = RenamesIn unit text place new edits.items
-FindsRenameResult unit text place new (Some (Err refusal)) = IsRefusedIn unit text place new refusal
+FindsRenameResult unit text place new (Some (Err refusal)) = IsRenameRefusedIn unit text place new refusal
 FindsRenameResult unit text place new None = ¬ IsWellTypedModule (utf8 text)

@@ -23,7 +23,7 @@ use std::alloc::{AllocError, Global};
 /// the constant's declaration is removed.
 #[derive(Clone, Copy, Debug, Drop, PartialEq, Eq)]
 pub enum Inlining {
-    Here,
+    OneUse,
     Everywhere,
 }
 
@@ -47,7 +47,7 @@ impl<'a, T: TextStore> Question for InliningsQuestion<'a, T> {
     ghost is_about = { λ q text. T.content q.store.now ≡ chars text };
 
     ghost answers = { λ q names found.
-        IsInlineResult how.Here (T.unit_of q.store.now) (T.content q.store.now) names.module_read
+        IsInlineResult how.OneUse (T.unit_of q.store.now) (T.content q.store.now) names.module_read
         (offset_of (width_of (T.unit_of q.store.now)) (T.content q.store.now) q.place)
         found.here
         × IsInlineResult how.Everywhere (T.unit_of q.store.now) (T.content q.store.now) names.module_read

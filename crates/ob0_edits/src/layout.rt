@@ -2,7 +2,7 @@
 
 ghost use Rattle.std.specs.Prelude.{◌≡◌, IfOk};
 ghost use Rattle.std.specs.Str.{chars};
-ghost use Rattle.ob0_analysis.specs.Analysed.{IsModuleIn};
+ghost use Rattle.ob0_analysis.specs.Analysed.{IsResolvedWellTypedModule};
 ghost use Rattle.ob0_analysis.specs.Texts.{utf8};
 ghost use Rattle.ob0_edits.specs.Layouts.{FindsFormatResult, IsFormatResult};
 
@@ -25,7 +25,7 @@ struct FormatQuestion<'a, T: TextStore> {
 impl<'a, T: TextStore> Question for FormatQuestion<'a, T> {
     type Answer = Result<Vec<Edit>, EditRefusal>;
 
-    ghost answers = { λ q names outcome. IsModuleIn (utf8 (T.content q.store.now)) names
+    ghost answers = { λ q names outcome. IsResolvedWellTypedModule (utf8 (T.content q.store.now)) names
         → T.content q.store.now ≡ chars names.module_read.source.text
         → IsFormatResult (T.unit_of q.store.now) q.indent (T.content q.store.now) outcome };
 

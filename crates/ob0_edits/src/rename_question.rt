@@ -2,8 +2,8 @@
 //!
 //! Declarations and fields are two cases of `AreRenameEdits` and `IsRenameRefusal` of `ob0_rename`.
 //! Both cases of `AreRenameEdits` contain `WritesName`, so one lemma, `renames_in` of
-//! `proofs/Renamings`, covers declarations and fields. `RenamesIn` and `IsRefusedIn` are
-//! about the module with its names bound (`IsModuleIn`), because fields are found through the
+//! `proofs/Renamings`, covers declarations and fields. `RenamesIn` and `IsRenameRefusedIn` are
+//! about the module with its names bound (`IsResolvedWellTypedModule`), because fields are found through the
 //! bindings of names. The contract of `ask`, which answers a question about a well-typed text, is
 //! about the bytes of the text. `RenamesIn` is about characters. The lemma `new_name_found` derives
 //! `RenamesIn` from the contract of `ask`.

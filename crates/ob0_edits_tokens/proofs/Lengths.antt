@@ -11,7 +11,7 @@ use Rattle.ob0_scan.specs.TextWithTokens.{TextWithTokens, IsScan, IsRangeOf, max
 use Rattle.ob0_scan.proofs.Borders.{cut_depends_on_next_bytes}
 use Rattle.ob0_scan.proofs.Spans.{scan_token_ranges}
 use Rattle.ob0_text.specs.Patches.{Cut, text_with_cuts}
-use Rattle.ob0_edits_tokens.specs.Replaced.{span_at, AreIdentifierIndexes, cut_of}
+use Rattle.ob0_edits_tokens.specs.Replaced.{span_at, AreIdentifierIndexes, replacement_cut}
 use Rattle.ob0_edits_tokens.specs.Removed.{IsDeclaration, removal_cut, text_after_removal}
 use Rattle.ob0_edits_tokens.proofs.Removals.{cleared}
 use Rattle.ob0_edits_tokens.proofs.Names.{a_name}
@@ -30,11 +30,11 @@ some_name = record { word = record { letter = refl; all = each }; free = not_res
         ap (λ i. is_ascii_alphanumeric (get_or (codes "x") i d)) first
 
 -- The places of the cuts don't depend on the new text.
-same_chain : (tokens : List Token) (a b : List ℕ) (at : ℕ) (places : List ℕ) → Chain at (map (cut_of tokens a) places) → Chain at (map (cut_of tokens b) places)
+same_chain : (tokens : List Token) (a b : List ℕ) (at : ℕ) (places : List ℕ) → Chain at (map (replacement_cut tokens a) places) → Chain at (map (replacement_cut tokens b) places)
 same_chain tokens a b at [] h = tt
 same_chain tokens a b at (p ∷ ps) h = (h.0, h.1, same_chain tokens a b (span_at tokens p).end ps h.2)
 
-pub chain_at : (s : TextWithTokens) (scan : IsScan s) (new places : List ℕ) → AreIdentifierIndexes s.tokens 0 places → Chain 0 (map (cut_of s.tokens new) places)
+pub chain_at : (s : TextWithTokens) (scan : IsScan s) (new places : List ℕ) → AreIdentifierIndexes s.tokens 0 places → Chain 0 (map (replacement_cut s.tokens new) places)
 chain_at s scan new places names =
     let apart = (cut_depends_on_next_bytes s.text scan.lexemes).0 scan.lexed in
     let done = swapped s.text s.tokens (codes "x") _ (a_name (codes "x") some_name) 0 0 scan.lexemes places [] scan.tokens refl (sym apart.0) apart.1 names in
@@ -53,15 +53,15 @@ last_length text end = length-drop end text
 -- states that the new text is counted up to here, and that the rest of the old text begins at `end`
 pub record Counted (s : TextWithTokens) (new places : List ℕ) (total count end i : ℕ) : Type 0 where
   pub scan : IsScan s
-  pub sum : count + length (text_with_cuts s.text end (map (cut_of s.tokens new) (drop i places))) ≡ total
-  pub chain : Chain end (map (cut_of s.tokens new) (drop i places))
+  pub sum : count + length (text_with_cuts s.text end (map (replacement_cut s.tokens new) (drop i places))) ≡ total
+  pub chain : Chain end (map (replacement_cut s.tokens new) (drop i places))
   pub inside : end ≤ length s.text
   pub short : count ≤ max_text
   pub least : ℕ
   pub names : AreIdentifierIndexes s.tokens least (drop i places)
 
-pub counted_start : (s : TextWithTokens) → IsScan s → (new places : List ℕ) (count end : ℕ) → AreIdentifierIndexes s.tokens 0 places → Chain end (map (cut_of s.tokens new) places) → count ≤ end → end ≤ length s.text
-    → Counted s new places (count + length (text_with_cuts s.text end (map (cut_of s.tokens new) places))) count end 0
+pub counted_start : (s : TextWithTokens) → IsScan s → (new places : List ℕ) (count end : ℕ) → AreIdentifierIndexes s.tokens 0 places → Chain end (map (replacement_cut s.tokens new) places) → count ≤ end → end ≤ length s.text
+    → Counted s new places (count + length (text_with_cuts s.text end (map (replacement_cut s.tokens new) places))) count end 0
 counted_start s scan new places count end names chain low inside = record {
   scan = scan;
   sum = refl;
@@ -80,8 +80,8 @@ module _ (s : TextWithTokens) (new places : List ℕ) (total count end i : ℕ) 
     names_here : AreIdentifierIndexes s.tokens c.least (get_or places i 0 ∷ drop (i + 1) places)
     names_here = subst (AreIdentifierIndexes s.tokens c.least) here c.names
 
-    chain_here : Chain end (map (cut_of s.tokens new) (get_or places i 0 ∷ drop (i + 1) places))
-    chain_here = subst (λ ps. Chain end (map (cut_of s.tokens new) ps)) here c.chain
+    chain_here : Chain end (map (replacement_cut s.tokens new) (get_or places i 0 ∷ drop (i + 1) places))
+    chain_here = subst (λ ps. Chain end (map (replacement_cut s.tokens new) ps)) here c.chain
 
     pub is_token : get_or places i 0 < length s.tokens
     is_token = names_here.1
@@ -98,10 +98,10 @@ module _ (s : TextWithTokens) (new places : List ℕ) (total count end i : ℕ) 
     pub ends_inside : (span_at s.tokens (get_or places i 0)).end ≤ length s.text
     ends_inside = range.end.0
 
-    all_here : count + (((span_at s.tokens (get_or places i 0)).start - end) + length new + length (text_with_cuts s.text (span_at s.tokens (get_or places i 0)).end (map (cut_of s.tokens new) (drop (i + 1) places)))) ≡ total
+    all_here : count + (((span_at s.tokens (get_or places i 0)).start - end) + length new + length (text_with_cuts s.text (span_at s.tokens (get_or places i 0)).end (map (replacement_cut s.tokens new) (drop (i + 1) places)))) ≡ total
     all_here =
-        ap (λ n. count + n) (sym (piece_length s.text end (cut_of s.tokens new (get_or places i 0)) (map (cut_of s.tokens new) (drop (i + 1) places)) begins_following range.start.0))
-        ∙ ap (λ ps. count + length (text_with_cuts s.text end (map (cut_of s.tokens new) ps))) (sym here) ∙ c.sum
+        ap (λ n. count + n) (sym (piece_length s.text end (replacement_cut s.tokens new (get_or places i 0)) (map (replacement_cut s.tokens new) (drop (i + 1) places)) begins_following range.start.0))
+        ∙ ap (λ ps. count + length (text_with_cuts s.text end (map (replacement_cut s.tokens new) ps))) (sym here) ∙ c.sum
 
     pub counted_next : (more : ℕ) → more ≡ count + ((span_at s.tokens (get_or places i 0)).start - end + length new) → more ≤ max_text
         → Counted s new places total more (span_at s.tokens (get_or places i 0)).end (i + 1)
@@ -120,10 +120,10 @@ module _ (s : TextWithTokens) (new places : List ℕ) (total count end i : ℕ) 
 
   pub counted_all : length places ≤ i → count + (length s.text - end) ≡ total
   counted_all done =
-      ap (λ n. count + n) (sym (last_length s.text end)) ∙ ap (λ ps. count + length (text_with_cuts s.text end (map (cut_of s.tokens new) ps))) (sym (drop_all i places done)) ∙ c.sum
+      ap (λ n. count + n) (sym (last_length s.text end)) ∙ ap (λ ps. count + length (text_with_cuts s.text end (map (replacement_cut s.tokens new) ps))) (sym (drop_all i places done)) ∙ c.sum
 
 -- The removal of a declaration and the cuts after it follow one another.
-pub chain_without : (s : TextWithTokens) (scan : IsScan s) (new places : List ℕ) (first last : ℕ) → IsDeclaration s.tokens first last → AreIdentifierIndexes s.tokens (suc last) places → Chain 0 (removal_cut s.tokens first last ∷ map (cut_of s.tokens new) places)
+pub chain_without : (s : TextWithTokens) (scan : IsScan s) (new places : List ℕ) (first last : ℕ) → IsDeclaration s.tokens first last → AreIdentifierIndexes s.tokens (suc last) places → Chain 0 (removal_cut s.tokens first last ∷ map (replacement_cut s.tokens new) places)
 chain_without s scan new places first last decl names =
     let apart = (cut_depends_on_next_bytes s.text scan.lexemes).0 scan.lexed in
     let done = cleared s.text s.tokens (codes "x") _ (a_name (codes "x") some_name) first last decl places names 0 0 scan.lexemes []
@@ -131,10 +131,10 @@ chain_without s scan new places first last decl names =
     (done.chain.0, done.chain.1, same_chain s.tokens (codes "x") new (span_at s.tokens last).end places done.chain.2)
 
 pub length_without : (s : TextWithTokens) (scan : IsScan s) (new places : List ℕ) (first last : ℕ) → IsDeclaration s.tokens first last → AreIdentifierIndexes s.tokens (suc last) places
-    → (span_at s.tokens first).start + length (text_with_cuts s.text (span_at s.tokens last).end (map (cut_of s.tokens new) places)) ≡ length (text_after_removal s first last places new)
+    → (span_at s.tokens first).start + length (text_with_cuts s.text (span_at s.tokens last).end (map (replacement_cut s.tokens new) places)) ≡ length (text_after_removal s first last places new)
 length_without s scan new places first last decl names =
     let range = scan_token_ranges s scan first _ (omega (arith, decl.order, decl.inside)) in
-    let parts = piece_length s.text 0 (removal_cut s.tokens first last) (map (cut_of s.tokens new) places) (omega arith) range.start.0 in
+    let parts = piece_length s.text 0 (removal_cut s.tokens first last) (map (replacement_cut s.tokens new) places) (omega arith) range.start.0 in
     omega (arith, parts)
 
 pub end_inside : (s : TextWithTokens) → IsScan s → (k : ℕ) → k < length s.tokens → (span_at s.tokens k).end ≤ length s.text

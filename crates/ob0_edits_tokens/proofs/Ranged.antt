@@ -11,56 +11,56 @@ use Rattle.ob0_text.specs.Texts.{position_of}
 use Rattle.ob0_text.specs.declared.position_types.Unit as counting
 use Rattle.ob0_text.specs.Units.{width_of}
 use Rattle.ob0_edits_tokens.specs.Replaced.{span_at, edit_at}
-use Rattle.ob0_edits_tokens.specs.Ranges.{bounds, range_of}
+use Rattle.ob0_edits_tokens.specs.Ranges.{span_bounds, range_of}
 
-bounds-append : (xs ys : List Span) → bounds (xs ++ ys) ≡ bounds xs ++ bounds ys
-unfolding bounds
-bounds-append [] ys = refl
-bounds-append (x ∷ xs) ys = ap (λ t. x.start ∷ x.end ∷ t) (bounds-append xs ys)
+span_bounds-append : (xs ys : List Span) → span_bounds (xs ++ ys) ≡ span_bounds xs ++ span_bounds ys
+unfolding span_bounds
+span_bounds-append [] ys = refl
+span_bounds-append (x ∷ xs) ys = ap (λ t. x.start ∷ x.end ∷ t) (span_bounds-append xs ys)
 
-pub bounds_none : [] ≡ bounds []
-unfolding bounds
+pub bounds_none : [] ≡ span_bounds []
+unfolding span_bounds
 bounds_none = refl
 
 -- Appending the start and the end of a span gives the bounds of one more span.
-pub bounds_further : (spans : List Span) (i : ℕ) (d : Span) (found : List ℕ) → i < length spans → found ≡ bounds (take i spans)
-    → (found ++ (get_or spans i d).start ∷ []) ++ (get_or spans i d).end ∷ [] ≡ bounds (take (i + 1) spans)
-unfolding bounds
+pub bounds_further : (spans : List Span) (i : ℕ) (d : Span) (found : List ℕ) → i < length spans → found ≡ span_bounds (take i spans)
+    → (found ++ (get_or spans i d).start ∷ []) ++ (get_or spans i d).end ∷ [] ≡ span_bounds (take (i + 1) spans)
+unfolding span_bounds
 bounds_further spans i d found low is =
     append_assoc found ((get_or spans i d).start ∷ []) ((get_or spans i d).end ∷ [])
-    ∙ ap (λ t. t ++ bounds (get_or spans i d ∷ [])) is
-    ∙ sym (bounds-append (take i spans) (get_or spans i d ∷ []))
-    ∙ ap bounds (sym (take-suc spans i d low) ∙ ap (λ n. take n spans) (sym (add-one i)))
+    ∙ ap (λ t. t ++ span_bounds (get_or spans i d ∷ [])) is
+    ∙ sym (span_bounds-append (take i spans) (get_or spans i d ∷ []))
+    ∙ ap span_bounds (sym (take-suc spans i d low) ∙ ap (λ n. take n spans) (sym (add-one i)))
 
-bounds_long : (spans : List Span) → length (bounds spans) ≡ 2 * length spans
-unfolding bounds
+bounds_long : (spans : List Span) → length (span_bounds spans) ≡ 2 * length spans
+unfolding span_bounds
 bounds_long [] = refl
 bounds_long (s ∷ ss) = omega (arith, bounds_long ss)
 
-start_at : (spans : List Span) (i : ℕ) (d : Span) → i < length spans → get_or (bounds spans) (2 * i) 0 ≡ (get_or spans i d).start
-unfolding bounds
+start_at : (spans : List Span) (i : ℕ) (d : Span) → i < length spans → get_or (span_bounds spans) (2 * i) 0 ≡ (get_or spans i d).start
+unfolding span_bounds
 start_at [] i d low = absurd (omega (arith, low))
 start_at (s ∷ ss) zero d low = refl
 start_at (s ∷ ss) (suc i) d low =
     let two : 2 * suc i ≡ suc (suc (2 * i)) = omega arith in
-    ap (λ n. get_or (s.start ∷ s.end ∷ bounds ss) n 0) two ∙ start_at ss i d (omega (arith, low))
+    ap (λ n. get_or (s.start ∷ s.end ∷ span_bounds ss) n 0) two ∙ start_at ss i d (omega (arith, low))
 
-end_at : (spans : List Span) (i : ℕ) (d : Span) → i < length spans → get_or (bounds spans) (2 * i + 1) 0 ≡ (get_or spans i d).end
-unfolding bounds
+end_at : (spans : List Span) (i : ℕ) (d : Span) → i < length spans → get_or (span_bounds spans) (2 * i + 1) 0 ≡ (get_or spans i d).end
+unfolding span_bounds
 end_at [] i d low = absurd (omega (arith, low))
 end_at (s ∷ ss) zero d low = refl
 end_at (s ∷ ss) (suc i) d low =
     let two : 2 * suc i + 1 ≡ suc (suc (2 * i + 1)) = omega arith in
-    ap (λ n. get_or (s.start ∷ s.end ∷ bounds ss) n 0) two ∙ end_at ss i d (omega (arith, low))
+    ap (λ n. get_or (s.start ∷ s.end ∷ span_bounds ss) n 0) two ∙ end_at ss i d (omega (arith, low))
 
-pub positions_long : (unit : counting.Unit) (content : List ℕ) (spans : List Span) (offsets : List ℕ) (ps : List Position) → ps ≡ map (position_of (width_of unit) content) offsets → offsets ≡ bounds spans → length ps ≡ 2 * length spans
+pub positions_long : (unit : counting.Unit) (content : List ℕ) (spans : List Span) (offsets : List ℕ) (ps : List Position) → ps ≡ map (position_of (width_of unit) content) offsets → offsets ≡ span_bounds spans → length ps ≡ 2 * length spans
 positions_long unit content spans offsets ps e f = omega (arith, ap length e, length-map offsets (position_of (width_of unit) content), ap length f, bounds_long spans)
 
-module _ (unit : counting.Unit) (content : List ℕ) (spans : List Span) (i : ℕ) (low : i < length spans) (d : Span) (offsets : List ℕ) (ps : List Position) (e : ps ≡ map (position_of (width_of unit) content) offsets) (f : offsets ≡ bounds spans) where
-  at_bound : (k : ℕ) (p : Position) → k < 2 * length spans → get_or ps k p ≡ position_of (width_of unit) content (get_or (bounds spans) k 0)
+module _ (unit : counting.Unit) (content : List ℕ) (spans : List Span) (i : ℕ) (low : i < length spans) (d : Span) (offsets : List ℕ) (ps : List Position) (e : ps ≡ map (position_of (width_of unit) content) offsets) (f : offsets ≡ span_bounds spans) where
+  at_bound : (k : ℕ) (p : Position) → k < 2 * length spans → get_or ps k p ≡ position_of (width_of unit) content (get_or (span_bounds spans) k 0)
   at_bound k p h =
-      let long : k < length (bounds spans) = omega (arith, bounds_long spans, h) in
-      ap (λ qs. get_or qs k p) (e ∙ ap (map (position_of (width_of unit) content)) f) ∙ get_or-map (position_of (width_of unit) content) (bounds spans) k 0 p long
+      let long : k < length (span_bounds spans) = omega (arith, bounds_long spans, h) in
+      ap (λ qs. get_or qs k p) (e ∙ ap (map (position_of (width_of unit) content)) f) ∙ get_or-map (position_of (width_of unit) content) (span_bounds spans) k 0 p long
 
   pub starts_there : (p : Position) → get_or ps (2 * i) p ≡ position_of (width_of unit) content (get_or spans i d).start
   starts_there p = at_bound (2 * i) p (omega (arith, low)) ∙ ap (position_of (width_of unit) content) (start_at spans i d low)

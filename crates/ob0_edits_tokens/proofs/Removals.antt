@@ -13,7 +13,7 @@ use Rattle.ob0_scan.specs.declared.lexeme.LexemeKind.{LexemeKind}
 use Rattle.ob0_scan.specs.declared.lexeme.LexemeKind.TheVariants as lexeme
 use Rattle.ob0_scan.specs.declared.lexeme.Token.{Token}
 use Rattle.ob0_scan.specs.Classes.{IsLexemeOfKind, IsIdentifier, is_space}
-use Rattle.ob0_scan.specs.Lexed.{Lexeme, joined}
+use Rattle.ob0_scan.specs.Lexed.{Lexeme, text_of_lexemes}
 use Rattle.ob0_scan.specs.Ends.{continues_lexeme, EachEndsBeforeNext}
 use Rattle.ob0_scan.specs.TextWithTokens.{Word, word_of, words_of_lexemes, span_from, token_at, tokens_from}
 use Rattle.ob0_scan.proofs.Cuts.{nonempty}
@@ -21,7 +21,7 @@ use Rattle.ob0_scan.proofs.Runs.{letter_or_digit}
 use Rattle.ob0_text.specs.Patches.{Cut, text_with_cuts}
 use Rattle.ob0_edits_tokens.specs.Changed.{WordChanges, changed_words, changes_at, replacement_or_word}
 use Rattle.ob0_edits_tokens.specs.Replaced as place
-use Rattle.ob0_edits_tokens.specs.Replaced.{AreIdentifierIndexes, span_at, cut_of, ReplacesName}
+use Rattle.ob0_edits_tokens.specs.Replaced.{AreIdentifierIndexes, span_at, replacement_cut, ReplacesName}
 use Rattle.ob0_edits_tokens.specs.Removed.{changes_with_removal, IsDeclaration, removal_cut}
 use Rattle.ob0_edits_tokens.proofs.Swaps.{Chain, chain_from, AllClear, Swapped, swapped, pieced_keep, pieced_here, same_first, first_of, byte_at, further, here_token, make_token, make_word, no_break, not_among}
 use Rattle.ob0_edits_tokens.proofs.Merges.{begins_with_space, MeetsLoosely, merged}
@@ -56,21 +56,21 @@ module _ (text : List ℕ) (tokens : List Token) (new : List ℕ) (ws : List Wor
   changes = changes_with_removal first last (changes_at places ws)
 
   abbrev cuts : List Cut
-  cuts = removal_cut tokens first last ∷ map (cut_of tokens new) places
+  cuts = removal_cut tokens first last ∷ map (replacement_cut tokens new) places
 
   -- states the place of a walk over the lexemes: its offset, the index of the next token, and the
   -- tokens before it
   pub record At (at k : ℕ) (ls : List Lexeme) (done : List Token) : Type 0 where
     pub tokens_are : tokens ≡ done ++ tokens_from at ls
     pub count : length done ≡ k
-    pub rest : drop at text ≡ joined ls
+    pub rest : drop at text ≡ text_of_lexemes ls
     pub apart : EachEndsBeforeNext ls
 
   next_gap : (at k : ℕ) (l : Lexeme) (ls : List Lexeme) (done : List Token) (kind : LexemeKind) → l.kind ≡ kind → token_at kind (span_from at (length l.text)) ≡ [] → At at k (l ∷ ls) done → At (at + length l.text) k ls done
   next_gap at k l ls done kind f none a = record {
     tokens_are = a.tokens_are ∙ ap (λ x. done ++ (token_at x (span_from at (length l.text)) ++ tokens_from (at + length l.text) ls)) f ∙ ap (λ x. done ++ (x ++ tokens_from (at + length l.text) ls)) none;
     count = a.count;
-    rest = further text at l.text (joined ls) a.rest;
+    rest = further text at l.text (text_of_lexemes ls) a.rest;
     apart = a.apart.1;
   }
 
@@ -81,7 +81,7 @@ module _ (text : List ℕ) (tokens : List Token) (new : List ℕ) (ws : List Wor
   next_token at k l ls done kind f a = record {
     tokens_are = this_token at k l ls done kind f a ∙ sym (append_assoc done (make_token kind (span_from at (length l.text)) ∷ []) (tokens_from (at + length l.text) ls));
     count = length-append done (make_token kind (span_from at (length l.text)) ∷ []) ∙ omega (arith, a.count);
-    rest = further text at l.text (joined ls) a.rest;
+    rest = further text at l.text (text_of_lexemes ls) a.rest;
     apart = a.apart.1;
   }
 
@@ -127,7 +127,7 @@ module _ (text : List ℕ) (tokens : List Token) (new : List ℕ) (ws : List Wor
         tail = swapped text tokens new ws replaces (at + length l.text) (suc last) ls places (done ++ (make_token kind (span_from at (length l.text)) ∷ [])) next.tokens_are next.count next.rest next.apart names;
         up = omega (arith, long);
         ends = ap (λ (t : Token). t.span.end) here;
-        byte = ap (λ n. get_or text n 0) at_byte ∙ byte_at text at 0 ∙ ap (λ t. get_or t 0 0) a.rest ∙ ap (λ t. get_or (t ++ joined ls) 0 0) shape;
+        byte = ap (λ n. get_or text n 0) at_byte ∙ byte_at text at 0 ∙ ap (λ t. get_or t 0 0) a.rest ∙ ap (λ t. get_or (t ++ text_of_lexemes ls) 0 0) shape;
         read = words_gone last l ls kind f (omega (arith, decl.order)) (omega arith) ∙ past_last first last (changes_at places ws) (suc last) (words_of_lexemes ls) (omega arith);
       }
 
@@ -155,8 +155,8 @@ module _ (text : List ℕ) (tokens : List Token) (new : List ℕ) (ws : List Wor
     pub lexemes : List Lexeme
     pub apart : EachEndsBeforeNext lexemes
     pub read : words_of_lexemes lexemes ≡ changed_words changes k (words_of_lexemes ls)
-    pub whole : joined lexemes ≡ text_with_cuts text at cuts
-    pub front : (kind : LexemeKind) → (k ≡ first → OfBorder kind) → continues_lexeme kind (get_or (joined ls) 0 0) ≡ false → MeetsLoosely kind lexemes
+    pub whole : text_of_lexemes lexemes ≡ text_with_cuts text at cuts
+    pub front : (kind : LexemeKind) → (k ≡ first → OfBorder kind) → continues_lexeme kind (get_or (text_of_lexemes ls) 0 0) ≡ false → MeetsLoosely kind lexemes
     pub chain : Chain at cuts
     pub clear : AllClear text cuts
 
@@ -169,8 +169,8 @@ module _ (text : List ℕ) (tokens : List Token) (new : List ℕ) (ws : List Wor
         lexemes = one.lexemes;
         apart = one.apart;
         read = one.read ∙ ap (λ t. word_of l l.kind ++ t) tail.read ∙ sym same;
-        whole = one.whole ∙ ap (λ t. l.text ++ t) tail.whole ∙ sym (pieced_keep text at l.text (joined ls) cuts a.rest tail.chain);
-        front = λ kind may h. inl (ap (λ t. continues_lexeme kind (get_or t 0 0)) one.whole ∙ ap (continues_lexeme kind) (same_first l.text (joined tail.lexemes) (joined ls) some) ∙ h);
+        whole = one.whole ∙ ap (λ t. l.text ++ t) tail.whole ∙ sym (pieced_keep text at l.text (text_of_lexemes ls) cuts a.rest tail.chain);
+        front = λ kind may h. inl (ap (λ t. continues_lexeme kind (get_or t 0 0)) one.whole ∙ ap (continues_lexeme kind) (same_first l.text (text_of_lexemes tail.lexemes) (text_of_lexemes ls) some) ∙ h);
         chain = chain_from (at + length l.text) at cuts (omega arith) tail.chain;
         clear = tail.clear;
       }
@@ -183,18 +183,18 @@ module _ (text : List ℕ) (tokens : List Token) (new : List ℕ) (ws : List Wor
       let name : kind ≡ token.Identifier = sym (ap (λ (t : Token). t.kind) here) ∙ decl.name in
       let belongs : IsIdentifier l.text = subst (λ x. IsLexemeOfKind x l.text) (f ∙ ap lexeme.Token name) a.apart.0.belongs in
       let some : 0 < length l.text = nonempty l.kind l.text a.apart.0.belongs in
-      let head : get_or (joined (l ∷ ls)) 0 0 ≡ get_or l.text 0 0 = first_of l.text (joined ls) some in
-      let letter : is_ascii_alphanumeric (get_or (joined (l ∷ ls)) 0 0) ≡ true = ap is_ascii_alphanumeric head ∙ letter_or_digit (get_or l.text 0 0) belongs.word.letter in
+      let head : get_or (text_of_lexemes (l ∷ ls)) 0 0 ≡ get_or l.text 0 0 = first_of l.text (text_of_lexemes ls) some in
+      let letter : is_ascii_alphanumeric (get_or (text_of_lexemes (l ∷ ls)) 0 0) ≡ true = ap is_ascii_alphanumeric head ∙ letter_or_digit (get_or l.text 0 0) belongs.word.letter in
       let from : (span_at tokens first).start ≡ at = ap (λ (t : Token). t.span.start) here in
-      let first_byte : get_or text (span_at tokens first).start 0 ≡ get_or (joined (l ∷ ls)) 0 0 =
+      let first_byte : get_or text (span_at tokens first).start 0 ≡ get_or (text_of_lexemes (l ∷ ls)) 0 0 =
       ap (λ n. get_or text n 0) (from ∙ sym (add-zero at)) ∙ byte_at text at 0 ∙ ap (λ t. get_or t 0 0) a.rest in
       record {
         lexemes = following.tail.lexemes;
         apart = following.tail.apart;
         read = following.tail.read ∙ sym following.read;
-        whole = following.tail.whole ∙ sym (pieced_here text at (removal_cut tokens first last) following.after (map (cut_of tokens new) places) from following.ends);
+        whole = following.tail.whole ∙ sym (pieced_here text at (removal_cut tokens first last) following.after (map (replacement_cut tokens new) places) from following.ends);
         front = λ other may h. loosely other (may now) following.tail.lexemes following.tail.apart letter h;
-        chain = (omega (arith, from), omega (arith, from, following.ends, following.up), subst (λ n. Chain n (map (cut_of tokens new) places)) (sym following.ends) following.tail.chain);
+        chain = (omega (arith, from), omega (arith, from, following.ends, following.up), subst (λ n. Chain n (map (replacement_cut tokens new) places)) (sym following.ends) following.tail.chain);
         clear = (
           record {
             first = no_break 10 refl (ap is_ascii_alphanumeric first_byte ∙ letter);
@@ -204,20 +204,20 @@ module _ (text : List ℕ) (tokens : List Token) (new : List ℕ) (ws : List Wor
         );
       }
     where
-      loosely : (other : LexemeKind) → OfBorder other → (ns : List Lexeme) → EachEndsBeforeNext ns → is_ascii_alphanumeric (get_or (joined (l ∷ ls)) 0 0) ≡ true → continues_lexeme other (get_or (joined (l ∷ ls)) 0 0) ≡ false → MeetsLoosely other ns
-      loosely lexeme.Space border ns apart letter h = by_test (is_space (get_or (joined ns) 0 0)) refl
+      loosely : (other : LexemeKind) → OfBorder other → (ns : List Lexeme) → EachEndsBeforeNext ns → is_ascii_alphanumeric (get_or (text_of_lexemes (l ∷ ls)) 0 0) ≡ true → continues_lexeme other (get_or (text_of_lexemes (l ∷ ls)) 0 0) ≡ false → MeetsLoosely other ns
+      loosely lexeme.Space border ns apart letter h = by_test (is_space (get_or (text_of_lexemes ns) 0 0)) refl
         where
-          by_test : (b : Bool) → is_space (get_or (joined ns) 0 0) ≡ b → MeetsLoosely lexeme.Space ns
+          by_test : (b : Bool) → is_space (get_or (text_of_lexemes ns) 0 0) ≡ b → MeetsLoosely lexeme.Space ns
           by_test true e = inr (refl, begins_with_space ns apart e)
           by_test false e = inl e
       loosely lexeme.Comment border ns apart letter h = inl refl
       loosely (lexeme.Token token.Identifier) border ns apart letter h = absurd border
       loosely (lexeme.Token (token.ReservedWord w)) border ns apart letter h = let clash : true ≡ false = sym letter ∙ h in absurd (cc)
       loosely (lexeme.Token (token.Integer n)) border ns apart letter h = absurd border
-      loosely (lexeme.Token (token.Symbol s)) border ns apart letter h = inl (ap (λ x. continues_lexeme (lexeme.Token (token.Symbol x)) (get_or (joined ns) 0 0)) border)
+      loosely (lexeme.Token (token.Symbol s)) border ns apart letter h = inl (ap (λ x. continues_lexeme (lexeme.Token (token.Symbol x)) (get_or (text_of_lexemes ns) 0 0)) border)
 
   before_first : (k : ℕ) (kind : TokenKind) → (place.token_or_empty tokens k).kind ≡ kind → suc k ≡ first → OfBorder (lexeme.Token kind)
-  before_first k kind e now = ⊎_elim (λ h. subst (λ x. OfBorder (lexeme.Token x)) (sym h ∙ e) refl) (λ h. subst (λ x. OfBorder (lexeme.Token x)) (sym h ∙ e) refl) (decl.following k now)
+  before_first k kind e now = ⊎_elim (λ h. subst (λ x. OfBorder (lexeme.Token x)) (sym h ∙ e) refl) (λ h. subst (λ x. OfBorder (lexeme.Token x)) (sym h ∙ e) refl) (decl.preceded k now)
 
   pub cleared : (at k : ℕ) (ls : List Lexeme) (done : List Token) → At at k ls done → k ≤ first → Cleared at k ls
   cleared at k [] done a low = absurd (omega (arith, decl.inside, decl.order, a.count, ap length (a.tokens_are ∙ append-nil done)))

@@ -13,15 +13,15 @@ use Rattle.ob0_scan.specs.declared.lexeme.Token.{Token}
 use Rattle.ob0_scan.specs.declared.lexeme.Span.{Span}
 use Rattle.std.proofs.lemmas.Bool.Decides.{nat_tests}
 use Rattle.ob0_scan.specs.Classes.{IsLexemeOfKind, IsIdentifier}
-use Rattle.ob0_scan.specs.Lexed.{Lexeme, joined}
+use Rattle.ob0_scan.specs.Lexed.{Lexeme, text_of_lexemes}
 use Rattle.ob0_scan.specs.Ends.{continues_lexeme, EachEndsBeforeNext}
 use Rattle.ob0_scan.specs.TextWithTokens.{Word, word_of, words_of_lexemes, span_from, token_at, tokens_from}
 use Rattle.ob0_scan.proofs.Cuts.{nonempty}
 use Rattle.ob0_scan.proofs.Reusing.{joined_append}
 use Rattle.ob0_text.specs.Patches.{Cut, text_with_cuts}
-use Rattle.ob0_edits_tokens.specs.Changed.{changed_words, changes_at, is_among, replacement_or_word}
+use Rattle.ob0_edits_tokens.specs.Changed.{changed_words, changes_at, is_in_list, replacement_or_word}
 use Rattle.ob0_edits_tokens.specs.Replaced as place
-use Rattle.ob0_edits_tokens.specs.Replaced.{AreIdentifierIndexes, span_at, cut_of, AreInOrder, ReplacesName}
+use Rattle.ob0_edits_tokens.specs.Replaced.{AreIdentifierIndexes, span_at, replacement_cut, CutsAscend, ReplacesName}
 use Rattle.ob0_edits_tokens.proofs.Ends.{append_apart}
 
 abbrev pub make_word : TokenKind → List ℕ → Word
@@ -32,7 +32,7 @@ words_of_lexemes-append [] ys = refl
 words_of_lexemes-append (x ∷ xs) ys = ap (λ t. word_of x x.kind ++ t) (words_of_lexemes-append xs ys) ∙ sym (append_assoc (word_of x x.kind) (words_of_lexemes xs) (words_of_lexemes ys))
 
 -- No index below the least is among the places.
-pub not_among : (tokens : List Token) (least k : ℕ) (places : List ℕ) → AreIdentifierIndexes tokens least places → k < least → is_among k places ≡ false
+pub not_among : (tokens : List Token) (least k : ℕ) (places : List ℕ) → AreIdentifierIndexes tokens least places → k < least → is_in_list k places ≡ false
 not_among tokens least k [] names below = refl
 not_among tokens least k (p ∷ ps) names below =
     let other : (k == p) ≡ false = false_from_ne_true (k == p) (λ e. absurd (omega (arith, eqb-true k p e, names.0))) in
@@ -46,7 +46,7 @@ past p ps ws j (x ∷ xs) h =
     rw (other, past p ps ws (suc j) xs (omega arith)) refl
 
 abbrev pub Chain : ℕ → List Cut → Type 0
-Chain = AreInOrder
+Chain = CutsAscend
 
 pub chain_from : (at low : ℕ) (cs : List Cut) → low ≤ at → Chain at cs → Chain low cs
 chain_from at low [] h c = tt
@@ -120,22 +120,22 @@ module _ (text : List ℕ) (tokens : List Token) (new : List ℕ) (ws : List Wor
     pub lexemes : List Lexeme
     pub apart : EachEndsBeforeNext lexemes
     pub read : words_of_lexemes lexemes ≡ changed_words (changes_at places ws) k (words_of_lexemes ls)
-    pub whole : joined lexemes ≡ text_with_cuts text at (map (cut_of tokens new) places)
-    pub front : (kind : LexemeKind) → continues_lexeme kind (get_or (joined ls) 0 0) ≡ false → continues_lexeme kind (get_or (joined lexemes) 0 0) ≡ false
-    pub chain : Chain at (map (cut_of tokens new) places)
-    pub clear : AllClear text (map (cut_of tokens new) places)
+    pub whole : text_of_lexemes lexemes ≡ text_with_cuts text at (map (replacement_cut tokens new) places)
+    pub front : (kind : LexemeKind) → continues_lexeme kind (get_or (text_of_lexemes ls) 0 0) ≡ false → continues_lexeme kind (get_or (text_of_lexemes lexemes) 0 0) ≡ false
+    pub chain : Chain at (map (replacement_cut tokens new) places)
+    pub clear : AllClear text (map (replacement_cut tokens new) places)
 
   -- A lexeme that isn't at a place is kept.
-  keep : (at k m : ℕ) (l : Lexeme) (ls : List Lexeme) (places : List ℕ) → drop at text ≡ joined (l ∷ ls) → EachEndsBeforeNext (l ∷ ls)
+  keep : (at k m : ℕ) (l : Lexeme) (ls : List Lexeme) (places : List ℕ) → drop at text ≡ text_of_lexemes (l ∷ ls) → EachEndsBeforeNext (l ∷ ls)
       → changed_words (changes_at places ws) k (words_of_lexemes (l ∷ ls)) ≡ word_of l l.kind ++ changed_words (changes_at places ws) m (words_of_lexemes ls)
       → Swapped (at + length l.text) m ls places → Swapped at k (l ∷ ls) places
   keep at k m l ls places e apart same tail = record {
     lexemes = l ∷ tail.lexemes;
     apart = (record { belongs = apart.0.belongs; ends = tail.front l.kind apart.0.ends }, tail.apart);
     read = ap (λ t. word_of l l.kind ++ t) tail.read ∙ sym same;
-    whole = ap (λ t. l.text ++ t) tail.whole ∙ sym (pieced_keep text at l.text (joined ls) (map (cut_of tokens new) places) e tail.chain);
-    front = λ kind h. ap (continues_lexeme kind) (same_first l.text (joined tail.lexemes) (joined ls) (nonempty l.kind l.text apart.0.belongs)) ∙ h;
-    chain = chain_from (at + length l.text) at (map (cut_of tokens new) places) (omega arith) tail.chain;
+    whole = ap (λ t. l.text ++ t) tail.whole ∙ sym (pieced_keep text at l.text (text_of_lexemes ls) (map (replacement_cut tokens new) places) e tail.chain);
+    front = λ kind h. ap (continues_lexeme kind) (same_first l.text (text_of_lexemes tail.lexemes) (text_of_lexemes ls) (nonempty l.kind l.text apart.0.belongs)) ∙ h;
+    chain = chain_from (at + length l.text) at (map (replacement_cut tokens new) places) (omega arith) tail.chain;
     clear = tail.clear;
   }
 
@@ -145,31 +145,31 @@ module _ (text : List ℕ) (tokens : List Token) (new : List ℕ) (ws : List Wor
       ap (λ ts. place.token_or_empty ts k) e ∙ ap (λ n. place.token_or_empty (done ++ (t ∷ more)) n) (sym count) ∙ get_or-append_seam done t more _
 
   -- The token at a place is replaced.
-  swap : (at k : ℕ) (l : Lexeme) (ls : List Lexeme) (ps : List ℕ) → drop at text ≡ joined (l ∷ ls) → EachEndsBeforeNext (l ∷ ls)
+  swap : (at k : ℕ) (l : Lexeme) (ls : List Lexeme) (ps : List ℕ) → drop at text ≡ text_of_lexemes (l ∷ ls) → EachEndsBeforeNext (l ∷ ls)
       → l.kind ≡ lexeme.Token token.Identifier → span_at tokens k ≡ span_from at (length l.text)
       → Swapped (at + length l.text) (suc k) ls ps → Swapped at k (l ∷ ls) (k ∷ ps)
   swap at k l ls ps e apart name span tail =
       let belongs : IsIdentifier l.text = subst (λ x. IsLexemeOfKind x l.text) name apart.0.belongs in
       let some : 0 < length l.text = nonempty l.kind l.text apart.0.belongs in
-      let stops : is_ascii_alphanumeric (get_or (joined tail.lexemes) 0 0) ≡ false =
-      tail.front (lexeme.Token token.Identifier) (ap (λ x. continues_lexeme x (get_or (joined ls) 0 0)) (sym name) ∙ apart.0.ends) in
+      let stops : is_ascii_alphanumeric (get_or (text_of_lexemes tail.lexemes) 0 0) ≡ false =
+      tail.front (lexeme.Token token.Identifier) (ap (λ x. continues_lexeme x (get_or (text_of_lexemes ls) 0 0)) (sym name) ∙ apart.0.ends) in
       let from : (span_at tokens k).start ≡ at = ap (λ s. s.start) span in
       let to : (span_at tokens k).end ≡ at + length l.text = ap (λ s. s.end) span in
       let following : List Word = changed_words (changes_at (k ∷ ps) ws) (suc k) (words_of_lexemes ls) in
       let gone : changed_words (changes_at (k ∷ ps) ws) k (words_of_lexemes (l ∷ ls)) ≡ ws ++ following =
       ap (λ x. changed_words (changes_at (k ∷ ps) ws) k (word_of l x ++ words_of_lexemes ls)) name
-      ∙ ap (λ b. replacement_or_word (make_word token.Identifier l.text) (if b || is_among k ps then Some ws else None) ++ following) (eq-eqb k k refl) in
+      ∙ ap (λ b. replacement_or_word (make_word token.Identifier l.text) (if b || is_in_list k ps then Some ws else None) ++ following) (eq-eqb k k refl) in
       let last_at : (span_at tokens k).end - 1 ≡ at + (length l.text - 1) = omega (arith, to, some) in
-      let begins : get_or (joined (l ∷ ls)) 0 0 ≡ get_or l.text 0 0 = first_of l.text (joined ls) some in
-      let begun : get_or (joined (replaces.lexemes ++ tail.lexemes)) 0 0 ≡ get_or new 0 0 =
-      ap (λ t. get_or t 0 0) (joined_append replaces.lexemes tail.lexemes ∙ ap (λ t. t ++ joined tail.lexemes) replaces.whole) ∙ first_of new (joined tail.lexemes) replaces.some in
+      let begins : get_or (text_of_lexemes (l ∷ ls)) 0 0 ≡ get_or l.text 0 0 = first_of l.text (text_of_lexemes ls) some in
+      let begun : get_or (text_of_lexemes (replaces.lexemes ++ tail.lexemes)) 0 0 ≡ get_or new 0 0 =
+      ap (λ t. get_or t 0 0) (joined_append replaces.lexemes tail.lexemes ∙ ap (λ t. t ++ text_of_lexemes tail.lexemes) replaces.whole) ∙ first_of new (text_of_lexemes tail.lexemes) replaces.some in
       record {
         lexemes = replaces.lexemes ++ tail.lexemes;
-        apart = append_apart replaces.lexemes tail.lexemes (replaces.apart (get_or (joined tail.lexemes) 0 0) stops) tail.apart;
+        apart = append_apart replaces.lexemes tail.lexemes (replaces.apart (get_or (text_of_lexemes tail.lexemes) 0 0) stops) tail.apart;
         read = words_of_lexemes-append replaces.lexemes tail.lexemes ∙ ap₂ (λ xs ys. xs ++ ys) replaces.read tail.read ∙ ap (λ t. ws ++ t) (sym (past k ps ws (suc k) (words_of_lexemes ls) (omega arith))) ∙ sym gone;
-        whole = joined_append replaces.lexemes tail.lexemes ∙ ap₂ (λ xs ys. xs ++ ys) replaces.whole tail.whole ∙ sym (pieced_here text at (cut_of tokens new k) (at + length l.text) (map (cut_of tokens new) ps) from to);
+        whole = joined_append replaces.lexemes tail.lexemes ∙ ap₂ (λ xs ys. xs ++ ys) replaces.whole tail.whole ∙ sym (pieced_here text at (replacement_cut tokens new k) (at + length l.text) (map (replacement_cut tokens new) ps) from to);
         front = λ kind h. ap (continues_lexeme kind) begun ∙ replaces.front kind (get_or l.text 0 0) belongs.word.letter (sym (ap (continues_lexeme kind) begins) ∙ h);
-        chain = (omega (arith, from), omega (arith, from, to, some), subst (λ n. Chain n (map (cut_of tokens new) ps)) (sym to) tail.chain);
+        chain = (omega (arith, from), omega (arith, from, to, some), subst (λ n. Chain n (map (replacement_cut tokens new) ps)) (sym to) tail.chain);
         clear = (
           record {
             first = no_break 10 refl (ap is_ascii_alphanumeric (ap (λ n. get_or text n 0) (from ∙ sym (add-zero at)) ∙ byte_of 0 some) ∙ belongs.word.all 0 0 some);
@@ -180,13 +180,13 @@ module _ (text : List ℕ) (tokens : List Token) (new : List ℕ) (ws : List Wor
       }
     where
       byte_of : (i : ℕ) → i < length l.text → get_or text (at + i) 0 ≡ get_or l.text i 0
-      byte_of i less = byte_at text at i ∙ ap (λ t. get_or t i 0) e ∙ get_or_append_left l.text (joined ls) 0 i less
+      byte_of i less = byte_at text at i ∙ ap (λ t. get_or t i 0) e ∙ get_or_append_left l.text (text_of_lexemes ls) 0 i less
 
   -- holds if the lexemes after the first one can be replaced
   abbrev Later : ℕ → List Lexeme → Type 0
   Later at ls = (m : ℕ) (qs : List ℕ) (before : List Token) → tokens ≡ before ++ tokens_from at ls → length before ≡ m → AreIdentifierIndexes tokens m qs → Swapped at m ls qs
 
-  module _ (at k : ℕ) (l : Lexeme) (ls : List Lexeme) (done : List Token) (te : tokens ≡ done ++ tokens_from at (l ∷ ls)) (count : length done ≡ k) (e : drop at text ≡ joined (l ∷ ls)) (apart : EachEndsBeforeNext (l ∷ ls)) (later : Later (at + length l.text) ls) where
+  module _ (at k : ℕ) (l : Lexeme) (ls : List Lexeme) (done : List Token) (te : tokens ≡ done ++ tokens_from at (l ∷ ls)) (count : length done ≡ k) (e : drop at text ≡ text_of_lexemes (l ∷ ls)) (apart : EachEndsBeforeNext (l ∷ ls)) (later : Later (at + length l.text) ls) where
     gap : (kind : LexemeKind) → l.kind ≡ kind → word_of l kind ≡ [] → token_at kind (span_from at (length l.text)) ≡ [] → (places : List ℕ) → AreIdentifierIndexes tokens k places → Swapped at k (l ∷ ls) places
     gap kind f no_word no_token places names =
         let none : word_of l l.kind ≡ [] = ap (word_of l) f ∙ no_word in
@@ -208,7 +208,7 @@ module _ (text : List ℕ) (tokens : List Token) (new : List ℕ) (ws : List Wor
       count_following : length (done ++ (this ∷ [])) ≡ suc k
       count_following = length-append done (this ∷ []) ∙ omega (arith, count)
 
-      stays : (places : List ℕ) → is_among k places ≡ false → AreIdentifierIndexes tokens (suc k) places → Swapped at k (l ∷ ls) places
+      stays : (places : List ℕ) → is_in_list k places ≡ false → AreIdentifierIndexes tokens (suc k) places → Swapped at k (l ∷ ls) places
       stays places other names =
           let same : changed_words (changes_at places ws) k (words_of_lexemes (l ∷ ls)) ≡ word_of l l.kind ++ changed_words (changes_at places ws) (suc k) (words_of_lexemes ls) =
           ap (λ x. changed_words (changes_at places ws) k (word_of l x ++ words_of_lexemes ls)) f
@@ -243,10 +243,10 @@ module _ (text : List ℕ) (tokens : List Token) (new : List ℕ) (ws : List Wor
 
   -- The lexemes after a place can be replaced. The first token of these has the index k.
   pub swapped : (at k : ℕ) (ls : List Lexeme) (places : List ℕ) (done : List Token) → tokens ≡ done ++ tokens_from at ls → length done ≡ k
-      → drop at text ≡ joined ls → EachEndsBeforeNext ls → AreIdentifierIndexes tokens k places → Swapped at k ls places
+      → drop at text ≡ text_of_lexemes ls → EachEndsBeforeNext ls → AreIdentifierIndexes tokens k places → Swapped at k ls places
   swapped at k [] [] done te count e apart names = record { lexemes = []; apart = tt; read = refl; whole = sym e ∙ pieced_end text at; front = λ kind h. h; chain = tt; clear = tt }
   swapped at k [] (p ∷ ps) done te count e apart names =
       absurd (omega (arith, names.0, names.1, count, ap length (te ∙ append-nil done)))
   swapped at k (l ∷ ls) places done te count e apart names =
       at_lexeme at k l ls done te count e apart
-      (λ m qs before tm cm nm. swapped (at + length l.text) m ls qs before tm cm (further text at l.text (joined ls) e) apart.1 nm) l.kind refl places names
+      (λ m qs before tm cm nm. swapped (at + length l.text) m ls qs before tm cm (further text at l.text (text_of_lexemes ls) e) apart.1 nm) l.kind refl places names

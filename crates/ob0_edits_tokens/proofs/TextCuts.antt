@@ -11,13 +11,13 @@ use Rattle.ob0_text.specs.declared.position_types.Range.{Range}
 use Rattle.ob0_text.specs.declared.position_types.Unit as counting
 use Rattle.ob0_text.specs.Units.{width_of}
 use Rattle.ob0_text.proofs.Widths.{wide}
-use Rattle.ob0_text.specs.Texts.{CR, LF, before, position_of, byte_len, IsInsideEnding}
-use Rattle.ob0_text.specs.Patches.{Cut, place, cut_at, are_disjoint, all_apart, is_before, insert_in_order, in_text_order, text_with_cuts, patched_by_cuts}
+use Rattle.ob0_text.specs.Texts.{CR, LF, text_before, position_of, byte_len, IsInsideEnding}
+use Rattle.ob0_text.specs.Patches.{Cut, char_count_before, cut_at, are_disjoint, are_all_disjoint, is_before, insert_in_order, in_text_order, text_with_cuts, patched_by_cuts}
 use Rattle.ob0_text.proofs.RoundTrip.{places_go_back}
 use Rattle.ob0_text.proofs.Prefixes.{border_at}
 use Rattle.ob0_text.proofs.CutOrder.{bytes_further}
 use Rattle.ob0_text.proofs.Pieces.{middle_chars, last_chars}
-use Rattle.ob0_edits_tokens.specs.Replaced.{AreInOrder}
+use Rattle.ob0_edits_tokens.specs.Replaced.{CutsAscend}
 
 -- holds if each cut begins at or after the end of the one before it, and the first one at or after
 -- `at`
@@ -26,7 +26,7 @@ Chain at [] = Unit {0}
 Chain at (c ∷ cs) = (at ≤ c.from) × (c.from ≤ c.to) × Chain c.to cs
 
 -- Cuts that are in order follow one another.
-pub chained : (at : ℕ) (cs : List Cut) → AreInOrder at cs → Chain at cs
+pub chained : (at : ℕ) (cs : List Cut) → CutsAscend at cs → Chain at cs
 chained at [] order = tt
 chained at (c ∷ cs) order = (order.0, omega (arith, order.1), chained c.to cs order.2)
 
@@ -83,11 +83,11 @@ module _ (unit : counting.Unit) (bytes : List ℕ) (u : IsUtf8 bytes) where
   text = chars bytes
 
   -- The position of a place that isn't inside a line ending leads back to that place.
-  goes_to : (offset k : ℕ) → CanCountFrom bytes offset k → (IsEnding bytes offset → ⊥) → place (width_of unit) (chars bytes) (position_of (width_of unit) (chars bytes) offset) ≡ k
-  unfolding place
+  goes_to : (offset k : ℕ) → CanCountFrom bytes offset k → (IsEnding bytes offset → ⊥) → char_count_before (width_of unit) (chars bytes) (position_of (width_of unit) (chars bytes) offset) ≡ k
+  unfolding char_count_before
   goes_to offset k p clear =
       let outside : IsInsideEnding (chars bytes) k → ⊥ = λ inside. clear (subst (λ b. IsEnding b offset) (encodes-chars bytes u) (ending_bytes (chars bytes) offset k p.here inside)) in
-      ap (λ n. length (before (width_of unit) (chars bytes) (position_of (width_of unit) (chars bytes) n))) (sym p.here)
+      ap (λ n. length (text_before (width_of unit) (chars bytes) (position_of (width_of unit) (chars bytes) n))) (sym p.here)
       ∙ ap length (places_go_back (width_of unit) (wide unit) (chars bytes) k p.inside outside)
       ∙ length-take k (chars bytes) ∙ omega (arith, p.inside)
 
@@ -115,11 +115,11 @@ module _ (unit : counting.Unit) (bytes : List ℕ) (u : IsUtf8 bytes) where
   same_cut from to new good start end up range starts ends =
       let p = place_at bytes u from start.place in
       let q = place_at bytes u to end.place in
-      let a = ap (place (width_of unit) (chars bytes)) starts ∙ goes_to from p.0 p.1 start.clear in
-      let b = ap (place (width_of unit) (chars bytes)) ends ∙ goes_to to q.0 q.1 end.clear in
+      let a = ap (char_count_before (width_of unit) (chars bytes)) starts ∙ goes_to from p.0 p.1 start.clear in
+      let b = ap (char_count_before (width_of unit) (chars bytes)) ends ∙ goes_to to q.0 q.1 end.clear in
       let order : p.0 ≤ q.0 = up_in_chars from to p.0 q.0 p.1 q.1 up in
-      let low : min (place (width_of unit) (chars bytes) range.start) (place (width_of unit) (chars bytes) range.end) ≡ p.0 = (λ i. min (a i) (b i)) ∙ omega (arith, order) in
-      let high : max (place (width_of unit) (chars bytes) range.start) (place (width_of unit) (chars bytes) range.end) ≡ q.0 = (λ i. max (a i) (b i)) ∙ omega (arith, order) in
+      let low : min (char_count_before (width_of unit) (chars bytes) range.start) (char_count_before (width_of unit) (chars bytes) range.end) ≡ p.0 = (λ i. min (a i) (b i)) ∙ omega (arith, order) in
+      let high : max (char_count_before (width_of unit) (chars bytes) range.start) (char_count_before (width_of unit) (chars bytes) range.end) ≡ q.0 = (λ i. max (a i) (b i)) ∙ omega (arith, order) in
       record {
         from = subst (CanCountFrom bytes from) (sym low) p.1;
         to = subst (CanCountFrom bytes to) (sym high) q.1;
@@ -184,8 +184,8 @@ apart_from_later c at [] h chain = refl
 apart_from_later c at (d ∷ ds) h chain =
     rw (le-leb c.to d.from (omega (arith, chain.0)), apart_from_later c d.to ds (omega (arith, chain.0, chain.1)) chain.2) refl
 
-all_are_apart : (at : ℕ) (cs : List Cut) → Chain at cs → all_apart cs ≡ true
-unfolding all_apart
+all_are_apart : (at : ℕ) (cs : List Cut) → Chain at cs → are_all_disjoint cs ≡ true
+unfolding are_all_disjoint
 all_are_apart at [] chain = refl
 all_are_apart at (c ∷ cs) chain = rw (apart_from_later c c.to cs (omega arith) chain.2, all_are_apart c.to cs chain.2) refl
 

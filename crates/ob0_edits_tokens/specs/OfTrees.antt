@@ -4,9 +4,9 @@ use Rattle.std.specs.Prelude.{◌≡◌, ℕ, suc, if◌then◌else◌, List, []
 use Rattle.ob0_scan.specs.TextWithTokens.{Word, TextWithTokens}
 use Rattle.ob0_tree.specs.Lexeme.{Terminal}
 use Rattle.ob0_tree.specs.Places.{index_terminal, kind_value_or_zero}
-use Rattle.ob0_edits_tokens.specs.Words.{word_lexeme}
-use Rattle.ob0_tree.specs.Tree.{Tree, Sort, spell, mapped}
-use Rattle.ob0_edits_tokens.specs.Changed.{words_of, changed_words, changes_at, is_among}
+use Rattle.ob0_edits_tokens.specs.Words.{terminal_of_word}
+use Rattle.ob0_tree.specs.Tree.{Tree, Sort, spell, mapped_tree}
+use Rattle.ob0_edits_tokens.specs.Changed.{words_of, changed_words, changes_at, is_in_list}
 use Rattle.ob0_edits_tokens.specs.Replaced.{AreIdentifierIndexes}
 use Rattle.ob0_edits_tokens.specs.Written.{name_word}
 
@@ -22,26 +22,26 @@ abbrev pub word_at : List Word → ℕ → Word
 word_at ws k = slice_index_or ws k (name_word [])
 
 -- Returns the text of the word with this index, or the empty text if there is no such word.
-abbrev pub text_of_word : List Word → ℕ → List ℕ
-text_of_word ws k = (word_at ws k).text
+abbrev pub word_text_at : List Word → ℕ → List ℕ
+word_text_at ws k = (word_at ws k).text
 
 -- Returns the value of the integer with this word index, or 0 if there is no such word or the word
 -- isn't an integer.
 abbrev pub number_at : List Word → ℕ → ℕ
 number_at ws k = kind_value_or_zero (word_at ws k).kind
 
--- Returns the name `new` if the word index `k` is in `places`, otherwise the text of the word with
+-- Returns the name `new` if the word index `k` is in `token_indexes`, otherwise the text of the word with
 -- this index.
 abbrev pub renamed_word_text : List Word → List ℕ → List ℕ → ℕ → List ℕ
-renamed_word_text ws places new k = if is_among k places then new else text_of_word ws k
+renamed_word_text ws token_indexes new k = if is_in_list k token_indexes then new else word_text_at ws k
 
 -- States that renaming keeps the spelling of trees. Let a tree over word indexes spell the words of
 -- a text. If the identifiers with the same indexes get a new name in the tree and in the words, the
 -- renamed tree spells the renamed words.
 abbrev pub RenamingKeepsSpelling : Type 0
 RenamingKeepsSpelling =
-    (s : TextWithTokens) (sort : Sort) (t : Tree ℕ sort) (places new : List ℕ)
-    → AreIdentifierIndexes s.tokens 0 places
+    (s : TextWithTokens) (sort : Sort) (t : Tree ℕ sort) (token_indexes new : List ℕ)
+    → AreIdentifierIndexes s.tokens 0 token_indexes
     → spell t ≡ indexed_tokens 0 (words_of s)
-    → map word_lexeme (changed_words (changes_at places (name_word new ∷ [])) 0 (words_of s))
-    ≡ spell (mapped (renamed_word_text (words_of s) places new) (number_at (words_of s)) t)
+    → map terminal_of_word (changed_words (changes_at token_indexes (name_word new ∷ [])) 0 (words_of s))
+    ≡ spell (mapped_tree (renamed_word_text (words_of s) token_indexes new) (number_at (words_of s)) t)

@@ -13,6 +13,6 @@ range_of width text span =
 
 -- Returns the start and the end of each span in one list: two offsets for each span, in the order
 -- of the spans.
-unfoldable pub bounds : List Span → List ℕ
-bounds [] = []
-bounds (span ∷ spans) = span.start ∷ span.end ∷ bounds spans
+unfoldable pub span_bounds : List Span → List ℕ
+span_bounds [] = []
+span_bounds (span ∷ spans) = span.start ∷ span.end ∷ span_bounds spans

@@ -10,7 +10,7 @@ use Rattle.ob0_scan.specs.declared.lexeme.Token.{Token}
 use Rattle.ob0_scan.specs.TextWithTokens.{TextWithTokens}
 use Rattle.ob0_text.specs.Patches.{Cut, text_with_cuts}
 use Rattle.ob0_edits_tokens.specs.Changed.{WordChanges}
-use Rattle.ob0_edits_tokens.specs.Replaced.{token_or_empty, span_at, cut_of}
+use Rattle.ob0_edits_tokens.specs.Replaced.{token_or_empty, span_at, replacement_cut}
 
 -- Returns the changes that remove the words from the index `first` to the index `last`, both
 -- included. All other words change as in `changes`.
@@ -25,7 +25,7 @@ pub record IsDeclaration (tokens : List Token) (first last : ℕ) : Type 0 where
   pub inside : last < length tokens
   pub name : (token_or_empty tokens first).kind ≡ token.Identifier
   pub end : (token_or_empty tokens last).kind ≡ token.Symbol symbol.Semicolon
-  pub following : (k : ℕ)
+  pub preceded : (k : ℕ)
       → suc k ≡ first
       → ((token_or_empty tokens k).kind ≡ token.ReservedWord reserved.Const)
       ⊎ ((token_or_empty tokens k).kind ≡ token.Symbol symbol.Semicolon)
@@ -43,7 +43,7 @@ removal_cut tokens first last =
     record { from = (span_at tokens first).start; to = (span_at tokens last).end; new = [] }
 
 -- Returns the text without the part from the token with the index `first` to the token with the
--- index `last`, in which each token whose index is in `places` is replaced by `new`.
+-- index `last`, in which each token whose index is in `token_indexes` is replaced by `new`.
 abbrev pub text_after_removal : TextWithTokens → ℕ → ℕ → List ℕ → List ℕ → List ℕ
-text_after_removal s first last places new =
-    text_with_cuts s.text 0 (removal_cut s.tokens first last ∷ map (cut_of s.tokens new) places)
+text_after_removal s first last token_indexes new =
+    text_with_cuts s.text 0 (removal_cut s.tokens first last ∷ map (replacement_cut s.tokens new) token_indexes)

@@ -8,7 +8,7 @@ use Rattle.ob0_scan.specs.declared.lexeme.TokenKind.TheVariants as token
 use Rattle.ob0_scan.specs.declared.lexeme.LexemeKind.{LexemeKind}
 use Rattle.ob0_scan.specs.declared.lexeme.Span.{Span}
 use Rattle.ob0_scan.specs.declared.lexeme.Token.{Token}
-use Rattle.ob0_scan.specs.Lexed.{Lexeme, joined}
+use Rattle.ob0_scan.specs.Lexed.{Lexeme, text_of_lexemes}
 use Rattle.ob0_scan.specs.Ends.{continues_lexeme, EndsBefore}
 use Rattle.ob0_scan.specs.TextWithTokens.{Word, words_of_lexemes, TextWithTokens, IsScan}
 use Rattle.ob0_text.specs.declared.edits.Edit.{Edit}
@@ -42,26 +42,26 @@ AreIdentifierIndexes tokens least (p ∷ ps) =
     × AreIdentifierIndexes tokens (suc p) ps
 
 -- Returns the cut, in byte offsets, that replaces the token with the index `p` by `new`.
-abbrev pub cut_of : List Token → List ℕ → ℕ → Cut
-cut_of tokens new p =
+abbrev pub replacement_cut : List Token → List ℕ → ℕ → Cut
+replacement_cut tokens new p =
     record { from = (span_at tokens p).start; to = (span_at tokens p).end; new = new }
 
--- Returns the text in which each token whose index is in `places` is replaced by `new`.
+-- Returns the text in which each token whose index is in `token_indexes` is replaced by `new`.
 abbrev pub text_after_replacement : TextWithTokens → List ℕ → List ℕ → List ℕ
-text_after_replacement s places new = text_with_cuts s.text 0 (map (cut_of s.tokens new) places)
+text_after_replacement s token_indexes new = text_with_cuts s.text 0 (map (replacement_cut s.tokens new) token_indexes)
 
 -- States that each cut begins at or after the end of the previous cut, and removes at least one
 -- byte. The first cut begins at or after the byte offset `at`.
-abbrev pub AreInOrder : ℕ → List Cut → Type 0
-AreInOrder at [] = Unit {0}
-AreInOrder at (c ∷ cs) = (at ≤ c.from) × (c.from < c.to) × AreInOrder c.to cs
+abbrev pub CutsAscend : ℕ → List Cut → Type 0
+CutsAscend at [] = Unit {0}
+CutsAscend at (c ∷ cs) = (at ≤ c.from) × (c.from < c.to) × CutsAscend c.to cs
 
 -- States that the text of each lexeme belongs to its kind, and that no lexeme is continued by the
 -- byte after it. The byte `byte` follows the last lexeme.
 abbrev pub LexemesEndBefore : List Lexeme → ℕ → Type 0
 LexemesEndBefore [] byte = Unit {0}
 LexemesEndBefore (l ∷ lexemes) byte =
-    EndsBefore l (slice_index (joined lexemes ++ (byte ∷ [])) 0) × LexemesEndBefore lexemes byte
+    EndsBefore l (slice_index (text_of_lexemes lexemes ++ (byte ∷ [])) 0) × LexemesEndBefore lexemes byte
 
 -- States that the text `new`, whose words are `ws`, may replace any identifier. A lexeme in front
 -- of `new` that can't continue with a letter can't continue with the first byte of `new` either.
@@ -69,7 +69,7 @@ LexemesEndBefore (l ∷ lexemes) byte =
 -- letter or digit.
 pub record ReplacesName (new : List ℕ) (ws : List Word) : Type 0 where
   pub lexemes : List Lexeme
-  pub whole : joined lexemes ≡ new
+  pub whole : text_of_lexemes lexemes ≡ new
   pub read : words_of_lexemes lexemes ≡ ws
   pub some : 0 < length new
   pub front : (kind : LexemeKind) (letter : ℕ)
@@ -79,8 +79,8 @@ pub record ReplacesName (new : List ℕ) (ws : List Word) : Type 0 where
   pub apart : (byte : ℕ) → is_ascii_alphanumeric byte ≡ false → LexemesEndBefore lexemes byte
 
 -- Returns an edit as a pair: its range, and its text as a list of bytes.
-abbrev pub parts : Edit → Range × List ℕ
-parts edit = (edit.range, string_bytes edit.text)
+abbrev pub range_and_text : Edit → Range × List ℕ
+range_and_text edit = (edit.range, string_bytes edit.text)
 
 -- Returns the edit, as a pair of its range and text, that replaces the token with the index `p` by
 -- `new`.

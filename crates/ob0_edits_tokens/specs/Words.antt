@@ -6,5 +6,5 @@ use Rattle.ob0_tree.specs.Lexeme.{Terminal, terminal_of_kind}
 
 -- Returns the token (`Terminal`) that a tree spells for a word. The token of an identifier has the
 -- identifier's text, and the token of an integer has the integer's value.
-abbrev pub word_lexeme : Word → Terminal (List ℕ)
-word_lexeme w = terminal_of_kind w.text w.kind
+abbrev pub terminal_of_word : Word → Terminal (List ℕ)
+terminal_of_word w = terminal_of_kind w.text w.kind

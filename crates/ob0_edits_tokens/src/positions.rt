@@ -3,7 +3,7 @@
 ghost use Rattle.std.specs.Prelude.{◌≡◌, ◌++◌, IfOk, OnOk, map};
 ghost use Rattle.ob0_edits_tokens.specs.Replaced.{span_at};
 ghost use Rattle.ob0_text.specs.Units.{width_of};
-ghost use Rattle.ob0_edits_tokens.specs.Ranges.{bounds, range_of};
+ghost use Rattle.ob0_edits_tokens.specs.Ranges.{span_bounds, range_of};
 
 use ob0_scan::{Span, Token};
 use ob0_text::{Range, TextStore};
@@ -41,8 +41,8 @@ fn add_ranges<T: TextStore>(
     ensures { OnOk result (ranges.new.items ≡ ranges.old.items
         ++ map (range_of (width_of (T.unit_of store.now)) (T.content store.now)) spans.now) }
 {
-    let bounds = bounds(alloc, spans)?;
-    let positions = store.positions(alloc, &bounds)?;
+    let span_bounds = span_bounds(alloc, spans)?;
+    let positions = store.positions(alloc, &span_bounds)?;
     for i in 0..spans.len() {
         ranges.push(Range {
             start: positions[2 * i],
@@ -54,8 +54,8 @@ fn add_ranges<T: TextStore>(
 
 /// Returns the byte offsets of the start and the end of each span, in one list: two offsets for
 /// each span, in the order of the spans.
-fn bounds(alloc: Global, spans: &[Span]) -> Result<Vec<usize>, AllocError>
-    ensures { IfOk result (λ offsets. offsets.items ≡ bounds spans.now) }
+fn span_bounds(alloc: Global, spans: &[Span]) -> Result<Vec<usize>, AllocError>
+    ensures { IfOk result (λ offsets. offsets.items ≡ span_bounds spans.now) }
 {
     let mut offsets = Vec::new(alloc);
     for span in spans {
@@ -65,26 +65,26 @@ fn bounds(alloc: Global, spans: &[Span]) -> Result<Vec<usize>, AllocError>
     Ok(offsets)
 }
 
-/// Returns the spans of the tokens with the indexes `places`, in the same order.
+/// Returns the spans of the tokens with the indexes `token_indexes`, in the same order.
 pub(crate) fn spans_of(
     alloc: Global,
     tokens: &[Token],
-    places: &[usize],
+    token_indexes: &[usize],
 ) -> Result<Vec<Span>, AllocError>
-    ensures { IfOk result (λ spans. spans.items ≡ map (span_at tokens.now) places.now) }
+    ensures { IfOk result (λ spans. spans.items ≡ map (span_at tokens.now) token_indexes.now) }
 {
-    places
+    token_indexes
         .iter()
-        .map(|place| span_at(tokens, *place))
+        .map(|token_index| span_at(tokens, *token_index))
         .collect(alloc)
 }
 
-/// Returns the span of the token with the index `place`, in bytes. If there is no such token,
+/// Returns the span of the token with the index `token_index`, in bytes. If there is no such token,
 /// returns an empty span at the text's start.
-fn span_at(tokens: &[Token], place: usize) -> Span
-    ensures { result ≡ span_at tokens.now place }
+fn span_at(tokens: &[Token], token_index: usize) -> Span
+    ensures { result ≡ span_at tokens.now token_index }
 {
-    match tokens.get(place) {
+    match tokens.get(token_index) {
         Some(token) => token.span,
         None => Span { start: 0, end: 0 },
     }

@@ -6,7 +6,7 @@ ghost use Rattle.std.specs.Str.{chars};
 ghost use Rattle.ob0_scan.specs.TextWithTokens.{Word, max_text};
 ghost use Rattle.ob0_text.specs.declared.refusals.EditRefusal.TheVariants.{TooLong, Memory};
 ghost use Rattle.ob0_edits_tokens.specs.Changed.{words_of, changed_words, changes_at};
-ghost use Rattle.ob0_edits_tokens.specs.Replaced.{AreIdentifierIndexes, AreInOrder, cut_of, text_after_replacement, ReplacesName, parts, edit_at, LeavesWords};
+ghost use Rattle.ob0_edits_tokens.specs.Replaced.{AreIdentifierIndexes, CutsAscend, replacement_cut, text_after_replacement, ReplacesName, range_and_text, edit_at, LeavesWords};
 ghost use Rattle.ob0_text.specs.Units.{width_of};
 ghost use Rattle.ob0_edits_tokens.specs.Ranges.{range_of};
 ghost use Rattle.ob0_text.specs.Patches.{text_with_cuts};
@@ -18,44 +18,44 @@ use ob0_text::{Edit, EditRefusal, Range, TextStore};
 use std::alloc::Global;
 
 /// Returns the edits that replace identifiers by `new`: one edit for each index in
-/// `places`, in text order. The indexes are token indexes of identifiers and ascend. Fails
+/// `token_indexes`, in text order. The indexes are token indexes of identifiers and ascend. Fails
 /// with `TooLong` if the resulting text is longer than a text may be. Fails with `Memory` if an
 /// allocation fails.
 pub fn replacement_edits<T: TextStore>(
     alloc: Global,
     store: &T,
     tokens: &Tokens,
-    places: &[usize],
+    token_indexes: &[usize],
     new: &str,
 ) -> Result<Vec<Edit>, EditRefusal>
     requires content { T.content store.now ≡ chars tokens.now.text }
-    requires names { AreIdentifierIndexes tokens.now.tokens 0 places.now }
-    ensures edits { IfOk result (λ edits. map parts edits.items
+    requires names { AreIdentifierIndexes tokens.now.tokens 0 token_indexes.now }
+    ensures edits { IfOk result (λ edits. map range_and_text edits.items
         ≡ map (edit_at (T.unit_of store.now) (T.content store.now) tokens.now.tokens new.now)
-        places.now) }
+        token_indexes.now) }
     ensures short { IfOk result
-        (λ edits. length (text_after_replacement tokens.now places.now new.now) ≤ max_text) }
+        (λ edits. length (text_after_replacement tokens.now token_indexes.now new.now) ≤ max_text) }
     ensures words { (ws : List Word) → ReplacesName new.now ws
         → IfOk result (λ edits. LeavesWords (T.unit_of store.now) (T.content store.now) edits.items
-        (changed_words (changes_at places.now ws) 0 (words_of tokens.now))) }
+        (changed_words (changes_at token_indexes.now ws) 0 (words_of tokens.now))) }
     ensures too_long { IsErrOf result TooLong
-        → max_text < length (text_after_replacement tokens.now places.now new.now) }
+        → max_text < length (text_after_replacement tokens.now token_indexes.now new.now) }
     ensures refusals { IfErr result (λ refusal. (refusal ≡ TooLong) ⊎ (refusal ≡ Memory)) }
 {
     // The proof needs the contract of this call.
     let _text = tokens.text();
-    if is_too_long(tokens, 0, 0, places, new) {
+    if is_too_long(tokens, 0, 0, token_indexes, new) {
         return Err(EditRefusal::TooLong);
     }
     let mut edits = Vec::new(alloc);
-    add_edits(alloc, store, tokens, places, new, &mut edits)?;
+    add_edits(alloc, store, tokens, token_indexes, new, &mut edits)?;
     Ok(edits)
 }
 
 /// Returns the edits that remove a declaration and replace identifiers behind it, in text order.
 /// The first edit removes the text from the start of the token with the index `first` to the end of
 /// the token with the index `last`. The other edits replace the tokens with the indexes
-/// `places` by `new`, one edit for each. These are token indexes of identifiers, all
+/// `token_indexes` by `new`, one edit for each. These are token indexes of identifiers, all
 /// greater than `last`, and ascend. Fails with `TooLong` if the resulting text is longer than a
 /// text may be. Fails with `Memory` if an allocation fails.
 pub fn removal_edits<T: TextStore>(
@@ -64,34 +64,34 @@ pub fn removal_edits<T: TextStore>(
     tokens: &Tokens,
     first: usize,
     last: usize,
-    places: &[usize],
+    token_indexes: &[usize],
     new: &str,
 ) -> Result<Vec<Edit>, EditRefusal>
     requires content { T.content store.now ≡ chars tokens.now.text }
     requires declaration { IsDeclaration tokens.now.tokens first last }
-    requires names { AreIdentifierIndexes tokens.now.tokens (suc last) places.now }
-    ensures edits { IfOk result (λ edits. map parts edits.items
+    requires names { AreIdentifierIndexes tokens.now.tokens (suc last) token_indexes.now }
+    ensures edits { IfOk result (λ edits. map range_and_text edits.items
         ≡ (
           range_of (width_of (T.unit_of store.now)) (T.content store.now)
               (span_of_tokens tokens.now.tokens first last),
           [],
         ) ∷ map (edit_at (T.unit_of store.now)
-        (T.content store.now) tokens.now.tokens new.now) places.now) }
+        (T.content store.now) tokens.now.tokens new.now) token_indexes.now) }
     ensures short { IfOk result
-        (λ edits. length (text_after_removal tokens.now first last places.now new.now) ≤ max_text) }
+        (λ edits. length (text_after_removal tokens.now first last token_indexes.now new.now) ≤ max_text) }
     ensures words { (ws : List Word) → ReplacesName new.now ws
         → IfOk result (λ edits. LeavesWords (T.unit_of store.now) (T.content store.now) edits.items
-        (changed_words (changes_with_removal first last (changes_at places.now ws)) 0
+        (changed_words (changes_with_removal first last (changes_at token_indexes.now ws)) 0
         (words_of tokens.now))) }
     ensures too_long { IsErrOf result TooLong
-        → max_text < length (text_after_removal tokens.now first last places.now new.now) }
+        → max_text < length (text_after_removal tokens.now first last token_indexes.now new.now) }
     ensures refusals { IfErr result (λ refusal. (refusal ≡ TooLong) ⊎ (refusal ≡ Memory)) }
 {
     // The proof needs the contract of this call.
     let _text = tokens.text();
     let start = tokens.tokens()[first].span.start;
     let end = tokens.tokens()[last].span.end;
-    if is_too_long(tokens, start as usize, end as usize, places, new) {
+    if is_too_long(tokens, start as usize, end as usize, token_indexes, new) {
         return Err(EditRefusal::TooLong);
     }
     let mut edits = Vec::new(alloc);
@@ -100,27 +100,27 @@ pub fn removal_edits<T: TextStore>(
         range,
         text: String::new(alloc),
     })?;
-    add_edits(alloc, store, tokens, places, new, &mut edits)?;
+    add_edits(alloc, store, tokens, token_indexes, new, &mut edits)?;
     Ok(edits)
 }
 
-/// Appends one edit to `edits` for each of the indexes `places`. The edit replaces the token
+/// Appends one edit to `edits` for each of the indexes `token_indexes`. The edit replaces the token
 /// with this index by `new`. Fails only with `Memory`.
 fn add_edits<T: TextStore>(
     alloc: Global,
     store: &T,
     tokens: &Tokens,
-    places: &[usize],
+    token_indexes: &[usize],
     new: &str,
     edits: &mut Vec<Edit>,
 ) -> Result<(), EditRefusal>
-    ensures added { OnOk result (map parts edits.new.items
-        ≡ map parts edits.old.items
+    ensures added { OnOk result (map range_and_text edits.new.items
+        ≡ map range_and_text edits.old.items
         ++ map (edit_at (T.unit_of store.now) (T.content store.now) tokens.now.tokens new.now)
-        places.now) }
+        token_indexes.now) }
     ensures memory { IfErr result (λ refusal. refusal ≡ Memory) }
 {
-    let spans = spans_of(alloc, tokens.tokens(), places)?;
+    let spans = spans_of(alloc, tokens.tokens(), token_indexes)?;
     let ranges = ranges(alloc, store, &spans)?;
     for range in &ranges {
         let text = String::from_str(alloc, new)?;
@@ -144,22 +144,28 @@ pub fn range_of<T: TextStore>(store: &T, span: Span) -> Range
 }
 
 /// Returns whether an edited text is longer than a text may be. The edited text consists of
-/// `counted` bytes, followed by the old text starting at the byte offset `end`. In this second
-/// part, `new` replaces each token whose index is in `places`.
-fn is_too_long(tokens: &Tokens, counted: usize, end: usize, places: &[usize], new: &str) -> bool
-    requires names { AreIdentifierIndexes tokens.now.tokens 0 places.now }
-    requires order { AreInOrder end (map (cut_of tokens.now.tokens new.now) places.now) }
-    requires front { counted ≤ end }
+/// `front_len` bytes, followed by the old text starting at the byte offset `end`. In this second
+/// part, `new` replaces each token whose index is in `token_indexes`.
+fn is_too_long(
+    tokens: &Tokens,
+    front_len: usize,
+    end: usize,
+    token_indexes: &[usize],
+    new: &str,
+) -> bool
+    requires names { AreIdentifierIndexes tokens.now.tokens 0 token_indexes.now }
+    requires order { CutsAscend end (map (replacement_cut tokens.now.tokens new.now) token_indexes.now) }
+    requires front { front_len ≤ end }
     requires inside { end ≤ length tokens.now.text }
     ensures { result
-        ≡ nat_lt max_text (counted
-        + length (text_with_cuts tokens.now.text end (map (cut_of tokens.now.tokens new.now) places.now))) }
+        ≡ nat_lt max_text (front_len
+        + length (text_with_cuts tokens.now.text end (map (replacement_cut tokens.now.tokens new.now) token_indexes.now))) }
 {
     let text = tokens.text();
-    let mut length = counted;
+    let mut length = front_len;
     let mut end = end;
-    for place in places {
-        let span = tokens.tokens()[*place].span;
+    for token_index in token_indexes {
+        let span = tokens.tokens()[*token_index].span;
         length += span.start as usize - end + new.len();
         end = span.end as usize;
         if length > MAX_TEXT {

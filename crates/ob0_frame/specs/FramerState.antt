@@ -28,7 +28,7 @@ Feeds Broken piece contents Broken = contents ≡ []
 
 -- States that reading a piece changes the state `old` to `new`. The contents that the piece
 -- completes are added after the contents that already wait.
-pub record Takes (old : FramerState) (piece : List ℕ) (new : FramerState) : Type 0 where
+pub record TakesPiece (old : FramerState) (piece : List ℕ) (new : FramerState) : Type 0 where
   pub contents : List (List ℕ)
   pub feeds : Feeds old.rest piece contents new.rest
-  pub following : new.waiting ≡ old.waiting ++ contents
+  pub appended : new.waiting ≡ old.waiting ++ contents

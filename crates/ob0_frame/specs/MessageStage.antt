@@ -30,10 +30,10 @@ IsUnfinished bytes Bad = Unit {0}
 
 -- States that the first `taken` bytes are messages with these contents, and that the message after
 -- them has this stage.
-pub record Cuts (bytes : List ℕ) (contents : List (List ℕ)) (taken : ℕ)
+pub record CutsMessages (bytes : List ℕ) (contents : List (List ℕ)) (taken : ℕ)
     (stage : MessageStage) : Type 0 where
   pub within : taken ≤ length bytes
   pub messages : (more : List (List ℕ)) (rest : List ℕ)
       → Frames (drop taken bytes) more rest
       → Frames bytes (contents ++ more) rest
-  pub staged : IsMessageStage (drop taken bytes) stage
+  pub stage_is : IsMessageStage (drop taken bytes) stage

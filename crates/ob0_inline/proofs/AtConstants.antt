@@ -12,20 +12,20 @@ use Rattle.ob0_tree.specs.ParsedModule.{ParsedModule, named_tree_of}
 use Rattle.ob0_tree.specs.Tree.{Tree, module_text}
 use Rattle.ob0_edits_tokens.specs.Ranges.{range_of}
 use Rattle.ob0_edits_tokens.specs.Removed.{span_of_tokens}
-use Rattle.ob0_edits_tokens.specs.Replaced.{edit_at, parts}
+use Rattle.ob0_edits_tokens.specs.Replaced.{edit_at, range_and_text}
 use Rattle.ob0_language_names.specs.Names.{Label, Name}
 use Rattle.ob0_language_names.specs.Occurrences.{bindings, binds, label_ordinal}
 use Rattle.ob0_scope_table.specs.Resolution.{Resolution}
 use Rattle.ob0_language_names.specs.Scopes.{same_ordinal}
 use Rattle.ob0_scope.specs.declared.naming.Named as named
-use Rattle.ob0_scope.specs.NamesAtPlaces.{name_on}
+use Rattle.ob0_scope.specs.NamesAtPlaces.{name_at_offset}
 use Rattle.ob0_types.specs.CheckedModules.{IsWellTyped}
-use Rattle.ob0_language_types.specs.EditLaws.{ConstantUsesAreFactors, IsConstantWritten, IsScalar, MeansPredeclaredTruth}
+use Rattle.ob0_language_types.specs.EditLaws.{ConstantUsesAreFactors, IsConstantWithLiteral, IsScalar, MeansPredeclaredTruth}
 use Rattle.ob0_language_runs.specs.EditLaws.{InliningEverywhereKeepsTypingAndRuns}
 use Rattle.ob0_language_values.specs.declared.scalar.Scalar.TheVariants as scalar
 use Rattle.ob0_language_values.specs.Scalars.{scalar_value}
 use Rattle.ob0_inline.specs.declared.constants.NamedConstant.{NamedConstant}
-use Rattle.ob0_inline.specs.Everywhere.{InlinesEverywhere, IsConstant, IsConstantAt, HasNoConstantAt, UsesAreFactors, any_use_shadowed, has_comment, tree_inlined_everywhere, is_shadowed_use, refusal_everywhere, text_after_inlining, uses_of}
+use Rattle.ob0_inline.specs.Everywhere.{InlinesEverywhere, IsConstant, IsConstantAt, HasNoConstantAt, UsesAreFactors, any_use_shadowed, declaration_has_comment, tree_inlined_everywhere, is_shadowed_use, refusal_everywhere, text_after_inlining, uses_of}
 use Rattle.ob0_inline.specs.Uses.{is_predeclared_truth}
 use Rattle.ob0_inline.specs.Values.{value_factor, value_text}
 use Rattle.ob0_inline.proofs.AtUses.{literal_of, shown_is}
@@ -82,7 +82,7 @@ numbers_shown m c n e =
     ∙ none_of (λ k. same_ordinal (binds m k) c.ordinal) (range_with_len 0 (length (bindings m)))
 
 -- The constant with the name at the place is the constant at the place.
-pub constant_named : (m : ParsedModule) (offset : ℕ) (found : named.Named) → Some found ≡ name_on m offset → (o : Option NamedConstant) → IsSomeAnd o (λ c. (c.ordinal ≡ found.ordinal) × IsConstant m c)
+pub constant_named : (m : ParsedModule) (offset : ℕ) (found : named.Named) → Some found ≡ name_at_offset m offset → (o : Option NamedConstant) → IsSomeAnd o (λ c. (c.ordinal ≡ found.ordinal) × IsConstant m c)
     → MatchOption o (HasNoConstantAt m offset) (λ c. IsConstantAt m offset c)
 constant_named m offset found e None h = absurd h
 constant_named m offset found e (Some c) h =
@@ -91,7 +91,7 @@ constant_named m offset found e (Some c) h =
 -- the facts about a constant's edits, or about their refusal, for any reading of the module
 
 pub record Made (r : Resolution) (c : NamedConstant) (unit : counting.Unit) (text : List ℕ) (edits : List Edit) : Type 0 where
-  pub edits_are : map parts edits ≡ (range_of (width_of unit) text (span_of_tokens r.module_read.source.tokens c.first c.last), []) ∷ map (edit_at unit text r.module_read.source.tokens (value_text c.value)) (uses_of r.module_read c.ordinal)
+  pub edits_are : map range_and_text edits ≡ (range_of (width_of unit) text (span_of_tokens r.module_read.source.tokens c.first c.last), []) ∷ map (edit_at unit text r.module_read.source.tokens (value_text c.value)) (uses_of r.module_read c.ordinal)
   pub make_text : MakeText (UsesAreFactors r.module_read c.ordinal) (text_after_inlining r.module_read c) (tree_inlined_everywhere r.module_read c) unit text edits
 
 abbrev pub IsRefused : Resolution → NamedConstant → EditRefusal → Type 0
@@ -101,21 +101,21 @@ abbrev others : Bool → Bool → Option EditRefusal
 others hidden comment = if hidden then Some Shadowed else if comment then Some CommentInside else None
 
 module _ (r : Resolution) (well : IsWellTyped r) (c : NamedConstant) (constant : IsConstant r.module_read c) (law : ConstantUsesAreFactors) (scalar_so : IsScalar (scalar_value c.value)) where
-  written_there : IsConstantWritten (named_tree_of r.module_read) c.ordinal (scalar_value c.value) (value_factor c.value)
+  written_there : IsConstantWithLiteral (named_tree_of r.module_read) c.ordinal (scalar_value c.value) (value_factor c.value)
   written_there = record { value = constant.has_value; scalar = scalar_so; literal = literal_of c.value }
 
   pub alone_there : UsesAreFactors r.module_read c.ordinal
   unfolding written_there
   alone_there = law (named_tree_of r.module_read) c.ordinal (scalar_value c.value) (value_factor c.value) written_there well.well_typed
 
-  made_first : (unit : counting.Unit) (text : List ℕ) (edits : List Edit) → Made r c unit text edits → (hidden comment : Bool) → any_use_shadowed (named_tree_of r.module_read) c ≡ hidden → has_comment r.module_read c ≡ comment
+  made_first : (unit : counting.Unit) (text : List ℕ) (edits : List Edit) → Made r c unit text edits → (hidden comment : Bool) → any_use_shadowed (named_tree_of r.module_read) c ≡ hidden → declaration_has_comment r.module_read c ≡ comment
       → refusal_everywhere r.module_read c ≡ others hidden comment
   made_first unit text edits h hidden comment e f =
-      other_is_first (UsesAreFactors r.module_read c.ordinal) alone_there (text_after_inlining r.module_read c) (tree_inlined_everywhere r.module_read c) (others (any_use_shadowed (named_tree_of r.module_read) c) (has_comment r.module_read c)) unit text edits h.make_text
+      other_is_first (UsesAreFactors r.module_read c.ordinal) alone_there (text_after_inlining r.module_read c) (tree_inlined_everywhere r.module_read c) (others (any_use_shadowed (named_tree_of r.module_read) c) (declaration_has_comment r.module_read c)) unit text edits h.make_text
       ∙ (λ i. others (e i) (f i))
 
   pub answer_made : InliningEverywhereKeepsTypingAndRuns → (unit : counting.Unit) (text : List ℕ) (edits : List Edit) → Made r c unit text edits
-      → any_use_shadowed (named_tree_of r.module_read) c ≡ false → has_comment r.module_read c ≡ false → (refusal_everywhere r.module_read c ≡ None) × InlinesEverywhere unit text r.module_read c edits
+      → any_use_shadowed (named_tree_of r.module_read) c ≡ false → declaration_has_comment r.module_read c ≡ false → (refusal_everywhere r.module_read c ≡ None) × InlinesEverywhere unit text r.module_read c edits
   answer_made keeps unit text edits h shown bare =
       let kept = keeps (named_tree_of r.module_read) c.ordinal (scalar_value c.value) (value_factor c.value) written_there (all_seen (named_tree_of r.module_read) c shown) well.well_typed in (
         made_first unit text edits h false false shown bare,
@@ -123,12 +123,12 @@ module _ (r : Resolution) (well : IsWellTyped r) (c : NamedConstant) (constant :
       )
 
   pub answer_hidden : (unit : counting.Unit) (text : List ℕ) (edits : List Edit) → Made r c unit text edits → any_use_shadowed (named_tree_of r.module_read) c ≡ true → refusal_everywhere r.module_read c ≡ Some Shadowed
-  answer_hidden unit text edits h hidden = made_first unit text edits h true (has_comment r.module_read c) hidden refl
+  answer_hidden unit text edits h hidden = made_first unit text edits h true (declaration_has_comment r.module_read c) hidden refl
 
   pub answer_comment : (unit : counting.Unit) (text : List ℕ) (edits : List Edit) → Made r c unit text edits
-      → any_use_shadowed (named_tree_of r.module_read) c ≡ false → has_comment r.module_read c ≡ true → refusal_everywhere r.module_read c ≡ Some CommentInside
+      → any_use_shadowed (named_tree_of r.module_read) c ≡ false → declaration_has_comment r.module_read c ≡ true → refusal_everywhere r.module_read c ≡ Some CommentInside
   answer_comment unit text edits h shown comment = made_first unit text edits h false true shown comment
 
   pub answer_not_made : (refusal : EditRefusal) → IsRefused r c refusal → (refusal_everywhere r.module_read c ≡ Some refusal) ⊎ (refusal ≡ Memory)
   answer_not_made =
-      refused_first (UsesAreFactors r.module_read c.ordinal) alone_there (text_after_inlining r.module_read c) (tree_inlined_everywhere r.module_read c) (others (any_use_shadowed (named_tree_of r.module_read) c) (has_comment r.module_read c))
+      refused_first (UsesAreFactors r.module_read c.ordinal) alone_there (text_after_inlining r.module_read c) (tree_inlined_everywhere r.module_read c) (others (any_use_shadowed (named_tree_of r.module_read) c) (declaration_has_comment r.module_read c))

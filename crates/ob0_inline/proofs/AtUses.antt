@@ -11,9 +11,9 @@ use Rattle.ob0_text.specs.declared.refusals.EditRefusal.TheVariants.{Memory, Sha
 use Rattle.ob0_tree.specs.ParsedModule.{named_tree_of}
 use Rattle.ob0_tree.specs.Tree.{Tree, module_text, spell}
 use Rattle.ob0_edits_tokens.specs.Changed.{changes_at, changed_words, words_of}
-use Rattle.ob0_edits_tokens.specs.Words.{word_lexeme}
+use Rattle.ob0_edits_tokens.specs.Words.{terminal_of_word}
 use Rattle.ob0_edits_tokens.proofs.OfTrees.{all_put, put}
-use Rattle.ob0_edits_tokens.specs.Replaced.{AreIdentifierIndexes, edit_at, parts, text_after_replacement}
+use Rattle.ob0_edits_tokens.specs.Replaced.{AreIdentifierIndexes, edit_at, range_and_text, text_after_replacement}
 use Rattle.ob0_language_names.specs.Inlining.{single_occurrence}
 use Rattle.ob0_language_names.specs.Names.{Name}
 use Rattle.ob0_language_names.specs.Occurrences.{binds}
@@ -22,12 +22,12 @@ use Rattle.ob0_language_types.proofs.Literals.{some_inverse}
 use Rattle.ob0_scope_table.specs.Resolution.{IsResolution, Resolution, ordinal_in}
 use Rattle.ob0_scope_table.proofs.Bound.{bound_at}
 use Rattle.ob0_scope.specs.declared.naming.Named as named
-use Rattle.ob0_scope.specs.Listing.{is_identifier_on}
-use Rattle.ob0_scope.specs.NamesAtPlaces.{name_on}
+use Rattle.ob0_scope.specs.Listing.{is_identifier_at_offset}
+use Rattle.ob0_scope.specs.NamesAtPlaces.{name_at_offset}
 use Rattle.ob0_scope.proofs.Placed.{name_found, named_so}
 use Rattle.ob0_language_types.specs.ConstantValues.{value_of_constant}
 use Rattle.ob0_types.specs.CheckedModules.{IsWellTyped}
-use Rattle.ob0_language_types.specs.EditLaws.{AreUsesOf, ConstantUsesAreFactors, IsConstantWritten, IsScalar, MeansPredeclaredTruth}
+use Rattle.ob0_language_types.specs.EditLaws.{AreInlinableUses, ConstantUsesAreFactors, IsConstantWithLiteral, IsScalar, MeansPredeclaredTruth}
 use Rattle.ob0_language_types.specs.Written.{value_literal}
 use Rattle.ob0_language_runs.specs.EditLaws.{InliningKeepsTypingAndRuns}
 use Rattle.ob0_language_values.specs.declared.scalar.Scalar.{Scalar}
@@ -35,7 +35,7 @@ use Rattle.ob0_language_values.specs.declared.scalar.Scalar.TheVariants as scala
 use Rattle.ob0_language_values.specs.Scalars.{scalar_value}
 use Rattle.ob0_inline.specs.declared.uses.ConstantUse.{ConstantUse}
 use Rattle.ob0_inline.specs.Everywhere.{UsesAreFactors}
-use Rattle.ob0_inline.specs.Inlined.{LeavesModule}
+use Rattle.ob0_inline.specs.Inlined.{EditsGiveModule}
 use Rattle.ob0_inline.specs.Uses.{InlinesHere, IsUse, IsUseAt, tree_inlined_here, is_predeclared_truth, refusal_here}
 use Rattle.ob0_inline.specs.Values.{value_factor, value_text, value_words}
 use Rattle.ob0_inline.proofs.ModuleTexts.{spelled_by_words, value_spelled}
@@ -70,7 +70,7 @@ pub use_is : (r : Resolution) → IsResolution r → (offset : ℕ) (u : Constan
 use_is r is offset u h =
     let m = r.module_read in
     let ordinal : ordinal_in r.ordinals u.token ≡ Some u.constant =
-    some_named u.token u.constant (position_from (is_identifier_on offset) 0 m.source.tokens) r.ordinals (name_found r offset is ∙ h.named) in
+    some_named u.token u.constant (position_from (is_identifier_at_offset offset) 0 m.source.tokens) r.ordinals (name_found r offset is ∙ h.named) in
     let there : slice_get r.uses u.occurrence ≡ Some u.token = ap (λ us. slice_get us u.occurrence) is.occurring ∙ h.occurs in
     record {
       occurs = h.occurs;
@@ -94,7 +94,7 @@ module _ (r : Resolution) (is : IsResolution r) (u : ConstantUse) (use_so : IsUs
 
   -- The words, with the value's words in place of the use, spell the inlined module.
   pub here_spelled : UsesAreFactors r.module_read u.constant
-      → map word_lexeme (changed_words (changes_at (u.token ∷ []) (value_words u.value)) 0 (words_of r.module_read.source)) ≡ spell (tree_inlined_here r.module_read u)
+      → map terminal_of_word (changed_words (changes_at (u.token ∷ []) (value_words u.value)) 0 (words_of r.module_read.source)) ≡ spell (tree_inlined_here r.module_read u)
   here_spelled alone =
       let s = r.module_read.source in
       let places = u.token ∷ [] in
@@ -104,7 +104,7 @@ module _ (r : Resolution) (is : IsResolution r) (u : ConstantUse) (use_so : IsUs
       (λ j i e. or-false (i == u.token) ∙ one_place 0 (length s.tokens) r.uses j u.occurrence i u.token (uses_ascend r is) e there) alone vs (value_spelled u.value)
 
 module _ (r : Resolution) (well : IsWellTyped r) (u : ConstantUse) (use_so : IsUse r.module_read u) where
-  written : IsScalar (scalar_value u.value) → IsConstantWritten (named_tree_of r.module_read) u.constant (scalar_value u.value) (value_factor u.value)
+  written : IsScalar (scalar_value u.value) → IsConstantWithLiteral (named_tree_of r.module_read) u.constant (scalar_value u.value) (value_factor u.value)
   written fits_so = record { value = use_so.has_value; scalar = fits_so; literal = literal_of u.value }
 
   pub is_alone : ConstantUsesAreFactors → IsScalar (scalar_value u.value) → UsesAreFactors r.module_read u.constant
@@ -113,7 +113,7 @@ module _ (r : Resolution) (well : IsWellTyped r) (u : ConstantUse) (use_so : IsU
   shown_so : is_predeclared_truth (named_tree_of r.module_read) u.occurrence u.value ≡ true → MeansPredeclaredTruth (named_tree_of r.module_read) u.occurrence (scalar_value u.value)
   shown_so e = shown_is (named_tree_of r.module_read) u.occurrence u.value e
 
-  uses_so : is_predeclared_truth (named_tree_of r.module_read) u.occurrence u.value ≡ true → AreUsesOf (named_tree_of r.module_read) u.constant (scalar_value u.value) (single_occurrence u.occurrence)
+  uses_so : is_predeclared_truth (named_tree_of r.module_read) u.occurrence u.value ≡ true → AreInlinableUses (named_tree_of r.module_read) u.constant (scalar_value u.value) (single_occurrence u.occurrence)
   uses_so e =
       let m = named_tree_of r.module_read in
       record {
@@ -123,8 +123,8 @@ module _ (r : Resolution) (well : IsWellTyped r) (u : ConstantUse) (use_so : IsU
 
   -- The edits leave the inlined module.
   pub inlines : InliningKeepsTypingAndRuns → IsScalar (scalar_value u.value) → (unit : counting.Unit) (text : List ℕ) (edits : List Edit)
-      → map parts edits ≡ edit_at unit text r.module_read.source.tokens (value_text u.value) u.token ∷ []
-      → LeavesModule unit text edits (tree_inlined_here r.module_read u)
+      → map range_and_text edits ≡ edit_at unit text r.module_read.source.tokens (value_text u.value) u.token ∷ []
+      → EditsGiveModule unit text edits (tree_inlined_here r.module_read u)
       → is_predeclared_truth (named_tree_of r.module_read) u.occurrence u.value ≡ true → InlinesHere unit text r.module_read u edits
   inlines law fits_so unit text edits made leaves shown =
       let kept = law (named_tree_of r.module_read) u.constant (scalar_value u.value) (value_factor u.value) (single_occurrence u.occurrence) (written fits_so) (uses_so shown) well.well_typed in
@@ -136,7 +136,7 @@ abbrev pub new_text : Resolution → ConstantUse → List ℕ
 new_text r u = text_after_replacement r.module_read.source (u.token ∷ []) (value_text u.value)
 
 pub record Made (r : Resolution) (u : ConstantUse) (unit : counting.Unit) (text : List ℕ) (edits : List Edit) : Type 0 where
-  pub edits_are : map parts edits ≡ edit_at unit text r.module_read.source.tokens (value_text u.value) u.token ∷ []
+  pub edits_are : map range_and_text edits ≡ edit_at unit text r.module_read.source.tokens (value_text u.value) u.token ∷ []
   pub make_text : MakeText (UsesAreFactors r.module_read u.constant) (new_text r u) (tree_inlined_here r.module_read u) unit text edits
 
 abbrev pub IsRefused : Resolution → ConstantUse → EditRefusal → Type 0
@@ -190,7 +190,7 @@ not_there token j n (i ∷ is) e f = by_test (i == token) refl e n f (λ m. not_
 named_token : (found : named.Named) (token ordinal : ℕ) → Some found ≡ Some (record { token = token; ordinal = ordinal }) → found.token ≡ token
 named_token found token ordinal e = ap (λ (o : Option named.Named). (elim o as (λ _. named.Named) [ Some n ↦ n | None ↦ found ]).token) e
 
-pub use_found : (r : Resolution) → IsWellTyped r → (offset : ℕ) (found : named.Named) (k : ℕ) (value : Scalar) → Some found ≡ name_on r.module_read offset
+pub use_found : (r : Resolution) → IsWellTyped r → (offset : ℕ) (found : named.Named) (k : ℕ) (value : Scalar) → Some found ≡ name_at_offset r.module_read offset
     → position_from (λ i. i == found.token) 0 r.uses ≡ Some k → option_map scalar_value (Some value) ≡ value_of_constant (named_tree_of r.module_read) found.ordinal
     → IsUseAt r.module_read offset (record { token = found.token; occurrence = k; constant = found.ordinal; value = value })
 use_found r well offset found k value e at has_value =
@@ -206,7 +206,7 @@ pub use_is_one : (r : Resolution) → IsWellTyped r → (offset : ℕ) (made u :
 use_is_one r well offset made u h e =
     subst (IsUse r.module_read) (ap (λ (o : Option ConstantUse). elim o as (λ _. ConstantUse) [ Some n ↦ n | None ↦ made ]) e) (use_is r well.resolved offset made h)
 
-pub no_use : (r : Resolution) → IsWellTyped r → (offset : ℕ) (found : named.Named) → Some found ≡ name_on r.module_read offset
+pub no_use : (r : Resolution) → IsWellTyped r → (offset : ℕ) (found : named.Named) → Some found ≡ name_at_offset r.module_read offset
     → position_from (λ i. i == found.token) 0 r.uses ≡ None → (u : ConstantUse) → IsUseAt r.module_read offset u → ⊥
 no_use r well offset found e none u h =
     not_there found.token 0 u.occurrence r.uses none

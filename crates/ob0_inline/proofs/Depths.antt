@@ -7,7 +7,7 @@ use Rattle.std.proofs.lemmas.List.{take-append-drop}
 use Rattle.std.proofs.lemmas.Simd.{map-map}
 use Rattle.std.proofs.lemmas.Str.{encodes-chars}
 use Rattle.ob0_edits_tokens.specs.Changed.{words_of}
-use Rattle.ob0_edits_tokens.specs.Words.{word_lexeme}
+use Rattle.ob0_edits_tokens.specs.Words.{terminal_of_word}
 use Rattle.ob0_tree.specs.Lexeme.{Terminal, EndOfText}
 use Rattle.ob0_scan.specs.TextWithTokens.{TextWithTokens, word_of_token}
 use Rattle.ob0_tree.specs.Module.{terminals_of_text}
@@ -49,5 +49,5 @@ held (Some xs) = xs
 pub same_bytes : (a b : List ℕ) (made : Option (List ℕ)) → IsUtf8 a → IsUtf8 b → made ≡ Some (chars a) → made ≡ Some (chars b) → a ≡ b
 same_bytes a b made u v e f = sym (encodes-chars a u) ∙ (ap encode_utf8_all (ap held (sym e ∙ f)) ∙ encodes-chars b v)
 
-pub lexemes_of_words : (s : TextWithTokens) → terminals_of_text s ≡ map word_lexeme (words_of s)
-lexemes_of_words s = sym (map-map word_lexeme (word_of_token s.text) s.tokens)
+pub lexemes_of_words : (s : TextWithTokens) → terminals_of_text s ≡ map terminal_of_word (words_of s)
+lexemes_of_words s = sym (map-map terminal_of_word (word_of_token s.text) s.tokens)

@@ -1,7 +1,7 @@
 -- Proves that names are bound to earlier declarations: each label of a part is below the first
 -- ordinal after the part.
 use Rattle.std.proofs.Common.{ℕ, suc, ◌<◌, ◌≤◌, true, false, Option, Some, None, List, [], ◌∷◌, ◌++◌, map, sym, subst, arith}
-use Rattle.ob0_tree.specs.Tree.{Sort, Tree, block, constant, constants, declares, declares_constant, declares_constants, declares_procedure, declares_type, declares_types, declares_variable, declares_variables, end, formals, further_section, has_body, item, items, maybe, more, none, occurrences, one, procedure, section, some_formals, then_section, type_name, type_names, value_section, variable, variable_section, variables}
+use Rattle.ob0_tree.specs.Tree.{Sort, Tree, block, constant, constants, declares, declares_constant, declares_constants, declares_procedure, declares_type, declares_types, declares_variable, declares_variables, end, formals, further_section, forms_block, item, items, maybe, more, none, occurrences, one, procedure, section, some_formals, then_section, type_definition, type_definitions, value_section, variable, variable_section, variables}
 use Rattle.ob0_language_names.specs.Names.{Name, naming_by_spelling, same_name}
 use Rattle.ob0_language_names.specs.Parts.{constant_names, formal_names, formal_sections, declared_type_names, names_in_list, procedure_name, section_constants, section_names, section_types, section_variables, variable_names}
 use Rattle.ob0_language_names.specs.Scopes.{Labelling, Scope, ordinal_after_block, ordinal_after_names, ordinal_after_procedure, ordinal_after_procedures, body_scope, declare_names, declare_procedure_names, first_procedure_ordinal, first_type_ordinal, first_variable_ordinal, label_of, ordinal_of, procedures_scope, relabel_block, relabel_constant_section, relabel_constants, relabel_formals, relabel_procedure, relabel_procedures, relabel_section, relabel_sections, relabel_type_section, relabel_types, relabel_uses, relabel_variable_section, relabel_variables, types_scope, variables_scope}
@@ -64,7 +64,7 @@ constants_low scope k (more (declares_constant x e) cs) h =
     (raised k (ordinal_after_names (suc k) (constant_names cs)) (occurrences (relabel_uses naming_by_spelling forget scope e)) (omega (arith, up)) (uses_low k scope e h))
     (constants_low ((x, k) ∷ scope) (suc k) cs (omega arith, scope_raised k (suc k) scope (omega arith) h))
 
-pub types_low : (scope : Scope Name) (k : ℕ) (ts : Tree Name (items type_name)) → ScopeLow k scope → AllLow (ordinal_after_names k (declared_type_names ts)) (occurrences (relabel_types naming_by_spelling forget scope k ts))
+pub types_low : (scope : Scope Name) (k : ℕ) (ts : Tree Name (items type_definition)) → ScopeLow k scope → AllLow (ordinal_after_names k (declared_type_names ts)) (occurrences (relabel_types naming_by_spelling forget scope k ts))
 types_low scope k end h = tt
 types_low scope k (more (declares_type x t) ts) h =
     let up = le-ordinal_after_names (suc k) (declared_type_names ts) in
@@ -110,7 +110,7 @@ pub constant_section_low : (scope : Scope Name) (k : ℕ) (cs : Tree Name (maybe
 constant_section_low scope k none h = tt
 constant_section_low scope k (one (declares_constants cs)) h = constants_low scope k cs h
 
-pub type_section_low : (scope : Scope Name) (k : ℕ) (ts : Tree Name (maybe type_names)) → ScopeLow k scope → AllLow (ordinal_after_names k (declared_type_names (section_types ts))) (occurrences (relabel_type_section naming_by_spelling forget scope k ts))
+pub type_section_low : (scope : Scope Name) (k : ℕ) (ts : Tree Name (maybe type_definitions)) → ScopeLow k scope → AllLow (ordinal_after_names k (declared_type_names (section_types ts))) (occurrences (relabel_type_section naming_by_spelling forget scope k ts))
 type_section_low scope k none h = tt
 type_section_low scope k (one (declares_types ts)) h = types_low scope k ts h
 
@@ -126,8 +126,8 @@ procedures_below k (more p rest) scope h =
 
 mutual
   pub block_low : (scope : Scope Name) (k : ℕ) (b : Tree Name block) → ScopeLow k scope → AllLow (ordinal_after_block k b) (occurrences (relabel_block naming_by_spelling forget scope k b))
-  block_low scope k (has_body (declares cs ts vs ps) statements) h =
-      let b : Tree Name block = has_body (declares cs ts vs ps) statements in
+  block_low scope k (forms_block (declares cs ts vs ps) statements) h =
+      let b : Tree Name block = forms_block (declares cs ts vs ps) statements in
       let xs = constant_names (section_constants cs) in
       let ys = declared_type_names (section_types ts) in
       let zs = variable_names (section_variables vs) in

@@ -11,7 +11,7 @@ use Rattle.ob0_scan.specs.declared.lexeme.TokenKind.{TokenKind}
 use Rattle.ob0_scan.specs.declared.lexeme.TokenKind.TheVariants as kind
 use Rattle.ob0_scan.specs.TextWithTokens.{TextWithTokens, word_of_token}
 use Rattle.ob0_tree.specs.declared.tree.Role.TheVariants as role
-use Rattle.ob0_tree.specs.Lexeme.{Terminal, Mark}
+use Rattle.ob0_tree.specs.Lexeme.{Terminal, WordOrSymbol}
 use Rattle.ob0_tree.specs.Lexeme as lexeme
 use Rattle.ob0_tree.specs.ParsedModule.{ParsedModule, named_tree_of, tree_of}
 use Rattle.ob0_tree.specs.Places.{index_terminal}
@@ -21,7 +21,7 @@ use Rattle.ob0_edits_tokens.specs.Changed.{changes_at, changed_words, words_of}
 use Rattle.ob0_edits_tokens.specs.OfTrees.{indexed_tokens}
 use Rattle.ob0_edits_tokens.specs.Removed.{IsDeclaration, changes_with_removal}
 use Rattle.ob0_edits_tokens.specs.Replaced.{AreIdentifierIndexes}
-use Rattle.ob0_edits_tokens.specs.Words.{word_lexeme}
+use Rattle.ob0_edits_tokens.specs.Words.{terminal_of_word}
 use Rattle.ob0_language_names.specs.Names.{Label, Name, naming_by_spelling, declared, same_label}
 use Rattle.ob0_language_names.specs.Occurrences.{bindings}
 use Rattle.ob0_language_names.specs.Parts.{module_block}
@@ -55,7 +55,7 @@ uses_kept : (source : TextWithTokens) (ordinals : List (Option ℕ)) (d : ℕ) (
 uses_kept source ordinals d [] = refl
 uses_kept source ordinals d (i ∷ is) =
     let kept = filter (λ (u : ℕ × Label). same_label u.1 (declared d)) (zip is (map (label_at source ordinals) is)) in
-    ap (λ b. map (λ (u : ℕ × Label). u.0) (cond b ((i, label_at source ordinals i) ∷ kept) kept)) (label_same (ordinal_in ordinals i) (leaf.text_at source i) d)
+    ap (λ b. map (λ (u : ℕ × Label). u.0) (cond b ((i, label_at source ordinals i) ∷ kept) kept)) (label_same (ordinal_in ordinals i) (leaf.token_text_at source i) d)
     ∙ one kept (bound_tokens ordinals d is) (uses_kept source ordinals d is) (same_ordinal (ordinal_in ordinals i) d)
   where
     one : (kept : List (ℕ × Label)) (bound : List ℕ) → map (λ (u : ℕ × Label). u.0) kept ≡ bound → (b : Bool)
@@ -83,10 +83,10 @@ not_end k (kind.Symbol s) x xs e n = (subst (λ y. NoEnd (y ∷ xs)) (sym e) n).
 not_end k _ x xs e n = refl
 
 others_no_end : (x : Terminal ℕ) (xs : List (Terminal ℕ)) → NoEnd (x ∷ xs) → NoEnd xs
-others_no_end (Mark k) xs n = n.1
+others_no_end (WordOrSymbol k) xs n = n.1
 others_no_end _ xs n = n
 
-first_end : (text : List ℕ) (k j : ℕ) (ts : List Token) (xs ys : List (Terminal ℕ)) → indexed_tokens k (map (word_of_token text) ts) ≡ xs ++ (Mark (kind.Symbol symbol.Semicolon) ∷ ys) → NoEnd xs
+first_end : (text : List ℕ) (k j : ℕ) (ts : List Token) (xs ys : List (Terminal ℕ)) → indexed_tokens k (map (word_of_token text) ts) ≡ xs ++ (WordOrSymbol (kind.Symbol symbol.Semicolon) ∷ ys) → NoEnd xs
     → position_from (λ t. is_semicolon t.kind) j ts ≡ Some (j + length xs)
 first_end text k j [] [] ys e n = absurd (cc)
 first_end text k j [] (x ∷ xs) ys e n = absurd (cc)
@@ -123,12 +123,12 @@ module _ (m : ParsedModule) (d : ℕ) (left : List (Terminal ℕ)) (t : Taken d 
 
   pub ends_there : position_from (λ x. is_semicolon x.kind) (first_bound_token t) (drop (first_bound_token t) m.source.tokens) ≡ Some (last_token t)
   ends_there =
-      let front : List (Terminal ℕ) = t.before ++ (Mark t.border ∷ []) in
-      let inner : List (Terminal ℕ) = lexeme.Name t.name ∷ Mark (kind.Symbol symbol.Equal) ∷ t.right in
-      let declaration : List (Terminal ℕ) = lexeme.Name t.name ∷ Mark (kind.Symbol symbol.Equal) ∷ (t.right ++ (Mark (kind.Symbol symbol.Semicolon) ∷ [])) in
+      let front : List (Terminal ℕ) = t.before ++ (WordOrSymbol t.border ∷ []) in
+      let inner : List (Terminal ℕ) = lexeme.Name t.name ∷ WordOrSymbol (kind.Symbol symbol.Equal) ∷ t.right in
+      let declaration : List (Terminal ℕ) = lexeme.Name t.name ∷ WordOrSymbol (kind.Symbol symbol.Equal) ∷ (t.right ++ (WordOrSymbol (kind.Symbol symbol.Semicolon) ∷ [])) in
       let there = following_front m.source.text 0 m.source.tokens front (declaration ++ t.after) t.whole_is in
-      let regrouped : declaration ++ t.after ≡ inner ++ (Mark (kind.Symbol symbol.Semicolon) ∷ t.after) =
-      ap (λ (l : List (Terminal ℕ)). lexeme.Name t.name ∷ Mark (kind.Symbol symbol.Equal) ∷ l) (append_assoc t.right (Mark (kind.Symbol symbol.Semicolon) ∷ []) t.after) in
+      let regrouped : declaration ++ t.after ≡ inner ++ (WordOrSymbol (kind.Symbol symbol.Semicolon) ∷ t.after) =
+      ap (λ (l : List (Terminal ℕ)). lexeme.Name t.name ∷ WordOrSymbol (kind.Symbol symbol.Equal) ∷ l) (append_assoc t.right (WordOrSymbol (kind.Symbol symbol.Semicolon) ∷ []) t.after) in
       first_end m.source.text (0 + length front) (first_bound_token t) (drop (length front) m.source.tokens) inner t.after (there ∙ regrouped) (refl, t.no_end)
       ∙ ap Some (let z : length front + suc (suc (length t.right)) ≡ length front + (2 + length t.right) = omega arith in z)
 
@@ -188,7 +188,7 @@ module _ (r : Resolution) (is : IsResolution r) (c : NamedConstant) (constant : 
 
   -- The remaining words spell the inlined module.
   pub left_spelled : UsesAreFactors r.module_read c.ordinal
-      → map word_lexeme (changed_words (changes_with_removal c.first c.last (changes_at (uses_of r.module_read c.ordinal) (value_words c.value))) 0 (words_of r.module_read.source)) ≡ spell (tree_inlined_everywhere r.module_read c)
+      → map terminal_of_word (changed_words (changes_with_removal c.first c.last (changes_at (uses_of r.module_read c.ordinal) (value_words c.value))) 0 (words_of r.module_read.source)) ≡ spell (tree_inlined_everywhere r.module_read c)
   left_spelled alone =
       let m = r.module_read in
       let d = c.ordinal in
@@ -198,4 +198,4 @@ module _ (r : Resolution) (is : IsResolution r) (c : NamedConstant) (constant : 
       let last = end_token r is d w constant.has_value in
       let inside_it = (declaration_at r is d w constant.has_value).inside in
       let there = words_everywhere r is d w constant.has_value spelled (value_factor c.value) (value_words c.value) (value_spelled c.value) alone (uses_are_names r is d w constant.has_value spelled inside_it) in
-      (λ i. map word_lexeme (changed_words (changes_with_removal (sym first_is i) (sym last_is i) (changes_at (sym (uses_by_table r is d) i) (value_words c.value))) 0 (words_of m.source))) ∙ there
+      (λ i. map terminal_of_word (changed_words (changes_with_removal (sym first_is i) (sym last_is i) (changes_at (sym (uses_by_table r is d) i) (value_words c.value))) 0 (words_of m.source))) ∙ there

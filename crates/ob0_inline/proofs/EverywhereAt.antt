@@ -8,11 +8,11 @@ use Rattle.ob0_tree.specs.Order.{AreIdentifierTokens, AreAscending}
 use Rattle.ob0_tree.specs.ParsedModule.{named_tree_of, tree_of}
 use Rattle.ob0_tree.specs.Tree.{Tree, factor, occurrences, spell}
 use Rattle.ob0_tree.proofs.Leaves.{ascending_lower}
-use Rattle.ob0_edits_tokens.specs.Changed.{changes_at, changed_words, is_among, words_of}
+use Rattle.ob0_edits_tokens.specs.Changed.{changes_at, changed_words, is_in_list, words_of}
 use Rattle.ob0_edits_tokens.specs.OfTrees.{indexed_tokens}
 use Rattle.ob0_edits_tokens.specs.Removed.{changes_with_removal}
 use Rattle.ob0_edits_tokens.specs.Replaced.{AreIdentifierIndexes}
-use Rattle.ob0_edits_tokens.specs.Words.{word_lexeme}
+use Rattle.ob0_edits_tokens.specs.Words.{terminal_of_word}
 use Rattle.ob0_language_names.specs.Inlining.{occurrences_bound_to, inlined_everywhere}
 use Rattle.ob0_language_names.specs.Names.{Name}
 use Rattle.ob0_language_names.specs.Parts.{module_block}
@@ -64,7 +64,7 @@ are_bound r d (i ∷ is) h =
     ]) refl
 
 -- A token of the list is among the tokens that are bound to d exactly if it is bound to d.
-among_bound : (ordinals : List (Option ℕ)) (d i : ℕ) (is : List ℕ) → is_among i (bound_tokens ordinals d is) ≡ (same_ordinal (ordinal_in ordinals i) d && is_among i is)
+among_bound : (ordinals : List (Option ℕ)) (d i : ℕ) (is : List ℕ) → is_in_list i (bound_tokens ordinals d is) ≡ (same_ordinal (ordinal_in ordinals i) d && is_in_list i is)
 among_bound ordinals d i [] = none (same_ordinal (ordinal_in ordinals i) d)
   where
     none : (b : Bool) → false ≡ (b && false)
@@ -72,27 +72,27 @@ among_bound ordinals d i [] = none (same_ordinal (ordinal_in ordinals i) d)
     none false = refl
 among_bound ordinals d i (x ∷ is) = one (same_ordinal (ordinal_in ordinals x) d) refl (i == x) refl (among_bound ordinals d i is)
   where
-    one : (b : Bool) → same_ordinal (ordinal_in ordinals x) d ≡ b → (c : Bool) → (i == x) ≡ c → is_among i (bound_tokens ordinals d is) ≡ (same_ordinal (ordinal_in ordinals i) d && is_among i is)
-        → is_among i (cond b (x ∷ bound_tokens ordinals d is) (bound_tokens ordinals d is)) ≡ (same_ordinal (ordinal_in ordinals i) d && (c || is_among i is))
+    one : (b : Bool) → same_ordinal (ordinal_in ordinals x) d ≡ b → (c : Bool) → (i == x) ≡ c → is_in_list i (bound_tokens ordinals d is) ≡ (same_ordinal (ordinal_in ordinals i) d && is_in_list i is)
+        → is_in_list i (cond b (x ∷ bound_tokens ordinals d is) (bound_tokens ordinals d is)) ≡ (same_ordinal (ordinal_in ordinals i) d && (c || is_in_list i is))
     one true p true q e =
         let here : same_ordinal (ordinal_in ordinals i) d ≡ true = ap (λ k. same_ordinal (ordinal_in ordinals k) d) (eqb-true i x q) ∙ p in
-        ap (λ b. b || is_among i (bound_tokens ordinals d is)) q ∙ sym (ap (λ b. b && true) here)
-    one true p false q e = ap (λ b. b || is_among i (bound_tokens ordinals d is)) q ∙ e
+        ap (λ b. b || is_in_list i (bound_tokens ordinals d is)) q ∙ sym (ap (λ b. b && true) here)
+    one true p false q e = ap (λ b. b || is_in_list i (bound_tokens ordinals d is)) q ∙ e
     one false p true q e =
         let here : same_ordinal (ordinal_in ordinals i) d ≡ false = ap (λ k. same_ordinal (ordinal_in ordinals k) d) (eqb-true i x q) ∙ p in
-        e ∙ ((λ j. here j && is_among i is) ∙ sym (ap (λ b. b && true) here))
+        e ∙ ((λ j. here j && is_in_list i is) ∙ sym (ap (λ b. b && true) here))
     one false p false q e = e
 
-in_list : (is : List ℕ) (j i : ℕ) → slice_get is j ≡ Some i → is_among i is ≡ true
+in_list : (is : List ℕ) (j i : ℕ) → slice_get is j ≡ Some i → is_in_list i is ≡ true
 in_list [] j i e = absurd (cc)
-in_list (x ∷ is) zero i e = ap (λ b. b || is_among i is) (eq-eqb i x (sym (ap (λ (z : Option ℕ). elim z [ Some n ↦ n | None ↦ x ]) e)))
+in_list (x ∷ is) zero i e = ap (λ b. b || is_in_list i is) (eq-eqb i x (sym (ap (λ (z : Option ℕ). elim z [ Some n ↦ n | None ↦ x ]) e)))
 in_list (x ∷ is) (suc j) i e = ap (λ b. (i == x) || b) (in_list is j i e) ∙ either (i == x)
   where
     either : (b : Bool) → (b || true) ≡ true
     either true = refl
     either false = refl
 
-agree : (r : Resolution) → IsResolution r → (d j i : ℕ) → slice_get r.uses j ≡ Some i → is_among i (bound_tokens r.ordinals d r.uses) ≡ occurrences_bound_to (named_tree_of r.module_read) d j
+agree : (r : Resolution) → IsResolution r → (d j i : ℕ) → slice_get r.uses j ≡ Some i → is_in_list i (bound_tokens r.ordinals d r.uses) ≡ occurrences_bound_to (named_tree_of r.module_read) d j
 agree r is d j i e =
     among_bound r.ordinals d i r.uses
     ∙ (ap (λ b. same_ordinal (ordinal_in r.ordinals i) d && b) (in_list r.uses j i e)
@@ -119,9 +119,9 @@ module _ (r : Resolution) (is : IsResolution r) (d : ℕ) (w : Value) (has_value
 
   -- The remaining words spell the module with the factor in place of all uses, and without the
   -- declaration.
-  pub words_everywhere : (v : Tree Name factor) (vs : List Word) → map word_lexeme vs ≡ spell v → UsesAreFactors r.module_read d
+  pub words_everywhere : (v : Tree Name factor) (vs : List Word) → map terminal_of_word vs ≡ spell v → UsesAreFactors r.module_read d
       → AreIdentifierIndexes r.module_read.source.tokens (suc (last_token late_here.taken)) (bound_tokens r.ordinals d r.uses)
-      → map word_lexeme (changed_words (changes_with_removal (first_bound_token late_here.taken) (last_token late_here.taken) (changes_at (bound_tokens r.ordinals d r.uses) vs)) 0 (words_of r.module_read.source))
+      → map terminal_of_word (changed_words (changes_with_removal (first_bound_token late_here.taken) (last_token late_here.taken) (changes_at (bound_tokens r.ordinals d r.uses) vs)) 0 (words_of r.module_read.source))
       ≡ spell (inlined_everywhere (named_tree_of r.module_read) d v)
   words_everywhere v vs same alone are_names =
       let m = r.module_read in

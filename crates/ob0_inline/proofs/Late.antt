@@ -9,19 +9,19 @@ use Rattle.ob0_scan.specs.declared.lexeme.TokenKind.{TokenKind}
 use Rattle.ob0_scan.specs.declared.lexeme.TokenKind.TheVariants as kind
 use Rattle.ob0_tree.specs.declared.tree.Role.{Role}
 use Rattle.ob0_tree.specs.declared.tree.Role.TheVariants as role
-use Rattle.ob0_tree.specs.Lexeme.{Terminal, Mark}
+use Rattle.ob0_tree.specs.Lexeme.{Terminal, WordOrSymbol}
 use Rattle.ob0_tree.specs.Lexeme as lexeme
 use Rattle.ob0_tree.specs.Order.{names_without_roles}
-use Rattle.ob0_tree.specs.Tree.{Sort, Tree, block, body, constant, constants, declares, declares_constant, declares_constants, declares_procedure, end, formals, has_body, identifiers, is_module, item, items, mapped, maybe, module_text, more, none, occurrences, one, procedure, spell, type_names, variables}
+use Rattle.ob0_tree.specs.Tree.{Sort, Tree, block, body, constant, constants, declares, declares_constant, declares_constants, declares_procedure, end, formals, forms_block, identifiers, is_module, item, items, mapped_tree, maybe, module_text, more, none, occurrences, one, procedure, spell, type_definitions, variables}
 use Rattle.ob0_tree.proofs.Leaves.{leaves_spelled, lexeme_names, lexeme_names-append}
 use Rattle.ob0_tree.proofs.Occurring.{looked_up_only, looked_up-occurrences}
-use Rattle.ob0_edits_tokens.specs.Changed.{is_among}
+use Rattle.ob0_edits_tokens.specs.Changed.{is_in_list}
 use Rattle.ob0_language_names.specs.Names.{Name, naming_by_spelling}
 use Rattle.ob0_language_names.specs.Parts.{constant_names, formal_names, formal_sections, module_block, declared_type_names, procedure_name, section_constants, section_types, section_variables, variable_names}
 use Rattle.ob0_language_names.specs.Scopes.{Scope, ordinal_after_names, ordinal_after_procedure, body_scope, declare_names, first_procedure_ordinal, first_type_ordinal, first_variable_ordinal, predeclared_scope, procedures_scope, relabel_block, relabel_constant_section, relabel_constants, relabel_formals, relabel_procedure, relabel_procedures, relabel_type_section, relabel_uses, relabel_variable_section, relabel_module, types_scope, variables_scope}
 use Rattle.ob0_language_names.proofs.OccurrenceNames.{as_many-constant_section, as_many-formals, as_many-procedure, as_many-type_section, as_many-uses, as_many-variable_section}
 use Rattle.ob0_language_names.proofs.Ordinals.{le-ordinal_after_names, le-ordinal_after_procedure}
-use Rattle.ob0_language_types.specs.ConstantValues.{ConstantEnvironment, non_constant, predeclared_constants, value_among, value_in_block, value_in_procedure, value_in_procedures, value_of_constant}
+use Rattle.ob0_language_types.specs.ConstantValues.{ConstantEnvironment, non_constant, predeclared_constants, value_in_constants, value_in_block, value_in_procedure, value_in_procedures, value_of_constant}
 use Rattle.ob0_language_types.specs.Declarations.{declare_constants}
 use Rattle.ob0_language_types.specs.Environments.{meanings}
 use Rattle.ob0_language_types.specs.Expressions.{a_constant}
@@ -35,17 +35,17 @@ use Rattle.ob0_inline.proofs.TakenOut.{Taken, among_others, expression_no_end, f
 
 abbrev pub AllIn : List ℕ → List ℕ → Type 0
 AllIn [] xs = Unit {0}
-AllIn (i ∷ is) xs = (is_among i xs ≡ true) × AllIn is xs
+AllIn (i ∷ is) xs = (is_in_list i xs ≡ true) × AllIn is xs
 
-in_first : (i : ℕ) (xs ys : List ℕ) → is_among i xs ≡ true → is_among i (xs ++ ys) ≡ true
+in_first : (i : ℕ) (xs ys : List ℕ) → is_in_list i xs ≡ true → is_in_list i (xs ++ ys) ≡ true
 in_first i [] ys e = absurd (cc)
 in_first i (x ∷ xs) ys e = by_test (i == x) e (in_first i xs ys)
   where
-    by_test : (b : Bool) → (b || is_among i xs) ≡ true → (is_among i xs ≡ true → is_among i (xs ++ ys) ≡ true) → (b || is_among i (xs ++ ys)) ≡ true
+    by_test : (b : Bool) → (b || is_in_list i xs) ≡ true → (is_in_list i xs ≡ true → is_in_list i (xs ++ ys) ≡ true) → (b || is_in_list i (xs ++ ys)) ≡ true
     by_test true e later = refl
     by_test false e later = later e
 
-in_second : (i : ℕ) (xs ys : List ℕ) → is_among i ys ≡ true → is_among i (xs ++ ys) ≡ true
+in_second : (i : ℕ) (xs ys : List ℕ) → is_in_list i ys ≡ true → is_in_list i (xs ++ ys) ≡ true
 in_second i [] ys e = e
 in_second i (x ∷ xs) ys e = ap (λ b. (i == x) || b) (in_second i xs ys e) ∙ either (i == x)
   where
@@ -67,7 +67,7 @@ all_joined (i ∷ is) js xs h g = (h.0, all_joined is js xs h.1 g)
 
 looked_up_in : (xs : List (Role × ℕ)) → AllIn (looked_up_only xs) (names_without_roles xs)
 looked_up_in [] = tt
-looked_up_in ((role.LookedUp, i) ∷ xs) = (ap (λ b. b || is_among i (names_without_roles xs)) (eq-eqb i i refl), all_second (looked_up_only xs) (i ∷ []) (names_without_roles xs) (looked_up_in xs))
+looked_up_in ((role.LookedUp, i) ∷ xs) = (ap (λ b. b || is_in_list i (names_without_roles xs)) (eq-eqb i i refl), all_second (looked_up_only xs) (i ∷ []) (names_without_roles xs) (looked_up_in xs))
 looked_up_in ((_, i) ∷ xs) = all_second (looked_up_only xs) (i ∷ []) (names_without_roles xs) (looked_up_in xs)
 
 occurrences_in : {s : Sort} (t : Tree ℕ s) → AllIn (occurrences t) (lexeme_names (spell t))
@@ -161,18 +161,18 @@ late_suffix d k labels w l z occ bound zb h = late_following d k labels w l (spe
 
 module _ (f : ℕ → Name) (g : ℕ → ℕ) (d : ℕ) (w : Value) where
   late_constants : (known : ConstantEnvironment) (scope : Scope Name) (k : ℕ) (cs : Tree ℕ (items constant)) (front : List (Terminal ℕ)) (border : TokenKind)
-      → (border ≡ kind.ReservedWord reserved.Const) ⊎ (border ≡ kind.Symbol symbol.Semicolon) → ScopeLow k scope → value_among known d k (mapped f g cs) ≡ Some w
-      → Late d k (constant_names cs) (front ++ (Mark border ∷ spell cs)) (front ++ (Mark border ∷ spell (gone_constants d k cs))) (occurrences cs) (occurrences (relabel_constants naming_by_spelling forget scope k (mapped f g cs)))
-  unfolding value_among
+      → (border ≡ kind.ReservedWord reserved.Const) ⊎ (border ≡ kind.Symbol symbol.Semicolon) → ScopeLow k scope → value_in_constants known d k (mapped_tree f g cs) ≡ Some w
+      → Late d k (constant_names cs) (front ++ (WordOrSymbol border ∷ spell cs)) (front ++ (WordOrSymbol border ∷ spell (gone_constants d k cs))) (occurrences cs) (occurrences (relabel_constants naming_by_spelling forget scope k (mapped_tree f g cs)))
+  unfolding value_in_constants
   late_constants known scope k end front border opens below e = absurd (cc)
   late_constants known scope k (more (declares_constant x a) cs) front border opens below e =
-      by_value (constant_value (meanings naming_by_spelling known) (mapped f g a)) e
-      (λ v h. late_constants ((f x, a_constant v) ∷ known) ((f x, k) ∷ scope) (suc k) cs (front ++ (Mark border ∷ lexeme.Name x ∷ Mark (kind.Symbol symbol.Equal) ∷ spell a)) (kind.Symbol symbol.Semicolon) (inr refl)
+      by_value (constant_value (meanings naming_by_spelling known) (mapped_tree f g a)) e
+      (λ v h. late_constants ((f x, a_constant v) ∷ known) ((f x, k) ∷ scope) (suc k) cs (front ++ (WordOrSymbol border ∷ lexeme.Name x ∷ WordOrSymbol (kind.Symbol symbol.Equal) ∷ spell a)) (kind.Symbol symbol.Semicolon) (inr refl)
       (omega arith, scope_raised k (suc k) scope (omega arith) below) h)
     where
       here : (k == d) ≡ true
-          → Late d k (x ∷ constant_names cs) (front ++ (Mark border ∷ spell (more (declares_constant x a) cs))) (front ++ (Mark border ∷ spell (gone_constants d k (more (declares_constant x a) cs))))
-          (occurrences a ++ occurrences cs) (occurrences (relabel_uses naming_by_spelling forget scope (mapped f g a)) ++ occurrences (relabel_constants naming_by_spelling forget ((f x, k) ∷ scope) (suc k) (mapped f g cs)))
+          → Late d k (x ∷ constant_names cs) (front ++ (WordOrSymbol border ∷ spell (more (declares_constant x a) cs))) (front ++ (WordOrSymbol border ∷ spell (gone_constants d k (more (declares_constant x a) cs))))
+          (occurrences a ++ occurrences cs) (occurrences (relabel_uses naming_by_spelling forget scope (mapped_tree f g a)) ++ occurrences (relabel_constants naming_by_spelling forget ((f x, k) ∷ scope) (suc k) (mapped_tree f g cs)))
       here q =
           let same : k ≡ d = eqb-true k d q in
           record {
@@ -187,66 +187,66 @@ module _ (f : ℕ → Name) (g : ℕ → ℕ) (d : ℕ) (w : Value) where
               right = spell a;
               no_end = expression_no_end a;
               after = spell cs;
-              whole_is = sym (append_assoc front (Mark border ∷ []) (spell (more (declares_constant x a) cs)));
-              left_is = ap (λ t. front ++ (Mark border ∷ spell t)) (gone_here d k (declares_constant x a) cs true q) ∙ sym (append_assoc front (Mark border ∷ []) (spell cs));
+              whole_is = sym (append_assoc front (WordOrSymbol border ∷ []) (spell (more (declares_constant x a) cs)));
+              left_is = ap (λ t. front ++ (WordOrSymbol border ∷ spell t)) (gone_here d k (declares_constant x a) cs true q) ∙ sym (append_assoc front (WordOrSymbol border ∷ []) (spell cs));
             };
             front = occurrences a;
             following = occurrences cs;
-            front_bound = occurrences (relabel_uses naming_by_spelling forget scope (mapped f g a));
-            following_bound = occurrences (relabel_constants naming_by_spelling forget ((f x, k) ∷ scope) (suc k) (mapped f g cs));
+            front_bound = occurrences (relabel_uses naming_by_spelling forget scope (mapped_tree f g a));
+            following_bound = occurrences (relabel_constants naming_by_spelling forget ((f x, k) ∷ scope) (suc k) (mapped_tree f g cs));
             occ_is = refl;
             bound_is = refl;
-            count = as_many-uses naming_by_spelling forget scope (mapped f g a) ∙ as_many f g a;
-            low = raised k d (occurrences (relabel_uses naming_by_spelling forget scope (mapped f g a))) (omega (arith, same)) (uses_low k scope (mapped f g a) below);
+            count = as_many-uses naming_by_spelling forget scope (mapped_tree f g a) ∙ as_many f g a;
+            low = raised k d (occurrences (relabel_uses naming_by_spelling forget scope (mapped_tree f g a))) (omega (arith, same)) (uses_low k scope (mapped_tree f g a) below);
             among = occurrences_in cs;
           }
 
       there : (k == d) ≡ false
-          → Late d (suc k) (constant_names cs) ((front ++ (Mark border ∷ lexeme.Name x ∷ Mark (kind.Symbol symbol.Equal) ∷ spell a)) ++ (Mark (kind.Symbol symbol.Semicolon) ∷ spell cs))
-          ((front ++ (Mark border ∷ lexeme.Name x ∷ Mark (kind.Symbol symbol.Equal) ∷ spell a)) ++ (Mark (kind.Symbol symbol.Semicolon) ∷ spell (gone_constants d (suc k) cs)))
-          (occurrences cs) (occurrences (relabel_constants naming_by_spelling forget ((f x, k) ∷ scope) (suc k) (mapped f g cs)))
-          → Late d k (x ∷ constant_names cs) (front ++ (Mark border ∷ spell (more (declares_constant x a) cs))) (front ++ (Mark border ∷ spell (gone_constants d k (more (declares_constant x a) cs))))
-          (occurrences a ++ occurrences cs) (occurrences (relabel_uses naming_by_spelling forget scope (mapped f g a)) ++ occurrences (relabel_constants naming_by_spelling forget ((f x, k) ∷ scope) (suc k) (mapped f g cs)))
+          → Late d (suc k) (constant_names cs) ((front ++ (WordOrSymbol border ∷ lexeme.Name x ∷ WordOrSymbol (kind.Symbol symbol.Equal) ∷ spell a)) ++ (WordOrSymbol (kind.Symbol symbol.Semicolon) ∷ spell cs))
+          ((front ++ (WordOrSymbol border ∷ lexeme.Name x ∷ WordOrSymbol (kind.Symbol symbol.Equal) ∷ spell a)) ++ (WordOrSymbol (kind.Symbol symbol.Semicolon) ∷ spell (gone_constants d (suc k) cs)))
+          (occurrences cs) (occurrences (relabel_constants naming_by_spelling forget ((f x, k) ∷ scope) (suc k) (mapped_tree f g cs)))
+          → Late d k (x ∷ constant_names cs) (front ++ (WordOrSymbol border ∷ spell (more (declares_constant x a) cs))) (front ++ (WordOrSymbol border ∷ spell (gone_constants d k (more (declares_constant x a) cs))))
+          (occurrences a ++ occurrences cs) (occurrences (relabel_uses naming_by_spelling forget scope (mapped_tree f g a)) ++ occurrences (relabel_constants naming_by_spelling forget ((f x, k) ∷ scope) (suc k) (mapped_tree f g cs)))
       there q r =
-          let moved = λ (l : List (Terminal ℕ)). append_assoc front (Mark border ∷ lexeme.Name x ∷ Mark (kind.Symbol symbol.Equal) ∷ spell a) (Mark (kind.Symbol symbol.Semicolon) ∷ l)
-          ∙ ap (λ z. front ++ (Mark border ∷ lexeme.Name x ∷ Mark (kind.Symbol symbol.Equal) ∷ z)) (sym (append_assoc (spell a) (Mark (kind.Symbol symbol.Semicolon) ∷ []) l)) in
-          let done : List (Terminal ℕ) = front ++ (Mark border ∷ lexeme.Name x ∷ Mark (kind.Symbol symbol.Equal) ∷ spell a) in
-          let w1 : List (Terminal ℕ) = done ++ (Mark (kind.Symbol symbol.Semicolon) ∷ spell cs) in
-          let l1 : List (Terminal ℕ) = done ++ (Mark (kind.Symbol symbol.Semicolon) ∷ spell (gone_constants d (suc k) cs)) in
-          let w2 = front ++ (Mark border ∷ spell (more (declares_constant x a) cs)) in
-          let l2 = front ++ (Mark border ∷ spell (gone_constants d k (more (declares_constant x a) cs))) in
-          let lb = occurrences (relabel_uses naming_by_spelling forget scope (mapped f g a)) in
-          let rest_bound = occurrences (relabel_constants naming_by_spelling forget ((f x, k) ∷ scope) (suc k) (mapped f g cs)) in
+          let moved = λ (l : List (Terminal ℕ)). append_assoc front (WordOrSymbol border ∷ lexeme.Name x ∷ WordOrSymbol (kind.Symbol symbol.Equal) ∷ spell a) (WordOrSymbol (kind.Symbol symbol.Semicolon) ∷ l)
+          ∙ ap (λ z. front ++ (WordOrSymbol border ∷ lexeme.Name x ∷ WordOrSymbol (kind.Symbol symbol.Equal) ∷ z)) (sym (append_assoc (spell a) (WordOrSymbol (kind.Symbol symbol.Semicolon) ∷ []) l)) in
+          let done : List (Terminal ℕ) = front ++ (WordOrSymbol border ∷ lexeme.Name x ∷ WordOrSymbol (kind.Symbol symbol.Equal) ∷ spell a) in
+          let w1 : List (Terminal ℕ) = done ++ (WordOrSymbol (kind.Symbol symbol.Semicolon) ∷ spell cs) in
+          let l1 : List (Terminal ℕ) = done ++ (WordOrSymbol (kind.Symbol symbol.Semicolon) ∷ spell (gone_constants d (suc k) cs)) in
+          let w2 = front ++ (WordOrSymbol border ∷ spell (more (declares_constant x a) cs)) in
+          let l2 = front ++ (WordOrSymbol border ∷ spell (gone_constants d k (more (declares_constant x a) cs))) in
+          let lb = occurrences (relabel_uses naming_by_spelling forget scope (mapped_tree f g a)) in
+          let rest_bound = occurrences (relabel_constants naming_by_spelling forget ((f x, k) ∷ scope) (suc k) (mapped_tree f g cs)) in
           let e = r.taken.ordinal_is in
-          late_before d k (x ∷ constant_names cs) [] w2 l2 (occurrences a) (occurrences cs) lb rest_bound (as_many-uses naming_by_spelling forget scope (mapped f g a) ∙ as_many f g a)
-          (raised k d lb (omega (arith, e)) (uses_low k scope (mapped f g a) below))
+          late_before d k (x ∷ constant_names cs) [] w2 l2 (occurrences a) (occurrences cs) lb rest_bound (as_many-uses naming_by_spelling forget scope (mapped_tree f g a) ∙ as_many f g a)
+          (raised k d lb (omega (arith, e)) (uses_low k scope (mapped_tree f g a) below))
           (late_move d k (x ∷ constant_names cs) w1 w2 l1 l2 (occurrences cs) rest_bound (sym (moved (spell cs)))
-          (ap (λ z. front ++ (Mark border ∷ spell z)) (gone_here d k (declares_constant x a) cs false q) ∙ sym (moved (spell (gone_constants d (suc k) cs))))
+          (ap (λ z. front ++ (WordOrSymbol border ∷ spell z)) (gone_here d k (declares_constant x a) cs false q) ∙ sym (moved (spell (gone_constants d (suc k) cs))))
           (late_among d k (suc k) (constant_names cs) (x ∷ constant_names cs) w1 l1 (occurrences cs) rest_bound r (suc r.taken.place) (omega (arith, e)) refl))
 
-      by_test : (v : Value) (b : Bool) → (k == d) ≡ b → (if b then Some v else value_among ((f x, a_constant v) ∷ known) d (suc k) (mapped f g cs)) ≡ Some w
-          → (value_among ((f x, a_constant v) ∷ known) d (suc k) (mapped f g cs) ≡ Some w
-          → Late d (suc k) (constant_names cs) ((front ++ (Mark border ∷ lexeme.Name x ∷ Mark (kind.Symbol symbol.Equal) ∷ spell a)) ++ (Mark (kind.Symbol symbol.Semicolon) ∷ spell cs))
-          ((front ++ (Mark border ∷ lexeme.Name x ∷ Mark (kind.Symbol symbol.Equal) ∷ spell a)) ++ (Mark (kind.Symbol symbol.Semicolon) ∷ spell (gone_constants d (suc k) cs)))
-          (occurrences cs) (occurrences (relabel_constants naming_by_spelling forget ((f x, k) ∷ scope) (suc k) (mapped f g cs))))
-          → Late d k (x ∷ constant_names cs) (front ++ (Mark border ∷ spell (more (declares_constant x a) cs))) (front ++ (Mark border ∷ spell (gone_constants d k (more (declares_constant x a) cs))))
-          (occurrences a ++ occurrences cs) (occurrences (relabel_uses naming_by_spelling forget scope (mapped f g a)) ++ occurrences (relabel_constants naming_by_spelling forget ((f x, k) ∷ scope) (suc k) (mapped f g cs)))
+      by_test : (v : Value) (b : Bool) → (k == d) ≡ b → (if b then Some v else value_in_constants ((f x, a_constant v) ∷ known) d (suc k) (mapped_tree f g cs)) ≡ Some w
+          → (value_in_constants ((f x, a_constant v) ∷ known) d (suc k) (mapped_tree f g cs) ≡ Some w
+          → Late d (suc k) (constant_names cs) ((front ++ (WordOrSymbol border ∷ lexeme.Name x ∷ WordOrSymbol (kind.Symbol symbol.Equal) ∷ spell a)) ++ (WordOrSymbol (kind.Symbol symbol.Semicolon) ∷ spell cs))
+          ((front ++ (WordOrSymbol border ∷ lexeme.Name x ∷ WordOrSymbol (kind.Symbol symbol.Equal) ∷ spell a)) ++ (WordOrSymbol (kind.Symbol symbol.Semicolon) ∷ spell (gone_constants d (suc k) cs)))
+          (occurrences cs) (occurrences (relabel_constants naming_by_spelling forget ((f x, k) ∷ scope) (suc k) (mapped_tree f g cs))))
+          → Late d k (x ∷ constant_names cs) (front ++ (WordOrSymbol border ∷ spell (more (declares_constant x a) cs))) (front ++ (WordOrSymbol border ∷ spell (gone_constants d k (more (declares_constant x a) cs))))
+          (occurrences a ++ occurrences cs) (occurrences (relabel_uses naming_by_spelling forget scope (mapped_tree f g a)) ++ occurrences (relabel_constants naming_by_spelling forget ((f x, k) ∷ scope) (suc k) (mapped_tree f g cs)))
       by_test v true q e later = here q
       by_test v false q e later = there q (later e)
 
-      by_value : (o : Option Value) → option_and_then (λ v. if k == d then Some v else value_among ((f x, a_constant v) ∷ known) d (suc k) (mapped f g cs)) o ≡ Some w
-          → ((v : Value) → value_among ((f x, a_constant v) ∷ known) d (suc k) (mapped f g cs) ≡ Some w
-          → Late d (suc k) (constant_names cs) ((front ++ (Mark border ∷ lexeme.Name x ∷ Mark (kind.Symbol symbol.Equal) ∷ spell a)) ++ (Mark (kind.Symbol symbol.Semicolon) ∷ spell cs))
-          ((front ++ (Mark border ∷ lexeme.Name x ∷ Mark (kind.Symbol symbol.Equal) ∷ spell a)) ++ (Mark (kind.Symbol symbol.Semicolon) ∷ spell (gone_constants d (suc k) cs)))
-          (occurrences cs) (occurrences (relabel_constants naming_by_spelling forget ((f x, k) ∷ scope) (suc k) (mapped f g cs))))
-          → Late d k (x ∷ constant_names cs) (front ++ (Mark border ∷ spell (more (declares_constant x a) cs))) (front ++ (Mark border ∷ spell (gone_constants d k (more (declares_constant x a) cs))))
-          (occurrences a ++ occurrences cs) (occurrences (relabel_uses naming_by_spelling forget scope (mapped f g a)) ++ occurrences (relabel_constants naming_by_spelling forget ((f x, k) ∷ scope) (suc k) (mapped f g cs)))
+      by_value : (o : Option Value) → option_and_then (λ v. if k == d then Some v else value_in_constants ((f x, a_constant v) ∷ known) d (suc k) (mapped_tree f g cs)) o ≡ Some w
+          → ((v : Value) → value_in_constants ((f x, a_constant v) ∷ known) d (suc k) (mapped_tree f g cs) ≡ Some w
+          → Late d (suc k) (constant_names cs) ((front ++ (WordOrSymbol border ∷ lexeme.Name x ∷ WordOrSymbol (kind.Symbol symbol.Equal) ∷ spell a)) ++ (WordOrSymbol (kind.Symbol symbol.Semicolon) ∷ spell cs))
+          ((front ++ (WordOrSymbol border ∷ lexeme.Name x ∷ WordOrSymbol (kind.Symbol symbol.Equal) ∷ spell a)) ++ (WordOrSymbol (kind.Symbol symbol.Semicolon) ∷ spell (gone_constants d (suc k) cs)))
+          (occurrences cs) (occurrences (relabel_constants naming_by_spelling forget ((f x, k) ∷ scope) (suc k) (mapped_tree f g cs))))
+          → Late d k (x ∷ constant_names cs) (front ++ (WordOrSymbol border ∷ spell (more (declares_constant x a) cs))) (front ++ (WordOrSymbol border ∷ spell (gone_constants d k (more (declares_constant x a) cs))))
+          (occurrences a ++ occurrences cs) (occurrences (relabel_uses naming_by_spelling forget scope (mapped_tree f g a)) ++ occurrences (relabel_constants naming_by_spelling forget ((f x, k) ∷ scope) (suc k) (mapped_tree f g cs)))
       by_value None e later = absurd (cc)
       by_value (Some v) e later = by_test v (k == d) refl e (later v)
 
-  late_section : (known : ConstantEnvironment) (scope : Scope Name) (k : ℕ) (cs : Tree ℕ (maybe constants)) → ScopeLow k scope → value_among known d k (section_constants (mapped f g cs)) ≡ Some w
-      → Late d k (constant_names (section_constants cs)) (spell cs) (spell (gone_section d k cs)) (occurrences cs) (occurrences (relabel_constant_section naming_by_spelling forget scope k (mapped f g cs)))
-  unfolding value_among
+  late_section : (known : ConstantEnvironment) (scope : Scope Name) (k : ℕ) (cs : Tree ℕ (maybe constants)) → ScopeLow k scope → value_in_constants known d k (section_constants (mapped_tree f g cs)) ≡ Some w
+      → Late d k (constant_names (section_constants cs)) (spell cs) (spell (gone_section d k cs)) (occurrences cs) (occurrences (relabel_constant_section naming_by_spelling forget scope k (mapped_tree f g cs)))
+  unfolding value_in_constants
   late_section known scope k none below e = absurd (cc)
   late_section known scope k (one (declares_constants cs)) below e = late_constants known scope k cs [] (kind.ReservedWord reserved.Const) (inl refl) below e
 
@@ -256,12 +256,12 @@ module _ (f : ℕ → Name) (g : ℕ → ℕ) (d : ℕ) (w : Value) where
 
   -- `Late` holds of a block if it holds of one of its parts. k is the ordinal of its first
   -- declaration.
-  late_by_section : (cs : Tree ℕ (maybe constants)) (ts : Tree ℕ (maybe type_names)) (vs : Tree ℕ (maybe variables)) (ps : Tree ℕ (items procedure)) (statements : Tree ℕ (maybe body)) (k : ℕ) (lc rest_bound ls : List (Option ℕ))
-      → d < first_type_ordinal k (has_body (declares cs ts vs ps) statements) → Late d k (constant_names (section_constants cs)) (spell cs) (spell (gone_section d k cs)) (occurrences cs) lc
-      → Late d k (names_in (has_body (declares cs ts vs ps) statements)) (spell (has_body (declares cs ts vs ps) statements)) (spell (gone_block d k (has_body (declares cs ts vs ps) statements)))
-      (occurrences (has_body (declares cs ts vs ps) statements)) ((lc ++ rest_bound) ++ ls)
+  late_by_section : (cs : Tree ℕ (maybe constants)) (ts : Tree ℕ (maybe type_definitions)) (vs : Tree ℕ (maybe variables)) (ps : Tree ℕ (items procedure)) (statements : Tree ℕ (maybe body)) (k : ℕ) (lc rest_bound ls : List (Option ℕ))
+      → d < first_type_ordinal k (forms_block (declares cs ts vs ps) statements) → Late d k (constant_names (section_constants cs)) (spell cs) (spell (gone_section d k cs)) (occurrences cs) lc
+      → Late d k (names_in (forms_block (declares cs ts vs ps) statements)) (spell (forms_block (declares cs ts vs ps) statements)) (spell (gone_block d k (forms_block (declares cs ts vs ps) statements)))
+      (occurrences (forms_block (declares cs ts vs ps) statements)) ((lc ++ rest_bound) ++ ls)
   late_by_section cs ts vs ps statements k lc rest_bound ls h t =
-      let b : Tree ℕ block = has_body (declares cs ts vs ps) statements in
+      let b : Tree ℕ block = forms_block (declares cs ts vs ps) statements in
       let labels = names_in b in
       let up2 = le-ordinal_after_names (ordinal_after_names k (constant_names (section_constants cs))) (declared_type_names (section_types ts)) in
       let up3 = le-ordinal_after_names (ordinal_after_names (ordinal_after_names k (constant_names (section_constants cs))) (declared_type_names (section_types ts))) (variable_names (section_variables vs)) in
@@ -276,14 +276,14 @@ module _ (f : ℕ → Name) (g : ℕ → ℕ) (d : ℕ) (w : Value) where
       (late_following d k labels (spell cs) (spell (gone_section d k cs)) rest (occurrences cs) (occurrences ts ++ (occurrences vs ++ occurrences ps)) lc rest_bound
       (joined_in (occurrences ts) (occurrences vs ++ occurrences ps) (spell ts) (spell vs ++ spell ps) (occurrences_in ts) (joined_in (occurrences vs) (occurrences ps) (spell vs) (spell ps) (occurrences_in vs) (occurrences_in ps))) there))
 
-  late_by_procedures : (cs : Tree ℕ (maybe constants)) (ts : Tree ℕ (maybe type_names)) (vs : Tree ℕ (maybe variables)) (ps : Tree ℕ (items procedure)) (statements : Tree ℕ (maybe body)) (k : ℕ) (lc lt lv lp ls : List (Option ℕ))
-      → first_type_ordinal k (has_body (declares cs ts vs ps) statements) ≤ d
+  late_by_procedures : (cs : Tree ℕ (maybe constants)) (ts : Tree ℕ (maybe type_definitions)) (vs : Tree ℕ (maybe variables)) (ps : Tree ℕ (items procedure)) (statements : Tree ℕ (maybe body)) (k : ℕ) (lc lt lv lp ls : List (Option ℕ))
+      → first_type_ordinal k (forms_block (declares cs ts vs ps) statements) ≤ d
       → length lc ≡ length (occurrences cs) → length lt ≡ length (occurrences ts) → length lv ≡ length (occurrences vs) → AllLow d lc → AllLow d lt → AllLow d lv
-      → Late d (first_procedure_ordinal k (has_body (declares cs ts vs ps) statements)) (names_in_procedures ps) (spell ps) (spell (gone_procedures d (first_procedure_ordinal k (has_body (declares cs ts vs ps) statements)) ps)) (occurrences ps) lp
-      → Late d k (names_in (has_body (declares cs ts vs ps) statements)) (spell (has_body (declares cs ts vs ps) statements)) (spell (gone_block d k (has_body (declares cs ts vs ps) statements)))
-      (occurrences (has_body (declares cs ts vs ps) statements)) ((lc ++ (lt ++ (lv ++ lp))) ++ ls)
+      → Late d (first_procedure_ordinal k (forms_block (declares cs ts vs ps) statements)) (names_in_procedures ps) (spell ps) (spell (gone_procedures d (first_procedure_ordinal k (forms_block (declares cs ts vs ps) statements)) ps)) (occurrences ps) lp
+      → Late d k (names_in (forms_block (declares cs ts vs ps) statements)) (spell (forms_block (declares cs ts vs ps) statements)) (spell (gone_block d k (forms_block (declares cs ts vs ps) statements)))
+      (occurrences (forms_block (declares cs ts vs ps) statements)) ((lc ++ (lt ++ (lv ++ lp))) ++ ls)
   late_by_procedures cs ts vs ps statements k lc lt lv lp ls h nc nt nv hc ht hv t =
-      let b : Tree ℕ block = has_body (declares cs ts vs ps) statements in
+      let b : Tree ℕ block = forms_block (declares cs ts vs ps) statements in
       let labels = names_in b in
       let left = spell (gone_procedures d (first_procedure_ordinal k b) ps) in
       let xs = constant_names (section_constants cs) in
@@ -334,42 +334,42 @@ module _ (f : ℕ → Name) (g : ℕ → ℕ) (d : ℕ) (w : Value) where
       let xs = formal_names (formal_sections fs) in
       let labels = x ∷ (xs ++ names_in b) in
       let left = spell (gone_block d (ordinal_after_names (suc k) xs) b) in
-      let tail : List (Terminal ℕ) = Mark (kind.ReservedWord reserved.End) ∷ lexeme.Name closing ∷ (Mark (kind.Symbol symbol.Semicolon) ∷ []) in
+      let tail : List (Terminal ℕ) = WordOrSymbol (kind.ReservedWord reserved.End) ∷ lexeme.Name closing ∷ (WordOrSymbol (kind.Symbol symbol.Semicolon) ∷ []) in
       let count = after_count (suc k) xs in
       let there = late_among d k (ordinal_after_names (suc k) xs) (names_in b) labels (spell b) left (occurrences b) lb t (suc (length xs + t.taken.place)) (omega (arith, t.taken.ordinal_is, count)) (get_later xs (names_in b) t.taken.place) in
       let ended : Late d k labels (spell b ++ tail) (left ++ tail) (occurrences b ++ []) (lb ++ []) = late_following d k labels (spell b) left tail (occurrences b) [] lb [] tt there in
       let ended_so : Late d k labels (spell b ++ tail) (left ++ tail) (occurrences b) lb = subst (λ (o : List ℕ). Late d k labels (spell b ++ tail) (left ++ tail) o lb) (append-nil (occurrences b))
       (subst (λ (l : List (Option ℕ)). Late d k labels (spell b ++ tail) (left ++ tail) (occurrences b ++ []) l) (append-nil lb) ended) in
-      late_before d k labels (Mark (kind.ReservedWord reserved.Procedure) ∷ lexeme.Name x ∷ []) (spell fs ++ (Mark (kind.Symbol symbol.Semicolon) ∷ (spell b ++ tail))) (spell fs ++ (Mark (kind.Symbol symbol.Semicolon) ∷ (left ++ tail))) [] (occurrences fs ++ occurrences b) [] (lf ++ lb) refl tt
-      (late_before d k labels (spell fs) (Mark (kind.Symbol symbol.Semicolon) ∷ (spell b ++ tail)) (Mark (kind.Symbol symbol.Semicolon) ∷ (left ++ tail)) (occurrences fs) (occurrences b) lf lb n hf
-      (late_before d k labels (Mark (kind.Symbol symbol.Semicolon) ∷ []) (spell b ++ tail) (left ++ tail) [] (occurrences b) [] lb refl tt ended_so))
+      late_before d k labels (WordOrSymbol (kind.ReservedWord reserved.Procedure) ∷ lexeme.Name x ∷ []) (spell fs ++ (WordOrSymbol (kind.Symbol symbol.Semicolon) ∷ (spell b ++ tail))) (spell fs ++ (WordOrSymbol (kind.Symbol symbol.Semicolon) ∷ (left ++ tail))) [] (occurrences fs ++ occurrences b) [] (lf ++ lb) refl tt
+      (late_before d k labels (spell fs) (WordOrSymbol (kind.Symbol symbol.Semicolon) ∷ (spell b ++ tail)) (WordOrSymbol (kind.Symbol symbol.Semicolon) ∷ (left ++ tail)) (occurrences fs) (occurrences b) lf lb n hf
+      (late_before d k labels (WordOrSymbol (kind.Symbol symbol.Semicolon) ∷ []) (spell b ++ tail) (left ++ tail) [] (occurrences b) [] lb refl tt ended_so))
 
   mutual
     unfolding value_in_block
 
-    late_block : (known : ConstantEnvironment) (scope : Scope Name) (k n : ℕ) → n ≡ k → ScopeLow n scope → (b : Tree ℕ block) → value_in_block known d n (mapped f g b) ≡ Some w
-        → Late d k (names_in b) (spell b) (spell (gone_block d k b)) (occurrences b) (occurrences (relabel_block naming_by_spelling forget scope n (mapped f g b)))
-    late_block known scope k n same below (has_body (declares cs ts vs ps) statements) e =
-        let b : Tree ℕ block = has_body (declares cs ts vs ps) statements in
-        let b' = mapped f g b in
-        let lc = occurrences (relabel_constant_section naming_by_spelling forget scope n (mapped f g cs)) in
-        let lt = occurrences (relabel_type_section naming_by_spelling forget (types_scope n b' scope) (first_type_ordinal n b') (mapped f g ts)) in
-        let lv = occurrences (relabel_variable_section naming_by_spelling forget (variables_scope n b' scope) (first_variable_ordinal n b') (mapped f g vs)) in
-        let lp = occurrences (relabel_procedures naming_by_spelling forget (procedures_scope n b' scope) (first_procedure_ordinal n b') (mapped f g ps)) in
-        let ls = occurrences (relabel_uses naming_by_spelling forget (body_scope n b' scope) (mapped f g statements)) in
-        let xs = constant_names (section_constants (mapped f g cs)) in
-        let ys = declared_type_names (section_types (mapped f g ts)) in
-        let zs = variable_names (section_variables (mapped f g vs)) in
+    late_block : (known : ConstantEnvironment) (scope : Scope Name) (k n : ℕ) → n ≡ k → ScopeLow n scope → (b : Tree ℕ block) → value_in_block known d n (mapped_tree f g b) ≡ Some w
+        → Late d k (names_in b) (spell b) (spell (gone_block d k b)) (occurrences b) (occurrences (relabel_block naming_by_spelling forget scope n (mapped_tree f g b)))
+    late_block known scope k n same below (forms_block (declares cs ts vs ps) statements) e =
+        let b : Tree ℕ block = forms_block (declares cs ts vs ps) statements in
+        let b' = mapped_tree f g b in
+        let lc = occurrences (relabel_constant_section naming_by_spelling forget scope n (mapped_tree f g cs)) in
+        let lt = occurrences (relabel_type_section naming_by_spelling forget (types_scope n b' scope) (first_type_ordinal n b') (mapped_tree f g ts)) in
+        let lv = occurrences (relabel_variable_section naming_by_spelling forget (variables_scope n b' scope) (first_variable_ordinal n b') (mapped_tree f g vs)) in
+        let lp = occurrences (relabel_procedures naming_by_spelling forget (procedures_scope n b' scope) (first_procedure_ordinal n b') (mapped_tree f g ps)) in
+        let ls = occurrences (relabel_uses naming_by_spelling forget (body_scope n b' scope) (mapped_tree f g statements)) in
+        let xs = constant_names (section_constants (mapped_tree f g cs)) in
+        let ys = declared_type_names (section_types (mapped_tree f g ts)) in
+        let zs = variable_names (section_variables (mapped_tree f g vs)) in
         let h1 = declared_low n xs scope below in
         let h2 = declared_low (ordinal_after_names n xs) ys (types_scope n b' scope) h1 in
         let h3 = declared_low (ordinal_after_names (ordinal_after_names n xs) ys) zs (variables_scope n b' scope) h2 in
         let up2 = le-ordinal_after_names (ordinal_after_names n xs) ys in
         let up3 = le-ordinal_after_names (ordinal_after_names (ordinal_after_names n xs) ys) zs in
         elim (nat_lt d (first_type_ordinal n b')) as (λ x. nat_lt d (first_type_ordinal n b') ≡ x
-        → (if x then value_among known d n (section_constants (mapped f g cs))
+        → (if x then value_in_constants known d n (section_constants (mapped_tree f g cs))
         else if nat_lt d (first_procedure_ordinal n b') then None
-        else option_and_then (λ inner. value_in_procedures (bind_names (declared_type_names (section_types (mapped f g ts)) ++ variable_names (section_variables (mapped f g vs))) non_constant inner) d (first_procedure_ordinal n b') (mapped f g ps))
-        (declare_constants naming_by_spelling known (section_constants (mapped f g cs)))) ≡ Some w
+        else option_and_then (λ inner. value_in_procedures (bind_names (declared_type_names (section_types (mapped_tree f g ts)) ++ variable_names (section_variables (mapped_tree f g vs))) non_constant inner) d (first_procedure_ordinal n b') (mapped_tree f g ps))
+        (declare_constants naming_by_spelling known (section_constants (mapped_tree f g cs)))) ≡ Some w
         → Late d k (names_in b) (spell b) (spell (gone_block d k b)) (occurrences b) ((lc ++ (lt ++ (lv ++ lp))) ++ ls)) [
           | true ↦ λ q h.
               late_by_section cs ts vs ps statements k lc (lt ++ (lv ++ lp)) ls (subst (λ m. d < m) (first_type_count f g n b ∙ ap (λ m. first_type_ordinal m b) same) (ltb-true d (first_type_ordinal n b') q))
@@ -377,41 +377,41 @@ module _ (f : ℕ → Name) (g : ℕ → ℕ) (d : ℕ) (w : Value) where
           | false ↦ λ q h.
               let high = ltb-false d (first_type_ordinal n b') q in
               elim (nat_lt d (first_procedure_ordinal n b')) as (λ y. nat_lt d (first_procedure_ordinal n b') ≡ y → (if y then None
-              else option_and_then (λ inner. value_in_procedures (bind_names (declared_type_names (section_types (mapped f g ts)) ++ variable_names (section_variables (mapped f g vs))) non_constant inner) d (first_procedure_ordinal n b') (mapped f g ps))
-              (declare_constants naming_by_spelling known (section_constants (mapped f g cs)))) ≡ Some w
+              else option_and_then (λ inner. value_in_procedures (bind_names (declared_type_names (section_types (mapped_tree f g ts)) ++ variable_names (section_variables (mapped_tree f g vs))) non_constant inner) d (first_procedure_ordinal n b') (mapped_tree f g ps))
+              (declare_constants naming_by_spelling known (section_constants (mapped_tree f g cs)))) ≡ Some w
               → Late d k (names_in b) (spell b) (spell (gone_block d k b)) (occurrences b) ((lc ++ (lt ++ (lv ++ lp))) ++ ls)) [
                 | true ↦ λ r g0. absurd (cc)
                 | false ↦ λ r.
                     let all = ltb-false d (first_procedure_ordinal n b') r in
-                    elim (declare_constants naming_by_spelling known (section_constants (mapped f g cs))) as (λ o. option_and_then (λ inner. value_in_procedures (bind_names (declared_type_names (section_types (mapped f g ts)) ++ variable_names (section_variables (mapped f g vs))) non_constant inner) d (first_procedure_ordinal n b') (mapped f g ps)) o ≡ Some w
+                    elim (declare_constants naming_by_spelling known (section_constants (mapped_tree f g cs))) as (λ o. option_and_then (λ inner. value_in_procedures (bind_names (declared_type_names (section_types (mapped_tree f g ts)) ++ variable_names (section_variables (mapped_tree f g vs))) non_constant inner) d (first_procedure_ordinal n b') (mapped_tree f g ps)) o ≡ Some w
                     → Late d k (names_in b) (spell b) (spell (gone_block d k b)) (occurrences b) ((lc ++ (lt ++ (lv ++ lp))) ++ ls)) [
                       | None ↦ λ g0. absurd (cc)
                       | Some inner ↦ λ g0.
                           late_by_procedures cs ts vs ps statements k lc lt lv lp ls (subst (λ m. m ≤ d) (first_type_count f g n b ∙ ap (λ m. first_type_ordinal m b) same) high)
-                          (as_many-constant_section naming_by_spelling forget scope n (mapped f g cs) ∙ as_many f g cs)
-                          (as_many-type_section naming_by_spelling forget (types_scope n b' scope) (first_type_ordinal n b') (mapped f g ts) ∙ as_many f g ts)
-                          (as_many-variable_section naming_by_spelling forget (variables_scope n b' scope) (first_variable_ordinal n b') (mapped f g vs) ∙ as_many f g vs)
-                          (raised (ordinal_after_names n xs) d lc high (constant_section_low scope n (mapped f g cs) below))
-                          (raised (ordinal_after_names (ordinal_after_names n xs) ys) d lt (omega (arith, all, up3)) (type_section_low (types_scope n b' scope) (first_type_ordinal n b') (mapped f g ts) h1))
-                          (raised (first_procedure_ordinal n b') d lv all (variable_section_low (variables_scope n b' scope) (first_variable_ordinal n b') (mapped f g vs) h2))
-                          (late_procedures (bind_names (declared_type_names (section_types (mapped f g ts)) ++ variable_names (section_variables (mapped f g vs))) non_constant inner) (procedures_scope n b' scope)
+                          (as_many-constant_section naming_by_spelling forget scope n (mapped_tree f g cs) ∙ as_many f g cs)
+                          (as_many-type_section naming_by_spelling forget (types_scope n b' scope) (first_type_ordinal n b') (mapped_tree f g ts) ∙ as_many f g ts)
+                          (as_many-variable_section naming_by_spelling forget (variables_scope n b' scope) (first_variable_ordinal n b') (mapped_tree f g vs) ∙ as_many f g vs)
+                          (raised (ordinal_after_names n xs) d lc high (constant_section_low scope n (mapped_tree f g cs) below))
+                          (raised (ordinal_after_names (ordinal_after_names n xs) ys) d lt (omega (arith, all, up3)) (type_section_low (types_scope n b' scope) (first_type_ordinal n b') (mapped_tree f g ts) h1))
+                          (raised (first_procedure_ordinal n b') d lv all (variable_section_low (variables_scope n b' scope) (first_variable_ordinal n b') (mapped_tree f g vs) h2))
+                          (late_procedures (bind_names (declared_type_names (section_types (mapped_tree f g ts)) ++ variable_names (section_variables (mapped_tree f g vs))) non_constant inner) (procedures_scope n b' scope)
                           (first_procedure_ordinal k b) (first_procedure_ordinal n b') (first_procedure_count f g n b ∙ ap (λ m. first_procedure_ordinal m b) same) h3 ps g0)
                     ]
               ] refl h
         ] refl e
 
-    late_procedures : (known : ConstantEnvironment) (scope : Scope Name) (k n : ℕ) → n ≡ k → ScopeLow n scope → (ps : Tree ℕ (items procedure)) → value_in_procedures known d n (mapped f g ps) ≡ Some w
-        → Late d k (names_in_procedures ps) (spell ps) (spell (gone_procedures d k ps)) (occurrences ps) (occurrences (relabel_procedures naming_by_spelling forget scope n (mapped f g ps)))
+    late_procedures : (known : ConstantEnvironment) (scope : Scope Name) (k n : ℕ) → n ≡ k → ScopeLow n scope → (ps : Tree ℕ (items procedure)) → value_in_procedures known d n (mapped_tree f g ps) ≡ Some w
+        → Late d k (names_in_procedures ps) (spell ps) (spell (gone_procedures d k ps)) (occurrences ps) (occurrences (relabel_procedures naming_by_spelling forget scope n (mapped_tree f g ps)))
     late_procedures known scope k n same below end e = absurd (cc)
     late_procedures known scope k n same below (more q rest) e =
-        let q' = mapped f g q in
+        let q' = mapped_tree f g q in
         let lq = occurrences (relabel_procedure naming_by_spelling forget scope n q') in
-        let lr = occurrences (relabel_procedures naming_by_spelling forget ((procedure_name q', n) ∷ scope) (ordinal_after_procedure (suc n) q') (mapped f g rest)) in
+        let lr = occurrences (relabel_procedures naming_by_spelling forget ((procedure_name q', n) ∷ scope) (ordinal_after_procedure (suc n) q') (mapped_tree f g rest)) in
         let up = le-ordinal_after_procedure (suc n) q' in
         let counted = procedure_count f g (suc n) q ∙ ap (λ m. ordinal_after_procedure (suc m) q) same in
         elim (nat_lt d (ordinal_after_procedure (suc n) q')) as (λ x. nat_lt d (ordinal_after_procedure (suc n) q') ≡ x
         → (if x then value_in_procedure ((procedure_name q', non_constant) ∷ known) d (suc n) q'
-        else value_in_procedures ((procedure_name q', non_constant) ∷ known) d (ordinal_after_procedure (suc n) q') (mapped f g rest)) ≡ Some w
+        else value_in_procedures ((procedure_name q', non_constant) ∷ known) d (ordinal_after_procedure (suc n) q') (mapped_tree f g rest)) ≡ Some w
         → Late d k (names_in_procedures (more q rest)) (spell (more q rest)) (spell (gone_procedures d k (more q rest))) (occurrences (more q rest)) (lq ++ lr)) [
           | true ↦ λ t h.
               late_by_procedure q rest k lq lr (subst (λ m. d < m) counted (ltb-true d (ordinal_after_procedure (suc n) q') t))
@@ -424,44 +424,44 @@ module _ (f : ℕ → Name) (g : ℕ → ℕ) (d : ℕ) (w : Value) where
               (omega (arith, up), scope_raised n (ordinal_after_procedure (suc n) q') scope (omega (arith, up)) below) rest h)
         ] refl e
 
-    late_procedure : (known : ConstantEnvironment) (scope : Scope Name) (k n : ℕ) → n ≡ k → ScopeLow n scope → (q : Tree ℕ (item procedure)) → value_in_procedure known d (suc n) (mapped f g q) ≡ Some w
-        → Late d k (names_in_procedure q) (spell q) (spell (gone_procedure d (suc k) q)) (occurrences q) (occurrences (relabel_procedure naming_by_spelling forget scope n (mapped f g q)))
+    late_procedure : (known : ConstantEnvironment) (scope : Scope Name) (k n : ℕ) → n ≡ k → ScopeLow n scope → (q : Tree ℕ (item procedure)) → value_in_procedure known d (suc n) (mapped_tree f g q) ≡ Some w
+        → Late d k (names_in_procedure q) (spell q) (spell (gone_procedure d (suc k) q)) (occurrences q) (occurrences (relabel_procedure naming_by_spelling forget scope n (mapped_tree f g q)))
     late_procedure known scope k n same below (declares_procedure x fs b closing) e =
-        let xs = formal_names (formal_sections (mapped f g fs)) in
+        let xs = formal_names (formal_sections (mapped_tree f g fs)) in
         let first = ordinal_after_names (suc n) xs in
-        let lf = occurrences (relabel_formals naming_by_spelling forget scope (suc n) (mapped f g fs)) in
+        let lf = occurrences (relabel_formals naming_by_spelling forget scope (suc n) (mapped_tree f g fs)) in
         let h1 = scope_raised n (suc n) scope (omega arith) below in
         let h2 = declared_low (suc n) xs ((f x, n) ∷ scope) (omega arith, h1) in
         elim (nat_lt d first) as (λ y. nat_lt d first ≡ y → (if y then None
-        else value_in_block (bind_names xs non_constant known) d first (mapped f g b)) ≡ Some w
+        else value_in_block (bind_names xs non_constant known) d first (mapped_tree f g b)) ≡ Some w
         → Late d k (names_in_procedure (declares_procedure x fs b closing)) (spell (declares_procedure x fs b closing)) (spell (gone_procedure d (suc k) (declares_procedure x fs b closing))) (occurrences (declares_procedure x fs b closing))
-        (lf ++ occurrences (relabel_block naming_by_spelling forget (declare_names (suc n) xs ((f x, n) ∷ scope)) first (mapped f g b)))) [
+        (lf ++ occurrences (relabel_block naming_by_spelling forget (declare_names (suc n) xs ((f x, n) ∷ scope)) first (mapped_tree f g b)))) [
           | true ↦ λ r h. absurd (cc)
           | false ↦ λ r h.
               let high = ltb-false d first r in
-              late_in_procedure x closing fs b k lf (occurrences (relabel_block naming_by_spelling forget (declare_names (suc n) xs ((f x, n) ∷ scope)) first (mapped f g b)))
-              (as_many-formals naming_by_spelling forget scope (suc n) (mapped f g fs) ∙ as_many f g fs)
-              (raised first d lf high (formals_low scope (suc n) (mapped f g fs) h1))
+              late_in_procedure x closing fs b k lf (occurrences (relabel_block naming_by_spelling forget (declare_names (suc n) xs ((f x, n) ∷ scope)) first (mapped_tree f g b)))
+              (as_many-formals naming_by_spelling forget scope (suc n) (mapped_tree f g fs) ∙ as_many f g fs)
+              (raised first d lf high (formals_low scope (suc n) (mapped_tree f g fs) h1))
               (late_block (bind_names xs non_constant known) (declare_names (suc n) xs ((f x, n) ∷ scope)) (ordinal_after_names (suc k) (formal_names (formal_sections fs))) first
               (formals_count f g (suc n) fs ∙ ap (λ m. ordinal_after_names (suc m) (formal_names (formal_sections fs))) same) h2 b h)
         ] refl e
 
-  pub late_module : (m : Tree ℕ module_text) → value_of_constant (mapped f g m) d ≡ Some w
-      → Late d 7 (names_in (module_block m)) (spell m) (spell (gone_module d m)) (occurrences m) (occurrences (relabel_module naming_by_spelling forget (mapped f g m)))
+  pub late_module : (m : Tree ℕ module_text) → value_of_constant (mapped_tree f g m) d ≡ Some w
+      → Late d 7 (names_in (module_block m)) (spell m) (spell (gone_module d m)) (occurrences m) (occurrences (relabel_module naming_by_spelling forget (mapped_tree f g m)))
   unfolding value_of_constant
   late_module (is_module x b closing) e =
       let labels = names_in b in
       let left = spell (gone_block d 7 b) in
-      let tail : List (Terminal ℕ) = Mark (kind.ReservedWord reserved.End) ∷ lexeme.Name closing ∷ (Mark (kind.Symbol symbol.Dot) ∷ []) in
-      let lb = occurrences (relabel_block naming_by_spelling forget (predeclared_scope naming_by_spelling) 7 (mapped f g b)) in
+      let tail : List (Terminal ℕ) = WordOrSymbol (kind.ReservedWord reserved.End) ∷ lexeme.Name closing ∷ (WordOrSymbol (kind.Symbol symbol.Dot) ∷ []) in
+      let lb = occurrences (relabel_block naming_by_spelling forget (predeclared_scope naming_by_spelling) 7 (mapped_tree f g b)) in
       let seven : ScopeLow 7 (predeclared_scope naming_by_spelling) = (omega arith, (omega arith, (omega arith, (omega arith, (omega arith, (omega arith, (omega arith, tt))))))) in
-      elim (nat_lt d 7) as (λ y. (if y then None else value_in_block predeclared_constants d 7 (mapped f g b)) ≡ Some w
+      elim (nat_lt d 7) as (λ y. (if y then None else value_in_block predeclared_constants d 7 (mapped_tree f g b)) ≡ Some w
       → Late d 7 labels (spell (is_module x b closing)) (spell (gone_module d (is_module x b closing))) (occurrences b) lb) [
         | true ↦ λ h. absurd (cc)
         | false ↦ λ h.
             let there = late_block predeclared_constants (predeclared_scope naming_by_spelling) 7 7 refl seven b h in
             let ended : Late d 7 labels (spell b ++ tail) (left ++ tail) (occurrences b ++ []) (lb ++ []) = late_following d 7 labels (spell b) left tail (occurrences b) [] lb [] tt there in
-            late_before d 7 labels (Mark (kind.ReservedWord reserved.Module) ∷ lexeme.Name x ∷ Mark (kind.Symbol symbol.Semicolon) ∷ []) (spell b ++ tail) (left ++ tail) [] (occurrences b) [] lb refl tt
+            late_before d 7 labels (WordOrSymbol (kind.ReservedWord reserved.Module) ∷ lexeme.Name x ∷ WordOrSymbol (kind.Symbol symbol.Semicolon) ∷ []) (spell b ++ tail) (left ++ tail) [] (occurrences b) [] lb refl tt
             (subst (λ (o : List ℕ). Late d 7 labels (spell b ++ tail) (left ++ tail) o lb) (append-nil (occurrences b))
             (subst (λ (l : List (Option ℕ)). Late d 7 labels (spell b ++ tail) (left ++ tail) (occurrences b ++ []) l) (append-nil lb) ended))
       ] e

@@ -14,10 +14,10 @@ use Rattle.ob0_tree.specs.Tree.{Tree, factor, module_text, nesting, spell}
 use Rattle.ob0_edits_tokens.specs.Changed.{words_of}
 use Rattle.ob0_edits_tokens.specs.OfTrees.{indexed_tokens}
 use Rattle.ob0_edits_tokens.specs.Replaced.{LeavesWords}
-use Rattle.ob0_edits_tokens.specs.Words.{word_lexeme}
+use Rattle.ob0_edits_tokens.specs.Words.{terminal_of_word}
 use Rattle.ob0_language_values.specs.declared.scalar.Scalar.{Scalar}
 use Rattle.ob0_language_values.specs.declared.scalar.Scalar.TheVariants as scalar
-use Rattle.ob0_inline.specs.Inlined.{LeavesModule}
+use Rattle.ob0_inline.specs.Inlined.{EditsGiveModule}
 use Rattle.ob0_inline.specs.Values.{value_factor, value_words}
 use Rattle.ob0_inline.proofs.Depths.{lexemes_of_words}
 
@@ -33,20 +33,20 @@ pub spelled_by_words : (m : ParsedModule) → IsParsed m → spell (tree_of m) �
 spelled_by_words m parsed = append_cancel_right (spell (tree_of m)) (indexed_tokens 0 (words_of m.source)) (EndOfText ∷ []) (parsed.places ∙ lexemes_placed m.source.text 0 m.source.tokens)
 
 -- A conditional spells its tree if both of its cases spell theirs.
-either_spelled : (b : Bool) (vs ws : List Word) (v w : Tree (List ℕ) factor) → map word_lexeme vs ≡ spell v → map word_lexeme ws ≡ spell w → map word_lexeme (if b then vs else ws) ≡ spell (if b then v else w)
+either_spelled : (b : Bool) (vs ws : List Word) (v w : Tree (List ℕ) factor) → map terminal_of_word vs ≡ spell v → map terminal_of_word ws ≡ spell w → map terminal_of_word (if b then vs else ws) ≡ spell (if b then v else w)
 either_spelled true vs ws v w e f = e
 either_spelled false vs ws v w e f = f
 
-pub value_spelled : (value : Scalar) → map word_lexeme (value_words value) ≡ spell (value_factor value)
+pub value_spelled : (value : Scalar) → map terminal_of_word (value_words value) ≡ spell (value_factor value)
 value_spelled (scalar.Number (negsuc n)) = either_spelled (nat_lt n 2147483647) _ _ _ _ refl refl
 value_spelled _ = refl
 
 -- If the tree isn't too deep, edits that leave words that spell it leave its text.
 pub leaves_module : (unit : counting.Unit) (text : List ℕ) (edits : List Edit) (ws : List Word) (t : Tree (List ℕ) module_text)
-    → LeavesWords unit text edits ws → map word_lexeme ws ≡ spell t → nesting t ≤ 100 → LeavesModule unit text edits t
+    → LeavesWords unit text edits ws → map terminal_of_word ws ≡ spell t → nesting t ≤ 100 → EditsGiveModule unit text edits t
 leaves_module unit text edits ws t leaves spelled low = record {
   after = leaves.after;
   scan = leaves.scan;
   made = leaves.made;
-  module_of = record { spelled = lexemes_of_words leaves.after ∙ (ap (map word_lexeme) leaves.words_are ∙ spelled); short = leaves.scan.short; shallow = low };
+  module_of = record { spelled = lexemes_of_words leaves.after ∙ (ap (map terminal_of_word) leaves.words_are ∙ spelled); short = leaves.scan.short; shallow = low };
 }

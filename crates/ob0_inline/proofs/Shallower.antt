@@ -5,7 +5,7 @@ use Rattle.std.proofs.Common.{◌≡◌, ℕ, suc, ◌+◌, ◌≤◌, ◌==◌,
 use Rattle.std.specs.Prelude.{negsuc}
 use Rattle.ob0_tree.specs.ParsedModule.{ParsedModule, named_tree_of, tree_of}
 use Rattle.ob0_tree.specs.Places as leaf
-use Rattle.ob0_tree.specs.Tree.{Sort, Tree, block, constant, constants, factor, item, items, maybe, module_text, nesting, occurrences, procedure, adds, array_type, assigns, begins, branches, calls, compares, declares, declares_constant, declares_constants, declares_procedure, declares_type, declares_types, declares_variable, declares_variables, designator, else_branch, elsif_branch, end, has_body, index, is_module, more, multiplies, negation, none, one, parenthesised, product, record_type, relates, repeat_loop, runs, some_arguments, some_fields, some_formals, sum, then_argument, then_fields, then_section, then_statement, value_section, variable_section, while_loop}
+use Rattle.ob0_tree.specs.Tree.{Sort, Tree, block, constant, constants, factor, item, items, maybe, module_text, nesting, occurrences, procedure, adds, array_type, assigns, begins, branches, calls, compares, declares, declares_constant, declares_constants, declares_procedure, declares_type, declares_types, declares_variable, declares_variables, designator, else_branch, elsif_branch, end, forms_block, index, is_module, more, multiplies, negation, none, one, parenthesised, product, record_type, relates, repeat_loop, runs, some_arguments, some_fields, some_formals, sum, then_argument, then_fields, then_section, then_statement, value_section, variable_section, while_loop}
 use Rattle.ob0_tree.proofs.Mapped.{nesting_mapped}
 use Rattle.ob0_language_names.specs.Inlining.{OccurrenceSet, occurrences_bound_to, block_without, inline_in, inlined, module_without, procedure_without, procedures_without, section_without, constants_without}
 use Rattle.ob0_language_names.specs.Names.{Name}
@@ -73,14 +73,14 @@ module _ (uses : OccurrenceSet) (v : Tree Name factor) where
   inlined_low k (declares_procedure x t u y) = omega (arith, inlined_low k t, inlined_low (k + length (occurrences t)) u)
   inlined_low k (declares t u w z) = omega (arith, inlined_low k t, inlined_low (k + length (occurrences t)) u, inlined_low (k + length (occurrences t) + length (occurrences u)) w, inlined_low (k + length (occurrences t) + length (occurrences u) + length (occurrences w)) z)
   inlined_low k (begins t) = omega (arith, inlined_low k t)
-  inlined_low k (has_body t u) = omega (arith, inlined_low k t, inlined_low (k + length (occurrences t)) u)
+  inlined_low k (forms_block t u) = omega (arith, inlined_low k t, inlined_low (k + length (occurrences t)) u)
   inlined_low k (is_module x t y) = omega (arith, inlined_low k t)
   inlined_low k _ = omega arith
 
 pub inlined_shallow : (m : ParsedModule) (uses : OccurrenceSet) (value : Scalar) → nesting (inlined (named_tree_of m) uses (value_factor value)) ≤ nesting (tree_of m) + 1
 inlined_shallow m uses value =
     let deeper = inlined_low uses (value_factor value) 0 (named_tree_of m) in
-    let same : nesting (named_tree_of m) ≡ nesting (tree_of m) = nesting_mapped (leaf.text_at m.source) (leaf.value_at m.source) (tree_of m) in
+    let same : nesting (named_tree_of m) ≡ nesting (tree_of m) = nesting_mapped (leaf.token_text_at m.source) (leaf.token_value_at m.source) (tree_of m) in
     let low = value_shallow value in
     omega (arith, deeper, same, low)
 
@@ -97,9 +97,9 @@ section_low d k (one (declares_constants cs)) = constants_low d k cs
 
 mutual
   block_low : (d k : ℕ) (b : Tree Name block) → nesting (block_without d k b) ≤ nesting b
-  block_low d k (has_body (declares cs ts vs ps) statements) =
+  block_low d k (forms_block (declares cs ts vs ps) statements) =
       let first = section_low d k cs in
-      let last = procedures_low d (first_procedure_ordinal k (has_body (declares cs ts vs ps) statements)) ps in
+      let last = procedures_low d (first_procedure_ordinal k (forms_block (declares cs ts vs ps) statements)) ps in
       omega (arith, first, last)
 
   procedures_low : (d k : ℕ) (ps : Tree Name (items procedure)) → nesting (procedures_without d k ps) ≤ nesting ps

@@ -16,13 +16,13 @@ use Rattle.ob0_tree.specs.declared.tree.Relation.{Relation}
 use Rattle.ob0_tree.specs.declared.tree.Relation.TheVariants as relation
 use Rattle.ob0_tree.specs.declared.tree.Sign.{Sign}
 use Rattle.ob0_tree.specs.declared.tree.Sign.TheVariants as sign
-use Rattle.ob0_tree.specs.Lexeme.{Terminal, Mark, add_operator_token, multiply_operator_token, relation_token, sign_tokens}
+use Rattle.ob0_tree.specs.Lexeme.{Terminal, WordOrSymbol, add_operator_token, multiply_operator_token, relation_token, sign_tokens}
 use Rattle.ob0_tree.specs.Lexeme as lexeme
-use Rattle.ob0_tree.specs.Tree.{Tree, addend, adds, compares, designator, expression, factor, field, index, integer, multiplier, multiplies, negation, parenthesised, product, relates, selector, simple, sum, term, block, constant, constants, declares, declares_constant, declares_constants, declares_procedure, end, formals, has_body, is_module, item, items, mapped, maybe, module_text, more, none, one, procedure, spell}
+use Rattle.ob0_tree.specs.Tree.{Tree, addend, adds, compares, designator, expression, factor, field, index, integer, multiplier, multiplies, negation, parenthesised, product, relates, selector, simple, sum, term, block, constant, constants, declares, declares_constant, declares_constants, declares_procedure, end, formals, forms_block, is_module, item, items, mapped_tree, maybe, module_text, more, none, one, procedure, spell}
 use Rattle.ob0_language_names.specs.Names.{Name}
 use Rattle.ob0_language_names.specs.Parts.{constant_names, formal_names, formal_sections, declared_type_names, section_constants, section_types, section_variables, variable_names}
 use Rattle.ob0_language_names.specs.Scopes.{ordinal_after_block, ordinal_after_names, ordinal_after_procedure, ordinal_after_procedures, first_procedure_ordinal, first_type_ordinal}
-use Rattle.ob0_types_check.proofs.DeclaredNames.{ordinal_after_block-mapped, ordinal_after_names-map, ordinal_after_procedure-mapped, formals-names}
+use Rattle.ob0_types_check.proofs.DeclaredNames.{ordinal_after_block-mapped_tree, ordinal_after_names-map, ordinal_after_procedure-mapped_tree, formals-names}
 use Rattle.ob0_language_names.proofs.Ordinals.{le-ordinal_after_names, le-ordinal_after_procedure, le-ordinal_after_procedures}
 
 -- returns constants without the declaration with ordinal d, over any names
@@ -36,8 +36,8 @@ gone_section d k (one (declares_constants cs)) = one (declares_constants (gone_c
 
 abbrev mutual
   pub gone_block : {N : Type 0} → ℕ → ℕ → Tree N block → Tree N block
-  gone_block d k (has_body (declares cs ts vs ps) statements) =
-      has_body (declares (gone_section d k cs) ts vs (gone_procedures d (first_procedure_ordinal k (has_body (declares cs ts vs ps) statements)) ps)) statements
+  gone_block d k (forms_block (declares cs ts vs ps) statements) =
+      forms_block (declares (gone_section d k cs) ts vs (gone_procedures d (first_procedure_ordinal k (forms_block (declares cs ts vs ps) statements)) ps)) statements
 
   pub gone_procedures : {N : Type 0} → ℕ → ℕ → Tree N (items procedure) → Tree N (items procedure)
   gone_procedures d k end = end
@@ -52,17 +52,17 @@ gone_module d (is_module x b closing) = is_module x (gone_block d 7 b) closing
 -- A tree declares as much with other names. Its sections are counted like the sections of a block
 -- without other parts.
 module _ (f : ℕ → Name) (g : ℕ → ℕ) where
-  pub formals_count : (k : ℕ) (fs : Tree ℕ (maybe formals)) → ordinal_after_names k (formal_names (formal_sections (mapped f g fs))) ≡ ordinal_after_names k (formal_names (formal_sections fs))
+  pub formals_count : (k : ℕ) (fs : Tree ℕ (maybe formals)) → ordinal_after_names k (formal_names (formal_sections (mapped_tree f g fs))) ≡ ordinal_after_names k (formal_names (formal_sections fs))
   formals_count k fs = ap (ordinal_after_names k) (formals-names f g fs) ∙ ordinal_after_names-map f k (formal_names (formal_sections fs))
 
-  pub first_type_count : (k : ℕ) (b : Tree ℕ block) → first_type_ordinal k (mapped f g b) ≡ first_type_ordinal k b
-  first_type_count k (has_body (declares cs ts vs ps) statements) = ordinal_after_block-mapped f g k k refl (has_body (declares cs none none end) statements)
+  pub first_type_count : (k : ℕ) (b : Tree ℕ block) → first_type_ordinal k (mapped_tree f g b) ≡ first_type_ordinal k b
+  first_type_count k (forms_block (declares cs ts vs ps) statements) = ordinal_after_block-mapped_tree f g k k refl (forms_block (declares cs none none end) statements)
 
-  pub first_procedure_count : (k : ℕ) (b : Tree ℕ block) → first_procedure_ordinal k (mapped f g b) ≡ first_procedure_ordinal k b
-  first_procedure_count k (has_body (declares cs ts vs ps) statements) = ordinal_after_block-mapped f g k k refl (has_body (declares cs ts vs end) statements)
+  pub first_procedure_count : (k : ℕ) (b : Tree ℕ block) → first_procedure_ordinal k (mapped_tree f g b) ≡ first_procedure_ordinal k b
+  first_procedure_count k (forms_block (declares cs ts vs ps) statements) = ordinal_after_block-mapped_tree f g k k refl (forms_block (declares cs ts vs end) statements)
 
-  pub procedure_count : (k : ℕ) (p : Tree ℕ (item procedure)) → ordinal_after_procedure k (mapped f g p) ≡ ordinal_after_procedure k p
-  procedure_count k p = ordinal_after_procedure-mapped f g k k refl p
+  pub procedure_count : (k : ℕ) (p : Tree ℕ (item procedure)) → ordinal_after_procedure k (mapped_tree f g p) ≡ ordinal_after_procedure k p
+  procedure_count k p = ordinal_after_procedure-mapped_tree f g k k refl p
 
 -- true for a `;`
 abbrev pub is_end : TokenKind → Bool
@@ -71,7 +71,7 @@ is_end _ = false
 
 abbrev pub NoEnd : {N : Type 0} → List (Terminal N) → Type 0
 NoEnd [] = Unit {0}
-NoEnd (Mark k ∷ xs) = (is_end k ≡ false) × NoEnd xs
+NoEnd (WordOrSymbol k ∷ xs) = (is_end k ≡ false) × NoEnd xs
 NoEnd (_ ∷ xs) = NoEnd xs
 
 -- States that a declaration is among the tokens of a whole, from a constant's name to its `;`, and
@@ -87,8 +87,8 @@ pub record Taken (d k : ℕ) (labels : List ℕ) (whole left : List (Terminal �
   pub right : List (Terminal ℕ)
   pub no_end : NoEnd right
   pub after : List (Terminal ℕ)
-  pub whole_is : whole ≡ (before ++ (Mark border ∷ [])) ++ ((lexeme.Name name ∷ Mark (kind.Symbol symbol.Equal) ∷ (right ++ (Mark (kind.Symbol symbol.Semicolon) ∷ []))) ++ after)
-  pub left_is : left ≡ (before ++ (Mark border ∷ [])) ++ after
+  pub whole_is : whole ≡ (before ++ (WordOrSymbol border ∷ [])) ++ ((lexeme.Name name ∷ WordOrSymbol (kind.Symbol symbol.Equal) ∷ (right ++ (WordOrSymbol (kind.Symbol symbol.Semicolon) ∷ []))) ++ after)
+  pub left_is : left ≡ (before ++ (WordOrSymbol border ∷ [])) ++ after
 
 pub shifted : (zs b m y : List (Terminal ℕ)) → zs ++ ((b ++ m) ++ y) ≡ ((zs ++ b) ++ m) ++ y
 shifted zs b m y = sym (append_assoc zs (b ++ m) y) ∙ ap (λ l. l ++ y) (sym (append_assoc zs b m))
@@ -106,14 +106,14 @@ put_before d k labels zs xs ys t = record {
   no_end = t.no_end;
   after = t.after;
   whole_is = ap (λ l. zs ++ l) t.whole_is
-      ∙ shifted zs t.before (Mark t.border ∷ []) ((lexeme.Name t.name ∷ Mark (kind.Symbol symbol.Equal) ∷ (t.right ++ (Mark (kind.Symbol symbol.Semicolon) ∷ []))) ++ t.after);
-  left_is = ap (λ l. zs ++ l) t.left_is ∙ shifted zs t.before (Mark t.border ∷ []) t.after;
+      ∙ shifted zs t.before (WordOrSymbol t.border ∷ []) ((lexeme.Name t.name ∷ WordOrSymbol (kind.Symbol symbol.Equal) ∷ (t.right ++ (WordOrSymbol (kind.Symbol symbol.Semicolon) ∷ []))) ++ t.after);
+  left_is = ap (λ l. zs ++ l) t.left_is ∙ shifted zs t.before (WordOrSymbol t.border ∷ []) t.after;
 }
 
 abbrev pub put_following : (d k : ℕ) (labels : List ℕ) (xs ys zs : List (Terminal ℕ)) → Taken d k labels xs ys → Taken d k labels (xs ++ zs) (ys ++ zs)
 put_following d k labels xs ys zs t =
-    let front = t.before ++ (Mark t.border ∷ []) in
-    let whole : List (Terminal ℕ) = lexeme.Name t.name ∷ Mark (kind.Symbol symbol.Equal) ∷ (t.right ++ (Mark (kind.Symbol symbol.Semicolon) ∷ [])) in
+    let front = t.before ++ (WordOrSymbol t.border ∷ []) in
+    let whole : List (Terminal ℕ) = lexeme.Name t.name ∷ WordOrSymbol (kind.Symbol symbol.Equal) ∷ (t.right ++ (WordOrSymbol (kind.Symbol symbol.Semicolon) ∷ [])) in
     record {
       place = t.place;
       ordinal_is = t.ordinal_is;
@@ -172,13 +172,13 @@ kept_section d k (one (declares_constants cs)) h = λ i. one (declares_constants
 
 mutual
   kept_block : {N : Type 0} (d k : ℕ) (b : Tree N block) → Outside d k (ordinal_after_block k b) → gone_block d k b ≡ b
-  kept_block {N} d k (has_body (declares cs ts vs ps) statements) h =
-      let b : Tree N block = has_body (declares cs ts vs ps) statements in
+  kept_block {N} d k (forms_block (declares cs ts vs ps) statements) h =
+      let b : Tree N block = forms_block (declares cs ts vs ps) statements in
       let up = le-ordinal_after_names k (constant_names (section_constants cs)) in
       let up2 = le-ordinal_after_names (ordinal_after_names k (constant_names (section_constants cs))) (declared_type_names (section_types ts)) in
       let up3 = le-ordinal_after_names (ordinal_after_names (ordinal_after_names k (constant_names (section_constants cs))) (declared_type_names (section_types ts))) (variable_names (section_variables vs)) in
       let up4 = le-ordinal_after_procedures (first_procedure_ordinal k b) ps in
-      λ i. has_body
+      λ i. forms_block
       (declares (kept_section d k cs (λ j l u. h j l (omega (arith, u, up2, up3, up4))) i) ts vs
       (kept_procedures d (first_procedure_ordinal k b) ps (λ j l u. h j (omega (arith, l, up, up2, up3)) u) i))
       statements
@@ -199,7 +199,7 @@ mutual
 -- Two lists without `;` have none together.
 no_end_append : {N : Type 0} (xs ys : List (Terminal N)) → NoEnd xs → NoEnd ys → NoEnd (xs ++ ys)
 no_end_append [] ys p q = q
-no_end_append (Mark k ∷ xs) ys p q = (p.0, no_end_append xs ys p.1 q)
+no_end_append (WordOrSymbol k ∷ xs) ys p q = (p.0, no_end_append xs ys p.1 q)
 no_end_append (_ ∷ xs) ys p q = no_end_append xs ys p q
 
 relation_no_end : (r : Relation) → is_end (relation_token r) ≡ false
@@ -222,33 +222,33 @@ sign_no_end (Some sign.Minus) = (refl, tt)
 mutual
   pub expression_no_end : (e : Tree ℕ expression) → NoEnd (spell e)
   expression_no_end (compares a none) = no_end_append (spell a) [] (simple_no_end a) tt
-  expression_no_end (compares a (one (relates r b))) = no_end_append (spell a) (Mark (relation_token r) ∷ spell b) (simple_no_end a) (relation_no_end r, simple_no_end b)
+  expression_no_end (compares a (one (relates r b))) = no_end_append (spell a) (WordOrSymbol (relation_token r) ∷ spell b) (simple_no_end a) (relation_no_end r, simple_no_end b)
 
   simple_no_end : (a : Tree ℕ simple) → NoEnd (spell a)
   simple_no_end (sum s t rest) = no_end_append (sign_tokens s) (spell t ++ spell rest) (sign_no_end s) (no_end_append (spell t) (spell rest) (term_no_end t) (addends_no_end rest))
 
   addends_no_end : (rest : Tree ℕ (items addend)) → NoEnd (spell rest)
   addends_no_end end = tt
-  addends_no_end (more (adds o t) rest) = no_end_append (Mark (add_operator_token o) ∷ spell t) (spell rest) (add_no_end o, term_no_end t) (addends_no_end rest)
+  addends_no_end (more (adds o t) rest) = no_end_append (WordOrSymbol (add_operator_token o) ∷ spell t) (spell rest) (add_no_end o, term_no_end t) (addends_no_end rest)
 
   term_no_end : (t : Tree ℕ term) → NoEnd (spell t)
   term_no_end (product a rest) = no_end_append (spell a) (spell rest) (factor_no_end a) (multipliers_no_end rest)
 
   multipliers_no_end : (rest : Tree ℕ (items multiplier)) → NoEnd (spell rest)
   multipliers_no_end end = tt
-  multipliers_no_end (more (multiplies o a) rest) = no_end_append (Mark (multiply_operator_token o) ∷ spell a) (spell rest) (multiply_no_end o, factor_no_end a) (multipliers_no_end rest)
+  multipliers_no_end (more (multiplies o a) rest) = no_end_append (WordOrSymbol (multiply_operator_token o) ∷ spell a) (spell rest) (multiply_no_end o, factor_no_end a) (multipliers_no_end rest)
 
   factor_no_end : (a : Tree ℕ factor) → NoEnd (spell a)
   factor_no_end (designator x path) = path_no_end path
   factor_no_end (integer n) = tt
-  factor_no_end (parenthesised e) = (refl, no_end_append (spell e) (Mark (kind.Symbol symbol.RightParen) ∷ []) (expression_no_end e) (refl, tt))
+  factor_no_end (parenthesised e) = (refl, no_end_append (spell e) (WordOrSymbol (kind.Symbol symbol.RightParen) ∷ []) (expression_no_end e) (refl, tt))
   factor_no_end (negation a) = (refl, factor_no_end a)
 
   path_no_end : (path : Tree ℕ (items selector)) → NoEnd (spell path)
   path_no_end end = tt
   path_no_end (more (field x) rest) = (refl, path_no_end rest)
   path_no_end (more (index e) rest) =
-      (refl, no_end_append (spell e ++ (Mark (kind.Symbol symbol.RightBracket) ∷ [])) (spell rest) (no_end_append (spell e) (Mark (kind.Symbol symbol.RightBracket) ∷ []) (expression_no_end e) (refl, tt)) (path_no_end rest))
+      (refl, no_end_append (spell e ++ (WordOrSymbol (kind.Symbol symbol.RightBracket) ∷ [])) (spell rest) (no_end_append (spell e) (WordOrSymbol (kind.Symbol symbol.RightBracket) ∷ []) (expression_no_end e) (refl, tt)) (path_no_end rest))
 
 -- A constant that has a value has a declaration.
 

@@ -11,13 +11,13 @@ use Rattle.ob0_tree.specs.Order.{AreIdentifierTokens, AreAscending, IsIdentifier
 use Rattle.ob0_tree.specs.ParsedModule.{named_tree_of, tree_of}
 use Rattle.ob0_tree.specs.Places as leaf
 use Rattle.ob0_tree.specs.Lexeme.{Terminal}
-use Rattle.ob0_tree.specs.Tree.{Tree, factor, identifiers, mapped, occurrences, spell}
+use Rattle.ob0_tree.specs.Tree.{Tree, factor, identifiers, mapped_tree, occurrences, spell}
 use Rattle.ob0_tree.proofs.Leaves.{leaves_are_identifiers, leaves_ascend, ascending_lower}
 use Rattle.ob0_tree.proofs.Occurring.{looked_up_only, looked_up-occurrences}
-use Rattle.ob0_edits_tokens.specs.Changed.{is_among}
-use Rattle.ob0_edits_tokens.specs.OfTrees.{number_at, text_of_word}
+use Rattle.ob0_edits_tokens.specs.Changed.{is_in_list}
+use Rattle.ob0_edits_tokens.specs.OfTrees.{number_at, word_text_at}
 use Rattle.ob0_edits_tokens.specs.Replaced.{AreIdentifierIndexes}
-use Rattle.ob0_edits_tokens.specs.Words.{word_lexeme}
+use Rattle.ob0_edits_tokens.specs.Words.{terminal_of_word}
 use Rattle.ob0_edits_tokens.proofs.OfTrees.{put, replaced}
 use Rattle.ob0_language_names.specs.NonFactorNames.{names_beside_factors}
 use Rattle.ob0_language_names.specs.Inlining.{OccurrenceSet, inline_in, module_without}
@@ -83,11 +83,11 @@ record AtBound (r : Resolution) (d i : ℕ) : Type 0 where
   occurs : ordinal_in (occurrence_table r) i ≡ Some 0
   bound : ordinal_in r.ordinals i ≡ Some d
 
-among_bound : (r : Resolution) → IsResolution r → (d i : ℕ) (places : List ℕ) → AreBound r d places → is_among i places ≡ true → AtBound r d i
+among_bound : (r : Resolution) → IsResolution r → (d i : ℕ) (places : List ℕ) → AreBound r d places → is_in_list i places ≡ true → AtBound r d i
 among_bound r is d i [] h e = absurd (true≢false (sym e))
 among_bound r is d i (p ∷ ps) h e = by_test (i == p) refl e (among_bound r is d i ps h.1)
   where
-    by_test : (b : Bool) → (i == p) ≡ b → (b || is_among i ps) ≡ true → (is_among i ps ≡ true → AtBound r d i) → AtBound r d i
+    by_test : (b : Bool) → (i == p) ≡ b → (b || is_in_list i ps) ≡ true → (is_in_list i ps ≡ true → AtBound r d i) → AtBound r d i
     by_test true q e later =
         let k = h.0.0 in
         let here : i ≡ p = eqb-true i p q in
@@ -98,15 +98,15 @@ among_bound r is d i (p ∷ ps) h e = by_test (i == p) refl e (among_bound r is 
         }
     by_test false q e later = later e
 
-not_among : (i : ℕ) (places : List ℕ) → (is_among i places ≡ true → ⊥) → is_among i places ≡ false
-not_among i places h = (elim (is_among i places) as (λ b. is_among i places ≡ b → b ≡ false) [ true ↦ (λ e. absurd (h e)) | false ↦ (λ e. refl) ]) refl
+not_among : (i : ℕ) (places : List ℕ) → (is_in_list i places ≡ true → ⊥) → is_in_list i places ≡ false
+not_among i places h = (elim (is_in_list i places) as (λ b. is_in_list i places ≡ b → b ≡ false) [ true ↦ (λ e. absurd (h e)) | false ↦ (λ e. refl) ]) refl
 
 none_is : (d : ℕ) (ls : List Label) → All (λ l. l ≢ declared d) ls → NoneIs d ls
 none_is d [] a = tt
 none_is d (l ∷ ls) a = (All-head (λ (m : Label). m ≢ declared d) l ls a, none_is d ls (All-tail (λ (m : Label). m ≢ declared d) l ls a))
 
 -- A text's words have the texts of its tokens.
-word_text : (text : List ℕ) (ts : List Token) (k : ℕ) → text_of_word (map (word_of_token text) ts) k ≡ leaf.token_text_or_empty text (slice_get ts k)
+word_text : (text : List ℕ) (ts : List Token) (k : ℕ) → word_text_at (map (word_of_token text) ts) k ≡ leaf.token_text_or_empty text (slice_get ts k)
 word_text text (t ∷ ts) (suc k) = word_text text ts k
 word_text text _ _ = refl
 
@@ -116,26 +116,26 @@ word_number text _ _ = refl
 
 -- If words replace the uses of a constant, and the uses are factors by themselves, the tokens spell
 -- a tree. It is the tree in which the factor of these words replaces the uses.
-module _ (r : Resolution) (is : IsResolution r) (d : ℕ) (v : Tree Name factor) (places : List ℕ) (bound : AreBound r d places) (uses : OccurrenceSet) (agree : (j i : ℕ) → slice_get r.uses j ≡ Some i → is_among i places ≡ uses j)
-    (alone : UsesAreFactors r.module_read d) (vs : List Word) (same : map word_lexeme vs ≡ spell v) where
+module _ (r : Resolution) (is : IsResolution r) (d : ℕ) (v : Tree Name factor) (places : List ℕ) (bound : AreBound r d places) (uses : OccurrenceSet) (agree : (j i : ℕ) → slice_get r.uses j ≡ Some i → is_in_list i places ≡ uses j)
+    (alone : UsesAreFactors r.module_read d) (vs : List Word) (same : map terminal_of_word vs ≡ spell v) where
   abbrev gives : ℕ → Bool
-  gives i = is_among i places
+  gives i = is_in_list i places
 
   others : (i : ℕ) → ordinal_in (occurrence_table r) i ≡ None → gives i ≡ false
   others i none = not_among i places (λ e. let z = among_bound r is d i places bound e in let w = z.occurs in cc)
 
   apart : (i : ℕ) → label_at r.module_read.source r.ordinals i ≢ declared d → gives i ≡ false
-  apart i h = not_among i places (λ e. h (ap (λ o. label_from_ordinal naming_by_spelling o (leaf.text_at r.module_read.source i)) (among_bound r is d i places bound e).bound))
+  apart i h = not_among i places (λ e. h (ap (λ o. label_from_ordinal naming_by_spelling o (leaf.token_text_at r.module_read.source i)) (among_bound r is d i places bound e).bound))
 
   uses_agree : Agrees gives uses 0 (occurrences (tree_of r.module_read))
   uses_agree = agrees_each gives uses 0 (occurrences (tree_of r.module_read)) (λ j i e.
       let zero_more : j ≡ 0 + j = omega arith in
       agree j i (ap (λ us. slice_get us j) is.occurring ∙ e) ∙ ap uses zero_more)
 
-  none_elsewhere : NoneIs d (names_beside_factors (mapped (label_at r.module_read.source r.ordinals) (leaf.value_at r.module_read.source) (tree_of r.module_read)))
-  none_elsewhere = none_is d (names_beside_factors (mapped (label_at r.module_read.source r.ordinals) (leaf.value_at r.module_read.source) (tree_of r.module_read))) (subst (All (λ l. l ≢ declared d)) (ap names_beside_factors is.numbering) alone)
+  none_elsewhere : NoneIs d (names_beside_factors (mapped_tree (label_at r.module_read.source r.ordinals) (leaf.token_value_at r.module_read.source) (tree_of r.module_read)))
+  none_elsewhere = none_is d (names_beside_factors (mapped_tree (label_at r.module_read.source r.ordinals) (leaf.token_value_at r.module_read.source) (tree_of r.module_read))) (subst (All (λ l. l ≢ declared d)) (ap names_beside_factors is.numbering) alone)
 
-  puts : (xs : List (Terminal ℕ)) → flat_map (put r.module_read.source places vs) xs ≡ flat_map (replaced gives (spell v) (leaf.text_at r.module_read.source) (leaf.value_at r.module_read.source)) xs
+  puts : (xs : List (Terminal ℕ)) → flat_map (put r.module_read.source places vs) xs ≡ flat_map (replaced gives (spell v) (leaf.token_text_at r.module_read.source) (leaf.token_value_at r.module_read.source)) xs
   puts xs =
       let s = r.module_read.source in
       λ i. flat_map (replaced gives (same i) (λ k. word_text s.text s.tokens k i) (λ k. word_number s.text s.tokens k i)) xs
@@ -144,14 +144,14 @@ module _ (r : Resolution) (is : IsResolution r) (d : ℕ) (v : Tree Name factor)
   uses_spelled =
       let m = r.module_read in
       puts (spell (tree_of m))
-      ∙ sym (spelled gives uses v (leaf.text_at m.source) (leaf.value_at m.source) (occurrence_table r) (label_at m.source r.ordinals) d others apart 0 role.Declaring others (tree_of m) (uses_agree, uses_reported r is, none_elsewhere))
+      ∙ sym (spelled gives uses v (leaf.token_text_at m.source) (leaf.token_value_at m.source) (occurrence_table r) (label_at m.source r.ordinals) d others apart 0 role.Declaring others (tree_of m) (uses_agree, uses_reported r is, none_elsewhere))
 
   -- Without the declaration, the tokens also spell a tree.
   pub others_spelled : flat_map (put r.module_read.source places vs) (spell (gone_module d (tree_of r.module_read))) ≡ spell (module_without d (inline_in uses v 0 (named_tree_of r.module_read)))
   others_spelled =
       let m = r.module_read in
       puts (spell (gone_module d (tree_of m)))
-      ∙ sym (module_spelled gives uses v (leaf.text_at m.source) (leaf.value_at m.source) (occurrence_table r) (label_at m.source r.ordinals) d others apart d (tree_of m) (uses_agree, uses_reported r is, none_elsewhere))
+      ∙ sym (module_spelled gives uses v (leaf.token_text_at m.source) (leaf.token_value_at m.source) (occurrence_table r) (label_at m.source r.ordinals) d others apart d (tree_of m) (uses_agree, uses_reported r is, none_elsewhere))
 
 -- Tokens of occurrences ascend, so each is at least the lower bound.
 pub above : (low high : ℕ) (is : List ℕ) (j i : ℕ) → AreAscending low is high → slice_get is j ≡ Some i → low ≤ i

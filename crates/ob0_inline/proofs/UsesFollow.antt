@@ -4,22 +4,22 @@ use Rattle.ob0_scan.specs.declared.lexeme.Symbol.TheVariants as symbol
 use Rattle.ob0_scan.specs.declared.lexeme.TokenKind.{TokenKind}
 use Rattle.ob0_scan.specs.declared.lexeme.TokenKind.TheVariants as kind
 use Rattle.ob0_scan.specs.TextWithTokens.{Word}
-use Rattle.ob0_tree.specs.Lexeme.{Terminal, Mark}
+use Rattle.ob0_tree.specs.Lexeme.{Terminal, WordOrSymbol}
 use Rattle.ob0_tree.specs.Lexeme as lexeme
 use Rattle.ob0_tree.specs.ParsedModule.{named_tree_of, tree_of}
 use Rattle.ob0_tree.specs.Places as leaf
 use Rattle.ob0_tree.specs.Places.{index_terminal}
-use Rattle.ob0_tree.specs.Tree.{mapped, occurrences, spell}
+use Rattle.ob0_tree.specs.Tree.{mapped_tree, occurrences, spell}
 use Rattle.ob0_tree.proofs.Leaves.{lexeme_names}
-use Rattle.ob0_edits_tokens.specs.Changed.{is_among, words_of}
+use Rattle.ob0_edits_tokens.specs.Changed.{is_in_list, words_of}
 use Rattle.ob0_edits_tokens.specs.OfTrees.{indexed_tokens}
 use Rattle.ob0_language_names.specs.Names.{Name, naming_by_spelling}
 use Rattle.ob0_language_names.specs.Parts.{module_block}
 use Rattle.ob0_scope_table.specs.Resolution.{IsResolution, Resolution, binding_at, ordinal_in, ordinal_and_spelling}
 use Rattle.ob0_language_names.specs.Scopes.{relabel_module}
-use Rattle.ob0_scope.proofs.Fused.{mapped-mapped, relabel_module-mapped}
+use Rattle.ob0_scope.proofs.Fused.{mapped_tree-mapped_tree, relabel_module-mapped_tree}
 use Rattle.ob0_language_names.proofs.OccurrenceNames.{length-map}
-use Rattle.ob0_language_names.proofs.OccurrencesMapped.{occurrences-mapped}
+use Rattle.ob0_language_names.proofs.OccurrencesMapped.{occurrences-mapped_tree}
 use Rattle.ob0_language_types.specs.ConstantValues.{value_of_constant}
 use Rattle.ob0_language_values.specs.Values.{Value}
 use Rattle.ob0_inline.proofs.Earlier.{AllLow, IsLow, forget}
@@ -33,8 +33,8 @@ bound_by_table : (r : Resolution) → IsResolution r → occurrences (relabel_mo
 bound_by_table r is =
     let m = r.module_read in
     let first : Option ℕ × Name → Option ℕ = λ p. p.0 in
-    ap occurrences (relabel_module-mapped naming_by_spelling first ordinal_and_spelling (named_tree_of m) ∙ (ap (mapped first (λ n. n)) is.binding ∙ mapped-mapped first (binding_at m.source r.ordinals) (leaf.value_at m.source) (tree_of m)))
-    ∙ occurrences-mapped (ordinal_in r.ordinals) (leaf.value_at m.source) (tree_of m)
+    ap occurrences (relabel_module-mapped_tree naming_by_spelling first ordinal_and_spelling (named_tree_of m) ∙ (ap (mapped_tree first (λ n. n)) is.binding ∙ mapped_tree-mapped_tree first (binding_at m.source r.ordinals) (leaf.token_value_at m.source) (tree_of m)))
+    ∙ occurrences-mapped_tree (ordinal_in r.ordinals) (leaf.token_value_at m.source) (tree_of m)
 
 -- If the constant has a value, the module's tokens are split by its declaration.
 pub late_of : (r : Resolution) → IsResolution r → (d : ℕ) (w : Value) → value_of_constant (named_tree_of r.module_read) d ≡ Some w → spell (tree_of r.module_read) ≡ indexed_tokens 0 (words_of r.module_read.source)
@@ -42,8 +42,8 @@ pub late_of : (r : Resolution) → IsResolution r → (d : ℕ) (w : Value) → 
     (map (ordinal_in r.ordinals) (occurrences (tree_of r.module_read)))
 late_of r is d w has_value spelled =
     let m = r.module_read in
-    let f = leaf.text_at m.source in
-    let g = leaf.value_at m.source in
+    let f = leaf.token_text_at m.source in
+    let g = leaf.token_value_at m.source in
     let t = tree_of m in
     let labels = names_in (module_block t) in
     let h = late_module f g d w t has_value in
@@ -51,15 +51,15 @@ late_of r is d w has_value spelled =
     late_move d 7 labels (spell t) (indexed_tokens 0 (words_of m.source)) (spell (gone_module d t)) (spell (gone_module d t)) (occurrences t) (map (ordinal_in r.ordinals) (occurrences t)) (sym spelled) refl named
 
 -- The names of words whose first index is k have no smaller indexes.
-names_above : (i k : ℕ) (ws : List Word) → is_among i (lexeme_names (indexed_tokens k ws)) ≡ true → k ≤ i
+names_above : (i k : ℕ) (ws : List Word) → is_in_list i (lexeme_names (indexed_tokens k ws)) ≡ true → k ≤ i
 names_above i k [] e = absurd (true≢false (sym e))
 names_above i k (w ∷ ws) e = by_kind w.kind e (names_above i (suc k) ws)
   where
-    by_test : (b : Bool) → (i == k) ≡ b → (b || is_among i (lexeme_names (indexed_tokens (suc k) ws))) ≡ true → (is_among i (lexeme_names (indexed_tokens (suc k) ws)) ≡ true → suc k ≤ i) → k ≤ i
+    by_test : (b : Bool) → (i == k) ≡ b → (b || is_in_list i (lexeme_names (indexed_tokens (suc k) ws))) ≡ true → (is_in_list i (lexeme_names (indexed_tokens (suc k) ws)) ≡ true → suc k ≤ i) → k ≤ i
     by_test true q e later = let here = eqb-true i k q in omega (arith, here)
     by_test false q e later = let more = later e in omega (arith, more)
 
-    by_kind : (x : TokenKind) → is_among i (lexeme_names (index_terminal k x ∷ indexed_tokens (suc k) ws)) ≡ true → (is_among i (lexeme_names (indexed_tokens (suc k) ws)) ≡ true → suc k ≤ i) → k ≤ i
+    by_kind : (x : TokenKind) → is_in_list i (lexeme_names (index_terminal k x ∷ indexed_tokens (suc k) ws)) ≡ true → (is_in_list i (lexeme_names (indexed_tokens (suc k) ws)) ≡ true → suc k ≤ i) → k ≤ i
     by_kind kind.Identifier e later = by_test (i == k) refl e later
     by_kind (kind.ReservedWord r) e later = let more = later e in omega (arith, more)
     by_kind (kind.Integer n) e later = let more = later e in omega (arith, more)
@@ -80,9 +80,9 @@ map_joined ordinals [] ys = refl
 map_joined ordinals (x ∷ xs) ys = λ i. ordinal_in ordinals x ∷ map_joined ordinals xs ys i
 
 -- A token that is bound to d isn't among tokens that are bound to earlier declarations.
-not_in_front : (ordinals : List (Option ℕ)) (d j i : ℕ) (front following names : List ℕ) → AllLow d (map (ordinal_in ordinals) front) → AllIn following names → slice_get (front ++ following) j ≡ Some i → ordinal_in ordinals i ≡ Some d → is_among i names ≡ true
+not_in_front : (ordinals : List (Option ℕ)) (d j i : ℕ) (front following names : List ℕ) → AllLow d (map (ordinal_in ordinals) front) → AllIn following names → slice_get (front ++ following) j ≡ Some i → ordinal_in ordinals i ≡ Some d → is_in_list i names ≡ true
 not_in_front ordinals d j i [] [] names low among e o = absurd (cc)
-not_in_front ordinals d zero i [] (x ∷ following) names low among e o = ap (λ n. is_among n names) (sym (ap (λ (z : Option ℕ). elim z [ Some n ↦ n | None ↦ x ]) e)) ∙ among.0
+not_in_front ordinals d zero i [] (x ∷ following) names low among e o = ap (λ n. is_in_list n names) (sym (ap (λ (z : Option ℕ). elim z [ Some n ↦ n | None ↦ x ]) e)) ∙ among.0
 not_in_front ordinals d (suc j) i [] (x ∷ following) names low among e o = not_in_front ordinals d j i [] following names low among.1 e o
 not_in_front ordinals d zero i (x ∷ front) following names low among e o =
     let here : x ≡ i = ap (λ (z : Option ℕ). elim z [ Some n ↦ n | None ↦ x ]) e in
@@ -91,13 +91,13 @@ not_in_front ordinals d zero i (x ∷ front) following names low among e o =
 not_in_front ordinals d (suc j) i (x ∷ front) following names low among e o = not_in_front ordinals d j i front following names low.1 among e o
 
 -- A name after the last token of a declaration has a greater index.
-names_after : (d k : ℕ) (labels : List ℕ) (left : List (Terminal ℕ)) (ws : List Word) (t : Taken d k labels (indexed_tokens 0 ws) left) (i : ℕ) → is_among i (lexeme_names t.after) ≡ true → last_token t < i
+names_after : (d k : ℕ) (labels : List ℕ) (left : List (Terminal ℕ)) (ws : List Word) (t : Taken d k labels (indexed_tokens 0 ws) left) (i : ℕ) → is_in_list i (lexeme_names t.after) ≡ true → last_token t < i
 names_after d k labels left ws t i e =
-    let front : List (Terminal ℕ) = t.before ++ (Mark t.border ∷ []) in
-    let whole : List (Terminal ℕ) = lexeme.Name t.name ∷ Mark (kind.Symbol symbol.Equal) ∷ (t.right ++ (Mark (kind.Symbol symbol.Semicolon) ∷ [])) in
+    let front : List (Terminal ℕ) = t.before ++ (WordOrSymbol t.border ∷ []) in
+    let whole : List (Terminal ℕ) = lexeme.Name t.name ∷ WordOrSymbol (kind.Symbol symbol.Equal) ∷ (t.right ++ (WordOrSymbol (kind.Symbol symbol.Semicolon) ∷ [])) in
     let a = cut_words 0 ws (front ++ whole) t.after (t.whole_is ∙ sym (append_assoc front whole t.after)) in
-    let n : length (front ++ whole) ≡ suc (last_token t) = length-append front whole ∙ (let z = length-append t.right (Mark (kind.Symbol symbol.Semicolon) ∷ []) in omega (arith, z)) in
-    let there = names_above i (0 + length a.first) a.rest (subst (λ (l : List (Terminal ℕ)). is_among i (lexeme_names l) ≡ true) (sym a.following_is) e) in
+    let n : length (front ++ whole) ≡ suc (last_token t) = length-append front whole ∙ (let z = length-append t.right (WordOrSymbol (kind.Symbol symbol.Semicolon) ∷ []) in omega (arith, z)) in
+    let there = names_above i (0 + length a.first) a.rest (subst (λ (l : List (Terminal ℕ)). is_in_list i (lexeme_names l) ≡ true) (sym a.following_is) e) in
     let count = a.count in
     omega (arith, there, count, n)
 

@@ -10,7 +10,7 @@ use Rattle.ob0_scan.specs.declared.lexeme.Symbol.TheVariants as symbol
 use Rattle.ob0_scan.specs.declared.lexeme.TokenKind.{TokenKind}
 use Rattle.ob0_scan.specs.declared.lexeme.TokenKind.TheVariants as kind
 use Rattle.ob0_scan.specs.TextWithTokens.{TextWithTokens, Word, word_of_token}
-use Rattle.ob0_tree.specs.Lexeme.{Terminal, Mark}
+use Rattle.ob0_tree.specs.Lexeme.{Terminal, WordOrSymbol}
 use Rattle.ob0_tree.specs.Lexeme as lexeme
 use Rattle.ob0_tree.specs.Places.{index_terminal}
 use Rattle.ob0_edits_tokens.specs.Changed.{WordChanges, changes_at, changed_words, replacement_or_word, words_of}
@@ -18,7 +18,7 @@ use Rattle.ob0_edits_tokens.specs.OfTrees.{indexed_tokens, word_at}
 use Rattle.ob0_edits_tokens.specs.Removed.{IsDeclaration, changes_with_removal}
 use Rattle.ob0_edits_tokens.specs.Replaced as place
 use Rattle.ob0_edits_tokens.specs.Replaced.{AreIdentifierIndexes}
-use Rattle.ob0_edits_tokens.specs.Words.{word_lexeme}
+use Rattle.ob0_edits_tokens.specs.Words.{terminal_of_word}
 use Rattle.ob0_edits_tokens.proofs.OfTrees.{each_put, of_each, put, word_kind}
 use Rattle.ob0_edits_tokens.proofs.Removals.{past_last}
 use Rattle.ob0_language_names.proofs.Peeling.{heads}
@@ -61,42 +61,42 @@ pub name_kind : (i n : ℕ) (k : TokenKind) → index_terminal i k ≡ lexeme.Na
 name_kind i n kind.Identifier e = (refl, cc)
 name_kind i n _ e = absurd (cc)
 
-pub mark_kind : (i : ℕ) (k l : TokenKind) → index_terminal i k ≡ Mark l → k ≡ l
+pub mark_kind : (i : ℕ) (k l : TokenKind) → index_terminal i k ≡ WordOrSymbol l → k ≡ l
 mark_kind i (kind.ReservedWord r) l e = cc
 mark_kind i (kind.Symbol s) l e = cc
 mark_kind i _ l e = absurd (cc)
 
 -- returns the first token of a declaration
 abbrev pub first_bound_token : {d k : ℕ} {labels : List ℕ} {whole left : List (Terminal ℕ)} → Taken d k labels whole left → ℕ
-first_bound_token t = length (t.before ++ (Mark t.border ∷ []))
+first_bound_token t = length (t.before ++ (WordOrSymbol t.border ∷ []))
 
 abbrev pub last_token : {d k : ℕ} {labels : List ℕ} {whole left : List (Terminal ℕ)} → Taken d k labels whole left → ℕ
-last_token t = length (t.before ++ (Mark t.border ∷ [])) + (2 + length t.right)
+last_token t = length (t.before ++ (WordOrSymbol t.border ∷ [])) + (2 + length t.right)
 
 module _ (s : TextWithTokens) (d k : ℕ) (labels : List ℕ) (left : List (Terminal ℕ)) (t : Taken d k labels (indexed_tokens 0 (words_of s)) left) where
   abbrev front : List (Terminal ℕ)
-  front = t.before ++ (Mark t.border ∷ [])
+  front = t.before ++ (WordOrSymbol t.border ∷ [])
 
   abbrev inner : List (Terminal ℕ)
-  inner = lexeme.Name t.name ∷ Mark (kind.Symbol symbol.Equal) ∷ t.right
+  inner = lexeme.Name t.name ∷ WordOrSymbol (kind.Symbol symbol.Equal) ∷ t.right
 
   abbrev declaration : List (Terminal ℕ)
-  declaration = lexeme.Name t.name ∷ Mark (kind.Symbol symbol.Equal) ∷ (t.right ++ (Mark (kind.Symbol symbol.Semicolon) ∷ []))
+  declaration = lexeme.Name t.name ∷ WordOrSymbol (kind.Symbol symbol.Equal) ∷ (t.right ++ (WordOrSymbol (kind.Symbol symbol.Semicolon) ∷ []))
 
   words_count : length (words_of s) ≡ length s.tokens
   words_count = length-map (word_of_token s.text) s.tokens
 
-  at_border : (length t.before < length (words_of s)) × (index_terminal (0 + length t.before) (word_at (words_of s) (length t.before)).kind ≡ Mark t.border)
-  at_border = terminal_or_end 0 (words_of s) t.before (Mark t.border) (declaration ++ t.after) (t.whole_is ∙ append_assoc t.before (Mark t.border ∷ []) (declaration ++ t.after))
+  at_border : (length t.before < length (words_of s)) × (index_terminal (0 + length t.before) (word_at (words_of s) (length t.before)).kind ≡ WordOrSymbol t.border)
+  at_border = terminal_or_end 0 (words_of s) t.before (WordOrSymbol t.border) (declaration ++ t.after) (t.whole_is ∙ append_assoc t.before (WordOrSymbol t.border ∷ []) (declaration ++ t.after))
 
   at_name : (length front < length (words_of s)) × (index_terminal (0 + length front) (word_at (words_of s) (length front)).kind ≡ lexeme.Name t.name)
-  at_name = terminal_or_end 0 (words_of s) front (lexeme.Name t.name) (Mark (kind.Symbol symbol.Equal) ∷ ((t.right ++ (Mark (kind.Symbol symbol.Semicolon) ∷ [])) ++ t.after)) t.whole_is
+  at_name = terminal_or_end 0 (words_of s) front (lexeme.Name t.name) (WordOrSymbol (kind.Symbol symbol.Equal) ∷ ((t.right ++ (WordOrSymbol (kind.Symbol symbol.Semicolon) ∷ [])) ++ t.after)) t.whole_is
 
-  at_end : (length (front ++ inner) < length (words_of s)) × (index_terminal (0 + length (front ++ inner)) (word_at (words_of s) (length (front ++ inner))).kind ≡ Mark (kind.Symbol symbol.Semicolon))
+  at_end : (length (front ++ inner) < length (words_of s)) × (index_terminal (0 + length (front ++ inner)) (word_at (words_of s) (length (front ++ inner))).kind ≡ WordOrSymbol (kind.Symbol symbol.Semicolon))
   at_end =
-      terminal_or_end 0 (words_of s) (front ++ inner) (Mark (kind.Symbol symbol.Semicolon)) t.after
-      (t.whole_is ∙ (ap (λ l. front ++ (lexeme.Name t.name ∷ Mark (kind.Symbol symbol.Equal) ∷ l)) (append_assoc t.right (Mark (kind.Symbol symbol.Semicolon) ∷ []) t.after)
-      ∙ sym (append_assoc front inner (Mark (kind.Symbol symbol.Semicolon) ∷ t.after))))
+      terminal_or_end 0 (words_of s) (front ++ inner) (WordOrSymbol (kind.Symbol symbol.Semicolon)) t.after
+      (t.whole_is ∙ (ap (λ l. front ++ (lexeme.Name t.name ∷ WordOrSymbol (kind.Symbol symbol.Equal) ∷ l)) (append_assoc t.right (WordOrSymbol (kind.Symbol symbol.Semicolon) ∷ []) t.after)
+      ∙ sym (append_assoc front inner (WordOrSymbol (kind.Symbol symbol.Semicolon) ∷ t.after))))
 
   pub name_is_first : t.name ≡ first_bound_token t
   unfolding at_name
@@ -113,8 +113,8 @@ module _ (s : TextWithTokens) (d k : ℕ) (labels : List ℕ) (left : List (Term
         name = sym (word_kind s (first_bound_token t)) ∙ (name_kind (0 + length front) t.name (word_at (words_of s) (length front)).kind at_name.1).0;
         end = sym (word_kind s (last_token t))
             ∙ (ap (λ n. (word_at (words_of s) n).kind) (sym same) ∙ mark_kind (0 + length (front ++ inner)) (word_at (words_of s) (length (front ++ inner))).kind (kind.Symbol symbol.Semicolon) a.1);
-        following = λ j e.
-            let there : j ≡ length t.before = omega (arith, e, length-append t.before (Mark t.border ∷ [])) in
+        preceded = λ j e.
+            let there : j ≡ length t.before = omega (arith, e, length-append t.before (WordOrSymbol t.border ∷ [])) in
             let kind_is : (place.token_or_empty s.tokens j).kind ≡ t.border =
             sym (word_kind s j) ∙ (ap (λ n. (word_at (words_of s) n).kind) there ∙ mark_kind (0 + length t.before) (word_at (words_of s) (length t.before)).kind t.border at_border.1) in
             elim t.opens [ inl o ↦ inl (kind_is ∙ o) | inr o ↦ inr (kind_is ∙ o) ];
@@ -143,10 +143,10 @@ module _ (s : TextWithTokens) (least : ℕ) (places : List ℕ) (names : AreIden
   -- The words without the declaration, with other words at the places, are the remaining tokens
   -- with the replacements.
   pub words_left : (d k : ℕ) (labels : List ℕ) (left : List (Terminal ℕ)) (t : Taken d k labels (indexed_tokens 0 (words_of s)) left)
-      → map word_lexeme (changed_words (changes_with_removal (first_bound_token t) (last_token t) (changes_at places vs)) 0 (words_of s)) ≡ flat_map (put s places vs) left
+      → map terminal_of_word (changed_words (changes_with_removal (first_bound_token t) (last_token t) (changes_at places vs)) 0 (words_of s)) ≡ flat_map (put s places vs) left
   words_left d k labels left t =
-      let front : List (Terminal ℕ) = t.before ++ (Mark t.border ∷ []) in
-      let declaration : List (Terminal ℕ) = lexeme.Name t.name ∷ Mark (kind.Symbol symbol.Equal) ∷ (t.right ++ (Mark (kind.Symbol symbol.Semicolon) ∷ [])) in
+      let front : List (Terminal ℕ) = t.before ++ (WordOrSymbol t.border ∷ []) in
+      let declaration : List (Terminal ℕ) = lexeme.Name t.name ∷ WordOrSymbol (kind.Symbol symbol.Equal) ∷ (t.right ++ (WordOrSymbol (kind.Symbol symbol.Semicolon) ∷ [])) in
       let first = first_bound_token t in
       let last = last_token t in
       let ch : WordChanges = changes_at places vs in
@@ -156,7 +156,7 @@ module _ (s : TextWithTokens) (least : ℕ) (places : List ℕ) (names : AreIden
       let b = cut_words (0 + length a.first) a.rest declaration t.after a.following_is in
       let all : words_of s ≡ a.first ++ (b.first ++ b.rest) = a.joined ∙ ap (λ l. a.first ++ l) b.joined in
       let n1 : length a.first ≡ first = a.count in
-      let n2 : length b.first ≡ 3 + length t.right = b.count ∙ (let z = length-append t.right (Mark (kind.Symbol symbol.Semicolon) ∷ []) in omega (arith, z)) in
+      let n2 : length b.first ≡ 3 + length t.right = b.count ∙ (let z = length-append t.right (WordOrSymbol (kind.Symbol symbol.Semicolon) ∷ []) in omega (arith, z)) in
       let next : 0 + length a.first + length b.first ≡ suc last = omega (arith, n1, n2) in
       let split : changed_words (changes_with_removal first last ch) 0 (words_of s) ≡ changed_words ch 0 a.first ++ changed_words ch (suc last) b.rest =
       ap (changed_words (changes_with_removal first last ch) 0) all
@@ -165,12 +165,12 @@ module _ (s : TextWithTokens) (least : ℕ) (places : List ℕ) (names : AreIden
       ++ (changed_words-append (changes_with_removal first last ch) (0 + length a.first) b.first b.rest
       ∙ ((λ j. inside_gone first last ch (0 + length a.first) b.first (omega (arith, n1)) (omega (arith, next)) j ++ changed_words (changes_with_removal first last ch) (next j) b.rest)
       ∙ past_last first last ch (suc last) b.rest (omega arith))) i)) in
-      let p1 : flat_map put_so front ≡ map word_lexeme (changed_words ch 0 a.first) = ap (flat_map put_so) (sym a.front_is) ∙ part_put 0 [] a.first (b.first ++ b.rest) all refl in
+      let p1 : flat_map put_so front ≡ map terminal_of_word (changed_words ch 0 a.first) = ap (flat_map put_so) (sym a.front_is) ∙ part_put 0 [] a.first (b.first ++ b.rest) all refl in
       let done : length (a.first ++ b.first) ≡ suc last = length-append a.first b.first ∙ omega (arith, n1, n2) in
       let ends : words_of s ≡ (a.first ++ b.first) ++ (b.rest ++ []) = all ∙ (sym (append_assoc a.first b.first b.rest) ∙ ap (λ l. (a.first ++ b.first) ++ l) (sym (append-nil b.rest))) in
-      let p2 : flat_map put_so t.after ≡ map word_lexeme (changed_words ch (suc last) b.rest) =
+      let p2 : flat_map put_so t.after ≡ map terminal_of_word (changed_words ch (suc last) b.rest) =
       ap (flat_map put_so) (sym b.following_is ∙ ap (λ n. indexed_tokens n b.rest) next) ∙ part_put (suc last) (a.first ++ b.first) b.rest [] ends done in
-      ap (map word_lexeme) split
-      ∙ (map-append word_lexeme (changed_words ch 0 a.first) (changed_words ch (suc last) b.rest)
+      ap (map terminal_of_word) split
+      ∙ (map-append terminal_of_word (changed_words ch 0 a.first) (changed_words ch (suc last) b.rest)
       ∙ ((λ i. sym p1 i ++ sym p2 i)
       ∙ (sym (flat_map-append put_so front t.after) ∙ ap (flat_map put_so) (sym t.left_is))))

@@ -8,8 +8,8 @@ use Rattle.ob0_scan.specs.declared.lexeme.TokenKind.TheVariants as kind
 use Rattle.ob0_scan.specs.declared.lexeme.Symbol.TheVariants as symbol
 
 -- Returns whether `span` lies within the span `part`.
-abbrev pub is_inside : Span → Span → Bool
-is_inside part span = nat_le part.start span.start && nat_le span.end part.end
+abbrev pub contains_span : Span → Span → Bool
+contains_span part span = nat_le part.start span.start && nat_le span.end part.end
 
 -- Returns whether a token of this kind is a `;`.
 abbrev pub is_semicolon : TokenKind → Bool

@@ -14,7 +14,7 @@ use Rattle.ob0_tree.specs.ParsedModule.{ParsedModule, named_tree_of, tree_of}
 use Rattle.ob0_tree.specs.Tree.{Tree, identifiers, module_text, occurrences}
 use Rattle.ob0_edits_tokens.specs.Ranges.{range_of}
 use Rattle.ob0_edits_tokens.specs.Removed.{span_of_tokens, text_after_removal}
-use Rattle.ob0_edits_tokens.specs.Replaced.{edit_at, parts}
+use Rattle.ob0_edits_tokens.specs.Replaced.{edit_at, range_and_text}
 use Rattle.ob0_language_names.specs.NonFactorNames.{names_beside_factors}
 use Rattle.ob0_language_names.specs.Inlining.{inlined_everywhere}
 use Rattle.ob0_language_names.specs.Names.{Name, declared, same_label}
@@ -23,13 +23,13 @@ use Rattle.ob0_scope_table.specs.Resolution.{declaring_names, declaration_token}
 use Rattle.ob0_language_names.specs.Scopes.{numbered, same_ordinal}
 use Rattle.ob0_language_values.specs.Scalars.{scalar_value}
 use Rattle.ob0_scope.specs.declared.naming.Named as named
-use Rattle.ob0_scope.specs.NamesAtPlaces.{name_on}
+use Rattle.ob0_scope.specs.NamesAtPlaces.{name_at_offset}
 use Rattle.ob0_language_types.specs.ConstantValues.{value_of_constant}
 use Rattle.ob0_language_types.specs.WellTyped.{WellTyped}
 use Rattle.ob0_language_runs.specs.EditLaws.{HaveSameRuns}
 use Rattle.ob0_inline.specs.declared.constants.NamedConstant.{NamedConstant}
-use Rattle.ob0_inline.specs.Declarations.{is_inside, is_semicolon}
-use Rattle.ob0_inline.specs.Inlined.{LeavesModule, first_refusal}
+use Rattle.ob0_inline.specs.Declarations.{contains_span, is_semicolon}
+use Rattle.ob0_inline.specs.Inlined.{EditsGiveModule, first_refusal}
 use Rattle.ob0_inline.specs.Uses.{is_predeclared_truth}
 use Rattle.ob0_inline.specs.Values.{value_factor, value_text}
 
@@ -46,14 +46,14 @@ pub record IsConstant (m : ParsedModule) (c : NamedConstant) : Type 0 where
 -- States that the byte offset is on a name of the constant `c`: in its declaration or at a use.
 pub record IsConstantAt (m : ParsedModule) (offset : ℕ) (c : NamedConstant) : Type 0 where
   pub token : ℕ
-  pub named : name_on m offset ≡ Some (record { token = token; ordinal = c.ordinal })
+  pub named : name_at_offset m offset ≡ Some (record { token = token; ordinal = c.ordinal })
   pub is_constant : IsConstant m c
 
 -- States that the byte offset isn't on a name of a constant.
 abbrev pub HasNoConstantAt : ParsedModule → ℕ → Type 0
 HasNoConstantAt m offset =
     (n : named.Named)
-    → name_on m offset ≡ Some n
+    → name_at_offset m offset ≡ Some n
     → value_of_constant (named_tree_of m) n.ordinal ≡ None
 
 -- Returns the token indexes of the occurrences that are bound to the declaration with the ordinal
@@ -89,8 +89,8 @@ any_use_shadowed m c = list_any (is_shadowed_use m c) (range_with_len 0 (length 
 
 -- Returns whether a comment lies between the name of the constant in its declaration and the `;` of
 -- that declaration.
-abbrev pub has_comment : ParsedModule → NamedConstant → Bool
-has_comment m c = list_any (is_inside (span_of_tokens m.source.tokens c.first c.last)) m.source.comments
+abbrev pub declaration_has_comment : ParsedModule → NamedConstant → Bool
+declaration_has_comment m c = list_any (contains_span (span_of_tokens m.source.tokens c.first c.last)) m.source.comments
 
 -- Returns the first refusal that applies to inlining the constant everywhere, or None if no refusal
 -- applies.
@@ -98,17 +98,17 @@ abbrev pub refusal_everywhere : ParsedModule → NamedConstant → Option EditRe
 refusal_everywhere m c =
     first_refusal (text_after_inlining m c) (tree_inlined_everywhere m c)
     (if any_use_shadowed (named_tree_of m) c then Some Shadowed
-    else if has_comment m c then Some CommentInside else None)
+    else if declaration_has_comment m c then Some CommentInside else None)
 
 -- States that these edits inline the constant everywhere. They remove its declaration, from its
 -- name to its `;`, write its value in place of each use, and change no other character. The edited
 -- text is the inlined module, which is well-typed and has the same runs as the module before.
 pub record InlinesEverywhere (unit : counting.Unit) (text : List ℕ) (m : ParsedModule)
     (c : NamedConstant) (edits : List Edit) : Type 0 where
-  pub everywhere : map parts edits
+  pub everywhere : map range_and_text edits
       ≡ (range_of (width_of unit) text (span_of_tokens m.source.tokens c.first c.last), [])
       ∷ map (edit_at unit text m.source.tokens (value_text c.value)) (uses_of m c.ordinal)
-  pub leaves : LeavesModule unit text edits (tree_inlined_everywhere m c)
+  pub leaves : EditsGiveModule unit text edits (tree_inlined_everywhere m c)
   pub well_typed : WellTyped (tree_inlined_everywhere m c)
   pub same_runs : HaveSameRuns (tree_inlined_everywhere m c) (named_tree_of m)
 

@@ -9,7 +9,7 @@ use Rattle.ob0_text.specs.declared.refusals.EditRefusal.{EditRefusal}
 use Rattle.ob0_text.specs.declared.refusals.EditRefusal.TheVariants.{Memory, NoName, Shadowed}
 use Rattle.ob0_tree.specs.ParsedModule.{ParsedModule, named_tree_of, tree_of}
 use Rattle.ob0_tree.specs.Tree.{Tree, module_text, occurrences}
-use Rattle.ob0_edits_tokens.specs.Replaced.{edit_at, parts, text_after_replacement}
+use Rattle.ob0_edits_tokens.specs.Replaced.{edit_at, range_and_text, text_after_replacement}
 use Rattle.ob0_edits_tokens.specs.Written.{truth_text}
 use Rattle.ob0_language_names.specs.Inlining.{inlined, single_occurrence}
 use Rattle.ob0_language_names.specs.Names.{Name}
@@ -19,18 +19,18 @@ use Rattle.ob0_language_names.specs.OccurrenceLookup.{resolve_at_occurrence}
 use Rattle.ob0_language_values.specs.declared.scalar.Scalar.{Scalar}
 use Rattle.ob0_language_values.specs.declared.scalar.Scalar.TheVariants as scalar
 use Rattle.ob0_language_values.specs.Scalars.{scalar_value}
-use Rattle.ob0_scope.specs.NamesAtPlaces.{name_on}
+use Rattle.ob0_scope.specs.NamesAtPlaces.{name_at_offset}
 use Rattle.ob0_language_types.specs.ConstantValues.{value_of_constant}
 use Rattle.ob0_language_types.specs.WellTyped.{WellTyped}
 use Rattle.ob0_language_runs.specs.EditLaws.{HaveSameRuns}
 use Rattle.ob0_inline.specs.declared.uses.ConstantUse.{ConstantUse}
-use Rattle.ob0_inline.specs.Inlined.{LeavesModule, first_refusal}
+use Rattle.ob0_inline.specs.Inlined.{EditsGiveModule, first_refusal}
 use Rattle.ob0_inline.specs.Values.{value_factor, value_text}
 
 -- States that the byte offset is on a use of a constant of a CONST section, and that `u` is this
 -- use. So `u` has the use's token and occurrence, and the constant's ordinal and value.
 pub record IsUseAt (m : ParsedModule) (offset : ℕ) (u : ConstantUse) : Type 0 where
-  pub named : name_on m offset ≡ Some (record { token = u.token; ordinal = u.constant })
+  pub named : name_at_offset m offset ≡ Some (record { token = u.token; ordinal = u.constant })
   pub occurs : slice_get (occurrences (tree_of m)) u.occurrence ≡ Some u.token
   pub has_value : value_of_constant (named_tree_of m) u.constant ≡ Some (scalar_value u.value)
 
@@ -43,16 +43,16 @@ pub record IsUse (m : ParsedModule) (u : ConstantUse) : Type 0 where
   pub has_value : value_of_constant (named_tree_of m) u.constant ≡ Some (scalar_value u.value)
 
 -- Returns the ordinal of the predeclared name TRUE or FALSE.
-abbrev pub truth_ordinal : Bool → ℕ
-truth_ordinal true = 2
-truth_ordinal false = 3
+abbrev pub truth_name_ordinal : Bool → ℕ
+truth_name_ordinal true = 2
+truth_name_ordinal false = 3
 
 -- Returns whether TRUE or FALSE, written for a truth value in place of this occurrence, would mean
 -- the predeclared name. If the value is a number, the result is true.
 abbrev pub is_predeclared_truth : Tree Name module_text → ℕ → Scalar → Bool
 is_predeclared_truth m occurrence (scalar.Number n) = true
 is_predeclared_truth m occurrence (scalar.Truth b) =
-    same_ordinal (resolve_at_occurrence m occurrence (truth_text b)) (truth_ordinal b)
+    same_ordinal (resolve_at_occurrence m occurrence (truth_text b)) (truth_name_ordinal b)
 
 -- Returns the tree of the module after the constant is inlined at one use: the constant's value
 -- replaces that use.
@@ -71,8 +71,8 @@ refusal_here m u =
 -- the module before.
 pub record InlinesHere (unit : counting.Unit) (text : List ℕ) (m : ParsedModule) (u : ConstantUse)
     (edits : List Edit) : Type 0 where
-  pub here : map parts edits ≡ edit_at unit text m.source.tokens (value_text u.value) u.token ∷ []
-  pub leaves : LeavesModule unit text edits (tree_inlined_here m u)
+  pub here : map range_and_text edits ≡ edit_at unit text m.source.tokens (value_text u.value) u.token ∷ []
+  pub leaves : EditsGiveModule unit text edits (tree_inlined_here m u)
   pub well_typed : WellTyped (tree_inlined_here m u)
   pub same_runs : HaveSameRuns (tree_inlined_here m u) (named_tree_of m)
 

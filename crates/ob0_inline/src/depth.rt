@@ -2,7 +2,7 @@
 
 ghost use Rattle.std.specs.Prelude.{◌≡◌, ◌≤◌, ◌+◌, List, IfOk, IfErr, map, nat_le, nat_lt, ℕ};
 ghost use Rattle.ob0_edits_tokens.specs.Replaced.{LeavesWords};
-ghost use Rattle.ob0_edits_tokens.specs.Words.{word_lexeme};
+ghost use Rattle.ob0_edits_tokens.specs.Words.{terminal_of_word};
 ghost use Rattle.ob0_scan.specs.TextWithTokens.{IsScan, TextWithTokens, Word};
 ghost use Rattle.ob0_text.specs.declared.refusals.EditRefusal.TheVariants.{Memory};
 ghost use Rattle.ob0_tree.specs.Module.{max_nesting, terminals_of_text};
@@ -28,7 +28,7 @@ pub(crate) fn is_too_deep<T: TextStore>(
 ) -> Result<bool, EditRefusal>
     ensures deep { (ws : List Word) (t : Tree (List ℕ) module_text)
         → LeavesWords (T.unit_of store.now) (T.content store.now) edits.now ws
-        → map word_lexeme ws ≡ spell t → nesting t ≤ nesting (tree_of read.now) + 1
+        → map terminal_of_word ws ≡ spell t → nesting t ≤ nesting (tree_of read.now) + 1
         → IfOk result (λ deep. deep ≡ nat_lt max_nesting (nesting t)) }
     ensures memory { IfErr result (λ refusal. refusal ≡ Memory) }
 {
@@ -48,7 +48,7 @@ fn patched_is_too_deep<T: TextStore>(
 ) -> Result<bool, EditRefusal>
     ensures deep { (ws : List Word) (t : Tree (List ℕ) module_text)
         → LeavesWords (T.unit_of store.now) (T.content store.now) edits.now ws
-        → map word_lexeme ws ≡ spell t
+        → map terminal_of_word ws ≡ spell t
         → IfOk result (λ deep. deep ≡ nat_lt max_nesting (nesting t)) }
     ensures memory { IfErr result (λ refusal. refusal ≡ Memory) }
 {

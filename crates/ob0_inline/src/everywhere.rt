@@ -12,10 +12,10 @@ ghost use Rattle.ob0_tree.specs.Module.{max_nesting};
 ghost use Rattle.ob0_tree.specs.Tree.{nesting};
 ghost use Rattle.ob0_edits_tokens.specs.Ranges.{range_of};
 ghost use Rattle.ob0_edits_tokens.specs.Removed.{span_of_tokens};
-ghost use Rattle.ob0_edits_tokens.specs.Replaced.{edit_at, parts};
-ghost use Rattle.ob0_inline.specs.Declarations.{is_inside};
+ghost use Rattle.ob0_edits_tokens.specs.Replaced.{edit_at, range_and_text};
+ghost use Rattle.ob0_inline.specs.Declarations.{contains_span};
 ghost use Rattle.ob0_inline.specs.Everywhere.{AnswersForConstant, AnswersInlineEverywhere, IsConstant, UsesAreFactors, tree_inlined_everywhere, text_after_inlining, uses_of};
-ghost use Rattle.ob0_inline.specs.Inlined.{LeavesModule};
+ghost use Rattle.ob0_inline.specs.Inlined.{EditsGiveModule};
 ghost use Rattle.ob0_inline.specs.Values.{value_text};
 
 use crate::constants::{NamedConstant, constant_at};
@@ -73,7 +73,7 @@ fn inline_constant<T: TextStore>(
             if any_use_shadowed(alloc, names, constant)? {
                 return Err(EditRefusal::Shadowed);
             }
-            if has_comment(names.tokens(), constant) {
+            if declaration_has_comment(names.tokens(), constant) {
                 return Err(EditRefusal::CommentInside);
             }
             Ok(edits)
@@ -94,7 +94,7 @@ fn constant_edits<T: TextStore>(
 ) -> Result<Vec<Edit>, EditRefusal>
     requires content { T.content store.now ≡ chars names.now.module_read.source.text }
     requires is_constant { IsConstant names.now.module_read constant }
-    ensures edits { IfOk result (λ edits. map parts edits.items
+    ensures edits { IfOk result (λ edits. map range_and_text edits.items
         ≡ (
           range_of (width_of (T.unit_of store.now)) (T.content store.now)
               (span_of_tokens names.now.module_read.source.tokens constant.first constant.last),
@@ -104,7 +104,7 @@ fn constant_edits<T: TextStore>(
         (T.content store.now) names.now.module_read.source.tokens (value_text constant.value))
         (uses_of names.now.module_read constant.ordinal)) }
     ensures inlined { UsesAreFactors names.now.module_read constant.ordinal
-        → IfOk result (λ edits. LeavesModule (T.unit_of store.now) (T.content store.now) edits.items
+        → IfOk result (λ edits. EditsGiveModule (T.unit_of store.now) (T.content store.now) edits.items
         (tree_inlined_everywhere names.now.module_read constant)) }
     ensures too_long { IsErrOf result TooLong
         → max_text < length (text_after_inlining names.now.module_read constant) }
@@ -147,11 +147,11 @@ fn uses_of(alloc: Global, names: &Resolved, constant: usize) -> Result<Vec<usize
 
 /// Returns whether a comment lies between the name of the constant in its declaration and the `;`
 /// of that declaration.
-fn has_comment(tokens: &Tokens, constant: NamedConstant) -> bool
+fn declaration_has_comment(tokens: &Tokens, constant: NamedConstant) -> bool
     requires inside { constant.last < length tokens.now.tokens }
     requires order { constant.first < constant.last }
     ensures { result
-        ≡ list_any (is_inside (span_of_tokens tokens.now.tokens constant.first constant.last))
+        ≡ list_any (contains_span (span_of_tokens tokens.now.tokens constant.first constant.last))
         tokens.now.comments }
 {
     let part = Span {

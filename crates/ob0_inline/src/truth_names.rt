@@ -77,14 +77,14 @@ pub(crate) fn any_use_shadowed(
     let value = constant.value;
     match value {
         Scalar::Number(_) => Ok(false),
-        Scalar::Truth(true) => any_use_rebound(
+        Scalar::Truth(true) => any_use_binds_elsewhere(
             alloc,
             names,
             constant.ordinal,
             "TRUE",
             TRUE_ORDINAL,
         ),
-        Scalar::Truth(false) => any_use_rebound(
+        Scalar::Truth(false) => any_use_binds_elsewhere(
             alloc,
             names,
             constant.ordinal,
@@ -96,7 +96,7 @@ pub(crate) fn any_use_shadowed(
 
 /// Returns whether the constant has a use at which `name`, if written there, wouldn't be bound to
 /// the declaration with the ordinal `ordinal`. `constant` is the constant's ordinal.
-fn any_use_rebound(
+fn any_use_binds_elsewhere(
     alloc: Global,
     names: &Resolved,
     constant: usize,

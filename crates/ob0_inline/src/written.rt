@@ -5,7 +5,7 @@ ghost use Rattle.ob0_edits_tokens.specs.Replaced.{ReplacesName};
 ghost use Rattle.ob0_edits_tokens.specs.Written.{number_text, number_words};
 ghost use Rattle.ob0_language_types.specs.EditLaws.{IsScalar};
 ghost use Rattle.ob0_language_values.specs.Scalars.{scalar_value};
-ghost use Rattle.ob0_language_values.specs.Values.{fits};
+ghost use Rattle.ob0_language_values.specs.Values.{fits_in_32_bits};
 ghost use Rattle.ob0_inline.specs.Values.{value_text, value_words};
 
 use ob0_language_values::Scalar;
@@ -52,13 +52,13 @@ pub(crate) fn value_is_scalar(value: Scalar)
     ensures { IsScalar (scalar_value value) }
 {
     if let Scalar::Number(number) = value {
-        number_fits(number);
+        number_fits_in_32_bits(number);
     }
 }
 
 /// Proves that the number fits in 32 bits. The function has no effect.
-fn number_fits(number: i32)
-    ensures { IsTrue (fits number) }
+fn number_fits_in_32_bits(number: i32)
+    ensures { IsTrue (fits_in_32_bits number) }
 {
     // The proof needs the range of this value.
     let _ = number;

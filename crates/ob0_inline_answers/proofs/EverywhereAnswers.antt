@@ -16,26 +16,26 @@ use Rattle.ob0_tree_values.proofs.TreeValues.{vec_of}
 use Rattle.ob0_edits_tokens.specs.Changed.{changes_at, changed_words, words_of}
 use Rattle.ob0_edits_tokens.specs.Ranges.{range_of}
 use Rattle.ob0_edits_tokens.specs.Removed.{IsDeclaration, span_of_tokens, changes_with_removal}
-use Rattle.ob0_edits_tokens.specs.Replaced.{AreIdentifierIndexes, LeavesWords, edit_at, parts}
+use Rattle.ob0_edits_tokens.specs.Replaced.{AreIdentifierIndexes, LeavesWords, edit_at, range_and_text}
 use Rattle.ob0_edits_tokens.proofs.MadeWithout.{leaves_words_without}
 use Rattle.ob0_scope_table.specs.Resolution.{Resolution}
 use Rattle.ob0_scope.specs.declared.naming.Named as named
-use Rattle.ob0_scope.specs.NamesAtPlaces.{name_on}
+use Rattle.ob0_scope.specs.NamesAtPlaces.{name_at_offset}
 use Rattle.ob0_language_types.specs.ConstantValues.{value_of_constant}
 use Rattle.ob0_language_types.specs.EditLaws.{ConstantUsesAreFactors, IsScalar}
 use Rattle.ob0_language_runs.specs.EditLaws.{InliningEverywhereKeepsTypingAndRuns}
 use Rattle.ob0_language_values.specs.Scalars.{scalar_value}
 use Rattle.ob0_language_values.specs.Values.{Value}
-use Rattle.ob0_analysis.specs.Analysed.{IsModuleIn}
+use Rattle.ob0_analysis.specs.Analysed.{IsResolvedWellTypedModule}
 use Rattle.ob0_analysis.specs.Texts.{utf8}
 use Rattle.ob0_inline.specs.declared.constants.NamedConstant.{NamedConstant}
-use Rattle.ob0_inline.specs.Everywhere.{AnswersInlineEverywhere, IsConstant, IsConstantAt, HasNoConstantAt, any_use_shadowed, has_comment, tree_inlined_everywhere, refusal_everywhere, text_after_inlining, uses_of}
+use Rattle.ob0_inline.specs.Everywhere.{AnswersInlineEverywhere, IsConstant, IsConstantAt, HasNoConstantAt, any_use_shadowed, declaration_has_comment, tree_inlined_everywhere, refusal_everywhere, text_after_inlining, uses_of}
 use Rattle.ob0_inline.specs.Values.{value_text, value_words}
 use Rattle.ob0_inline.proofs.AtConstants.{Made, answer_made}
 use Rattle.ob0_inline.proofs.Ended.{are_uses, begins_at, end_token, ends_at, is_taken, left_spelled, name_token}
 use Rattle.ob0_inline.proofs.ModuleTexts.{leaves_module}
 use Rattle.ob0_edits.specs.declared.inlinings.Inlining.TheVariants.{Everywhere}
-use Rattle.ob0_edits.specs.Inlinings.{InlinesIn, IsNotInlinedIn}
+use Rattle.ob0_edits.specs.Inlinings.{InlinesIn, IsInliningRefusedIn}
 use Rattle.ob0_world_rules.specs.Answers.{position_offset}
 use Rattle.ob0_world_rules.specs.Edited.{replacements}
 use Rattle.ob0_world_rules.specs.Language.{WellTypedText}
@@ -48,7 +48,7 @@ use Rattle.ob0_inline_answers.proofs.HereAnswers.{held, inlines_in, none_some, n
 
 -- ---- the edits at the declaration and at the uses
 
-module _ (unit : Unit) (text : List ℕ) (r : Resolution) (module_in : IsModuleIn (utf8 text) r) (c : NamedConstant) (constant : IsConstant r.module_read c) (w : IsWritable c.value) where
+module _ (unit : Unit) (text : List ℕ) (r : Resolution) (module_in : IsResolvedWellTypedModule (utf8 text) r) (c : NamedConstant) (constant : IsConstant r.module_read c) (w : IsWritable c.value) where
   abbrev s : TextWithTokens
   s = r.module_read.source
 
@@ -67,7 +67,7 @@ module _ (unit : Unit) (text : List ℕ) (r : Resolution) (module_in : IsModuleI
   abbrev all_words : List Word
   all_words = changed_words (changes_with_removal c.first c.last (changes_at places (value_words c.value))) 0 (words_of s)
 
-  all_are : map parts all_edits ≡ (range_of (width_of unit) text (span_of_tokens s.tokens c.first c.last), []) ∷ map (edit_at unit text s.tokens (value_text c.value)) places
+  all_are : map range_and_text all_edits ≡ (range_of (width_of unit) text (span_of_tokens s.tokens c.first c.last), []) ∷ map (edit_at unit text s.tokens (value_text c.value)) places
   all_are = ap (λ es. (range_of (width_of unit) text (span_of_tokens s.tokens c.first c.last), []) ∷ es) (values_are unit text s.tokens (value_text c.value) w.utf8 w.short places)
 
   pub few_edits : length all_edits ≤ 1048577
@@ -83,7 +83,7 @@ module _ (unit : Unit) (text : List ℕ) (r : Resolution) (module_in : IsModuleI
       let held_so = held unit text r module_in in
       subst (λ t. LeavesWords unit t all_edits all_words) (sym held_so)
       (leaves_words_without unit s module_in.scan.scan (value_text c.value) (value_words c.value) w.replaces w.utf8 c.first c.last declaration places are_names all_edits
-      (subst (λ t. map parts all_edits ≡ (range_of (width_of unit) t (span_of_tokens s.tokens c.first c.last), []) ∷ map (edit_at unit t s.tokens (value_text c.value)) places) held_so all_are) short)
+      (subst (λ t. map range_and_text all_edits ≡ (range_of (width_of unit) t (span_of_tokens s.tokens c.first c.last), []) ∷ map (edit_at unit t s.tokens (value_text c.value)) places) held_so all_are) short)
 
   pub all_made : length (text_after_inlining r.module_read c) ≤ max_text → nesting (tree_inlined_everywhere r.module_read c) ≤ 100 → Made r c unit text all_edits
   all_made short low = record {
@@ -96,8 +96,8 @@ module _ (unit : Unit) (text : List ℕ) (r : Resolution) (module_in : IsModuleI
 
 -- ---- the cases
 
-module _ (alone : ConstantUsesAreFactors) (keeps : InliningEverywhereKeepsTypingAndRuns) (unit : Unit) (text : List ℕ) (r : Resolution) (module_in : IsModuleIn (utf8 text) r) (offset : ℕ)
-    (refused : IsNotInlinedIn Everywhere unit text offset → ⊥) (given : (edits : Vec Edit Global) → InlinesIn Everywhere unit text offset edits → ⊥) where
+module _ (alone : ConstantUsesAreFactors) (keeps : InliningEverywhereKeepsTypingAndRuns) (unit : Unit) (text : List ℕ) (r : Resolution) (module_in : IsResolvedWellTypedModule (utf8 text) r) (offset : ℕ)
+    (refused : IsInliningRefusedIn Everywhere unit text offset → ⊥) (given : (edits : Vec Edit Global) → InlinesIn Everywhere unit text offset edits → ⊥) where
   refuse : (refusal : EditRefusal) → (refusal ≡ Memory → ⊥) → AnswersInlineEverywhere unit text r.module_read offset (Err refusal) → ⊥
   refuse refusal other h = refused (not_inlined unit text r module_in Everywhere offset (refusal, other, h))
 
@@ -114,13 +114,13 @@ module _ (alone : ConstantUsesAreFactors) (keeps : InliningEverywhereKeepsTyping
     abbrev first_of : Bool → Bool → Bool → Bool → Option EditRefusal
     first_of a b h k = if a then Some TooLong else if b then Some TooDeep else if h then Some Shadowed else if k then Some CommentInside else None
 
-    refusal_is : (a b h k : Bool) → nat_lt max_text long ≡ a → nat_lt 100 deep ≡ b → any_use_shadowed (named_tree_of r.module_read) c ≡ h → has_comment r.module_read c ≡ k → refusal_everywhere r.module_read c ≡ first_of a b h k
+    refusal_is : (a b h k : Bool) → nat_lt max_text long ≡ a → nat_lt 100 deep ≡ b → any_use_shadowed (named_tree_of r.module_read) c ≡ h → declaration_has_comment r.module_read c ≡ k → refusal_everywhere r.module_read c ≡ first_of a b h k
     refusal_is a b h k e f g q = λ i. first_of (e i) (f i) (g i) (q i)
 
     refuse_constant : (refusal : EditRefusal) → (refusal ≡ Memory → ⊥) → refusal_everywhere r.module_read c ≡ Some refusal → ⊥
     refuse_constant refusal other e = refuse refusal other (inl (c, at, inl e))
 
-    cases : (a b h k : Bool) → nat_lt max_text long ≡ a → nat_lt 100 deep ≡ b → any_use_shadowed (named_tree_of r.module_read) c ≡ h → has_comment r.module_read c ≡ k → ⊥
+    cases : (a b h k : Bool) → nat_lt max_text long ≡ a → nat_lt 100 deep ≡ b → any_use_shadowed (named_tree_of r.module_read) c ≡ h → declaration_has_comment r.module_read c ≡ k → ⊥
     cases true b h k e f g q = refuse_constant TooLong (λ z. cc) (refusal_is true b h k e f g q)
     cases false true h k e f g q = refuse_constant TooDeep (λ z. cc) (refusal_is false true h k e f g q)
     cases false false true k e f g q = refuse_constant Shadowed (λ z. cc) (refusal_is false false true k e f g q)
@@ -133,7 +133,7 @@ module _ (alone : ConstantUsesAreFactors) (keeps : InliningEverywhereKeepsTyping
         let answer = answer_made r well c at.is_constant alone scalar_so keeps unit text (all_edits unit text r module_in c at.is_constant w) made g q in
         given edits (inlines_in unit text r module_in Everywhere offset edits (tree_inlined_everywhere r.module_read c) answer.1.leaves answer.1.well_typed answer.1.same_runs (inl (c, at, answer)))
 
-  at_value : (found : named.Named) → name_on r.module_read offset ≡ Some found → (o : Option Value) → value_of_constant (named_tree_of r.module_read) found.ordinal ≡ o → ⊥
+  at_value : (found : named.Named) → name_at_offset r.module_read offset ≡ Some found → (o : Option Value) → value_of_constant (named_tree_of r.module_read) found.ordinal ≡ o → ⊥
   at_value found e None q =
       no_name (λ n h. ap (value_of_constant (named_tree_of r.module_read)) (sym (same_ordinal_named found n.token n.ordinal (sym e ∙ h))) ∙ q)
   at_value found e (Some w) q =
@@ -145,7 +145,7 @@ module _ (alone : ConstantUsesAreFactors) (keeps : InliningEverywhereKeepsTyping
       let constant : IsConstant r.module_read c = record { has_value = has; begins = begins_at r is found.ordinal (scalar_value v.0) has; ends = ends_at r is found.ordinal (scalar_value v.0) has } in
       cases c (record { token = found.token; named = e; is_constant = constant }) (subst IsScalar (sym v.1) scalar_w) _ _ _ _ refl refl refl refl
 
-  at_name : (o : Option named.Named) → name_on r.module_read offset ≡ o → ⊥
+  at_name : (o : Option named.Named) → name_at_offset r.module_read offset ≡ o → ⊥
   at_name None e = no_name (λ n h. absurd (none_some n (sym e ∙ h)))
   at_name (Some found) e = at_value found e (value_of_constant (named_tree_of r.module_read) found.ordinal) refl
 
@@ -159,4 +159,4 @@ inlining_everywhere_has_answers alone keeps each position unit text none = none 
         let offset = position_offset unit text position in
         at_name alone keeps unit text found.0 found.1 offset (λ refused. none [] (inr (inl refused, refl)))
         (λ edits inlines. none (replacements edits.items) (inl (edits.items, (edits, inlines, refl), refl)))
-        (name_on found.0.module_read offset) refl
+        (name_at_offset found.0.module_read offset) refl

@@ -15,12 +15,12 @@ use Rattle.ob0_tree.specs.ParsedModule.{named_tree_of, tree_of}
 use Rattle.ob0_tree.specs.Tree.{Tree, module_text, nesting}
 use Rattle.ob0_tree_values.proofs.TreeValues.{vec_of}
 use Rattle.ob0_edits_tokens.specs.Changed.{changes_at, changed_words, words_of}
-use Rattle.ob0_edits_tokens.specs.Replaced.{LeavesWords, edit_at, parts, text_after_replacement}
+use Rattle.ob0_edits_tokens.specs.Replaced.{LeavesWords, edit_at, range_and_text, text_after_replacement}
 use Rattle.ob0_edits_tokens.proofs.Made.{leaves_words}
 use Rattle.ob0_language_names.specs.Names.{Name}
 use Rattle.ob0_scope_table.specs.Resolution.{Resolution}
 use Rattle.ob0_scope.specs.declared.naming.Named as named
-use Rattle.ob0_scope.specs.NamesAtPlaces.{name_on}
+use Rattle.ob0_scope.specs.NamesAtPlaces.{name_at_offset}
 use Rattle.ob0_language_types.specs.ConstantValues.{value_of_constant}
 use Rattle.ob0_language_types.specs.EditLaws.{ConstantUsesAreFactors, IsScalar}
 use Rattle.ob0_language_types.specs.WellTyped.{WellTyped}
@@ -28,19 +28,19 @@ use Rattle.ob0_language_runs.specs.EditLaws.{InliningKeepsTypingAndRuns, HaveSam
 use Rattle.ob0_language_values.specs.declared.scalar.Scalar.{Scalar}
 use Rattle.ob0_language_values.specs.Scalars.{scalar_value}
 use Rattle.ob0_language_values.specs.Values.{Value}
-use Rattle.ob0_analysis.specs.Analysed.{IsModuleIn}
+use Rattle.ob0_analysis.specs.Analysed.{IsResolvedWellTypedModule}
 use Rattle.ob0_analysis.specs.Diagnosed.{IsTextOf}
 use Rattle.ob0_analysis.specs.Texts.{utf8}
 use Rattle.ob0_analysis.proofs.Scanning.{is_module, utf8_of}
 use Rattle.ob0_inline.specs.declared.uses.ConstantUse.{ConstantUse}
-use Rattle.ob0_inline.specs.Inlined.{LeavesModule}
+use Rattle.ob0_inline.specs.Inlined.{EditsGiveModule}
 use Rattle.ob0_inline.specs.Uses.{AnswersInlineHere, IsUse, IsUseAt, tree_inlined_here, is_predeclared_truth, refusal_here}
 use Rattle.ob0_inline.specs.Values.{value_text, value_words}
 use Rattle.ob0_inline.proofs.AtUses.{Made, answer_ok, are_names, here_spelled, no_use, use_found, use_is}
 use Rattle.ob0_inline.proofs.ModuleTexts.{leaves_module}
 use Rattle.ob0_edits.specs.declared.inlinings.Inlining.{Inlining}
-use Rattle.ob0_edits.specs.declared.inlinings.Inlining.TheVariants.{Here}
-use Rattle.ob0_edits.specs.Inlinings.{IsInlineResult, InlinesIn, IsNotInlinedIn}
+use Rattle.ob0_edits.specs.declared.inlinings.Inlining.TheVariants.{OneUse}
+use Rattle.ob0_edits.specs.Inlinings.{IsInlineResult, InlinesIn, IsInliningRefusedIn}
 use Rattle.ob0_world_rules.specs.Answers.{position_offset}
 use Rattle.ob0_world_rules.specs.Edited.{replacements}
 use Rattle.ob0_world_rules.specs.Language.{WellTypedText}
@@ -52,12 +52,12 @@ use Rattle.ob0_inline_answers.proofs.EditValues.{edit_value, values_are}
 
 -- ---- a text and its module
 
-module _ (unit : Unit) (text : List ℕ) (r : Resolution) (module_in : IsModuleIn (utf8 text) r) where
+module _ (unit : Unit) (text : List ℕ) (r : Resolution) (module_in : IsResolvedWellTypedModule (utf8 text) r) where
   pub held : text ≡ chars r.module_read.source.text
   held = chars_from_encodes text r.module_read.source.text module_in.scan.scan.utf8 (sym module_in.scan.of)
 
   -- Edits that leave the text of a module with the same runs inline the constant.
-  pub inlines_in : (how : Inlining) (offset : ℕ) (edits : Vec Edit Global) (t : Tree Name module_text) → LeavesModule unit text edits.items t → WellTyped t → HaveSameRuns t (named_tree_of r.module_read)
+  pub inlines_in : (how : Inlining) (offset : ℕ) (edits : Vec Edit Global) (t : Tree Name module_text) → EditsGiveModule unit text edits.items t → WellTyped t → HaveSameRuns t (named_tree_of r.module_read)
       → IsInlineResult how unit text r.module_read offset (Some edits) → InlinesIn how unit text offset edits
   inlines_in how offset edits t leaves well same inlines =
       let after : List ℕ = chars leaves.after.text in
@@ -73,7 +73,7 @@ module _ (unit : Unit) (text : List ℕ) (r : Resolution) (module_in : IsModuleI
         runs = record { old = is_module (utf8 text) r module_in; new = record { tree = t; text_of = text_of; well_typed = well }; same = same };
       }
 
-  pub not_inlined : (how : Inlining) (offset : ℕ) → IsInlineResult how unit text r.module_read offset None → IsNotInlinedIn how unit text offset
+  pub not_inlined : (how : Inlining) (offset : ℕ) → IsInlineResult how unit text r.module_read offset None → IsInliningRefusedIn how unit text offset
   not_inlined how offset refused = record {
     module_read = r.module_read;
     read = record { scan = module_in.scan; parsed = module_in.well_typed.resolved.parsed; well_typed = module_in.well_typed.well_typed };
@@ -88,7 +88,7 @@ same_ordinal_named found token ordinal e = ap (λ (o : Option named.Named). (eli
 
 -- ---- the edit at a use
 
-module _ (unit : Unit) (text : List ℕ) (r : Resolution) (module_in : IsModuleIn (utf8 text) r) (u : ConstantUse) (use_so : IsUse r.module_read u) (w : IsWritable u.value) where
+module _ (unit : Unit) (text : List ℕ) (r : Resolution) (module_in : IsResolvedWellTypedModule (utf8 text) r) (u : ConstantUse) (use_so : IsUse r.module_read u) (w : IsWritable u.value) where
   abbrev s : TextWithTokens
   s = r.module_read.source
 
@@ -98,7 +98,7 @@ module _ (unit : Unit) (text : List ℕ) (r : Resolution) (module_in : IsModuleI
   abbrev here_words : List Word
   here_words = changed_words (changes_at (u.token ∷ []) (value_words u.value)) 0 (words_of s)
 
-  here_are : map parts here_edits ≡ map (edit_at unit text s.tokens (value_text u.value)) (u.token ∷ [])
+  here_are : map range_and_text here_edits ≡ map (edit_at unit text s.tokens (value_text u.value)) (u.token ∷ [])
   here_are = values_are unit text s.tokens (value_text u.value) w.utf8 w.short (u.token ∷ [])
 
   here_leave : length (text_after_replacement s (u.token ∷ []) (value_text u.value)) ≤ max_text → LeavesWords unit text here_edits here_words
@@ -106,7 +106,7 @@ module _ (unit : Unit) (text : List ℕ) (r : Resolution) (module_in : IsModuleI
       let held_so = held unit text r module_in in
       subst (λ t. LeavesWords unit t here_edits here_words) (sym held_so)
       (leaves_words unit s module_in.scan.scan (value_text u.value) (value_words u.value) w.replaces w.utf8 (u.token ∷ []) (are_names r module_in.well_typed.resolved u use_so) here_edits
-      (subst (λ t. map parts here_edits ≡ map (edit_at unit t s.tokens (value_text u.value)) (u.token ∷ [])) held_so here_are) short)
+      (subst (λ t. map range_and_text here_edits ≡ map (edit_at unit t s.tokens (value_text u.value)) (u.token ∷ [])) held_so here_are) short)
 
   pub here_made : length (text_after_replacement s (u.token ∷ []) (value_text u.value)) ≤ max_text → nesting (tree_inlined_here r.module_read u) ≤ 100 → Made r u unit text here_edits
   here_made short low = record {
@@ -119,10 +119,10 @@ module _ (unit : Unit) (text : List ℕ) (r : Resolution) (module_in : IsModuleI
 
 -- ---- the cases
 
-module _ (alone : ConstantUsesAreFactors) (keeps : InliningKeepsTypingAndRuns) (unit : Unit) (text : List ℕ) (r : Resolution) (module_in : IsModuleIn (utf8 text) r) (offset : ℕ)
-    (refused : IsNotInlinedIn Here unit text offset → ⊥) (given : (edits : Vec Edit Global) → InlinesIn Here unit text offset edits → ⊥) where
+module _ (alone : ConstantUsesAreFactors) (keeps : InliningKeepsTypingAndRuns) (unit : Unit) (text : List ℕ) (r : Resolution) (module_in : IsResolvedWellTypedModule (utf8 text) r) (offset : ℕ)
+    (refused : IsInliningRefusedIn OneUse unit text offset → ⊥) (given : (edits : Vec Edit Global) → InlinesIn OneUse unit text offset edits → ⊥) where
   refuse : (refusal : EditRefusal) → (refusal ≡ Memory → ⊥) → AnswersInlineHere unit text r.module_read offset (Err refusal) → ⊥
-  refuse refusal other h = refused (not_inlined unit text r module_in Here offset (refusal, other, h))
+  refuse refusal other h = refused (not_inlined unit text r module_in OneUse offset (refusal, other, h))
 
   no_name : ((u : ConstantUse) → IsUseAt r.module_read offset u → ⊥) → ⊥
   no_name nowhere = refuse NoName (λ e. cc) (inr (refl, nowhere))
@@ -157,16 +157,16 @@ module _ (alone : ConstantUsesAreFactors) (keeps : InliningKeepsTypingAndRuns) (
         let made = here_made unit text r module_in u use_so w (ltb-false max_text long e) (ltb-false 100 deep f) in
         let edits : Vec Edit Global = vec_of (here_edits unit text r module_in u use_so w) (omega arith) in
         let answer = answer_ok r well u use_so alone scalar_so keeps unit text (here_edits unit text r module_in u use_so w) made g in
-        given edits (inlines_in unit text r module_in Here offset edits (tree_inlined_here r.module_read u) answer.1.leaves answer.1.well_typed answer.1.same_runs (inl (u, at, answer)))
+        given edits (inlines_in unit text r module_in OneUse offset edits (tree_inlined_here r.module_read u) answer.1.leaves answer.1.well_typed answer.1.same_runs (inl (u, at, answer)))
 
-  at_scalar : (found : named.Named) → name_on r.module_read offset ≡ Some found → (v : Scalar) → IsScalar (scalar_value v) → value_of_constant (named_tree_of r.module_read) found.ordinal ≡ Some (scalar_value v)
+  at_scalar : (found : named.Named) → name_at_offset r.module_read offset ≡ Some found → (v : Scalar) → IsScalar (scalar_value v) → value_of_constant (named_tree_of r.module_read) found.ordinal ≡ Some (scalar_value v)
       → (o : Option ℕ) → position_from (λ i. i == found.token) 0 r.uses ≡ o → ⊥
   at_scalar found e v scalar_so has None q = no_name (no_use r module_in.well_typed offset found (sym e) q)
   at_scalar found e v scalar_so has (Some k) q =
       let u : ConstantUse = record { token = found.token; occurrence = k; constant = found.ordinal; value = v } in
       cases u (use_found r module_in.well_typed offset found k v (sym e) q (sym has)) scalar_so _ _ _ refl refl refl
 
-  at_value : (found : named.Named) → name_on r.module_read offset ≡ Some found → (o : Option Value) → value_of_constant (named_tree_of r.module_read) found.ordinal ≡ o → ⊥
+  at_value : (found : named.Named) → name_at_offset r.module_read offset ≡ Some found → (o : Option Value) → value_of_constant (named_tree_of r.module_read) found.ordinal ≡ o → ⊥
   at_value found e None q =
       no_name (λ u at. none_some (scalar_value u.value) (sym q ∙ (ap (value_of_constant (named_tree_of r.module_read)) (same_ordinal_named found u.token u.constant (sym e ∙ at.named)) ∙ at.has_value)))
   at_value found e (Some w) q =
@@ -174,7 +174,7 @@ module _ (alone : ConstantUsesAreFactors) (keeps : InliningKeepsTypingAndRuns) (
       let v = scalar_of w scalar_w in
       at_scalar found e v.0 (subst IsScalar (sym v.1) scalar_w) (q ∙ ap Some (sym v.1)) (position_from (λ i. i == found.token) 0 r.uses) refl
 
-  at_name : (o : Option named.Named) → name_on r.module_read offset ≡ o → ⊥
+  at_name : (o : Option named.Named) → name_at_offset r.module_read offset ≡ o → ⊥
   at_name None e = no_name (λ u at. none_some (let n : named.Named = record { token = u.token; ordinal = u.constant } in n) (sym e ∙ at.named))
   at_name (Some found) e = at_value found e (value_of_constant (named_tree_of r.module_read) found.ordinal) refl
 
@@ -188,4 +188,4 @@ inlining_here_has_answers alone keeps each position unit text none = none [] (in
         let offset = position_offset unit text position in
         at_name alone keeps unit text found.0 found.1 offset (λ refused. none [] (inr (inl refused, refl)))
         (λ edits inlines. none (replacements edits.items) (inl (edits.items, (edits, inlines, refl), refl)))
-        (name_on found.0.module_read offset) refl
+        (name_at_offset found.0.module_read offset) refl

@@ -5,9 +5,9 @@ use Rattle.ob0_tree.specs.ParsedModule.{ParsedModule, named_tree_of}
 use Rattle.ob0_language_types.specs.WellTyped.{WellTyped}
 use Rattle.ob0_scope_table.specs.Resolution.{Resolution}
 use Rattle.ob0_module_values.proofs.ModuleValues.{resolution_of}
-use Rattle.ob0_analysis.specs.Analysed.{IsModuleIn, IsReadAs}
+use Rattle.ob0_analysis.specs.Analysed.{IsResolvedWellTypedModule, IsParsedWellTypedModule}
 
-pub named_module : (text : List ℕ) (m : ParsedModule) → IsReadAs text m → (r : Resolution) × IsModuleIn text r
+pub named_module : (text : List ℕ) (m : ParsedModule) → IsParsedWellTypedModule text m → (r : Resolution) × IsResolvedWellTypedModule text r
 named_module text m read =
     let made = resolution_of m read.parsed in (
       made.0,

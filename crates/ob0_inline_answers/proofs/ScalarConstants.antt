@@ -13,43 +13,43 @@ use Rattle.ob0_tree.specs.declared.tree.AddOperator.{AddOperator}
 use Rattle.ob0_tree.specs.declared.tree.AddOperator.TheVariants as add_operator
 use Rattle.ob0_tree.specs.declared.tree.MultiplyOperator.{MultiplyOperator}
 use Rattle.ob0_tree.specs.declared.tree.MultiplyOperator.TheVariants as multiply_operator
-use Rattle.ob0_tree.specs.Places.{text_at, value_at}
-use Rattle.ob0_tree.specs.Tree.{Tree, addend, adds, block, compares, constant, constants, declares, declares_constant, declares_constants, declares_procedure, designator, end, expression, factor, has_body, integer, is_module, item, items, mapped, maybe, module_text, more, multiplier, multiplies, negation, none, one, parenthesised, procedure, product, relates, simple, sum, term}
+use Rattle.ob0_tree.specs.Places.{token_text_at, token_value_at}
+use Rattle.ob0_tree.specs.Tree.{Tree, addend, adds, block, compares, constant, constants, declares, declares_constant, declares_constants, declares_procedure, designator, end, expression, factor, forms_block, integer, is_module, item, items, mapped_tree, maybe, module_text, more, multiplier, multiplies, negation, none, one, parenthesised, procedure, product, relates, simple, sum, term}
 use Rattle.ob0_language_names.specs.Names.{Name, naming_by_spelling, same_name}
 use Rattle.ob0_language_names.specs.Parts.{formal_names, formal_sections, declared_type_names, procedure_name, section_constants, section_types, section_variables, variable_names}
 use Rattle.ob0_language_names.specs.Scopes.{ordinal_after_names, ordinal_after_procedure, first_procedure_ordinal, first_type_ordinal}
 use Rattle.ob0_language_values.specs.declared.scalar.Scalar.{Scalar}
 use Rattle.ob0_language_values.specs.declared.scalar.Scalar.TheVariants as scalar
 use Rattle.ob0_language_values.specs.Scalars.{scalar_value}
-use Rattle.ob0_language_values.specs.Values.{Outcome, Overflow, Place, Step, Value, add, add_short_circuits, apply_sign, at_field, at_index, value_at_path, checked_division, division_outcome, elements, ends, fits, gives, checked_number, members, multiply, multiply_short_circuits, negate, number, or_stuck, quotient, relate, remainder, truth, ◌>>=◌}
-use Rattle.ob0_language_types.specs.ConstantValues.{ConstantEnvironment, non_constant, predeclared_constants, value_among, value_in_block, value_in_procedure, value_in_procedures, value_of_constant}
+use Rattle.ob0_language_values.specs.Values.{Outcome, Overflow, Place, Step, Value, add, add_short_circuits, apply_sign, at_field, at_index, value_at_path, checked_division, division_outcome, elements, ends_run_with, fits_in_32_bits, succeeds_with, checked_number, members, multiply, multiply_short_circuits, negate, number, or_stuck, quotient, apply_relation, remainder, truth, ◌>>=◌}
+use Rattle.ob0_language_types.specs.ConstantValues.{ConstantEnvironment, non_constant, predeclared_constants, value_in_constants, value_in_block, value_in_procedure, value_in_procedures, value_of_constant}
 use Rattle.ob0_language_types.specs.Declarations.{declare_constants}
 use Rattle.ob0_language_types.specs.EditLaws.{IsScalar}
 use Rattle.ob0_language_types.specs.Environments.{environment_from_binding, meanings, newest_object}
-use Rattle.ob0_language_types.specs.Expressions.{Meanings, Object, a_constant, a_procedure, a_standard, a_type, a_variable, evaluate, evaluate_addends, evaluate_factor, evaluate_multipliers, evaluate_simple, evaluate_term, follow, object_value}
+use Rattle.ob0_language_types.specs.Expressions.{Meanings, Object, a_constant, a_procedure, a_standard, a_type, a_variable, evaluate, evaluate_addends, evaluate_factor, evaluate_multipliers, evaluate_simple, evaluate_term, evaluate_selectors, object_value}
 use Rattle.ob0_language_types.specs.Typing.{constant_of, constant_value, constant_meanings, outcome_value, type_of}
 use Rattle.ob0_language_types.specs.WellTyped.{bind_names}
 use Rattle.ob0_language_types.proofs.Literals.{some_inverse}
 use Rattle.ob0_language_types.proofs.TypedElsewhere.{then_some}
-use Rattle.ob0_types_table.proofs.TokenNumbers.{small_number, value_at-past, value_at-read}
+use Rattle.ob0_types_table.proofs.TokenNumbers.{small_number, token_value_at-past, token_value_at-read}
 
 -- ---- operators
 
 -- holds if an evaluation gives a scalar, or ends the run
 abbrev GivesScalar : Outcome Value → Type 0
-GivesScalar (gives v) = IsScalar v
-GivesScalar (ends e) = Unit {0}
+GivesScalar (succeeds_with v) = IsScalar v
+GivesScalar (ends_run_with e) = Unit {0}
 
 scalar-then : (o : Outcome Value) (next : Value → Outcome Value) → GivesScalar o → ((v : Value) → IsScalar v → GivesScalar (next v)) → GivesScalar (o >>= next)
-scalar-then (gives v) next h each = each v h
-scalar-then (ends e) next h each = tt
+scalar-then (succeeds_with v) next h each = each v h
+scalar-then (ends_run_with e) next h each = tt
 
 any-then : {A : Type 0} (o : Outcome A) (next : A → Outcome Value) → ((a : A) → GivesScalar (next a)) → GivesScalar (o >>= next)
-any-then (gives a) next each = each a
-any-then (ends e) next each = tt
+any-then (succeeds_with a) next each = each a
+any-then (ends_run_with e) next each = tt
 
 checked_number-scalar : (n : ℤ) → GivesScalar (checked_number n)
-checked_number-scalar n = (elim (fits n) as (λ b. fits n ≡ b → GivesScalar (if b then gives (number n) else ends Overflow)) [ true ↦ λ e. e | false ↦ λ e. tt ]) refl
+checked_number-scalar n = (elim (fits_in_32_bits n) as (λ b. fits_in_32_bits n ≡ b → GivesScalar (if b then succeeds_with (number n) else ends_run_with Overflow)) [ true ↦ λ e. e | false ↦ λ e. tt ]) refl
 
 checked_division-scalar : (result : Option ℤ) → GivesScalar (division_outcome result)
 checked_division-scalar None = tt
@@ -68,11 +68,11 @@ multiply-scalar multiply_operator.Modulo (number a) (number b) = checked_divisio
 multiply-scalar multiply_operator.And (truth a) (truth b) = tt
 multiply-scalar _ _ _ = tt
 
-relate-scalar : (r : Relation) (v w : Value) → GivesScalar (relate r v w)
-relate-scalar r (number a) (number b) = tt
-relate-scalar relation.Equal (truth a) (truth b) = tt
-relate-scalar relation.NotEqual (truth a) (truth b) = tt
-relate-scalar _ _ _ = tt
+apply_relation-scalar : (r : Relation) (v w : Value) → GivesScalar (apply_relation r v w)
+apply_relation-scalar r (number a) (number b) = tt
+apply_relation-scalar relation.Equal (truth a) (truth b) = tt
+apply_relation-scalar relation.NotEqual (truth a) (truth b) = tt
+apply_relation-scalar _ _ _ = tt
 
 sign-scalar : (s : Option Sign) (v : Value) → IsScalar v → GivesScalar (apply_sign s v)
 sign-scalar None v h = h
@@ -84,7 +84,7 @@ negate-scalar : (v : Value) → GivesScalar (negate v)
 negate-scalar (truth b) = tt
 negate-scalar _ = tt
 
-settled-scalar : (b : Bool) (x : Value) (o : Outcome Value) → IsScalar x → GivesScalar o → GivesScalar (elim b [ true ↦ gives x | false ↦ o ])
+settled-scalar : (b : Bool) (x : Value) (o : Outcome Value) → IsScalar x → GivesScalar o → GivesScalar (elim b [ true ↦ succeeds_with x | false ↦ o ])
 settled-scalar true x o h k = h
 settled-scalar false x o h k = k
 
@@ -125,42 +125,42 @@ module _ (f : ℕ → Name) (g : ℕ → ℕ) (small : (i : ℕ) → g i ≤ 214
     mutual
       unfolding evaluate
 
-      expression-scalar : (e : Tree ℕ expression) → GivesScalar (evaluate meaning [] (mapped f g e))
+      expression-scalar : (e : Tree ℕ expression) → GivesScalar (evaluate meaning [] (mapped_tree f g e))
       expression-scalar (compares a none) = simple-scalar a
       expression-scalar (compares a (one (relates r b))) =
-          scalar-then (evaluate_simple meaning [] (mapped f g a)) (λ x. evaluate_simple meaning [] (mapped f g b) >>= relate r x) (simple-scalar a)
-          (λ x h. scalar-then (evaluate_simple meaning [] (mapped f g b)) (relate r x) (simple-scalar b) (λ y k. relate-scalar r x y))
+          scalar-then (evaluate_simple meaning [] (mapped_tree f g a)) (λ x. evaluate_simple meaning [] (mapped_tree f g b) >>= apply_relation r x) (simple-scalar a)
+          (λ x h. scalar-then (evaluate_simple meaning [] (mapped_tree f g b)) (apply_relation r x) (simple-scalar b) (λ y k. apply_relation-scalar r x y))
 
-      simple-scalar : (a : Tree ℕ simple) → GivesScalar (evaluate_simple meaning [] (mapped f g a))
+      simple-scalar : (a : Tree ℕ simple) → GivesScalar (evaluate_simple meaning [] (mapped_tree f g a))
       simple-scalar (sum s t rest) =
-          scalar-then (evaluate_term meaning [] (mapped f g t)) (λ x. apply_sign s x >>= (λ y. evaluate_addends meaning [] y (mapped f g rest))) (term-scalar t)
-          (λ x h. scalar-then (apply_sign s x) (λ y. evaluate_addends meaning [] y (mapped f g rest)) (sign-scalar s x h) (λ y k. addends-scalar y k rest))
+          scalar-then (evaluate_term meaning [] (mapped_tree f g t)) (λ x. apply_sign s x >>= (λ y. evaluate_addends meaning [] y (mapped_tree f g rest))) (term-scalar t)
+          (λ x h. scalar-then (apply_sign s x) (λ y. evaluate_addends meaning [] y (mapped_tree f g rest)) (sign-scalar s x h) (λ y k. addends-scalar y k rest))
 
-      addends-scalar : (x : Value) → IsScalar x → (a : Tree ℕ (items addend)) → GivesScalar (evaluate_addends meaning [] x (mapped f g a))
+      addends-scalar : (x : Value) → IsScalar x → (a : Tree ℕ (items addend)) → GivesScalar (evaluate_addends meaning [] x (mapped_tree f g a))
       addends-scalar x h end = h
       addends-scalar x h (more (adds o t) rest) =
-          scalar-then (elim (add_short_circuits o x) [ true ↦ gives x | false ↦ evaluate_term meaning [] (mapped f g t) >>= add o x ]) (λ y. evaluate_addends meaning [] y (mapped f g rest))
-          (settled-scalar (add_short_circuits o x) x (evaluate_term meaning [] (mapped f g t) >>= add o x) h (scalar-then (evaluate_term meaning [] (mapped f g t)) (add o x) (term-scalar t) (λ y k. add-scalar o x y)))
+          scalar-then (elim (add_short_circuits o x) [ true ↦ succeeds_with x | false ↦ evaluate_term meaning [] (mapped_tree f g t) >>= add o x ]) (λ y. evaluate_addends meaning [] y (mapped_tree f g rest))
+          (settled-scalar (add_short_circuits o x) x (evaluate_term meaning [] (mapped_tree f g t) >>= add o x) h (scalar-then (evaluate_term meaning [] (mapped_tree f g t)) (add o x) (term-scalar t) (λ y k. add-scalar o x y)))
           (λ y k. addends-scalar y k rest)
 
-      term-scalar : (t : Tree ℕ term) → GivesScalar (evaluate_term meaning [] (mapped f g t))
+      term-scalar : (t : Tree ℕ term) → GivesScalar (evaluate_term meaning [] (mapped_tree f g t))
       term-scalar (product a rest) =
-          scalar-then (evaluate_factor meaning [] (mapped f g a)) (λ x. evaluate_multipliers meaning [] x (mapped f g rest)) (factor-scalar a) (λ x h. multipliers-scalar x h rest)
+          scalar-then (evaluate_factor meaning [] (mapped_tree f g a)) (λ x. evaluate_multipliers meaning [] x (mapped_tree f g rest)) (factor-scalar a) (λ x h. multipliers-scalar x h rest)
 
-      multipliers-scalar : (x : Value) → IsScalar x → (a : Tree ℕ (items multiplier)) → GivesScalar (evaluate_multipliers meaning [] x (mapped f g a))
+      multipliers-scalar : (x : Value) → IsScalar x → (a : Tree ℕ (items multiplier)) → GivesScalar (evaluate_multipliers meaning [] x (mapped_tree f g a))
       multipliers-scalar x h end = h
       multipliers-scalar x h (more (multiplies o a) rest) =
-          scalar-then (elim (multiply_short_circuits o x) [ true ↦ gives x | false ↦ evaluate_factor meaning [] (mapped f g a) >>= multiply o x ]) (λ y. evaluate_multipliers meaning [] y (mapped f g rest))
-          (settled-scalar (multiply_short_circuits o x) x (evaluate_factor meaning [] (mapped f g a) >>= multiply o x) h (scalar-then (evaluate_factor meaning [] (mapped f g a)) (multiply o x) (factor-scalar a) (λ y k. multiply-scalar o x y)))
+          scalar-then (elim (multiply_short_circuits o x) [ true ↦ succeeds_with x | false ↦ evaluate_factor meaning [] (mapped_tree f g a) >>= multiply o x ]) (λ y. evaluate_multipliers meaning [] y (mapped_tree f g rest))
+          (settled-scalar (multiply_short_circuits o x) x (evaluate_factor meaning [] (mapped_tree f g a) >>= multiply o x) h (scalar-then (evaluate_factor meaning [] (mapped_tree f g a)) (multiply o x) (factor-scalar a) (λ y k. multiply-scalar o x y)))
           (λ y k. multipliers-scalar y k rest)
 
-      factor-scalar : (a : Tree ℕ factor) → GivesScalar (evaluate_factor meaning [] (mapped f g a))
+      factor-scalar : (a : Tree ℕ factor) → GivesScalar (evaluate_factor meaning [] (mapped_tree f g a))
       factor-scalar (designator x path) =
-          scalar-then (object_value [] (meaning.object_for (f x))) (λ v. follow meaning [] v (mapped f g path) >>= (λ steps. or_stuck (value_at_path steps v))) (object-scalar (meaning.object_for (f x)) (known (f x)))
-          (λ v h. any-then (follow meaning [] v (mapped f g path)) (λ steps. or_stuck (value_at_path steps v)) (λ steps. path-scalar steps v h))
+          scalar-then (object_value [] (meaning.object_for (f x))) (λ v. evaluate_selectors meaning [] v (mapped_tree f g path) >>= (λ steps. or_stuck (value_at_path steps v))) (object-scalar (meaning.object_for (f x)) (known (f x)))
+          (λ v h. any-then (evaluate_selectors meaning [] v (mapped_tree f g path)) (λ steps. or_stuck (value_at_path steps v)) (λ steps. path-scalar steps v h))
       factor-scalar (integer n) = small-scalar (g n) (small n)
       factor-scalar (parenthesised e) = expression-scalar e
-      factor-scalar (negation a) = scalar-then (evaluate_factor meaning [] (mapped f g a)) negate (factor-scalar a) (λ v h. negate-scalar v)
+      factor-scalar (negation a) = scalar-then (evaluate_factor meaning [] (mapped_tree f g a)) negate (factor-scalar a) (λ v h. negate-scalar v)
 
   -- ---- declarations
 
@@ -191,41 +191,41 @@ module _ (f : ℕ → Name) (g : ℕ → ℕ) (small : (i : ℕ) → g i ≤ 214
       [ true ↦ only-scalar b.1 h.0 | false ↦ looked-up known h.1 x ]
 
   given-scalar : (o : Outcome Value) (v : Value) → GivesScalar o → outcome_value o ≡ Some v → IsScalar v
-  given-scalar (gives w) v h e = subst IsScalar (some_inverse e) h
-  given-scalar (ends x) v h e = absurd (cc)
+  given-scalar (succeeds_with w) v h e = subst IsScalar (some_inverse e) h
+  given-scalar (ends_run_with x) v h e = absurd (cc)
 
-  constant-scalar : (known : ConstantEnvironment) → AllScalar known → (e : Tree ℕ expression) (v : Value) → constant_value (meanings naming_by_spelling known) (mapped f g e) ≡ Some v → IsScalar v
+  constant-scalar : (known : ConstantEnvironment) → AllScalar known → (e : Tree ℕ expression) (v : Value) → constant_value (meanings naming_by_spelling known) (mapped_tree f g e) ≡ Some v → IsScalar v
   unfolding constant_value
   constant-scalar known h e v q =
       let meaning : Meanings Name Place (Unit {0}) = constant_meanings (meanings naming_by_spelling known) in
-      let found = then_some (type_of {P = Unit {0}} (constant_meanings (meanings naming_by_spelling known)) (mapped f g e)) (λ s. outcome_value (evaluate {P = Unit {0}} (constant_meanings (meanings naming_by_spelling known)) [] (mapped f g e))) v q in
-      given-scalar (evaluate meaning [] (mapped f g e)) v (expression-scalar meaning (looked-up known h) e) found.2
+      let found = then_some (type_of {P = Unit {0}} (constant_meanings (meanings naming_by_spelling known)) (mapped_tree f g e)) (λ s. outcome_value (evaluate {P = Unit {0}} (constant_meanings (meanings naming_by_spelling known)) [] (mapped_tree f g e))) v q in
+      given-scalar (evaluate meaning [] (mapped_tree f g e)) v (expression-scalar meaning (looked-up known h) e) found.2
 
   bound-scalar : (xs : List Name) (known : ConstantEnvironment) → AllScalar known → AllScalar (bind_names xs non_constant known)
   bound-scalar [] known h = h
   bound-scalar (x ∷ xs) known h = bound-scalar xs ((x, non_constant) ∷ known) (tt, h)
 
-  declared-scalar : (cs : Tree ℕ (items constant)) (known inner : ConstantEnvironment) → AllScalar known → declare_constants naming_by_spelling known (mapped f g cs) ≡ Some inner → AllScalar inner
+  declared-scalar : (cs : Tree ℕ (items constant)) (known inner : ConstantEnvironment) → AllScalar known → declare_constants naming_by_spelling known (mapped_tree f g cs) ≡ Some inner → AllScalar inner
   unfolding declare_constants
   declared-scalar end known inner h q = subst AllScalar (some_inverse q) h
   declared-scalar (more (declares_constant x e) cs) known inner h q =
-      let found = then_some (constant_value (meanings naming_by_spelling known) (mapped f g e)) (λ v. declare_constants naming_by_spelling ((f x, a_constant v) ∷ known) (mapped f g cs)) inner q in
+      let found = then_some (constant_value (meanings naming_by_spelling known) (mapped_tree f g e)) (λ v. declare_constants naming_by_spelling ((f x, a_constant v) ∷ known) (mapped_tree f g cs)) inner q in
       declared-scalar cs ((f x, a_constant found.0) ∷ known) inner (constant-scalar known h e found.0 found.1, h) found.2
 
-  among-scalar : (cs : Tree ℕ (items constant)) (known : ConstantEnvironment) (d k : ℕ) (w : Value) → AllScalar known → value_among known d k (mapped f g cs) ≡ Some w → IsScalar w
-  unfolding value_among
+  among-scalar : (cs : Tree ℕ (items constant)) (known : ConstantEnvironment) (d k : ℕ) (w : Value) → AllScalar known → value_in_constants known d k (mapped_tree f g cs) ≡ Some w → IsScalar w
+  unfolding value_in_constants
   among-scalar end known d k w h q = absurd (cc)
   among-scalar (more (declares_constant x e) cs) known d k w h q =
-      let found = then_some (constant_value (meanings naming_by_spelling known) (mapped f g e)) (λ v. if k == d then Some v else value_among ((f x, a_constant v) ∷ known) d (suc k) (mapped f g cs)) w q in
+      let found = then_some (constant_value (meanings naming_by_spelling known) (mapped_tree f g e)) (λ v. if k == d then Some v else value_in_constants ((f x, a_constant v) ∷ known) d (suc k) (mapped_tree f g cs)) w q in
       let scalar_so = constant-scalar known h e found.0 found.1 in
-      (elim (k == d) as (λ b. (if b then Some found.0 else value_among ((f x, a_constant found.0) ∷ known) d (suc k) (mapped f g cs)) ≡ Some w → IsScalar w)
+      (elim (k == d) as (λ b. (if b then Some found.0 else value_in_constants ((f x, a_constant found.0) ∷ known) d (suc k) (mapped_tree f g cs)) ≡ Some w → IsScalar w)
       [ true ↦ λ e. subst IsScalar (some_inverse e) scalar_so | false ↦ λ e. among-scalar cs ((f x, a_constant found.0) ∷ known) d (suc k) w (scalar_so, h) e ]) found.2
 
-  section-scalar : (cs : Tree ℕ (maybe constants)) (known : ConstantEnvironment) (d k : ℕ) (w : Value) → AllScalar known → value_among known d k (section_constants (mapped f g cs)) ≡ Some w → IsScalar w
+  section-scalar : (cs : Tree ℕ (maybe constants)) (known : ConstantEnvironment) (d k : ℕ) (w : Value) → AllScalar known → value_in_constants known d k (section_constants (mapped_tree f g cs)) ≡ Some w → IsScalar w
   section-scalar none known d k w h q = among-scalar end known d k w h q
   section-scalar (one (declares_constants cs)) known d k w h q = among-scalar cs known d k w h q
 
-  section-declared : (cs : Tree ℕ (maybe constants)) (known inner : ConstantEnvironment) → AllScalar known → declare_constants naming_by_spelling known (section_constants (mapped f g cs)) ≡ Some inner → AllScalar inner
+  section-declared : (cs : Tree ℕ (maybe constants)) (known inner : ConstantEnvironment) → AllScalar known → declare_constants naming_by_spelling known (section_constants (mapped_tree f g cs)) ≡ Some inner → AllScalar inner
   section-declared none known inner h q = declared-scalar end known inner h q
   section-declared (one (declares_constants cs)) known inner h q = declared-scalar cs known inner h q
 
@@ -239,54 +239,54 @@ module _ (f : ℕ → Name) (g : ℕ → ℕ) (small : (i : ℕ) → g i ≤ 214
   mutual
     unfolding value_in_block
 
-    block-scalar : (b : Tree ℕ block) (known : ConstantEnvironment) (d k : ℕ) (w : Value) → AllScalar known → value_in_block known d k (mapped f g b) ≡ Some w → IsScalar w
-    block-scalar (has_body (declares cs ts vs ps) statements) known d k w h q =
-        let whole = mapped f g (has_body (declares cs ts vs ps) statements) in
-        let more_names = declared_type_names (section_types (mapped f g ts)) ++ variable_names (section_variables (mapped f g vs)) in
-        let others = option_and_then (λ inner. value_in_procedures (bind_names more_names non_constant inner) d (first_procedure_ordinal k whole) (mapped f g ps)) (declare_constants naming_by_spelling known (section_constants (mapped f g cs))) in
-        chosen (nat_lt d (first_type_ordinal k whole)) (value_among known d k (section_constants (mapped f g cs))) (if nat_lt d (first_procedure_ordinal k whole) then None else others) IsScalar w
+    block-scalar : (b : Tree ℕ block) (known : ConstantEnvironment) (d k : ℕ) (w : Value) → AllScalar known → value_in_block known d k (mapped_tree f g b) ≡ Some w → IsScalar w
+    block-scalar (forms_block (declares cs ts vs ps) statements) known d k w h q =
+        let whole = mapped_tree f g (forms_block (declares cs ts vs ps) statements) in
+        let more_names = declared_type_names (section_types (mapped_tree f g ts)) ++ variable_names (section_variables (mapped_tree f g vs)) in
+        let others = option_and_then (λ inner. value_in_procedures (bind_names more_names non_constant inner) d (first_procedure_ordinal k whole) (mapped_tree f g ps)) (declare_constants naming_by_spelling known (section_constants (mapped_tree f g cs))) in
+        chosen (nat_lt d (first_type_ordinal k whole)) (value_in_constants known d k (section_constants (mapped_tree f g cs))) (if nat_lt d (first_procedure_ordinal k whole) then None else others) IsScalar w
         (λ v e. section-scalar cs known d k v h e)
         (λ v e. chosen (nat_lt d (first_procedure_ordinal k whole)) None others IsScalar v nothing
         (λ u p.
-        let found = then_some (declare_constants naming_by_spelling known (section_constants (mapped f g cs))) (λ inner. value_in_procedures (bind_names more_names non_constant inner) d (first_procedure_ordinal k whole) (mapped f g ps)) u p in
+        let found = then_some (declare_constants naming_by_spelling known (section_constants (mapped_tree f g cs))) (λ inner. value_in_procedures (bind_names more_names non_constant inner) d (first_procedure_ordinal k whole) (mapped_tree f g ps)) u p in
         procedures-scalar ps (bind_names more_names non_constant found.0) d (first_procedure_ordinal k whole) u (bound-scalar more_names found.0 (section-declared cs known found.0 h found.1)) found.2)
         e) q
 
-    procedures-scalar : (ps : Tree ℕ (items procedure)) (known : ConstantEnvironment) (d k : ℕ) (w : Value) → AllScalar known → value_in_procedures known d k (mapped f g ps) ≡ Some w → IsScalar w
+    procedures-scalar : (ps : Tree ℕ (items procedure)) (known : ConstantEnvironment) (d k : ℕ) (w : Value) → AllScalar known → value_in_procedures known d k (mapped_tree f g ps) ≡ Some w → IsScalar w
     procedures-scalar end known d k w h q = absurd (cc)
     procedures-scalar (more p rest) known d k w h q =
-        let inner : ConstantEnvironment = (procedure_name (mapped f g p), non_constant) ∷ known in
-        chosen (nat_lt d (ordinal_after_procedure (suc k) (mapped f g p))) (value_in_procedure inner d (suc k) (mapped f g p)) (value_in_procedures inner d (ordinal_after_procedure (suc k) (mapped f g p)) (mapped f g rest)) IsScalar w
+        let inner : ConstantEnvironment = (procedure_name (mapped_tree f g p), non_constant) ∷ known in
+        chosen (nat_lt d (ordinal_after_procedure (suc k) (mapped_tree f g p))) (value_in_procedure inner d (suc k) (mapped_tree f g p)) (value_in_procedures inner d (ordinal_after_procedure (suc k) (mapped_tree f g p)) (mapped_tree f g rest)) IsScalar w
         (λ v e. procedure-scalar p inner d (suc k) v (tt, h) e)
-        (λ v e. procedures-scalar rest inner d (ordinal_after_procedure (suc k) (mapped f g p)) v (tt, h) e) q
+        (λ v e. procedures-scalar rest inner d (ordinal_after_procedure (suc k) (mapped_tree f g p)) v (tt, h) e) q
 
-    procedure-scalar : (p : Tree ℕ (item procedure)) (known : ConstantEnvironment) (d k : ℕ) (w : Value) → AllScalar known → value_in_procedure known d k (mapped f g p) ≡ Some w → IsScalar w
+    procedure-scalar : (p : Tree ℕ (item procedure)) (known : ConstantEnvironment) (d k : ℕ) (w : Value) → AllScalar known → value_in_procedure known d k (mapped_tree f g p) ≡ Some w → IsScalar w
     procedure-scalar (declares_procedure x fs b closing) known d k w h q =
-        let ns = formal_names (formal_sections (mapped f g fs)) in
-        chosen (nat_lt d (ordinal_after_names k ns)) None (value_in_block (bind_names ns non_constant known) d (ordinal_after_names k ns) (mapped f g b)) IsScalar w
+        let ns = formal_names (formal_sections (mapped_tree f g fs)) in
+        chosen (nat_lt d (ordinal_after_names k ns)) None (value_in_block (bind_names ns non_constant known) d (ordinal_after_names k ns) (mapped_tree f g b)) IsScalar w
         nothing
         (λ v e. block-scalar b (bind_names ns non_constant known) d (ordinal_after_names k ns) v (bound-scalar ns known h) e) q
 
-  module-scalar : (m : Tree ℕ module_text) (d : ℕ) (w : Value) → value_of_constant (mapped f g m) d ≡ Some w → IsScalar w
+  module-scalar : (m : Tree ℕ module_text) (d : ℕ) (w : Value) → value_of_constant (mapped_tree f g m) d ≡ Some w → IsScalar w
   unfolding value_of_constant
   module-scalar (is_module x b closing) d w q =
-      chosen (nat_lt d 7) None (value_in_block predeclared_constants d 7 (mapped f g b)) IsScalar w nothing
+      chosen (nat_lt d 7) None (value_in_block predeclared_constants d 7 (mapped_tree f g b)) IsScalar w nothing
       (λ v e. block-scalar b predeclared_constants d 7 v (tt, (tt, (tt, (tt, (tt, (tt, (tt, tt))))))) e) q
 
 -- ---- texts
 
-value-small : (s : TextWithTokens) → IsScan s → (i : ℕ) → value_at s i ≤ 2147483647
+value-small : (s : TextWithTokens) → IsScan s → (i : ℕ) → token_value_at s i ≤ 2147483647
 value-small s scan i = go (nat_lt i (length s.tokens)) refl
   where
-    go : (b : Bool) → nat_lt i (length s.tokens) ≡ b → value_at s i ≤ 2147483647
+    go : (b : Bool) → nat_lt i (length s.tokens) ≡ b → token_value_at s i ≤ 2147483647
     go true e =
         let less = ltb-true i (length s.tokens) e in
-        subst (λ n. n ≤ 2147483647) (sym (value_at-read s i (record { kind = token.Identifier; span = record { start = 0; end = 0 } }) less)) (small_number s scan i (record { kind = token.Identifier; span = record { start = 0; end = 0 } }) less)
-    go false e = subst (λ n. n ≤ 2147483647) (sym (value_at-past s i (ltb-false i (length s.tokens) e))) (omega arith)
+        subst (λ n. n ≤ 2147483647) (sym (token_value_at-read s i (record { kind = token.Identifier; span = record { start = 0; end = 0 } }) less)) (small_number s scan i (record { kind = token.Identifier; span = record { start = 0; end = 0 } }) less)
+    go false e = subst (λ n. n ≤ 2147483647) (sym (token_value_at-past s i (ltb-false i (length s.tokens) e))) (omega arith)
 
 -- Each constant of a text has a scalar value.
-pub constant_scalar : (s : TextWithTokens) → IsScan s → (m : Tree ℕ module_text) (d : ℕ) (w : Value) → value_of_constant (mapped (text_at s) (value_at s) m) d ≡ Some w → IsScalar w
-constant_scalar s scan m d w e = module-scalar (text_at s) (value_at s) (value-small s scan) m d w e
+pub constant_scalar : (s : TextWithTokens) → IsScan s → (m : Tree ℕ module_text) (d : ℕ) (w : Value) → value_of_constant (mapped_tree (token_text_at s) (token_value_at s) m) d ≡ Some w → IsScalar w
+constant_scalar s scan m d w e = module-scalar (token_text_at s) (token_value_at s) (value-small s scan) m d w e
 
 -- The code has a scalar for each scalar value.
 pub scalar_of : (w : Value) → IsScalar w → (v : Scalar) × (scalar_value v ≡ w)

@@ -14,7 +14,7 @@ use Rattle.ob0_language_types.specs.EditLaws.{IsScalar}
 use Rattle.ob0_language_values.specs.declared.scalar.Scalar.{Scalar}
 use Rattle.ob0_language_values.specs.declared.scalar.Scalar.TheVariants as scalar
 use Rattle.ob0_language_values.specs.Scalars.{scalar_value}
-use Rattle.ob0_language_values.specs.Values.{fits}
+use Rattle.ob0_language_values.specs.Values.{fits_in_32_bits}
 use Rattle.ob0_inline.specs.Values.{value_text, value_words}
 
 -- states that the text of a value is a string of the code and may replace any identifier
@@ -28,7 +28,7 @@ ascii_of [] h i = omega (arith)
 ascii_of (b ∷ bs) h zero = ltb-true b 128 (and_parts (nat_lt b 128) (list_all (λ b. nat_lt b 128) bs) h).0
 ascii_of (b ∷ bs) h (suc i) = ascii_of bs (and_parts (nat_lt b 128) (list_all (λ b. nat_lt b 128) bs) h).1 i
 
-int32 : (n : ℤ) → fits n ≡ true → IsInt32 n
+int32 : (n : ℤ) → fits_in_32_bits n ≡ true → IsInt32 n
 int32 (pos n) h = let low = ltb-true n 2147483648 h in omega (arith, low)
 int32 (negsuc n) h = let low = ltb-true n 2147483648 h in omega (arith, low)
 

@@ -3,24 +3,24 @@
 use Rattle.std.specs.Prelude.{ℕ, List}
 use Rattle.ob0_text.specs.declared.position_types.Position.{Position}
 use Rattle.ob0_tree.specs.ParsedModule.{ParsedModule}
-use Rattle.ob0_analysis.specs.Analysed.{IsReadAs}
+use Rattle.ob0_analysis.specs.Analysed.{IsParsedWellTypedModule}
 use Rattle.ob0_analysis.specs.Texts.{utf8}
 use Rattle.ob0_world_rules.specs.Asks.{inline_here, inline_all}
 use Rattle.ob0_world_rules.specs.Language.{WellTypedText}
 use Rattle.ob0_world_rules.specs.Laws.{HasAnswers}
 
 -- States that the parser accepts each well-typed text: the text is read as some parsed module.
-abbrev pub EachIsRead : Type 0
-EachIsRead = (text : List ℕ) → WellTypedText text → (m : ParsedModule) × IsReadAs (utf8 text) m
+abbrev pub WellTypedTextsAreRead : Type 0
+WellTypedTextsAreRead = (text : List ℕ) → WellTypedText text → (m : ParsedModule) × IsParsedWellTypedModule (utf8 text) m
 
 -- States that a request to inline a constant at a use has an answer for each text, unit and
--- position, on the assumption (`EachIsRead`) that the parser accepts each well-typed text.
+-- position, on the assumption (`WellTypedTextsAreRead`) that the parser accepts each well-typed text.
 -- `HasAnswers` is a double negation: it says that an answer can't be missing.
 abbrev pub InliningHereHasAnswers : Type 0
-InliningHereHasAnswers = EachIsRead → (position : Position) → HasAnswers (inline_here position)
+InliningHereHasAnswers = WellTypedTextsAreRead → (position : Position) → HasAnswers (inline_here position)
 
 -- States that a request to inline a constant everywhere has an answer for each text, unit and
--- position, on the assumption (`EachIsRead`) that the parser accepts each well-typed text.
+-- position, on the assumption (`WellTypedTextsAreRead`) that the parser accepts each well-typed text.
 -- `HasAnswers` is a double negation: it says that an answer can't be missing.
 abbrev pub InliningEverywhereHasAnswers : Type 0
-InliningEverywhereHasAnswers = EachIsRead → (position : Position) → HasAnswers (inline_all position)
+InliningEverywhereHasAnswers = WellTypedTextsAreRead → (position : Position) → HasAnswers (inline_all position)

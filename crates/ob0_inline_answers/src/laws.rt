@@ -8,7 +8,7 @@ use ob0_language_runs::laws::{
 use ob0_language_types::laws::constant_uses_are_factors;
 
 /// Proves that each request to inline a constant at a use has an answer. The proof assumes that the
-/// parser accepts each well-typed text (`EachIsRead`).
+/// parser accepts each well-typed text (`WellTypedTextsAreRead`).
 pub fn inlining_here_has_answers()
     ensures { InliningHereHasAnswers }
 {
@@ -17,7 +17,7 @@ pub fn inlining_here_has_answers()
 }
 
 /// Proves that each request to inline a constant everywhere has an answer. The proof assumes that
-/// the parser accepts each well-typed text (`EachIsRead`).
+/// the parser accepts each well-typed text (`WellTypedTextsAreRead`).
 pub fn inlining_everywhere_has_answers()
     ensures { InliningEverywhereHasAnswers }
 {

@@ -9,7 +9,7 @@ use Rattle.ob0_tree.specs.declared.tree.AddOperator.TheVariants as add_operator
 use Rattle.ob0_tree.specs.declared.tree.MultiplyOperator.{MultiplyOperator}
 use Rattle.ob0_tree.specs.declared.tree.MultiplyOperator.TheVariants as multiply_operator
 use Rattle.ob0_language_names.specs.Names.{Name, same_name}
-use Rattle.ob0_language_types.specs.Expressions.{Object, a_constant, a_procedure, a_standard, a_type, a_variable, reads}
+use Rattle.ob0_language_types.specs.Expressions.{Object, a_constant, a_procedure, a_standard, a_type, a_variable, read_procedure}
 use Rattle.ob0_language_types.specs.Typing.{addition_type, negation_type, constant_of, depth, field_depth, field_scalars, field_type, multiplication_type, object_type, relation_type, scalars, shape_of_field, sign_type, type_of_name, value_type, prepend_fields, check_limits}
 use Rattle.ob0_language_types.specs.WellTyped.{FormalParameter, Signature, TypeMeanings, same_known_shape, same_fields, same_shape, signature_of}
 use Rattle.ob0_language_values.specs.Values.{FieldShapes, Shape, Value, array_shape, boolean_shape, integer_shape, next_field_shape, no_field_shape, number, record_shape}
@@ -178,5 +178,5 @@ type_of_name-by l (Some (a_type s)) = refl
 type_of_name-by l _ = refl
 
 pub signature_of-by : (l : FieldRenaming) (o : Option (Object Shape Signature)) → signature_of (option_map (object_by l) o) ≡ option_map (map (formal_by l)) (signature_of o)
-signature_of-by l (Some (a_standard reads)) = refl
+signature_of-by l (Some (a_standard read_procedure)) = refl
 signature_of-by l _ = refl

@@ -10,22 +10,22 @@ use Rattle.ob0_tree.specs.declared.tree.AddOperator.TheVariants as add_operator
 use Rattle.ob0_tree.specs.declared.tree.MultiplyOperator.{MultiplyOperator}
 use Rattle.ob0_tree.specs.declared.tree.MultiplyOperator.TheVariants as multiply_operator
 use Rattle.ob0_language_types.specs.Expressions.{element_step}
-use Rattle.ob0_language_values.specs.Values.{Index, Outcome, Overflow, Step, Stuck, Value, add, add_short_circuits, at_index, compare_numbers, count_values, checked_division, division_outcome, elements, ends, fits, gives, checked_number, multiply, multiply_short_circuits, negate, number, or_stuck, quotient, relate, remainder, same_truth, apply_sign, truth, ◌>>=◌}
+use Rattle.ob0_language_values.specs.Values.{Index, Outcome, Overflow, Step, Stuck, Value, add, add_short_circuits, at_index, compare_numbers, count_values, checked_division, division_outcome, elements, ends_run_with, fits_in_32_bits, succeeds_with, checked_number, multiply, multiply_short_circuits, negate, number, or_stuck, quotient, apply_relation, remainder, same_truth, apply_sign, truth, ◌>>=◌}
 use Rattle.ob0_language_fields.specs.Fields.{FieldRenaming}
 use Rattle.ob0_language_field_laws.proofs.Values.{Finds, count_values-by, step_by, tagged, to_index, value_by}
 
 abbrev pub Follows : {A X Y : Type 0} → (A → X) → (A → Y) → Outcome X → Outcome Y → Type 0
-Follows {A} f g (gives x) (gives y) = (a : A) × (x ≡ f a) × (y ≡ g a)
-Follows f g (gives x) (ends e) = ⊥
-Follows f g (ends e) o = (e ≡ Stuck) ⊎ (o ≡ ends e)
+Follows {A} f g (succeeds_with x) (succeeds_with y) = (a : A) × (x ≡ f a) × (y ≡ g a)
+Follows f g (succeeds_with x) (ends_run_with e) = ⊥
+Follows f g (ends_run_with e) o = (e ≡ Stuck) ⊎ (o ≡ ends_run_with e)
 
 pub follows-then : {A B X Y X' Y' : Type 0} (f : A → X) (g : A → Y) (f' : B → X') (g' : B → Y') (o₁ : Outcome X) (o₂ : Outcome Y) (n₁ : X → Outcome X') (n₂ : Y → Outcome Y')
     → Follows f g o₁ o₂ → ((a : A) → Follows f' g' (n₁ (f a)) (n₂ (g a))) → Follows f' g' (o₁ >>= n₁) (o₂ >>= n₂)
-follows-then f g f' g' (gives x) (gives y) n₁ n₂ h each = subst₂ (λ x y. Follows f' g' (n₁ x) (n₂ y)) (sym h.1) (sym h.2) (each h.0)
-follows-then f g f' g' (gives x) (ends e) n₁ n₂ h each = absurd h
-follows-then {Y = Y} f g f' g' (ends e) o₂ n₁ n₂ h each = go h
+follows-then f g f' g' (succeeds_with x) (succeeds_with y) n₁ n₂ h each = subst₂ (λ x y. Follows f' g' (n₁ x) (n₂ y)) (sym h.1) (sym h.2) (each h.0)
+follows-then f g f' g' (succeeds_with x) (ends_run_with e) n₁ n₂ h each = absurd h
+follows-then {Y = Y} f g f' g' (ends_run_with e) o₂ n₁ n₂ h each = go h
   where
-    go : (e ≡ Stuck) ⊎ (o₂ ≡ ends e) → (e ≡ Stuck) ⊎ (o₂ >>= n₂ ≡ ends e)
+    go : (e ≡ Stuck) ⊎ (o₂ ≡ ends_run_with e) → (e ≡ Stuck) ⊎ (o₂ >>= n₂ ≡ ends_run_with e)
     go (inl p) = inl p
     go (inr q) = inr (ap (λ o. o >>= n₂) q)
 
@@ -39,7 +39,7 @@ abbrev pub ValuesFollow : FieldRenaming → Outcome Value → Outcome Value → 
 ValuesFollow l = Follows (value_by tagged) (value_by l)
 
 pub checked_number-follows : (l : FieldRenaming) (n : ℤ) → ValuesFollow l (checked_number n) (checked_number n)
-checked_number-follows l n = elim (fits n) as (λ b. ValuesFollow l (if b then gives (number n) else ends Overflow) (if b then gives (number n) else ends Overflow)) [ true ↦ (number n, refl, refl) | false ↦ inr refl ]
+checked_number-follows l n = elim (fits_in_32_bits n) as (λ b. ValuesFollow l (if b then succeeds_with (number n) else ends_run_with Overflow) (if b then succeeds_with (number n) else ends_run_with Overflow)) [ true ↦ (number n, refl, refl) | false ↦ inr refl ]
 
 pub division_outcome-follows : (l : FieldRenaming) (result : Option ℤ) → ValuesFollow l (division_outcome result) (division_outcome result)
 division_outcome-follows l None = inr refl
@@ -58,11 +58,11 @@ multiply-follows l multiply_operator.Modulo (number a) (number b) = division_out
 multiply-follows l multiply_operator.And (truth a) (truth b) = (truth _, refl, refl)
 multiply-follows l _ _ _ = inl refl
 
-pub relate-follows : (l : FieldRenaming) (r : Relation) (v w : Value) → ValuesFollow l (relate r (value_by tagged v) (value_by tagged w)) (relate r (value_by l v) (value_by l w))
-relate-follows l r (number a) (number b) = (truth (compare_numbers r a b), refl, refl)
-relate-follows l relation.Equal (truth a) (truth b) = (truth (same_truth a b), refl, refl)
-relate-follows l relation.NotEqual (truth a) (truth b) = (truth _, refl, refl)
-relate-follows l _ _ _ = inl refl
+pub apply_relation-follows : (l : FieldRenaming) (r : Relation) (v w : Value) → ValuesFollow l (apply_relation r (value_by tagged v) (value_by tagged w)) (apply_relation r (value_by l v) (value_by l w))
+apply_relation-follows l r (number a) (number b) = (truth (compare_numbers r a b), refl, refl)
+apply_relation-follows l relation.Equal (truth a) (truth b) = (truth (same_truth a b), refl, refl)
+apply_relation-follows l relation.NotEqual (truth a) (truth b) = (truth _, refl, refl)
+apply_relation-follows l _ _ _ = inl refl
 
 pub apply_sign-follows : (l : FieldRenaming) (s : Option Sign) (v : Value) → ValuesFollow l (apply_sign s (value_by tagged v)) (apply_sign s (value_by l v))
 apply_sign-follows l None v = (v, refl, refl)
@@ -85,21 +85,21 @@ multiply_short_circuits-by l multiply_operator.And (truth false) = refl
 multiply_short_circuits-by l _ _ = refl
 
 pub settled-follows : (l : FieldRenaming) (b b₁ b₂ : Bool) (v : Value) (o₁ o₂ : Outcome Value) → b₁ ≡ b → b₂ ≡ b → ValuesFollow l o₁ o₂
-    → ValuesFollow l (elim b₁ [ true ↦ gives (value_by tagged v) | false ↦ o₁ ]) (elim b₂ [ true ↦ gives (value_by l v) | false ↦ o₂ ])
+    → ValuesFollow l (elim b₁ [ true ↦ succeeds_with (value_by tagged v) | false ↦ o₁ ]) (elim b₂ [ true ↦ succeeds_with (value_by l v) | false ↦ o₂ ])
 settled-follows l b b₁ b₂ v o₁ o₂ e₁ e₂ h =
-    subst₂ (λ b₁ b₂. ValuesFollow l (elim b₁ [ true ↦ gives (value_by tagged v) | false ↦ o₁ ]) (elim b₂ [ true ↦ gives (value_by l v) | false ↦ o₂ ])) (sym e₁) (sym e₂)
-    (elim b as (λ b. ValuesFollow l (elim b [ true ↦ gives (value_by tagged v) | false ↦ o₁ ]) (elim b [ true ↦ gives (value_by l v) | false ↦ o₂ ])) [ true ↦ (v, refl, refl) | false ↦ h ])
+    subst₂ (λ b₁ b₂. ValuesFollow l (elim b₁ [ true ↦ succeeds_with (value_by tagged v) | false ↦ o₁ ]) (elim b₂ [ true ↦ succeeds_with (value_by l v) | false ↦ o₂ ])) (sym e₁) (sym e₂)
+    (elim b as (λ b. ValuesFollow l (elim b [ true ↦ succeeds_with (value_by tagged v) | false ↦ o₁ ]) (elim b [ true ↦ succeeds_with (value_by l v) | false ↦ o₂ ])) [ true ↦ (v, refl, refl) | false ↦ h ])
 
 -- holds if two outcomes give steps of a path that stand for the same step
 
 abbrev pub MovesFollow : FieldRenaming → Outcome Step → Outcome Step → Type 0
 MovesFollow l = Follows (step_by tagged) (step_by l)
 
-index-follows : (l : FieldRenaming) (i n : ℕ) → MovesFollow l (if nat_lt i n then gives (at_index i) else ends Index) (if nat_lt i n then gives (at_index i) else ends Index)
-index-follows l i n = elim (nat_lt i n) as (λ b. MovesFollow l (if b then gives (at_index i) else ends Index) (if b then gives (at_index i) else ends Index)) [ true ↦ (to_index i, refl, refl) | false ↦ inr refl ]
+index-follows : (l : FieldRenaming) (i n : ℕ) → MovesFollow l (if nat_lt i n then succeeds_with (at_index i) else ends_run_with Index) (if nat_lt i n then succeeds_with (at_index i) else ends_run_with Index)
+index-follows l i n = elim (nat_lt i n) as (λ b. MovesFollow l (if b then succeeds_with (at_index i) else ends_run_with Index) (if b then succeeds_with (at_index i) else ends_run_with Index)) [ true ↦ (to_index i, refl, refl) | false ↦ inr refl ]
 
 pub element_step-follows : (l : FieldRenaming) (v i : Value) → MovesFollow l (element_step (value_by tagged v) (value_by tagged i)) (element_step (value_by l v) (value_by l i))
 element_step-follows l (elements vs) (number (pos i)) =
-    subst₂ (λ m n. MovesFollow l (if nat_lt i m then gives (at_index i) else ends Index) (if nat_lt i n then gives (at_index i) else ends Index)) (sym (count_values-by tagged vs)) (sym (count_values-by l vs)) (index-follows l i (count_values vs))
+    subst₂ (λ m n. MovesFollow l (if nat_lt i m then succeeds_with (at_index i) else ends_run_with Index) (if nat_lt i n then succeeds_with (at_index i) else ends_run_with Index)) (sym (count_values-by tagged vs)) (sym (count_values-by l vs)) (index-follows l i (count_values vs))
 element_step-follows l (elements vs) (number (negsuc i)) = inr refl
 element_step-follows l _ _ = inl refl

@@ -1,15 +1,15 @@
 -- Declarations do the same in two runs: one with tagged fields, the other with fields under other names.
 use Rattle.std.proofs.Common.{◌≡◌, ℕ, zero, suc, ◌+◌, true, false, List, [], ◌∷◌, ◌++◌, map, length, Some, None, Option, option_map, option_and_then, sym, refl, ap, ◌∙◌, subst₂}
 use Rattle.std.proofs.lemmas.List.{length-map, map-append}
-use Rattle.ob0_tree.specs.Tree.{Tree, block, body, constant, constants, declares, declares_constant, declares_type, declares_variable, end, expression, further_section, has_body, item, items, maybe, more, procedure, then_section, type_name, type_names, variable, variables, written_type}
+use Rattle.ob0_tree.specs.Tree.{Tree, block, body, constant, constants, declares, declares_constant, declares_type, declares_variable, end, expression, further_section, forms_block, item, items, maybe, more, procedure, then_section, type_definition, type_definitions, variable, variables, written_type}
 use Rattle.ob0_language_names.specs.Names.{Name, naming_by_spelling, same_name}
 use Rattle.ob0_language_names.specs.Parts.{names_in_list, procedure_formals, procedure_name, section_constants, section_type, section_types, section_variables}
-use Rattle.ob0_language_types.specs.Declarations.{constructors_before_variables, constructor_after_variables, declare_constants, declare_types, procedure_constructor_count}
+use Rattle.ob0_language_types.specs.Declarations.{constructors_before_variables, constructors_before_procedures, declare_constants, declare_types, procedure_constructor_count}
 use Rattle.ob0_language_types.specs.Environments.{environment_from_binding, meanings, newest_object}
 use Rattle.ob0_language_types.specs.Expressions.{Object, a_constant, a_procedure, a_standard, a_type, a_variable}
-use Rattle.ob0_language_types.specs.Typing.{constant_of, constant_value, constructor_count, denoted, type_of_name}
+use Rattle.ob0_language_types.specs.Typing.{constant_of, constant_value, constructor_count, denoted_type, type_of_name}
 use Rattle.ob0_language_types.specs.WellTyped.{Mode, TypeEnvironment, bind_typed_parameters, by_place, by_value}
-use Rattle.ob0_language_values.specs.Values.{FieldShapes, Shape, Store, Value, array_shape, copies, elements, initial, initial_members, members, next_field_shape, next_member, next_value, no_field_shape, record_shape}
+use Rattle.ob0_language_values.specs.Values.{FieldShapes, Shape, Store, Value, array_shape, copies, elements, initial_value, initial_members, members, next_field_shape, next_member, next_value, no_field_shape, record_shape}
 use Rattle.ob0_language_runs.specs.Runs.{Activation, ProcedureText, Frame, Parameter, allocate, bind_parameter, bind_parameters, declare_block, declare_procedures, declare_variables, formal_modes, parameters, statement_object, statement_meanings, declare_procedures_in_frame}
 use Rattle.ob0_language_fields.specs.Fields.{FieldRenaming, environment_after_heading, environment_after_variables, parameters_of, rename_fields_in_block, rename_fields_in_procedure, rename_fields_in_procedures, rename_fields_in_sections, rename_fields_in_type, rename_fields_in_types, rename_fields_in_variables}
 use Rattle.ob0_language_fields.proofs.NamesMeant.{named}
@@ -17,7 +17,7 @@ use Rattle.ob0_language_field_laws.proofs.Apart.{fields_by, shape_by}
 use Rattle.ob0_language_field_laws.proofs.RefieldedExecution.{Given, Modes, argument_by, place_given, value_given}
 use Rattle.ob0_language_field_laws.proofs.RefieldedExpressions.{Scalar, Thing, Things, active, constant_thing, procedure_thing, scalar_value, standard_thing, thing_by, type_thing, variable_thing}
 use Rattle.ob0_language_field_laws.proofs.RefieldedModules.{procedure_constructor_count-rename_fields, procedure_formals-rename_fields, procedure_name-rename_fields, section_mode-rename_fields, section_names-rename_fields, section_types-rename_fields, section_variables-rename_fields, types_count-rename_fields, variables_count-rename_fields}
-use Rattle.ob0_language_field_laws.proofs.RefieldedTypes.{constant_value-alike, constructor_count-rename_fields, denoted-rename_fields}
+use Rattle.ob0_language_field_laws.proofs.RefieldedTypes.{constant_value-alike, constructor_count-rename_fields, denoted_type-rename_fields}
 use Rattle.ob0_language_field_laws.proofs.ScalarConstants.{constant_value-scalar}
 use Rattle.ob0_language_field_laws.proofs.Values.{Spot, members_by, store_by, tagged, value_by, values_by}
 
@@ -112,8 +112,8 @@ types-as l scene x = ap type_of_name (object-as l scene x) ∙ type-as l (newest
 pub value-as : (l : FieldRenaming) (scene : Scene) (e : Tree Name expression) → constant_value (meanings naming_by_spelling (env_as l scene)) e ≡ constant_value (named (objects_in scene)) e
 value-as l scene e = constant_value-alike (λ x. newest_object (environment_from_binding naming_by_spelling (env_as l scene) x)) (objects_in scene) (constants-as l scene) e
 
-pub denoted-as : (l : FieldRenaming) (scene : Scene) (k : ℕ) (t : Tree Name written_type) → denoted (meanings naming_by_spelling (env_as l scene)) k (rename_fields_in_type l k t) ≡ option_map (shape_by l) (denoted (named (objects_in scene)) k t)
-denoted-as l scene k t = denoted-rename_fields l (λ x. newest_object (environment_from_binding naming_by_spelling (env_as l scene) x)) (objects_in scene) (constants-as l scene) (types-as l scene) k t
+pub denoted_type-as : (l : FieldRenaming) (scene : Scene) (k : ℕ) (t : Tree Name written_type) → denoted_type (meanings naming_by_spelling (env_as l scene)) k (rename_fields_in_type l k t) ≡ option_map (shape_by l) (denoted_type (named (objects_in scene)) k t)
+denoted_type-as l scene k t = denoted_type-rename_fields l (λ x. newest_object (environment_from_binding naming_by_spelling (env_as l scene) x)) (objects_in scene) (constants-as l scene) (types-as l scene) k t
 
 -- holds if both runs give results that stand for the same thing, or neither gives a result
 abbrev pub Both : {A X Y : Type 0} → (A → X) → (A → Y) → Option X → Option Y → Type 0
@@ -148,9 +148,9 @@ value-both l scene e =
     let c = constant_value-scalar (objects_in scene) (λ x. option_and_then scalar_of (newest_thing (scene_from scene x))) (λ x. scalar-in (newest_thing (scene_from scene x))) e in
     (c.0, value-as tagged scene e ∙ c.1, value-as l scene e ∙ c.1)
 
-denoted-both : (l : FieldRenaming) (scene : Scene) (k : ℕ) (t : Tree Name written_type)
-    → Both (shape_by tagged) (shape_by l) (denoted (meanings naming_by_spelling (env_as tagged scene)) k (rename_fields_in_type tagged k t)) (denoted (meanings naming_by_spelling (env_as l scene)) k (rename_fields_in_type l k t))
-denoted-both l scene k t = (denoted (named (objects_in scene)) k t, denoted-as tagged scene k t, denoted-as l scene k t)
+denoted_type-both : (l : FieldRenaming) (scene : Scene) (k : ℕ) (t : Tree Name written_type)
+    → Both (shape_by tagged) (shape_by l) (denoted_type (meanings naming_by_spelling (env_as tagged scene)) k (rename_fields_in_type tagged k t)) (denoted_type (meanings naming_by_spelling (env_as l scene)) k (rename_fields_in_type l k t))
+denoted_type-both l scene k t = (denoted_type (named (objects_in scene)) k t, denoted_type-as tagged scene k t, denoted_type-as l scene k t)
 
 pub declare_constants-both : (l : FieldRenaming) (scene : Scene) (cs : Tree Name (items constant)) → Both (env_as tagged) (env_as l) (declare_constants naming_by_spelling (env_as tagged scene) cs) (declare_constants naming_by_spelling (env_as l scene) cs)
 unfolding declare_constants
@@ -160,15 +160,15 @@ declare_constants-both l scene (more (declares_constant x e) cs) =
     (constant_value (meanings naming_by_spelling (env_as tagged scene)) e) (constant_value (meanings naming_by_spelling (env_as l scene)) e) (value-both l scene e)
     (λ c. declare_constants-both l ((x, constant_thing c) ∷ scene) cs)
 
-pub declare_types-both : (l : FieldRenaming) (scene : Scene) (k : ℕ) (ds : Tree Name (items type_name)) → Both (env_as tagged) (env_as l) (declare_types naming_by_spelling (env_as tagged scene) k (rename_fields_in_types tagged k ds)) (declare_types naming_by_spelling (env_as l scene) k (rename_fields_in_types l k ds))
+pub declare_types-both : (l : FieldRenaming) (scene : Scene) (k : ℕ) (ds : Tree Name (items type_definition)) → Both (env_as tagged) (env_as l) (declare_types naming_by_spelling (env_as tagged scene) k (rename_fields_in_types tagged k ds)) (declare_types naming_by_spelling (env_as l scene) k (rename_fields_in_types l k ds))
 unfolding declare_types
 declare_types-both l scene k end = (Some scene, refl, refl)
 declare_types-both l scene k (more (declares_type x u) ds) =
-    subst₂ (λ m n. Both (env_as tagged) (env_as l) (option_and_then (λ s. declare_types naming_by_spelling ((x, a_type s) ∷ env_as tagged scene) (k + m) (rename_fields_in_types tagged (k + constructor_count u) ds)) (denoted (meanings naming_by_spelling (env_as tagged scene)) k (rename_fields_in_type tagged k u)))
-    (option_and_then (λ s. declare_types naming_by_spelling ((x, a_type s) ∷ env_as l scene) (k + n) (rename_fields_in_types l (k + constructor_count u) ds)) (denoted (meanings naming_by_spelling (env_as l scene)) k (rename_fields_in_type l k u))))
+    subst₂ (λ m n. Both (env_as tagged) (env_as l) (option_and_then (λ s. declare_types naming_by_spelling ((x, a_type s) ∷ env_as tagged scene) (k + m) (rename_fields_in_types tagged (k + constructor_count u) ds)) (denoted_type (meanings naming_by_spelling (env_as tagged scene)) k (rename_fields_in_type tagged k u)))
+    (option_and_then (λ s. declare_types naming_by_spelling ((x, a_type s) ∷ env_as l scene) (k + n) (rename_fields_in_types l (k + constructor_count u) ds)) (denoted_type (meanings naming_by_spelling (env_as l scene)) k (rename_fields_in_type l k u))))
     (sym (constructor_count-rename_fields tagged k u)) (sym (constructor_count-rename_fields l k u))
     (both-then (shape_by tagged) (shape_by l) (env_as tagged) (env_as l) (λ s. declare_types naming_by_spelling ((x, a_type s) ∷ env_as tagged scene) (k + constructor_count u) (rename_fields_in_types tagged (k + constructor_count u) ds)) (λ s. declare_types naming_by_spelling ((x, a_type s) ∷ env_as l scene) (k + constructor_count u) (rename_fields_in_types l (k + constructor_count u) ds))
-    (denoted (meanings naming_by_spelling (env_as tagged scene)) k (rename_fields_in_type tagged k u)) (denoted (meanings naming_by_spelling (env_as l scene)) k (rename_fields_in_type l k u)) (denoted-both l scene k u)
+    (denoted_type (meanings naming_by_spelling (env_as tagged scene)) k (rename_fields_in_type tagged k u)) (denoted_type (meanings naming_by_spelling (env_as l scene)) k (rename_fields_in_type l k u)) (denoted_type-both l scene k u)
     (λ s. declare_types-both l ((x, type_thing s) ∷ scene) (k + constructor_count u) ds))
 
 -- If fields get other names, only these names change in the first values of variables.
@@ -178,8 +178,8 @@ copies-by l zero v = refl
 copies-by l (suc n) v = λ i. next_value (value_by l v) (copies-by l n v i)
 
 mutual
-  pub initial-by : (l : FieldRenaming) (s : Shape) → initial (shape_by l s) ≡ value_by l (initial s)
-  initial-by l (array_shape k n s) = (λ i. elements (copies n (initial-by l s i))) ∙ ap elements (copies-by l n (initial s))
+  pub initial-by : (l : FieldRenaming) (s : Shape) → initial_value (shape_by l s) ≡ value_by l (initial_value s)
+  initial-by l (array_shape k n s) = (λ i. elements (copies n (initial-by l s i))) ∙ ap elements (copies-by l n (initial_value s))
   initial-by l (record_shape k fs) = λ i. members k (initial_members-by l k fs i)
   initial-by l _ = refl
 
@@ -209,21 +209,21 @@ allocate-by l (x ∷ xs) v f =
     (λ i. allocate xs (value_by l v) record { env = (x, a_variable record { variable = length-map f.store (value_by l) i; path = [] }) ∷ env_as l f.scene; store = sym (map-append (value_by l) f.store (v ∷ [])) i })
     ∙ allocate-by l xs v record { scene = (x, variable_thing record { variable = length f.store; moves = [] }) ∷ f.scene; store = f.store ++ v ∷ [] }
 
-begun-by : (l : FieldRenaming) (xs : List Name) (s : Shape) (f : Stage) → allocate xs (initial (shape_by l s)) (frame_by l f) ≡ frame_by l (allocated xs (initial s) f)
-begun-by l xs s f = ap (λ v. allocate xs v (frame_by l f)) (initial-by l s) ∙ allocate-by l xs (initial s) f
+begun-by : (l : FieldRenaming) (xs : List Name) (s : Shape) (f : Stage) → allocate xs (initial_value (shape_by l s)) (frame_by l f) ≡ frame_by l (allocated xs (initial_value s) f)
+begun-by l xs s f = ap (λ v. allocate xs v (frame_by l f)) (initial-by l s) ∙ allocate-by l xs (initial_value s) f
 
 pub declare_variables-both : (l : FieldRenaming) (k : ℕ) (gs : Tree Name (items variable)) (f : Stage) → FramesBoth l (declare_variables naming_by_spelling k (rename_fields_in_variables tagged k gs) (frame_by tagged f)) (declare_variables naming_by_spelling k (rename_fields_in_variables l k gs) (frame_by l f))
 unfolding declare_variables
 declare_variables-both l k end f = (Some f, refl, refl)
 declare_variables-both l k (more (declares_variable ns u) gs) f =
-    subst₂ (λ m n. FramesBoth l (option_and_then (λ s. declare_variables naming_by_spelling (k + m) (rename_fields_in_variables tagged (k + constructor_count u) gs) (allocate (names_in_list ns) (initial s) (frame_by tagged f))) (denoted (meanings naming_by_spelling (env_as tagged f.scene)) k (rename_fields_in_type tagged k u)))
-    (option_and_then (λ s. declare_variables naming_by_spelling (k + n) (rename_fields_in_variables l (k + constructor_count u) gs) (allocate (names_in_list ns) (initial s) (frame_by l f))) (denoted (meanings naming_by_spelling (env_as l f.scene)) k (rename_fields_in_type l k u))))
+    subst₂ (λ m n. FramesBoth l (option_and_then (λ s. declare_variables naming_by_spelling (k + m) (rename_fields_in_variables tagged (k + constructor_count u) gs) (allocate (names_in_list ns) (initial_value s) (frame_by tagged f))) (denoted_type (meanings naming_by_spelling (env_as tagged f.scene)) k (rename_fields_in_type tagged k u)))
+    (option_and_then (λ s. declare_variables naming_by_spelling (k + n) (rename_fields_in_variables l (k + constructor_count u) gs) (allocate (names_in_list ns) (initial_value s) (frame_by l f))) (denoted_type (meanings naming_by_spelling (env_as l f.scene)) k (rename_fields_in_type l k u))))
     (sym (constructor_count-rename_fields tagged k u)) (sym (constructor_count-rename_fields l k u))
-    (both-then (shape_by tagged) (shape_by l) (frame_by tagged) (frame_by l) (λ s. declare_variables naming_by_spelling (k + constructor_count u) (rename_fields_in_variables tagged (k + constructor_count u) gs) (allocate (names_in_list ns) (initial s) (frame_by tagged f)))
-    (λ s. declare_variables naming_by_spelling (k + constructor_count u) (rename_fields_in_variables l (k + constructor_count u) gs) (allocate (names_in_list ns) (initial s) (frame_by l f)))
-    (denoted (meanings naming_by_spelling (env_as tagged f.scene)) k (rename_fields_in_type tagged k u)) (denoted (meanings naming_by_spelling (env_as l f.scene)) k (rename_fields_in_type l k u)) (denoted-both l f.scene k u)
+    (both-then (shape_by tagged) (shape_by l) (frame_by tagged) (frame_by l) (λ s. declare_variables naming_by_spelling (k + constructor_count u) (rename_fields_in_variables tagged (k + constructor_count u) gs) (allocate (names_in_list ns) (initial_value s) (frame_by tagged f)))
+    (λ s. declare_variables naming_by_spelling (k + constructor_count u) (rename_fields_in_variables l (k + constructor_count u) gs) (allocate (names_in_list ns) (initial_value s) (frame_by l f)))
+    (denoted_type (meanings naming_by_spelling (env_as tagged f.scene)) k (rename_fields_in_type tagged k u)) (denoted_type (meanings naming_by_spelling (env_as l f.scene)) k (rename_fields_in_type l k u)) (denoted_type-both l f.scene k u)
     (λ s. subst₂ (λ a b. FramesBoth l (declare_variables naming_by_spelling (k + constructor_count u) (rename_fields_in_variables tagged (k + constructor_count u) gs) a) (declare_variables naming_by_spelling (k + constructor_count u) (rename_fields_in_variables l (k + constructor_count u) gs) b))
-    (sym (begun-by tagged (names_in_list ns) s f)) (sym (begun-by l (names_in_list ns) s f)) (declare_variables-both l (k + constructor_count u) gs (allocated (names_in_list ns) (initial s) f))))
+    (sym (begun-by tagged (names_in_list ns) s f)) (sym (begun-by l (names_in_list ns) s f)) (declare_variables-both l (k + constructor_count u) gs (allocated (names_in_list ns) (initial_value s) f))))
 
 -- binds the procedures of a block in a scene, each with its checked environment
 
@@ -244,12 +244,12 @@ declare_procedures-by l k (more p rest) env scene =
 
 -- Declaring the parts of a block does the same in both runs.
 
-abbrev declared_parts : FieldRenaming → ℕ → ℕ → ℕ → Tree Name (items constant) → Tree Name (items type_name) → Tree Name (items variable) → Tree Name (items procedure) → TypeEnvironment Name → Stage → Option (Frame Name)
+abbrev declared_parts : FieldRenaming → ℕ → ℕ → ℕ → Tree Name (items constant) → Tree Name (items type_definition) → Tree Name (items variable) → Tree Name (items procedure) → TypeEnvironment Name → Stage → Option (Frame Name)
 declared_parts l k j n cs ts vs ps inner f =
     option_and_then (λ env. option_map (declare_procedures_in_frame n (rename_fields_in_procedures l inner n ps)) (declare_variables naming_by_spelling j (rename_fields_in_variables l j vs) record { env = env; store = store_by l f.store }))
     (option_and_then (λ env. declare_types naming_by_spelling env k (rename_fields_in_types l k ts)) (declare_constants naming_by_spelling (env_as l f.scene) cs))
 
-declared_parts-both : (l : FieldRenaming) (k j n : ℕ) (cs : Tree Name (items constant)) (ts : Tree Name (items type_name)) (vs : Tree Name (items variable)) (ps : Tree Name (items procedure)) (inner : TypeEnvironment Name) (f : Stage)
+declared_parts-both : (l : FieldRenaming) (k j n : ℕ) (cs : Tree Name (items constant)) (ts : Tree Name (items type_definition)) (vs : Tree Name (items variable)) (ps : Tree Name (items procedure)) (inner : TypeEnvironment Name) (f : Stage)
     → FramesBoth l (declared_parts tagged k j n cs ts vs ps inner f) (declared_parts l k j n cs ts vs ps inner f)
 declared_parts-both l k j n cs ts vs ps inner f =
     both-then (env_as tagged) (env_as l) (frame_by tagged) (frame_by l)
@@ -263,21 +263,21 @@ declared_parts-both l k j n cs ts vs ps inner f =
     (declare_variables-both l j vs record { scene = scene; store = f.store })
     (λ g i. record { env = declare_procedures-by tagged n ps inner g.scene i; store = store_by tagged g.store }) (λ g i. record { env = declare_procedures-by l n ps inner g.scene i; store = store_by l g.store }))
 
-declare_block-parts : (l : FieldRenaming) (checked : TypeEnvironment Name) (k : ℕ) (cs : Tree Name (maybe constants)) (ts : Tree Name (maybe type_names)) (vs : Tree Name (maybe variables)) (ps : Tree Name (items procedure)) (statements : Tree Name (maybe body)) (f : Stage)
-    → declare_block naming_by_spelling k (rename_fields_in_block l checked k (has_body (declares cs ts vs ps) statements)) (frame_by l f)
-    ≡ declared_parts l k (constructors_before_variables k (has_body (declares cs ts vs ps) statements)) (constructor_after_variables k (has_body (declares cs ts vs ps) statements)) (section_constants cs) (section_types ts) (section_variables vs) ps (environment_after_variables checked k (has_body (declares cs ts vs ps) statements)) f
+declare_block-parts : (l : FieldRenaming) (checked : TypeEnvironment Name) (k : ℕ) (cs : Tree Name (maybe constants)) (ts : Tree Name (maybe type_definitions)) (vs : Tree Name (maybe variables)) (ps : Tree Name (items procedure)) (statements : Tree Name (maybe body)) (f : Stage)
+    → declare_block naming_by_spelling k (rename_fields_in_block l checked k (forms_block (declares cs ts vs ps) statements)) (frame_by l f)
+    ≡ declared_parts l k (constructors_before_variables k (forms_block (declares cs ts vs ps) statements)) (constructors_before_procedures k (forms_block (declares cs ts vs ps) statements)) (section_constants cs) (section_types ts) (section_variables vs) ps (environment_after_variables checked k (forms_block (declares cs ts vs ps) statements)) f
 unfolding declare_block
 declare_block-parts l checked k cs ts vs ps statements f = λ i.
-    let b : Tree Name block = has_body (declares cs ts vs ps) statements in
-    option_and_then (λ env. option_map (declare_procedures_in_frame (k + types_count-rename_fields l k ts i + variables_count-rename_fields l (constructors_before_variables k b) vs i) (rename_fields_in_procedures l (environment_after_variables checked k b) (constructor_after_variables k b) ps))
+    let b : Tree Name block = forms_block (declares cs ts vs ps) statements in
+    option_and_then (λ env. option_map (declare_procedures_in_frame (k + types_count-rename_fields l k ts i + variables_count-rename_fields l (constructors_before_variables k b) vs i) (rename_fields_in_procedures l (environment_after_variables checked k b) (constructors_before_procedures k b) ps))
     (declare_variables naming_by_spelling (k + types_count-rename_fields l k ts i) (section_variables-rename_fields l (constructors_before_variables k b) vs i) record { env = env; store = store_by l f.store }))
     (option_and_then (λ env. declare_types naming_by_spelling env k (section_types-rename_fields l k ts i)) (declare_constants naming_by_spelling (env_as l f.scene) (section_constants cs)))
 
 pub declare_block-both : (l : FieldRenaming) (checked : TypeEnvironment Name) (k : ℕ) (b : Tree Name block) (f : Stage)
     → FramesBoth l (declare_block naming_by_spelling k (rename_fields_in_block tagged checked k b) (frame_by tagged f)) (declare_block naming_by_spelling k (rename_fields_in_block l checked k b) (frame_by l f))
-declare_block-both l checked k (has_body (declares cs ts vs ps) statements) f =
+declare_block-both l checked k (forms_block (declares cs ts vs ps) statements) f =
     subst₂ (λ a b. FramesBoth l a b) (sym (declare_block-parts tagged checked k cs ts vs ps statements f)) (sym (declare_block-parts l checked k cs ts vs ps statements f))
-    (declared_parts-both l k (constructors_before_variables k (has_body (declares cs ts vs ps) statements)) (constructor_after_variables k (has_body (declares cs ts vs ps) statements)) (section_constants cs) (section_types ts) (section_variables vs) ps (environment_after_variables checked k (has_body (declares cs ts vs ps) statements)) f)
+    (declared_parts-both l k (constructors_before_variables k (forms_block (declares cs ts vs ps) statements)) (constructors_before_procedures k (forms_block (declares cs ts vs ps) statements)) (section_constants cs) (section_types ts) (section_variables vs) ps (environment_after_variables checked k (forms_block (declares cs ts vs ps) statements)) f)
 
 -- Binding parameters to arguments does the same in both runs.
 

@@ -3,10 +3,10 @@ use Rattle.std.proofs.Common.{◌≡◌, ℕ, zero, suc, ◌-◌, List, [], ◌�
 use Rattle.ob0_tree.specs.Tree.{Tree, assigns, branches, calls, else_branch, else_part, elsif_branch, elsif_part, empty, end, expression, further_statement, items, maybe, more, none, one, repeat_loop, runs, selector, sequence, statement, then_statement, while_loop}
 use Rattle.ob0_language_names.specs.Names.{Name}
 use Rattle.ob0_language_types.specs.Arguments.{arguments_listed}
-use Rattle.ob0_language_types.specs.Expressions.{designate, evaluate, reads, writes, writes_line}
+use Rattle.ob0_language_types.specs.Expressions.{designate, evaluate, read_procedure, write_procedure, write_line_procedure}
 use Rattle.ob0_language_types.specs.Typing.{lone_designator, object_type}
 use Rattle.ob0_language_types.specs.WellTyped.{Mode, TypeMeanings, by_place, by_value}
-use Rattle.ob0_language_values.specs.Values.{Outcome, Store, Stuck, TurnBound, Value, ends, gives, number, or_stuck, truth, write_place, ◌>>=◌}
+use Rattle.ob0_language_values.specs.Values.{Outcome, Store, Stuck, TurnBound, Value, ends_run_with, succeeds_with, number, or_stuck, truth, write_place, ◌>>=◌}
 use Rattle.ob0_language_runs.specs.Runs.{Argument, CallFunction, Progress, State, choose, evaluate_argument, evaluate_arguments, execute, execute_all, execute_else, execute_elsifs, execute_further, continue_with, line_out, modes_of, number_out, perform_call, place_argument, append_output, read_number, running, stopped, store_at, execute_while, execute_repeat, use_result, value_argument}
 use Rattle.ob0_language_fields.specs.Fields.{FieldRenaming, rename_fields}
 use Rattle.ob0_language_field_laws.specs.FieldLaws.{KeepsFieldsDistinct}
@@ -29,11 +29,11 @@ Alike l n₁ n₂ = (s : State) → Goes l (n₁ (state_by tagged s)) (n₂ (sta
 
 pub use_result-goes : {A X Y : Type 0} (l : FieldRenaming) (f : A → X) (g : A → Y) (s : State) (o₁ : Outcome X) (o₂ : Outcome Y) (n₁ : X → Progress) (n₂ : Y → Progress)
     → Follows f g o₁ o₂ → ((a : A) → Goes l (n₁ (f a)) (n₂ (g a))) → Goes l (use_result (state_by tagged s) o₁ n₁) (use_result (state_by l s) o₂ n₂)
-use_result-goes l f g s (gives x) (gives y) n₁ n₂ h each = subst₂ (λ x y. Goes l (n₁ x) (n₂ y)) (sym h.1) (sym h.2) (each h.0)
-use_result-goes l f g s (gives x) (ends e) n₁ n₂ h each = absurd h
-use_result-goes l f g s (ends e) o₂ n₁ n₂ h each = go h
+use_result-goes l f g s (succeeds_with x) (succeeds_with y) n₁ n₂ h each = subst₂ (λ x y. Goes l (n₁ x) (n₂ y)) (sym h.1) (sym h.2) (each h.0)
+use_result-goes l f g s (succeeds_with x) (ends_run_with e) n₁ n₂ h each = absurd h
+use_result-goes l f g s (ends_run_with e) o₂ n₁ n₂ h each = go h
   where
-    go : (e ≡ Stuck) ⊎ (o₂ ≡ ends e) → (e ≡ Stuck) ⊎ (use_result (state_by l s) o₂ n₂ ≡ stopped e s.output)
+    go : (e ≡ Stuck) ⊎ (o₂ ≡ ends_run_with e) → (e ≡ Stuck) ⊎ (use_result (state_by l s) o₂ n₂ ≡ stopped e s.output)
     go (inl p) = inl p
     go (inr q) = inr (ap (λ o. use_result (state_by l s) o n₂) q)
 
@@ -100,16 +100,16 @@ pub evaluate_argument-follows : {P : Type 0} (l : FieldRenaming) → KeepsFields
     → Follows (argument_by tagged) (argument_by l) (evaluate_argument (active tagged things) (store_by tagged store) m (rename_fields tagged checked None e)) (evaluate_argument (active l things) (store_by l store) m (rename_fields l checked None e))
 unfolding evaluate_argument
 evaluate_argument-follows l apart things checked store by_value e =
-    follows-then (value_by tagged) (value_by l) (argument_by tagged) (argument_by l) _ _ (λ v. gives (value_argument v)) (λ v. gives (value_argument v)) (evaluate-follows l apart things checked store e) (λ v. (value_given v, refl, refl))
+    follows-then (value_by tagged) (value_by l) (argument_by tagged) (argument_by l) _ _ (λ v. succeeds_with (value_argument v)) (λ v. succeeds_with (value_argument v)) (evaluate-follows l apart things checked store e) (λ v. (value_given v, refl, refl))
 evaluate_argument-follows l apart things checked store by_place e =
-    subst₂ (λ a b. Follows (argument_by tagged) (argument_by l) (or_stuck a >>= (λ d. designate (active tagged things) (store_by tagged store) d.0 d.1 >>= (λ p. gives (place_argument p)))) (or_stuck b >>= (λ d. designate (active l things) (store_by l store) d.0 d.1 >>= (λ p. gives (place_argument p)))))
+    subst₂ (λ a b. Follows (argument_by tagged) (argument_by l) (or_stuck a >>= (λ d. designate (active tagged things) (store_by tagged store) d.0 d.1 >>= (λ p. succeeds_with (place_argument p)))) (or_stuck b >>= (λ d. designate (active l things) (store_by l store) d.0 d.1 >>= (λ p. succeeds_with (place_argument p)))))
     (sym (lone_designator-rename_fields tagged checked e)) (sym (lone_designator-rename_fields l checked e)) (go (lone_designator e))
   where
-    go : (d : Option (Name × Tree Name (items selector))) → Follows (argument_by tagged) (argument_by l) (or_stuck (option_map (refield_designator tagged checked) d) >>= (λ d. designate (active tagged things) (store_by tagged store) d.0 d.1 >>= (λ p. gives (place_argument p))))
-        (or_stuck (option_map (refield_designator l checked) d) >>= (λ d. designate (active l things) (store_by l store) d.0 d.1 >>= (λ p. gives (place_argument p))))
+    go : (d : Option (Name × Tree Name (items selector))) → Follows (argument_by tagged) (argument_by l) (or_stuck (option_map (refield_designator tagged checked) d) >>= (λ d. designate (active tagged things) (store_by tagged store) d.0 d.1 >>= (λ p. succeeds_with (place_argument p))))
+        (or_stuck (option_map (refield_designator l checked) d) >>= (λ d. designate (active l things) (store_by l store) d.0 d.1 >>= (λ p. succeeds_with (place_argument p))))
     go None = inl refl
     go (Some (x, path)) =
-        follows-then (place_by tagged) (place_by l) (argument_by tagged) (argument_by l) _ _ (λ p. gives (place_argument p)) (λ p. gives (place_argument p)) (designate-follows l apart things checked store (object_type (checked.object_for x)) x path) (λ p. (place_given p, refl, refl))
+        follows-then (place_by tagged) (place_by l) (argument_by tagged) (argument_by l) _ _ (λ p. succeeds_with (place_argument p)) (λ p. succeeds_with (place_argument p)) (designate-follows l apart things checked store (object_type (checked.object_for x)) x path) (λ p. (place_given p, refl, refl))
 
 pub evaluate_arguments-follows : {P : Type 0} (l : FieldRenaming) → KeepsFieldsDistinct l → (things : Things P) (checked : TypeMeanings Name) (store : Store) (ms : List Mode) (es : List (Tree Name expression))
     → Follows (map (argument_by tagged)) (map (argument_by l)) (evaluate_arguments (active tagged things) (store_by tagged store) ms (map (rename_fields tagged checked None) es)) (evaluate_arguments (active l things) (store_by l store) ms (map (rename_fields l checked None) es))
@@ -117,9 +117,9 @@ unfolding evaluate_arguments
 evaluate_arguments-follows l apart things checked store [] [] = ([], refl, refl)
 evaluate_arguments-follows l apart things checked store (m ∷ ms) (e ∷ es) =
     follows-then (argument_by tagged) (argument_by l) (map (argument_by tagged)) (map (argument_by l)) _ _
-    (λ a. evaluate_arguments (active tagged things) (store_by tagged store) ms (map (rename_fields tagged checked None) es) >>= (λ rest. gives (a ∷ rest))) (λ a. evaluate_arguments (active l things) (store_by l store) ms (map (rename_fields l checked None) es) >>= (λ rest. gives (a ∷ rest)))
+    (λ a. evaluate_arguments (active tagged things) (store_by tagged store) ms (map (rename_fields tagged checked None) es) >>= (λ rest. succeeds_with (a ∷ rest))) (λ a. evaluate_arguments (active l things) (store_by l store) ms (map (rename_fields l checked None) es) >>= (λ rest. succeeds_with (a ∷ rest)))
     (evaluate_argument-follows l apart things checked store m e)
-    (λ a. follows-then (map (argument_by tagged)) (map (argument_by l)) (map (argument_by tagged)) (map (argument_by l)) _ _ (λ rest. gives (argument_by tagged a ∷ rest)) (λ rest. gives (argument_by l a ∷ rest))
+    (λ a. follows-then (map (argument_by tagged)) (map (argument_by l)) (map (argument_by tagged)) (map (argument_by l)) _ _ (λ rest. succeeds_with (argument_by tagged a ∷ rest)) (λ rest. succeeds_with (argument_by l a ∷ rest))
     (evaluate_arguments-follows l apart things checked store ms es) (λ rest. (a ∷ rest, refl, refl)))
 evaluate_arguments-follows l apart things checked store _ _ = inl refl
 
@@ -130,9 +130,9 @@ Modes = List Mode
 
 modes_of-follows : (l : FieldRenaming) (o : Option (Thing Modes)) → Follows (λ ms. ms) (λ ms. ms) (modes_of (option_map (thing_by tagged (λ p. p)) o)) (modes_of (option_map (thing_by l (λ p. p)) o))
 modes_of-follows l (Some (procedure_thing ms)) = (ms, refl, refl)
-modes_of-follows l (Some (standard_thing reads)) = (by_place ∷ [], refl, refl)
-modes_of-follows l (Some (standard_thing writes)) = (by_value ∷ [], refl, refl)
-modes_of-follows l (Some (standard_thing writes_line)) = ([], refl, refl)
+modes_of-follows l (Some (standard_thing read_procedure)) = (by_place ∷ [], refl, refl)
+modes_of-follows l (Some (standard_thing write_procedure)) = (by_value ∷ [], refl, refl)
+modes_of-follows l (Some (standard_thing write_line_procedure)) = ([], refl, refl)
 modes_of-follows l _ = inl refl
 
 read_number-goes : (l : FieldRenaming) → KeepsFieldsDistinct l → (s : State) (p : Spot) (input : List ℤ) → Goes l (read_number (state_by tagged s) (place_by tagged p) input) (read_number (state_by l s) (place_by l p) input)
@@ -140,12 +140,12 @@ read_number-goes l apart s p [] = inr refl
 read_number-goes l apart s p (n ∷ rest) = store_at-goes l apart record { store = s.store; input = rest; output = s.output } p (number n)
 
 reads-goes : (l : FieldRenaming) → KeepsFieldsDistinct l → (e₁ e₂ : List Argument → State → Progress) (args : List Given) (s : State)
-    → Goes l (perform_call (option_map (thing_by {P = Modes} {Q = Modes} tagged (λ p. p)) (Some (standard_thing reads))) e₁ (map (argument_by tagged) args) (state_by tagged s)) (perform_call (option_map (thing_by {P = Modes} {Q = Modes} l (λ p. p)) (Some (standard_thing reads))) e₂ (map (argument_by l) args) (state_by l s))
+    → Goes l (perform_call (option_map (thing_by {P = Modes} {Q = Modes} tagged (λ p. p)) (Some (standard_thing read_procedure))) e₁ (map (argument_by tagged) args) (state_by tagged s)) (perform_call (option_map (thing_by {P = Modes} {Q = Modes} l (λ p. p)) (Some (standard_thing read_procedure))) e₂ (map (argument_by l) args) (state_by l s))
 reads-goes l apart e₁ e₂ (place_given p ∷ []) s = read_number-goes l apart s p s.input
 reads-goes l apart e₁ e₂ _ s = inl refl
 
 writes-goes : (l : FieldRenaming) (e₁ e₂ : List Argument → State → Progress) (args : List Given) (s : State)
-    → Goes l (perform_call (option_map (thing_by {P = Modes} {Q = Modes} tagged (λ p. p)) (Some (standard_thing writes))) e₁ (map (argument_by tagged) args) (state_by tagged s)) (perform_call (option_map (thing_by {P = Modes} {Q = Modes} l (λ p. p)) (Some (standard_thing writes))) e₂ (map (argument_by l) args) (state_by l s))
+    → Goes l (perform_call (option_map (thing_by {P = Modes} {Q = Modes} tagged (λ p. p)) (Some (standard_thing write_procedure))) e₁ (map (argument_by tagged) args) (state_by tagged s)) (perform_call (option_map (thing_by {P = Modes} {Q = Modes} l (λ p. p)) (Some (standard_thing write_procedure))) e₂ (map (argument_by l) args) (state_by l s))
 writes-goes l e₁ e₂ (value_given (number n) ∷ []) s = (append_output s (number_out n), refl, refl)
 writes-goes l e₁ e₂ _ s = inl refl
 
@@ -159,9 +159,9 @@ CallsAlike l e₁ e₂ = (x : Name) → EntersAlike l (e₁ x) (e₂ x)
 pub perform_call-goes : (l : FieldRenaming) → KeepsFieldsDistinct l → (o : Option (Thing Modes)) (e₁ e₂ : List Argument → State → Progress) → EntersAlike l e₁ e₂ → (args : List Given) (s : State)
     → Goes l (perform_call (option_map (thing_by {Q = Modes} tagged (λ p. p)) o) e₁ (map (argument_by tagged) args) (state_by tagged s)) (perform_call (option_map (thing_by {Q = Modes} l (λ p. p)) o) e₂ (map (argument_by l) args) (state_by l s))
 perform_call-goes l apart (Some (procedure_thing ms)) e₁ e₂ enters args s = enters args s
-perform_call-goes l apart (Some (standard_thing reads)) e₁ e₂ enters args s = reads-goes l apart e₁ e₂ args s
-perform_call-goes l apart (Some (standard_thing writes)) e₁ e₂ enters args s = writes-goes l e₁ e₂ args s
-perform_call-goes l apart (Some (standard_thing writes_line)) e₁ e₂ enters [] s = (append_output s line_out, refl, refl)
+perform_call-goes l apart (Some (standard_thing read_procedure)) e₁ e₂ enters args s = reads-goes l apart e₁ e₂ args s
+perform_call-goes l apart (Some (standard_thing write_procedure)) e₁ e₂ enters args s = writes-goes l e₁ e₂ args s
+perform_call-goes l apart (Some (standard_thing write_line_procedure)) e₁ e₂ enters [] s = (append_output s line_out, refl, refl)
 perform_call-goes l apart _ e₁ e₂ enters _ s = inl refl
 
 -- Statements do the same in both runs.

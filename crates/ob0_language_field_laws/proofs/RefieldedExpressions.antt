@@ -3,15 +3,15 @@ use Rattle.std.proofs.Common.{◌≡◌, ℤ, Bool, List, [], ◌∷◌, ◌++�
 use Rattle.std.proofs.lemmas.List.{map-append}
 use Rattle.ob0_tree.specs.Tree.{Tree, addend, adds, compares, designator, end, expression, factor, field, index, integer, items, more, multiplier, multiplies, negation, none, one, parenthesised, product, relates, selector, simple, sum, term}
 use Rattle.ob0_language_names.specs.Names.{Name}
-use Rattle.ob0_language_types.specs.Expressions.{Meanings, Object, StandardProcedure, a_constant, a_procedure, a_standard, a_type, a_variable, designate, element_step, evaluate, evaluate_addends, evaluate_factor, evaluate_multipliers, evaluate_simple, evaluate_term, follow, object_place, object_value}
+use Rattle.ob0_language_types.specs.Expressions.{Meanings, Object, StandardProcedure, a_constant, a_procedure, a_standard, a_type, a_variable, designate, element_step, evaluate, evaluate_addends, evaluate_factor, evaluate_multipliers, evaluate_simple, evaluate_term, evaluate_selectors, object_place, object_value}
 use Rattle.ob0_language_types.specs.Typing.{object_type}
 use Rattle.ob0_language_types.specs.WellTyped.{TypeMeanings}
-use Rattle.ob0_language_values.specs.Values.{Outcome, Place, Shape, Step, Store, Value, add, add_short_circuits, value_at_path, gives, multiply, multiply_short_circuits, negate, number, or_stuck, part, read_place, relate, apply_sign, truth, ◌>>=◌}
+use Rattle.ob0_language_values.specs.Values.{Outcome, Place, Shape, Step, Store, Value, add, add_short_circuits, value_at_path, succeeds_with, multiply, multiply_short_circuits, negate, number, or_stuck, part, read_place, apply_relation, apply_sign, truth, ◌>>=◌}
 use Rattle.ob0_language_fields.specs.Fields.{FieldRenaming, select_type, record_ordinal, rename_fields}
 use Rattle.ob0_language_fields.proofs.NamesMeant.{named}
 use Rattle.ob0_language_field_laws.specs.FieldLaws.{KeepsFieldsDistinct}
 use Rattle.ob0_language_field_laws.proofs.Apart.{shape_by}
-use Rattle.ob0_language_field_laws.proofs.Outcomes.{Follows, ValuesFollow, add-follows, add_short_circuits-by, element_step-follows, follows-then, multiply-follows, multiply_short_circuits-by, negate-follows, or_stuck-follows, relate-follows, settled-follows, apply_sign-follows}
+use Rattle.ob0_language_field_laws.proofs.Outcomes.{Follows, ValuesFollow, add-follows, add_short_circuits-by, element_step-follows, follows-then, multiply-follows, multiply_short_circuits-by, negate-follows, or_stuck-follows, apply_relation-follows, settled-follows, apply_sign-follows}
 use Rattle.ob0_language_field_laws.proofs.Values.{Move, Spot, value_at_path-finds, part-finds, place_by, read_place-finds, step_by, store_by, tagged, to_field, value_by}
 
 -- the value of a constant: a number or a truth value
@@ -44,7 +44,7 @@ Things P = Name → Option (Thing P)
 abbrev pub active : {P : Type 0} → FieldRenaming → Things P → Meanings Name Place P
 active l things = named (λ x. option_map (thing_by l (λ p. p)) (things x))
 
-scalar-follows : (l : FieldRenaming) (c : Scalar) → ValuesFollow l (gives (scalar_value c)) (gives (scalar_value c))
+scalar-follows : (l : FieldRenaming) (c : Scalar) → ValuesFollow l (succeeds_with (scalar_value c)) (succeeds_with (scalar_value c))
 scalar-follows l (whole n) = (number n, refl, refl)
 scalar-follows l (logical b) = (truth b, refl, refl)
 
@@ -61,15 +61,15 @@ PathsFollow l = Follows (map (step_by tagged)) (map (step_by l))
 
 -- makes a step, and then follows the path that continues from the selected part
 abbrev pub follow_on : (Value → Outcome (List Step)) → Value → Step → Outcome (List Step)
-follow_on next v s = or_stuck (part v s) >>= (λ w. next w >>= (λ steps. gives (s ∷ steps)))
+follow_on next v s = or_stuck (part v s) >>= (λ w. next w >>= (λ steps. succeeds_with (s ∷ steps)))
 
 follow_on-follows : (l : FieldRenaming) → KeepsFieldsDistinct l → (n₁ n₂ : Value → Outcome (List Step)) → ((w : Value) → PathsFollow l (n₁ (value_by tagged w)) (n₂ (value_by l w))) → (v : Value) (m : Move)
     → PathsFollow l (follow_on n₁ (value_by tagged v) (step_by tagged m)) (follow_on n₂ (value_by l v) (step_by l m))
 follow_on-follows l apart n₁ n₂ next v m =
     follows-then (value_by tagged) (value_by l) (map (step_by tagged)) (map (step_by l)) (or_stuck (part (value_by tagged v) (step_by tagged m))) (or_stuck (part (value_by l v) (step_by l m)))
-    (λ w. n₁ w >>= (λ steps. gives (step_by tagged m ∷ steps))) (λ w. n₂ w >>= (λ steps. gives (step_by l m ∷ steps)))
+    (λ w. n₁ w >>= (λ steps. succeeds_with (step_by tagged m ∷ steps))) (λ w. n₂ w >>= (λ steps. succeeds_with (step_by l m ∷ steps)))
     (or_stuck-follows (value_by tagged) (value_by l) (part (value_by tagged v) (step_by tagged m)) (part (value_by l v) (step_by l m)) (part-finds l apart v m))
-    (λ w. follows-then (map (step_by tagged)) (map (step_by l)) (map (step_by tagged)) (map (step_by l)) (n₁ (value_by tagged w)) (n₂ (value_by l w)) (λ steps. gives (step_by tagged m ∷ steps)) (λ steps. gives (step_by l m ∷ steps)) (next w)
+    (λ w. follows-then (map (step_by tagged)) (map (step_by l)) (map (step_by tagged)) (map (step_by l)) (n₁ (value_by tagged w)) (n₂ (value_by l w)) (λ steps. succeeds_with (step_by tagged m ∷ steps)) (λ steps. succeeds_with (step_by l m ∷ steps)) (next w)
     (λ moves. (m ∷ moves, refl, refl)))
 
 mutual
@@ -80,9 +80,9 @@ mutual
   evaluate-follows l apart things checked store (compares a none) = evaluate_simple-follows l apart things checked store a
   evaluate-follows l apart things checked store (compares a (one (relates r b))) =
       follows-then (value_by tagged) (value_by l) (value_by tagged) (value_by l) _ _
-      (λ x. evaluate_simple (active tagged things) (store_by tagged store) (rename_fields tagged checked None b) >>= relate r x) (λ x. evaluate_simple (active l things) (store_by l store) (rename_fields l checked None b) >>= relate r x)
+      (λ x. evaluate_simple (active tagged things) (store_by tagged store) (rename_fields tagged checked None b) >>= apply_relation r x) (λ x. evaluate_simple (active l things) (store_by l store) (rename_fields l checked None b) >>= apply_relation r x)
       (evaluate_simple-follows l apart things checked store a)
-      (λ x. follows-then (value_by tagged) (value_by l) (value_by tagged) (value_by l) _ _ (relate r (value_by tagged x)) (relate r (value_by l x)) (evaluate_simple-follows l apart things checked store b) (relate-follows l r x))
+      (λ x. follows-then (value_by tagged) (value_by l) (value_by tagged) (value_by l) _ _ (apply_relation r (value_by tagged x)) (apply_relation r (value_by l x)) (evaluate_simple-follows l apart things checked store b) (apply_relation-follows l r x))
 
   pub evaluate_simple-follows : {P : Type 0} (l : FieldRenaming) → KeepsFieldsDistinct l → (things : Things P) (checked : TypeMeanings Name) (store : Store) (a : Tree Name simple)
       → ValuesFollow l (evaluate_simple (active tagged things) (store_by tagged store) (rename_fields tagged checked None a)) (evaluate_simple (active l things) (store_by l store) (rename_fields l checked None a))
@@ -99,8 +99,8 @@ mutual
   evaluate_addends-follows l apart things checked store v end = (v, refl, refl)
   evaluate_addends-follows l apart things checked store v (more (adds o t) rest) =
       follows-then (value_by tagged) (value_by l) (value_by tagged) (value_by l)
-      (elim (add_short_circuits o (value_by tagged v)) [ true ↦ gives (value_by tagged v) | false ↦ evaluate_term (active tagged things) (store_by tagged store) (rename_fields tagged checked None t) >>= add o (value_by tagged v) ])
-      (elim (add_short_circuits o (value_by l v)) [ true ↦ gives (value_by l v) | false ↦ evaluate_term (active l things) (store_by l store) (rename_fields l checked None t) >>= add o (value_by l v) ])
+      (elim (add_short_circuits o (value_by tagged v)) [ true ↦ succeeds_with (value_by tagged v) | false ↦ evaluate_term (active tagged things) (store_by tagged store) (rename_fields tagged checked None t) >>= add o (value_by tagged v) ])
+      (elim (add_short_circuits o (value_by l v)) [ true ↦ succeeds_with (value_by l v) | false ↦ evaluate_term (active l things) (store_by l store) (rename_fields l checked None t) >>= add o (value_by l v) ])
       (λ y. evaluate_addends (active tagged things) (store_by tagged store) y (rename_fields tagged checked None rest)) (λ y. evaluate_addends (active l things) (store_by l store) y (rename_fields l checked None rest))
       (settled-follows l (add_short_circuits o v) (add_short_circuits o (value_by tagged v)) (add_short_circuits o (value_by l v)) v _ _ (add_short_circuits-by tagged o v) (add_short_circuits-by l o v)
       (follows-then (value_by tagged) (value_by l) (value_by tagged) (value_by l) _ _ (add o (value_by tagged v)) (add o (value_by l v)) (evaluate_term-follows l apart things checked store t) (add-follows l o v)))
@@ -118,8 +118,8 @@ mutual
   evaluate_multipliers-follows l apart things checked store v end = (v, refl, refl)
   evaluate_multipliers-follows l apart things checked store v (more (multiplies o t) rest) =
       follows-then (value_by tagged) (value_by l) (value_by tagged) (value_by l)
-      (elim (multiply_short_circuits o (value_by tagged v)) [ true ↦ gives (value_by tagged v) | false ↦ evaluate_factor (active tagged things) (store_by tagged store) (rename_fields tagged checked None t) >>= multiply o (value_by tagged v) ])
-      (elim (multiply_short_circuits o (value_by l v)) [ true ↦ gives (value_by l v) | false ↦ evaluate_factor (active l things) (store_by l store) (rename_fields l checked None t) >>= multiply o (value_by l v) ])
+      (elim (multiply_short_circuits o (value_by tagged v)) [ true ↦ succeeds_with (value_by tagged v) | false ↦ evaluate_factor (active tagged things) (store_by tagged store) (rename_fields tagged checked None t) >>= multiply o (value_by tagged v) ])
+      (elim (multiply_short_circuits o (value_by l v)) [ true ↦ succeeds_with (value_by l v) | false ↦ evaluate_factor (active l things) (store_by l store) (rename_fields l checked None t) >>= multiply o (value_by l v) ])
       (λ y. evaluate_multipliers (active tagged things) (store_by tagged store) y (rename_fields tagged checked None rest)) (λ y. evaluate_multipliers (active l things) (store_by l store) y (rename_fields l checked None rest))
       (settled-follows l (multiply_short_circuits o v) (multiply_short_circuits o (value_by tagged v)) (multiply_short_circuits o (value_by l v)) v _ _ (multiply_short_circuits-by tagged o v) (multiply_short_circuits-by l o v)
       (follows-then (value_by tagged) (value_by l) (value_by tagged) (value_by l) _ _ (multiply o (value_by tagged v)) (multiply o (value_by l v)) (evaluate_factor-follows l apart things checked store t) (multiply-follows l o v)))
@@ -129,11 +129,11 @@ mutual
       → ValuesFollow l (evaluate_factor (active tagged things) (store_by tagged store) (rename_fields tagged checked None a)) (evaluate_factor (active l things) (store_by l store) (rename_fields l checked None a))
   evaluate_factor-follows l apart things checked store (designator x path) =
       follows-then (value_by tagged) (value_by l) (value_by tagged) (value_by l) (object_value (store_by tagged store) (option_map (thing_by tagged (λ p. p)) (things x))) (object_value (store_by l store) (option_map (thing_by l (λ p. p)) (things x)))
-      (λ v. follow (active tagged things) (store_by tagged store) v (rename_fields tagged checked (object_type (checked.object_for x)) path) >>= (λ steps. or_stuck (value_at_path steps v)))
-      (λ v. follow (active l things) (store_by l store) v (rename_fields l checked (object_type (checked.object_for x)) path) >>= (λ steps. or_stuck (value_at_path steps v)))
+      (λ v. evaluate_selectors (active tagged things) (store_by tagged store) v (rename_fields tagged checked (object_type (checked.object_for x)) path) >>= (λ steps. or_stuck (value_at_path steps v)))
+      (λ v. evaluate_selectors (active l things) (store_by l store) v (rename_fields l checked (object_type (checked.object_for x)) path) >>= (λ steps. or_stuck (value_at_path steps v)))
       (object_value-follows l apart store (things x))
       (λ v. follows-then (map (step_by tagged)) (map (step_by l)) (value_by tagged) (value_by l)
-      (follow (active tagged things) (store_by tagged store) (value_by tagged v) (rename_fields tagged checked (object_type (checked.object_for x)) path)) (follow (active l things) (store_by l store) (value_by l v) (rename_fields l checked (object_type (checked.object_for x)) path))
+      (evaluate_selectors (active tagged things) (store_by tagged store) (value_by tagged v) (rename_fields tagged checked (object_type (checked.object_for x)) path)) (evaluate_selectors (active l things) (store_by l store) (value_by l v) (rename_fields l checked (object_type (checked.object_for x)) path))
       (λ steps. or_stuck (value_at_path steps (value_by tagged v))) (λ steps. or_stuck (value_at_path steps (value_by l v))) (follow-follows l apart things checked store (object_type (checked.object_for x)) v path)
       (λ moves. or_stuck-follows (value_by tagged) (value_by l) (value_at_path (map (step_by tagged) moves) (value_by tagged v)) (value_at_path (map (step_by l) moves) (value_by l v)) (value_at_path-finds l apart moves v)))
   evaluate_factor-follows l apart things checked store (integer n) = (number (pos n), refl, refl)
@@ -142,20 +142,20 @@ mutual
       follows-then (value_by tagged) (value_by l) (value_by tagged) (value_by l) _ _ negate negate (evaluate_factor-follows l apart things checked store a) (negate-follows l)
 
   pub follow-follows : {P : Type 0} (l : FieldRenaming) → KeepsFieldsDistinct l → (things : Things P) (checked : TypeMeanings Name) (store : Store) (s : Option Shape) (v : Value) (path : Tree Name (items selector))
-      → PathsFollow l (follow (active tagged things) (store_by tagged store) (value_by tagged v) (rename_fields tagged checked s path)) (follow (active l things) (store_by l store) (value_by l v) (rename_fields l checked s path))
+      → PathsFollow l (evaluate_selectors (active tagged things) (store_by tagged store) (value_by tagged v) (rename_fields tagged checked s path)) (evaluate_selectors (active l things) (store_by l store) (value_by l v) (rename_fields l checked s path))
   follow-follows l apart things checked store s v end = ([], refl, refl)
   follow-follows l apart things checked store s v (more (field x) rest) =
-      follow_on-follows l apart (λ w. follow (active tagged things) (store_by tagged store) w (rename_fields tagged checked (select_type s (field x)) rest)) (λ w. follow (active l things) (store_by l store) w (rename_fields l checked (select_type s (field x)) rest))
+      follow_on-follows l apart (λ w. evaluate_selectors (active tagged things) (store_by tagged store) w (rename_fields tagged checked (select_type s (field x)) rest)) (λ w. evaluate_selectors (active l things) (store_by l store) w (rename_fields l checked (select_type s (field x)) rest))
       (λ w. follow-follows l apart things checked store (select_type s (field x)) w rest) v (to_field (record_ordinal s) x)
   follow-follows l apart things checked store s v (more (index e) rest) =
       follows-then (value_by tagged) (value_by l) (map (step_by tagged)) (map (step_by l)) _ _
-      (λ i. element_step (value_by tagged v) i >>= follow_on (λ w. follow (active tagged things) (store_by tagged store) w (rename_fields tagged checked (select_type s (index e)) rest)) (value_by tagged v))
-      (λ i. element_step (value_by l v) i >>= follow_on (λ w. follow (active l things) (store_by l store) w (rename_fields l checked (select_type s (index e)) rest)) (value_by l v))
+      (λ i. element_step (value_by tagged v) i >>= follow_on (λ w. evaluate_selectors (active tagged things) (store_by tagged store) w (rename_fields tagged checked (select_type s (index e)) rest)) (value_by tagged v))
+      (λ i. element_step (value_by l v) i >>= follow_on (λ w. evaluate_selectors (active l things) (store_by l store) w (rename_fields l checked (select_type s (index e)) rest)) (value_by l v))
       (evaluate-follows l apart things checked store e)
       (λ i. follows-then (step_by tagged) (step_by l) (map (step_by tagged)) (map (step_by l)) (element_step (value_by tagged v) (value_by tagged i)) (element_step (value_by l v) (value_by l i))
-      (follow_on (λ w. follow (active tagged things) (store_by tagged store) w (rename_fields tagged checked (select_type s (index e)) rest)) (value_by tagged v)) (follow_on (λ w. follow (active l things) (store_by l store) w (rename_fields l checked (select_type s (index e)) rest)) (value_by l v))
+      (follow_on (λ w. evaluate_selectors (active tagged things) (store_by tagged store) w (rename_fields tagged checked (select_type s (index e)) rest)) (value_by tagged v)) (follow_on (λ w. evaluate_selectors (active l things) (store_by l store) w (rename_fields l checked (select_type s (index e)) rest)) (value_by l v))
       (element_step-follows l v i)
-      (λ m. follow_on-follows l apart (λ w. follow (active tagged things) (store_by tagged store) w (rename_fields tagged checked (select_type s (index e)) rest)) (λ w. follow (active l things) (store_by l store) w (rename_fields l checked (select_type s (index e)) rest))
+      (λ m. follow_on-follows l apart (λ w. evaluate_selectors (active tagged things) (store_by tagged store) w (rename_fields tagged checked (select_type s (index e)) rest)) (λ w. evaluate_selectors (active l things) (store_by l store) w (rename_fields l checked (select_type s (index e)) rest))
       (λ w. follow-follows l apart things checked store (select_type s (index e)) w rest) v m))
 
 -- holds if two outcomes give places that stand for the same place
@@ -178,14 +178,14 @@ pub designate-follows : {P : Type 0} (l : FieldRenaming) → KeepsFieldsDistinct
 unfolding designate
 designate-follows l apart things checked store s x path =
     follows-then (place_by tagged) (place_by l) (place_by tagged) (place_by l) (object_place (option_map (thing_by tagged (λ p. p)) (things x))) (object_place (option_map (thing_by l (λ p. p)) (things x)))
-    (λ p. or_stuck (read_place (store_by tagged store) p) >>= (λ v. follow (active tagged things) (store_by tagged store) v (rename_fields tagged checked s path) >>= (λ steps. gives record { variable = p.variable; path = p.path ++ steps })))
-    (λ p. or_stuck (read_place (store_by l store) p) >>= (λ v. follow (active l things) (store_by l store) v (rename_fields l checked s path) >>= (λ steps. gives record { variable = p.variable; path = p.path ++ steps })))
+    (λ p. or_stuck (read_place (store_by tagged store) p) >>= (λ v. evaluate_selectors (active tagged things) (store_by tagged store) v (rename_fields tagged checked s path) >>= (λ steps. succeeds_with record { variable = p.variable; path = p.path ++ steps })))
+    (λ p. or_stuck (read_place (store_by l store) p) >>= (λ v. evaluate_selectors (active l things) (store_by l store) v (rename_fields l checked s path) >>= (λ steps. succeeds_with record { variable = p.variable; path = p.path ++ steps })))
     (object_place-follows l (things x))
     (λ p. follows-then (value_by tagged) (value_by l) (place_by tagged) (place_by l) (or_stuck (read_place (store_by tagged store) (place_by tagged p))) (or_stuck (read_place (store_by l store) (place_by l p)))
-    (λ v. follow (active tagged things) (store_by tagged store) v (rename_fields tagged checked s path) >>= (λ steps. gives record { variable = p.variable; path = map (step_by tagged) p.moves ++ steps }))
-    (λ v. follow (active l things) (store_by l store) v (rename_fields l checked s path) >>= (λ steps. gives record { variable = p.variable; path = map (step_by l) p.moves ++ steps }))
+    (λ v. evaluate_selectors (active tagged things) (store_by tagged store) v (rename_fields tagged checked s path) >>= (λ steps. succeeds_with record { variable = p.variable; path = map (step_by tagged) p.moves ++ steps }))
+    (λ v. evaluate_selectors (active l things) (store_by l store) v (rename_fields l checked s path) >>= (λ steps. succeeds_with record { variable = p.variable; path = map (step_by l) p.moves ++ steps }))
     (or_stuck-follows (value_by tagged) (value_by l) (read_place (store_by tagged store) (place_by tagged p)) (read_place (store_by l store) (place_by l p)) (read_place-finds l apart store p))
-    (λ v. follows-then (map (step_by tagged)) (map (step_by l)) (place_by tagged) (place_by l) (follow (active tagged things) (store_by tagged store) (value_by tagged v) (rename_fields tagged checked s path)) (follow (active l things) (store_by l store) (value_by l v) (rename_fields l checked s path))
-    (λ steps. gives record { variable = p.variable; path = map (step_by tagged) p.moves ++ steps }) (λ steps. gives record { variable = p.variable; path = map (step_by l) p.moves ++ steps })
+    (λ v. follows-then (map (step_by tagged)) (map (step_by l)) (place_by tagged) (place_by l) (evaluate_selectors (active tagged things) (store_by tagged store) (value_by tagged v) (rename_fields tagged checked s path)) (evaluate_selectors (active l things) (store_by l store) (value_by l v) (rename_fields l checked s path))
+    (λ steps. succeeds_with record { variable = p.variable; path = map (step_by tagged) p.moves ++ steps }) (λ steps. succeeds_with record { variable = p.variable; path = map (step_by l) p.moves ++ steps })
     (follow-follows l apart things checked store s v path)
     (λ moves. (spot_further p moves, place-further tagged p moves, place-further l p moves))))

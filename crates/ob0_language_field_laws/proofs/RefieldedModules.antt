@@ -1,20 +1,20 @@
 -- A module's declarations and statements are well-typed exactly if they are with the fields under other names.
 use Rattle.std.proofs.Common.{◌≡◌, ℕ, ◌+◌, true, false, ◌&&◌, List, [], ◌∷◌, ◌++◌, map, Some, None, Option, option_map, option_and_then, unwrap_or, refl, ap, ◌∙◌}
-use Rattle.ob0_tree.specs.Tree.{Tree, begins, block, body, constant, declares, declares_constant, declares_procedure, declares_type, declares_types, declares_variable, declares_variables, end, formals, further_section, has_body, is_module, item, items, maybe, more, no_formals, none, one, procedure, section, then_section, type_name, type_names, value_section, variable, variable_section, variables, written_type}
+use Rattle.ob0_tree.specs.Tree.{Tree, begins, block, body, constant, declares, declares_constant, declares_procedure, declares_type, declares_types, declares_variable, declares_variables, end, formals, further_section, forms_block, is_module, item, items, maybe, more, no_formals, none, one, procedure, section, then_section, type_definition, type_definitions, value_section, variable, variable_section, variables, written_type}
 use Rattle.ob0_language_names.specs.Names.{Name, naming_by_spelling, same_name}
 use Rattle.ob0_language_names.specs.Parts.{formal_sections, names_in_list, procedure_formals, procedure_name, section_constants, section_names, section_type, section_types, section_variables}
-use Rattle.ob0_language_types.specs.Declarations.{constructor_after_formals, constructors_before_variables, constructor_after_variables, block_constructor_count, declare_constants, declare_first, declare_types, formals_constructor_count, procedure_constructor_count, procedures_constructor_count, types_constructor_count, variables_constructor_count}
-use Rattle.ob0_language_types.specs.Environments.{environment_from_binding, meanings, newest_object, outermost}
+use Rattle.ob0_language_types.specs.Declarations.{constructors_before_procedure_block, constructors_before_variables, constructors_before_procedures, block_constructor_count, declare_constants, declare_constants_and_types, declare_types, formals_constructor_count, procedure_constructor_count, procedures_constructor_count, types_constructor_count, variables_constructor_count}
+use Rattle.ob0_language_types.specs.Environments.{environment_from_binding, meanings, newest_object, outermost_environment}
 use Rattle.ob0_language_types.specs.Expressions.{Object, a_constant, a_procedure, a_type, a_variable}
-use Rattle.ob0_language_types.specs.Typing.{constant_of, constant_value, constructor_count, denoted, type_of_name}
-use Rattle.ob0_language_types.specs.WellTyped.{Mode, Signature, TypeEnvironment, TypedParameter, bind_names, bind_typed_parameters, block_fits, body_fits, declare_typed, passes_type_check, bind_procedure, some_satisfies, procedure_fits, procedures_fit, section_mode, sequence_fits, typed_parameters}
+use Rattle.ob0_language_types.specs.Typing.{constant_of, constant_value, constructor_count, denoted_type, type_of_name}
+use Rattle.ob0_language_types.specs.WellTyped.{Mode, Signature, TypeEnvironment, TypedParameter, bind_names, bind_typed_parameters, block_is_well_typed, body_is_well_typed, declare_typed_variables, passes_type_check, bind_procedure, option_satisfies, procedure_is_well_typed, procedures_are_well_typed, section_mode, sequence_is_well_typed, typed_parameters}
 use Rattle.ob0_language_values.specs.Values.{Shape}
 use Rattle.ob0_language_fields.specs.Fields.{FieldRenaming, environment_after_heading, environment_after_procedures, environment_after_variables, parameters_of, rename_fields, rename_fields_in_block, rename_fields_in_formals, rename_fields_in_procedure, rename_fields_in_procedures, rename_fields_in_section, rename_fields_in_sections, rename_fields_in_type, rename_fields_in_type_section, rename_fields_in_types, rename_fields_in_variable_section, rename_fields_in_variables}
 use Rattle.ob0_language_fields.proofs.NamesMeant.{named, parameter_of, object_in}
 use Rattle.ob0_language_field_laws.specs.FieldLaws.{KeepsFieldsDistinct, FieldRenamingKeepsTypeCheck}
 use Rattle.ob0_language_field_laws.proofs.Apart.{constant_of-by, each-then, formal_by, map-then, object_by, shape_by, type_of_name-by}
-use Rattle.ob0_language_field_laws.proofs.RefieldedTypes.{constant_value-alike, constructor_count-rename_fields, denoted-rename_fields}
-use Rattle.ob0_language_field_laws.proofs.RefieldedStatements.{sequence_fits-rename_fields}
+use Rattle.ob0_language_field_laws.proofs.RefieldedTypes.{constant_value-alike, constructor_count-rename_fields, denoted_type-rename_fields}
+use Rattle.ob0_language_field_laws.proofs.RefieldedStatements.{sequence_is_well_typed-rename_fields}
 
 -- Looking up a name in an environment whose fields have other names gives its meaning with these names.
 
@@ -34,8 +34,8 @@ constants-by l env x = ap constant_of (newest_object-by l env x) ∙ constant_of
 pub types-by : (l : FieldRenaming) (env : TypeEnvironment Name) (x : Name) → type_of_name (object_in (env_by l env) x) ≡ option_map (shape_by l) (type_of_name (object_in env x))
 types-by l env x = ap type_of_name (newest_object-by l env x) ∙ type_of_name-by l (object_in env x)
 
-pub denoted-by : (l : FieldRenaming) (env : TypeEnvironment Name) (k : ℕ) (t : Tree Name written_type) → denoted (meanings naming_by_spelling (env_by l env)) k (rename_fields_in_type l k t) ≡ option_map (shape_by l) (denoted (meanings naming_by_spelling env) k t)
-denoted-by l env k t = denoted-rename_fields l (object_in (env_by l env)) (object_in env) (constants-by l env) (types-by l env) k t
+pub denoted_type-by : (l : FieldRenaming) (env : TypeEnvironment Name) (k : ℕ) (t : Tree Name written_type) → denoted_type (meanings naming_by_spelling (env_by l env)) k (rename_fields_in_type l k t) ≡ option_map (shape_by l) (denoted_type (meanings naming_by_spelling env) k t)
+denoted_type-by l env k t = denoted_type-rename_fields l (object_in (env_by l env)) (object_in env) (constants-by l env) (types-by l env) k t
 
 pub bind_names-by : (l : FieldRenaming) (xs : List Name) (o : Object Shape Signature) (env : TypeEnvironment Name) → bind_names xs (object_by l o) (env_by l env) ≡ env_by l (bind_names xs o env)
 bind_names-by l [] o env = refl
@@ -57,7 +57,7 @@ bind_procedure-by l x ps env = λ i. (x, a_procedure (formals-by l ps i)) ∷ en
 
 -- The sections of a block with its fields under other names are the sections with theirs.
 
-pub section_types-rename_fields : (l : FieldRenaming) (k : ℕ) (ts : Tree Name (maybe type_names)) → section_types (rename_fields_in_type_section l k ts) ≡ rename_fields_in_types l k (section_types ts)
+pub section_types-rename_fields : (l : FieldRenaming) (k : ℕ) (ts : Tree Name (maybe type_definitions)) → section_types (rename_fields_in_type_section l k ts) ≡ rename_fields_in_types l k (section_types ts)
 section_types-rename_fields l k none = refl
 section_types-rename_fields l k (one (declares_types ts)) = refl
 
@@ -92,7 +92,7 @@ procedure_name-rename_fields l env k (declares_procedure x fs b closing) = refl
 pub section_constructors-rename_fields : (l : FieldRenaming) (k : ℕ) (f : Tree Name section) → constructor_count (section_type (rename_fields_in_section l k f)) ≡ constructor_count (section_type f)
 section_constructors-rename_fields l k f = ap constructor_count (section_type-rename_fields l k f) ∙ constructor_count-rename_fields l k (section_type f)
 
-pub types_constructor_count-rename_fields : (l : FieldRenaming) (k : ℕ) (ds : Tree Name (items type_name)) → types_constructor_count (rename_fields_in_types l k ds) ≡ types_constructor_count ds
+pub types_constructor_count-rename_fields : (l : FieldRenaming) (k : ℕ) (ds : Tree Name (items type_definition)) → types_constructor_count (rename_fields_in_types l k ds) ≡ types_constructor_count ds
 types_constructor_count-rename_fields l k end = refl
 types_constructor_count-rename_fields l k (more (declares_type x u) ds) = λ i. constructor_count-rename_fields l k u i + types_constructor_count-rename_fields l (k + constructor_count u) ds i
 
@@ -104,7 +104,7 @@ pub sections_constructors-rename_fields : (l : FieldRenaming) (k : ℕ) (fs : Tr
 sections_constructors-rename_fields l k end = refl
 sections_constructors-rename_fields l k (more (then_section f) fs) = λ i. section_constructors-rename_fields l k f i + sections_constructors-rename_fields l (k + constructor_count (section_type f)) fs i
 
-pub types_count-rename_fields : (l : FieldRenaming) (k : ℕ) (ts : Tree Name (maybe type_names)) → types_constructor_count (section_types (rename_fields_in_type_section l k ts)) ≡ types_constructor_count (section_types ts)
+pub types_count-rename_fields : (l : FieldRenaming) (k : ℕ) (ts : Tree Name (maybe type_definitions)) → types_constructor_count (section_types (rename_fields_in_type_section l k ts)) ≡ types_constructor_count (section_types ts)
 types_count-rename_fields l k ts = ap types_constructor_count (section_types-rename_fields l k ts) ∙ types_constructor_count-rename_fields l k (section_types ts)
 
 pub variables_count-rename_fields : (l : FieldRenaming) (k : ℕ) (vs : Tree Name (maybe variables)) → variables_constructor_count (section_variables (rename_fields_in_variable_section l k vs)) ≡ variables_constructor_count (section_variables vs)
@@ -115,10 +115,10 @@ formals_count-rename_fields l k fs = ap formals_constructor_count (formal_sectio
 
 mutual
   pub block_constructor_count-rename_fields : (l : FieldRenaming) (env : TypeEnvironment Name) (k : ℕ) (b : Tree Name block) → block_constructor_count (rename_fields_in_block l env k b) ≡ block_constructor_count b
-  block_constructor_count-rename_fields l env k (has_body (declares cs ts vs ps) statements) = λ i.
+  block_constructor_count-rename_fields l env k (forms_block (declares cs ts vs ps) statements) = λ i.
       types_count-rename_fields l k ts i
-      + (variables_count-rename_fields l (constructors_before_variables k (has_body (declares cs ts vs ps) statements)) vs i
-      + procedures_constructor_count-rename_fields l (environment_after_variables env k (has_body (declares cs ts vs ps) statements)) (constructor_after_variables k (has_body (declares cs ts vs ps) statements)) ps i)
+      + (variables_count-rename_fields l (constructors_before_variables k (forms_block (declares cs ts vs ps) statements)) vs i
+      + procedures_constructor_count-rename_fields l (environment_after_variables env k (forms_block (declares cs ts vs ps) statements)) (constructors_before_procedures k (forms_block (declares cs ts vs ps) statements)) ps i)
 
   pub procedures_constructor_count-rename_fields : (l : FieldRenaming) (env : TypeEnvironment Name) (k : ℕ) (ps : Tree Name (items procedure)) → procedures_constructor_count (rename_fields_in_procedures l env k ps) ≡ procedures_constructor_count ps
   procedures_constructor_count-rename_fields l env k end = refl
@@ -128,7 +128,7 @@ mutual
 
   pub procedure_constructor_count-rename_fields : (l : FieldRenaming) (env : TypeEnvironment Name) (k : ℕ) (p : Tree Name (item procedure)) → procedure_constructor_count (rename_fields_in_procedure l env k p) ≡ procedure_constructor_count p
   procedure_constructor_count-rename_fields l env k (declares_procedure x fs b closing) = λ i.
-      formals_count-rename_fields l k fs i + block_constructor_count-rename_fields l env (constructor_after_formals k (declares_procedure x fs b closing)) b i
+      formals_count-rename_fields l k fs i + block_constructor_count-rename_fields l env (constructors_before_procedure_block k (declares_procedure x fs b closing)) b i
 
 -- Declarations give the same environment with the fields under other names.
 
@@ -140,22 +140,22 @@ declare_constants-by l env (more (declares_constant x e) cs) =
     ∙ each-then (env_by l) (constant_value (meanings naming_by_spelling env) e) (λ v. declare_constants naming_by_spelling ((x, a_constant v) ∷ env) cs) (λ v. declare_constants naming_by_spelling ((x, a_constant v) ∷ env_by l env) cs)
     (λ v. declare_constants-by l ((x, a_constant v) ∷ env) cs)
 
-pub declare_types-by : (l : FieldRenaming) (env : TypeEnvironment Name) (k : ℕ) (ds : Tree Name (items type_name)) → declare_types naming_by_spelling (env_by l env) k (rename_fields_in_types l k ds) ≡ option_map (env_by l) (declare_types naming_by_spelling env k ds)
+pub declare_types-by : (l : FieldRenaming) (env : TypeEnvironment Name) (k : ℕ) (ds : Tree Name (items type_definition)) → declare_types naming_by_spelling (env_by l env) k (rename_fields_in_types l k ds) ≡ option_map (env_by l) (declare_types naming_by_spelling env k ds)
 unfolding declare_types
 declare_types-by l env k end = refl
 declare_types-by l env k (more (declares_type x u) ds) =
-    ap (λ n. option_and_then (λ s. declare_types naming_by_spelling ((x, a_type s) ∷ env_by l env) (k + n) (rename_fields_in_types l (k + constructor_count u) ds)) (denoted (meanings naming_by_spelling (env_by l env)) k (rename_fields_in_type l k u))) (constructor_count-rename_fields l k u)
-    ∙ map-then (shape_by l) (env_by l) (denoted (meanings naming_by_spelling env) k u) (denoted (meanings naming_by_spelling (env_by l env)) k (rename_fields_in_type l k u)) (λ s. declare_types naming_by_spelling ((x, a_type s) ∷ env) (k + constructor_count u) ds)
-    (λ s. declare_types naming_by_spelling ((x, a_type s) ∷ env_by l env) (k + constructor_count u) (rename_fields_in_types l (k + constructor_count u) ds)) (denoted-by l env k u) (λ s. declare_types-by l ((x, a_type s) ∷ env) (k + constructor_count u) ds)
+    ap (λ n. option_and_then (λ s. declare_types naming_by_spelling ((x, a_type s) ∷ env_by l env) (k + n) (rename_fields_in_types l (k + constructor_count u) ds)) (denoted_type (meanings naming_by_spelling (env_by l env)) k (rename_fields_in_type l k u))) (constructor_count-rename_fields l k u)
+    ∙ map-then (shape_by l) (env_by l) (denoted_type (meanings naming_by_spelling env) k u) (denoted_type (meanings naming_by_spelling (env_by l env)) k (rename_fields_in_type l k u)) (λ s. declare_types naming_by_spelling ((x, a_type s) ∷ env) (k + constructor_count u) ds)
+    (λ s. declare_types naming_by_spelling ((x, a_type s) ∷ env_by l env) (k + constructor_count u) (rename_fields_in_types l (k + constructor_count u) ds)) (denoted_type-by l env k u) (λ s. declare_types-by l ((x, a_type s) ∷ env) (k + constructor_count u) ds)
 
-pub declare_typed-by : (l : FieldRenaming) (env : TypeEnvironment Name) (k : ℕ) (gs : Tree Name (items variable)) → declare_typed naming_by_spelling k (rename_fields_in_variables l k gs) (env_by l env) ≡ option_map (env_by l) (declare_typed naming_by_spelling k gs env)
-unfolding declare_typed
-declare_typed-by l env k end = refl
-declare_typed-by l env k (more (declares_variable ns u) gs) =
-    ap (λ n. option_and_then (λ s. declare_typed naming_by_spelling (k + n) (rename_fields_in_variables l (k + constructor_count u) gs) (bind_names (names_in_list ns) (a_variable s) (env_by l env))) (denoted (meanings naming_by_spelling (env_by l env)) k (rename_fields_in_type l k u))) (constructor_count-rename_fields l k u)
-    ∙ map-then (shape_by l) (env_by l) (denoted (meanings naming_by_spelling env) k u) (denoted (meanings naming_by_spelling (env_by l env)) k (rename_fields_in_type l k u)) (λ s. declare_typed naming_by_spelling (k + constructor_count u) gs (bind_names (names_in_list ns) (a_variable s) env))
-    (λ s. declare_typed naming_by_spelling (k + constructor_count u) (rename_fields_in_variables l (k + constructor_count u) gs) (bind_names (names_in_list ns) (a_variable s) (env_by l env))) (denoted-by l env k u)
-    (λ s. ap (declare_typed naming_by_spelling (k + constructor_count u) (rename_fields_in_variables l (k + constructor_count u) gs)) (bind_names-by l (names_in_list ns) (a_variable s) env) ∙ declare_typed-by l (bind_names (names_in_list ns) (a_variable s) env) (k + constructor_count u) gs)
+pub declare_typed_variables-by : (l : FieldRenaming) (env : TypeEnvironment Name) (k : ℕ) (gs : Tree Name (items variable)) → declare_typed_variables naming_by_spelling k (rename_fields_in_variables l k gs) (env_by l env) ≡ option_map (env_by l) (declare_typed_variables naming_by_spelling k gs env)
+unfolding declare_typed_variables
+declare_typed_variables-by l env k end = refl
+declare_typed_variables-by l env k (more (declares_variable ns u) gs) =
+    ap (λ n. option_and_then (λ s. declare_typed_variables naming_by_spelling (k + n) (rename_fields_in_variables l (k + constructor_count u) gs) (bind_names (names_in_list ns) (a_variable s) (env_by l env))) (denoted_type (meanings naming_by_spelling (env_by l env)) k (rename_fields_in_type l k u))) (constructor_count-rename_fields l k u)
+    ∙ map-then (shape_by l) (env_by l) (denoted_type (meanings naming_by_spelling env) k u) (denoted_type (meanings naming_by_spelling (env_by l env)) k (rename_fields_in_type l k u)) (λ s. declare_typed_variables naming_by_spelling (k + constructor_count u) gs (bind_names (names_in_list ns) (a_variable s) env))
+    (λ s. declare_typed_variables naming_by_spelling (k + constructor_count u) (rename_fields_in_variables l (k + constructor_count u) gs) (bind_names (names_in_list ns) (a_variable s) (env_by l env))) (denoted_type-by l env k u)
+    (λ s. ap (declare_typed_variables naming_by_spelling (k + constructor_count u) (rename_fields_in_variables l (k + constructor_count u) gs)) (bind_names-by l (names_in_list ns) (a_variable s) env) ∙ declare_typed_variables-by l (bind_names (names_in_list ns) (a_variable s) env) (k + constructor_count u) gs)
 
 -- If fields get other names, only these names change in the types of a heading's parameters.
 
@@ -168,11 +168,11 @@ unfolding typed_parameters
 typed_parameters-by l env k end = refl
 typed_parameters-by l env k (more (then_section f) fs) =
     (λ i. option_and_then (λ s. option_and_then (λ rest. Some (map (parameter_of (section_mode-rename_fields l k f i) s) (section_names-rename_fields l k f i) ++ rest))
-    (typed_parameters naming_by_spelling (bind_names (section_names-rename_fields l k f i) (a_variable s) (env_by l env)) (k + section_constructors-rename_fields l k f i) (rename_fields_in_sections l (k + constructor_count (section_type f)) fs))) (denoted (meanings naming_by_spelling (env_by l env)) k (section_type-rename_fields l k f i)))
-    ∙ map-then (shape_by l) (map (parameter_by l)) (denoted (meanings naming_by_spelling env) k (section_type f)) (denoted (meanings naming_by_spelling (env_by l env)) k (rename_fields_in_type l k (section_type f)))
+    (typed_parameters naming_by_spelling (bind_names (section_names-rename_fields l k f i) (a_variable s) (env_by l env)) (k + section_constructors-rename_fields l k f i) (rename_fields_in_sections l (k + constructor_count (section_type f)) fs))) (denoted_type (meanings naming_by_spelling (env_by l env)) k (section_type-rename_fields l k f i)))
+    ∙ map-then (shape_by l) (map (parameter_by l)) (denoted_type (meanings naming_by_spelling env) k (section_type f)) (denoted_type (meanings naming_by_spelling (env_by l env)) k (rename_fields_in_type l k (section_type f)))
     (λ s. option_and_then (λ rest. Some (map (parameter_of (section_mode f) s) (section_names f) ++ rest)) (typed_parameters naming_by_spelling (bind_names (section_names f) (a_variable s) env) (k + constructor_count (section_type f)) fs))
     (λ s. option_and_then (λ rest. Some (map (parameter_of (section_mode f) s) (section_names f) ++ rest)) (typed_parameters naming_by_spelling (bind_names (section_names f) (a_variable s) (env_by l env)) (k + constructor_count (section_type f)) (rename_fields_in_sections l (k + constructor_count (section_type f)) fs)))
-    (denoted-by l env k (section_type f))
+    (denoted_type-by l env k (section_type f))
     (λ s. map-then (map (parameter_by l)) (map (parameter_by l)) (typed_parameters naming_by_spelling (bind_names (section_names f) (a_variable s) env) (k + constructor_count (section_type f)) fs)
     (typed_parameters naming_by_spelling (bind_names (section_names f) (a_variable (shape_by l s)) (env_by l env)) (k + constructor_count (section_type f)) (rename_fields_in_sections l (k + constructor_count (section_type f)) fs))
     (λ rest. Some (map (parameter_of (section_mode f) s) (section_names f) ++ rest)) (λ rest. Some (map (parameter_of (section_mode f) (shape_by l s)) (section_names f) ++ rest))
@@ -181,61 +181,61 @@ typed_parameters-by l env k (more (then_section f) fs) =
 
 -- A block is well-typed exactly if it is with its fields under other names.
 
-pub body_fits-rename_fields : (l : FieldRenaming) → KeepsFieldsDistinct l → (env : TypeEnvironment Name) (statements : Tree Name (maybe body)) → body_fits naming_by_spelling (env_by l env) (rename_fields l (meanings naming_by_spelling env) None statements) ≡ body_fits naming_by_spelling env statements
-unfolding body_fits
-body_fits-rename_fields l apart env none = refl
-body_fits-rename_fields l apart env (one (begins a)) =
-    (λ i. sequence_fits (named (λ x. newest_object-by l env x i)) (rename_fields l (meanings naming_by_spelling env) None a)) ∙ sequence_fits-rename_fields l apart (object_in env) a
+pub body_is_well_typed-rename_fields : (l : FieldRenaming) → KeepsFieldsDistinct l → (env : TypeEnvironment Name) (statements : Tree Name (maybe body)) → body_is_well_typed naming_by_spelling (env_by l env) (rename_fields l (meanings naming_by_spelling env) None statements) ≡ body_is_well_typed naming_by_spelling env statements
+unfolding body_is_well_typed
+body_is_well_typed-rename_fields l apart env none = refl
+body_is_well_typed-rename_fields l apart env (one (begins a)) =
+    (λ i. sequence_is_well_typed (named (λ x. newest_object-by l env x i)) (rename_fields l (meanings naming_by_spelling env) None a)) ∙ sequence_is_well_typed-rename_fields l apart (object_in env) a
 
-pub declared-by : (l : FieldRenaming) (env : TypeEnvironment Name) (k j : ℕ) (cs : Tree Name (items constant)) (ts : Tree Name (items type_name)) (vs : Tree Name (items variable))
-    → option_and_then (declare_typed naming_by_spelling j (rename_fields_in_variables l j vs)) (option_and_then (λ env. declare_types naming_by_spelling env k (rename_fields_in_types l k ts)) (declare_constants naming_by_spelling (env_by l env) cs))
-    ≡ option_map (env_by l) (option_and_then (declare_typed naming_by_spelling j vs) (option_and_then (λ env. declare_types naming_by_spelling env k ts) (declare_constants naming_by_spelling env cs)))
+pub declared-by : (l : FieldRenaming) (env : TypeEnvironment Name) (k j : ℕ) (cs : Tree Name (items constant)) (ts : Tree Name (items type_definition)) (vs : Tree Name (items variable))
+    → option_and_then (declare_typed_variables naming_by_spelling j (rename_fields_in_variables l j vs)) (option_and_then (λ env. declare_types naming_by_spelling env k (rename_fields_in_types l k ts)) (declare_constants naming_by_spelling (env_by l env) cs))
+    ≡ option_map (env_by l) (option_and_then (declare_typed_variables naming_by_spelling j vs) (option_and_then (λ env. declare_types naming_by_spelling env k ts) (declare_constants naming_by_spelling env cs)))
 declared-by l env k j cs ts vs =
     map-then (env_by l) (env_by l) (option_and_then (λ env. declare_types naming_by_spelling env k ts) (declare_constants naming_by_spelling env cs)) (option_and_then (λ env. declare_types naming_by_spelling env k (rename_fields_in_types l k ts)) (declare_constants naming_by_spelling (env_by l env) cs))
-    (declare_typed naming_by_spelling j vs) (declare_typed naming_by_spelling j (rename_fields_in_variables l j vs))
+    (declare_typed_variables naming_by_spelling j vs) (declare_typed_variables naming_by_spelling j (rename_fields_in_variables l j vs))
     (map-then (env_by l) (env_by l) (declare_constants naming_by_spelling env cs) (declare_constants naming_by_spelling (env_by l env) cs) (λ env. declare_types naming_by_spelling env k ts) (λ env. declare_types naming_by_spelling env k (rename_fields_in_types l k ts)) (declare_constants-by l env cs) (λ env. declare_types-by l env k ts))
-    (λ env. declare_typed-by l env j vs)
+    (λ env. declare_typed_variables-by l env j vs)
 
 mutual
-  unfolding block_fits
+  unfolding block_is_well_typed
 
-  pub block_fits-rename_fields : (l : FieldRenaming) → KeepsFieldsDistinct l → (env : TypeEnvironment Name) (k : ℕ) (b : Tree Name block) → block_fits naming_by_spelling (env_by l env) k (rename_fields_in_block l env k b) ≡ block_fits naming_by_spelling env k b
-  block_fits-rename_fields l apart env k (has_body (declares cs ts vs ps) statements) =
-      let b : Tree Name block = has_body (declares cs ts vs ps) statements in
-      let o : Option (TypeEnvironment Name) = option_and_then (declare_typed naming_by_spelling (constructors_before_variables k b) (section_variables vs)) (declare_first naming_by_spelling env k b) in
-      (λ i. some_satisfies (option_and_then (declare_typed naming_by_spelling (k + types_count-rename_fields l k ts i) (section_variables-rename_fields l (constructors_before_variables k b) vs i)) (option_and_then (λ env. declare_types naming_by_spelling env k (section_types-rename_fields l k ts i)) (declare_constants naming_by_spelling (env_by l env) (section_constants cs))))
-      (λ inner. procedures_fit naming_by_spelling inner (k + types_count-rename_fields l k ts i + variables_count-rename_fields l (constructors_before_variables k b) vs i) (rename_fields l (meanings naming_by_spelling (environment_after_procedures (environment_after_variables env k b) (constructor_after_variables k b) ps)) None statements) (rename_fields_in_procedures l (environment_after_variables env k b) (constructor_after_variables k b) ps)))
-      ∙ (ap (λ o. some_satisfies o (λ inner. procedures_fit naming_by_spelling inner (constructor_after_variables k b) (rename_fields l (meanings naming_by_spelling (environment_after_procedures (environment_after_variables env k b) (constructor_after_variables k b) ps)) None statements) (rename_fields_in_procedures l (environment_after_variables env k b) (constructor_after_variables k b) ps)))
+  pub block_is_well_typed-rename_fields : (l : FieldRenaming) → KeepsFieldsDistinct l → (env : TypeEnvironment Name) (k : ℕ) (b : Tree Name block) → block_is_well_typed naming_by_spelling (env_by l env) k (rename_fields_in_block l env k b) ≡ block_is_well_typed naming_by_spelling env k b
+  block_is_well_typed-rename_fields l apart env k (forms_block (declares cs ts vs ps) statements) =
+      let b : Tree Name block = forms_block (declares cs ts vs ps) statements in
+      let o : Option (TypeEnvironment Name) = option_and_then (declare_typed_variables naming_by_spelling (constructors_before_variables k b) (section_variables vs)) (declare_constants_and_types naming_by_spelling env k b) in
+      (λ i. option_satisfies (option_and_then (declare_typed_variables naming_by_spelling (k + types_count-rename_fields l k ts i) (section_variables-rename_fields l (constructors_before_variables k b) vs i)) (option_and_then (λ env. declare_types naming_by_spelling env k (section_types-rename_fields l k ts i)) (declare_constants naming_by_spelling (env_by l env) (section_constants cs))))
+      (λ inner. procedures_are_well_typed naming_by_spelling inner (k + types_count-rename_fields l k ts i + variables_count-rename_fields l (constructors_before_variables k b) vs i) (rename_fields l (meanings naming_by_spelling (environment_after_procedures (environment_after_variables env k b) (constructors_before_procedures k b) ps)) None statements) (rename_fields_in_procedures l (environment_after_variables env k b) (constructors_before_procedures k b) ps)))
+      ∙ (ap (λ o. option_satisfies o (λ inner. procedures_are_well_typed naming_by_spelling inner (constructors_before_procedures k b) (rename_fields l (meanings naming_by_spelling (environment_after_procedures (environment_after_variables env k b) (constructors_before_procedures k b) ps)) None statements) (rename_fields_in_procedures l (environment_after_variables env k b) (constructors_before_procedures k b) ps)))
       (declared-by l env k (constructors_before_variables k b) (section_constants cs) (section_types ts) (section_variables vs))
-      ∙ (elim o as (λ o. some_satisfies (option_map (env_by l) o) (λ inner. procedures_fit naming_by_spelling inner (constructor_after_variables k b) (rename_fields l (meanings naming_by_spelling (environment_after_procedures (unwrap_or o env) (constructor_after_variables k b) ps)) None statements) (rename_fields_in_procedures l (unwrap_or o env) (constructor_after_variables k b) ps))
-      ≡ some_satisfies o (λ inner. procedures_fit naming_by_spelling inner (constructor_after_variables k b) statements ps))
-      [ None ↦ refl | Some inner ↦ procedures_fit-rename_fields l apart inner (constructor_after_variables k b) statements ps ]))
+      ∙ (elim o as (λ o. option_satisfies (option_map (env_by l) o) (λ inner. procedures_are_well_typed naming_by_spelling inner (constructors_before_procedures k b) (rename_fields l (meanings naming_by_spelling (environment_after_procedures (unwrap_or o env) (constructors_before_procedures k b) ps)) None statements) (rename_fields_in_procedures l (unwrap_or o env) (constructors_before_procedures k b) ps))
+      ≡ option_satisfies o (λ inner. procedures_are_well_typed naming_by_spelling inner (constructors_before_procedures k b) statements ps))
+      [ None ↦ refl | Some inner ↦ procedures_are_well_typed-rename_fields l apart inner (constructors_before_procedures k b) statements ps ]))
 
-  pub procedures_fit-rename_fields : (l : FieldRenaming) → KeepsFieldsDistinct l → (env : TypeEnvironment Name) (k : ℕ) (statements : Tree Name (maybe body)) (ps : Tree Name (items procedure))
-      → procedures_fit naming_by_spelling (env_by l env) k (rename_fields l (meanings naming_by_spelling (environment_after_procedures env k ps)) None statements) (rename_fields_in_procedures l env k ps) ≡ procedures_fit naming_by_spelling env k statements ps
-  procedures_fit-rename_fields l apart env k statements end = body_fits-rename_fields l apart env statements
-  procedures_fit-rename_fields l apart env k statements (more p rest) =
+  pub procedures_are_well_typed-rename_fields : (l : FieldRenaming) → KeepsFieldsDistinct l → (env : TypeEnvironment Name) (k : ℕ) (statements : Tree Name (maybe body)) (ps : Tree Name (items procedure))
+      → procedures_are_well_typed naming_by_spelling (env_by l env) k (rename_fields l (meanings naming_by_spelling (environment_after_procedures env k ps)) None statements) (rename_fields_in_procedures l env k ps) ≡ procedures_are_well_typed naming_by_spelling env k statements ps
+  procedures_are_well_typed-rename_fields l apart env k statements end = body_is_well_typed-rename_fields l apart env statements
+  procedures_are_well_typed-rename_fields l apart env k statements (more p rest) =
       let e : TypeEnvironment Name = bind_typed_parameters (parameters_of env k p) (environment_after_heading env k p) in
-      (λ i. some_satisfies (typed_parameters naming_by_spelling (env_by l env) k (procedure_formals-rename_fields l e k p i)) (λ qs. procedure_fits naming_by_spelling (bind_typed_parameters qs (bind_procedure (procedure_name-rename_fields l e k p i) qs (env_by l env))) k (rename_fields_in_procedure l e k p)
-      && procedures_fit naming_by_spelling (bind_procedure (procedure_name-rename_fields l e k p i) qs (env_by l env)) (k + procedure_constructor_count-rename_fields l e k p i) (rename_fields l (meanings naming_by_spelling (environment_after_procedures (environment_after_heading env k p) (k + procedure_constructor_count p) rest)) None statements) (rename_fields_in_procedures l (environment_after_heading env k p) (k + procedure_constructor_count p) rest)))
-      ∙ (ap (λ o. some_satisfies o (λ qs. procedure_fits naming_by_spelling (bind_typed_parameters qs (bind_procedure (procedure_name p) qs (env_by l env))) k (rename_fields_in_procedure l e k p)
-      && procedures_fit naming_by_spelling (bind_procedure (procedure_name p) qs (env_by l env)) (k + procedure_constructor_count p) (rename_fields l (meanings naming_by_spelling (environment_after_procedures (environment_after_heading env k p) (k + procedure_constructor_count p) rest)) None statements) (rename_fields_in_procedures l (environment_after_heading env k p) (k + procedure_constructor_count p) rest)))
+      (λ i. option_satisfies (typed_parameters naming_by_spelling (env_by l env) k (procedure_formals-rename_fields l e k p i)) (λ qs. procedure_is_well_typed naming_by_spelling (bind_typed_parameters qs (bind_procedure (procedure_name-rename_fields l e k p i) qs (env_by l env))) k (rename_fields_in_procedure l e k p)
+      && procedures_are_well_typed naming_by_spelling (bind_procedure (procedure_name-rename_fields l e k p i) qs (env_by l env)) (k + procedure_constructor_count-rename_fields l e k p i) (rename_fields l (meanings naming_by_spelling (environment_after_procedures (environment_after_heading env k p) (k + procedure_constructor_count p) rest)) None statements) (rename_fields_in_procedures l (environment_after_heading env k p) (k + procedure_constructor_count p) rest)))
+      ∙ (ap (λ o. option_satisfies o (λ qs. procedure_is_well_typed naming_by_spelling (bind_typed_parameters qs (bind_procedure (procedure_name p) qs (env_by l env))) k (rename_fields_in_procedure l e k p)
+      && procedures_are_well_typed naming_by_spelling (bind_procedure (procedure_name p) qs (env_by l env)) (k + procedure_constructor_count p) (rename_fields l (meanings naming_by_spelling (environment_after_procedures (environment_after_heading env k p) (k + procedure_constructor_count p) rest)) None statements) (rename_fields_in_procedures l (environment_after_heading env k p) (k + procedure_constructor_count p) rest)))
       (typed_parameters-by l env k (procedure_formals p))
-      ∙ (elim (typed_parameters naming_by_spelling env k (procedure_formals p)) as (λ o. some_satisfies (option_map (map (parameter_by l)) o) (λ qs. procedure_fits naming_by_spelling (bind_typed_parameters qs (bind_procedure (procedure_name p) qs (env_by l env))) k (rename_fields_in_procedure l (bind_typed_parameters (unwrap_or o []) (bind_procedure (procedure_name p) (unwrap_or o []) env)) k p)
-      && procedures_fit naming_by_spelling (bind_procedure (procedure_name p) qs (env_by l env)) (k + procedure_constructor_count p) (rename_fields l (meanings naming_by_spelling (environment_after_procedures (bind_procedure (procedure_name p) (unwrap_or o []) env) (k + procedure_constructor_count p) rest)) None statements) (rename_fields_in_procedures l (bind_procedure (procedure_name p) (unwrap_or o []) env) (k + procedure_constructor_count p) rest))
-      ≡ some_satisfies o (λ qs. procedure_fits naming_by_spelling (bind_typed_parameters qs (bind_procedure (procedure_name p) qs env)) k p && procedures_fit naming_by_spelling (bind_procedure (procedure_name p) qs env) (k + procedure_constructor_count p) statements rest)) [
+      ∙ (elim (typed_parameters naming_by_spelling env k (procedure_formals p)) as (λ o. option_satisfies (option_map (map (parameter_by l)) o) (λ qs. procedure_is_well_typed naming_by_spelling (bind_typed_parameters qs (bind_procedure (procedure_name p) qs (env_by l env))) k (rename_fields_in_procedure l (bind_typed_parameters (unwrap_or o []) (bind_procedure (procedure_name p) (unwrap_or o []) env)) k p)
+      && procedures_are_well_typed naming_by_spelling (bind_procedure (procedure_name p) qs (env_by l env)) (k + procedure_constructor_count p) (rename_fields l (meanings naming_by_spelling (environment_after_procedures (bind_procedure (procedure_name p) (unwrap_or o []) env) (k + procedure_constructor_count p) rest)) None statements) (rename_fields_in_procedures l (bind_procedure (procedure_name p) (unwrap_or o []) env) (k + procedure_constructor_count p) rest))
+      ≡ option_satisfies o (λ qs. procedure_is_well_typed naming_by_spelling (bind_typed_parameters qs (bind_procedure (procedure_name p) qs env)) k p && procedures_are_well_typed naming_by_spelling (bind_procedure (procedure_name p) qs env) (k + procedure_constructor_count p) statements rest)) [
         | None ↦ refl
         | Some qs ↦
-            (λ i. procedure_fits naming_by_spelling ((ap (bind_typed_parameters (map (parameter_by l) qs)) (bind_procedure-by l (procedure_name p) qs env) ∙ bind_typed_parameters-by l qs (bind_procedure (procedure_name p) qs env)) i) k (rename_fields_in_procedure l (bind_typed_parameters qs (bind_procedure (procedure_name p) qs env)) k p)
-            && procedures_fit naming_by_spelling (bind_procedure-by l (procedure_name p) qs env i) (k + procedure_constructor_count p) (rename_fields l (meanings naming_by_spelling (environment_after_procedures (bind_procedure (procedure_name p) qs env) (k + procedure_constructor_count p) rest)) None statements) (rename_fields_in_procedures l (bind_procedure (procedure_name p) qs env) (k + procedure_constructor_count p) rest))
-            ∙ (λ i. procedure_fits-rename_fields l apart (bind_typed_parameters qs (bind_procedure (procedure_name p) qs env)) k p i && procedures_fit-rename_fields l apart (bind_procedure (procedure_name p) qs env) (k + procedure_constructor_count p) statements rest i)
+            (λ i. procedure_is_well_typed naming_by_spelling ((ap (bind_typed_parameters (map (parameter_by l) qs)) (bind_procedure-by l (procedure_name p) qs env) ∙ bind_typed_parameters-by l qs (bind_procedure (procedure_name p) qs env)) i) k (rename_fields_in_procedure l (bind_typed_parameters qs (bind_procedure (procedure_name p) qs env)) k p)
+            && procedures_are_well_typed naming_by_spelling (bind_procedure-by l (procedure_name p) qs env i) (k + procedure_constructor_count p) (rename_fields l (meanings naming_by_spelling (environment_after_procedures (bind_procedure (procedure_name p) qs env) (k + procedure_constructor_count p) rest)) None statements) (rename_fields_in_procedures l (bind_procedure (procedure_name p) qs env) (k + procedure_constructor_count p) rest))
+            ∙ (λ i. procedure_is_well_typed-rename_fields l apart (bind_typed_parameters qs (bind_procedure (procedure_name p) qs env)) k p i && procedures_are_well_typed-rename_fields l apart (bind_procedure (procedure_name p) qs env) (k + procedure_constructor_count p) statements rest i)
       ]))
 
-  pub procedure_fits-rename_fields : (l : FieldRenaming) → KeepsFieldsDistinct l → (env : TypeEnvironment Name) (k : ℕ) (p : Tree Name (item procedure)) → procedure_fits naming_by_spelling (env_by l env) k (rename_fields_in_procedure l env k p) ≡ procedure_fits naming_by_spelling env k p
-  procedure_fits-rename_fields l apart env k (declares_procedure x fs b closing) =
-      ap (λ n. block_fits naming_by_spelling (env_by l env) (k + n) (rename_fields_in_block l env (constructor_after_formals k (declares_procedure x fs b closing)) b)) (formals_count-rename_fields l k fs)
-      ∙ block_fits-rename_fields l apart env (k + formals_constructor_count (formal_sections fs)) b
+  pub procedure_is_well_typed-rename_fields : (l : FieldRenaming) → KeepsFieldsDistinct l → (env : TypeEnvironment Name) (k : ℕ) (p : Tree Name (item procedure)) → procedure_is_well_typed naming_by_spelling (env_by l env) k (rename_fields_in_procedure l env k p) ≡ procedure_is_well_typed naming_by_spelling env k p
+  procedure_is_well_typed-rename_fields l apart env k (declares_procedure x fs b closing) =
+      ap (λ n. block_is_well_typed naming_by_spelling (env_by l env) (k + n) (rename_fields_in_block l env (constructors_before_procedure_block k (declares_procedure x fs b closing)) b)) (formals_count-rename_fields l k fs)
+      ∙ block_is_well_typed-rename_fields l apart env (k + formals_constructor_count (formal_sections fs)) b
 
 pub field_renaming_keeps_type_check-holds : FieldRenamingKeepsTypeCheck
 unfolding passes_type_check
-field_renaming_keeps_type_check-holds l (is_module x b closing) apart = block_fits-rename_fields l apart (outermost naming_by_spelling) 0 b
+field_renaming_keeps_type_check-holds l (is_module x b closing) apart = block_is_well_typed-rename_fields l apart (outermost_environment naming_by_spelling) 0 b

@@ -1,14 +1,14 @@
 -- A module has the same run with tagged fields and with fields under other names.
 use Rattle.std.proofs.Common.{◌≡◌, ℕ, zero, suc, ◌+◌, ◌≢◌, true, false, List, [], ◌∷◌, map, ℤ, ◌⊎◌, inl, inr, Some, None, Option, option_map, option_and_then, sym, refl, ap, ◌∙◌, subst, subst₂}
-use Rattle.ob0_tree.specs.Tree.{Tree, begins, block, body, declares, declares_procedure, formals, has_body, is_module, item, maybe, module_text, none, one, procedure}
+use Rattle.ob0_tree.specs.Tree.{Tree, begins, block, body, declares, declares_procedure, formals, forms_block, is_module, item, maybe, module_text, none, one, procedure}
 use Rattle.ob0_language_names.specs.Names.{Name, naming_by_spelling}
 use Rattle.ob0_language_names.specs.Parts.{block_procedures, block_statements, formal_sections}
-use Rattle.ob0_language_types.specs.Declarations.{constructor_after_variables, formals_constructor_count}
-use Rattle.ob0_language_types.specs.Environments.{meanings, outermost}
-use Rattle.ob0_language_types.specs.Expressions.{reads, writes, writes_line}
+use Rattle.ob0_language_types.specs.Declarations.{constructors_before_procedures, formals_constructor_count}
+use Rattle.ob0_language_types.specs.Environments.{meanings, outermost_environment}
+use Rattle.ob0_language_types.specs.Expressions.{read_procedure, write_procedure, write_line_procedure}
 use Rattle.ob0_language_types.specs.WellTyped.{TypeEnvironment, TypeMeanings, passes_type_check}
 use Rattle.ob0_language_values.specs.Values.{Stuck, boolean_shape, integer_shape}
-use Rattle.ob0_language_runs.specs.Runs.{Activation, CallFunction, Frame, Progress, State, activate, bind_parameters, call, declare_block, execute_all, execute_body, run_result, continue_in_frame, parameters, run_over, running, stopped}
+use Rattle.ob0_language_runs.specs.Runs.{Activation, CallFunction, Frame, Progress, State, activate, bind_parameters, call, declare_block, execute_all, execute_body, run_result, continue_in_frame, parameters, run_with_naming, running, stopped}
 use Rattle.ob0_language_runs.proofs.SoundCalls.{fitting-run}
 use Rattle.ob0_language_fields.specs.Fields.{FieldRenaming, environment_after_procedures, environment_after_variables, rename_fields, rename_fields_in_block, rename_fields_in_module}
 use Rattle.ob0_language_field_laws.specs.FieldLaws.{KeepsFieldsDistinct}
@@ -20,10 +20,10 @@ use Rattle.ob0_language_field_laws.proofs.Values.{store_by, tagged, tagged-apart
 
 -- returns the checked meanings of names for a block's statements
 abbrev pub body_meaning : TypeEnvironment Name → ℕ → Tree Name block → TypeMeanings Name
-body_meaning checked k b = meanings naming_by_spelling (environment_after_procedures (environment_after_variables checked k b) (constructor_after_variables k b) (block_procedures b))
+body_meaning checked k b = meanings naming_by_spelling (environment_after_procedures (environment_after_variables checked k b) (constructors_before_procedures k b) (block_procedures b))
 
 statements-rename_fields : (l : FieldRenaming) (checked : TypeEnvironment Name) (k : ℕ) (b : Tree Name block) → block_statements (rename_fields_in_block l checked k b) ≡ rename_fields l (body_meaning checked k b) None (block_statements b)
-statements-rename_fields l checked k (has_body (declares cs ts vs ps) statements) = refl
+statements-rename_fields l checked k (forms_block (declares cs ts vs ps) statements) = refl
 
 execute_body-alike : (l : FieldRenaming) → KeepsFieldsDistinct l → (scene : Scene) (checked : TypeMeanings Name) (e₁ e₂ : CallFunction Name) → CallsAlike l e₁ e₂ → (t : ℕ) (statements : Tree Name (maybe body))
     → Alike l (execute_body naming_by_spelling (env_as tagged scene) e₁ t (rename_fields tagged checked None statements)) (execute_body naming_by_spelling (env_as l scene) e₂ t (rename_fields l checked None statements))
@@ -107,7 +107,7 @@ calls-alike l apart (suc c) t scene x args s =
 -- the scene of the outermost block, which has the predeclared names
 abbrev outermost_scene : Scene
 outermost_scene =
-    (naming_by_spelling.predeclared 6, standard_thing writes_line) ∷ (naming_by_spelling.predeclared 5, standard_thing writes) ∷ (naming_by_spelling.predeclared 4, standard_thing reads)
+    (naming_by_spelling.predeclared 6, standard_thing write_line_procedure) ∷ (naming_by_spelling.predeclared 5, standard_thing write_procedure) ∷ (naming_by_spelling.predeclared 4, standard_thing read_procedure)
     ∷ (naming_by_spelling.predeclared 3, constant_thing (logical false)) ∷ (naming_by_spelling.predeclared 2, constant_thing (logical true)) ∷ (naming_by_spelling.predeclared 1, type_thing boolean_shape) ∷ (naming_by_spelling.predeclared 0, type_thing integer_shape) ∷ []
 
 same-finish : (l : FieldRenaming) (p₁ p₂ : Progress) → Goes l p₁ p₂ → (run_result p₁).ending ≢ Stuck → run_result p₁ ≡ run_result p₂
@@ -120,18 +120,18 @@ same-finish l (stopped e out) p₂ h free = go h
     go (inr q) = sym (ap run_result q)
 
 abbrev run_parts : FieldRenaming → Tree Name block → List ℤ → ℕ → ℕ → Progress
-run_parts l b input c t = entered l 0 (outermost naming_by_spelling) b (call naming_by_spelling c t) t (Some (frame_by l record { scene = outermost_scene; store = [] })) (state_by l record { store = []; input = input; output = [] })
+run_parts l b input c t = entered l 0 (outermost_environment naming_by_spelling) b (call naming_by_spelling c t) t (Some (frame_by l record { scene = outermost_scene; store = [] })) (state_by l record { store = []; input = input; output = [] })
 
-run-parts : (l : FieldRenaming) (x closing : Name) (b : Tree Name block) (input : List ℤ) (c t : ℕ) → run_over naming_by_spelling (rename_fields_in_module l (is_module x b closing)) input c t ≡ run_result (run_parts l b input c t)
-unfolding run_over
+run-parts : (l : FieldRenaming) (x closing : Name) (b : Tree Name block) (input : List ℤ) (c t : ℕ) → run_with_naming naming_by_spelling (rename_fields_in_module l (is_module x b closing)) input c t ≡ run_result (run_parts l b input c t)
+unfolding run_with_naming
 run-parts l x closing b input c t = refl
 
 -- A well-typed module has the same run with tagged fields and with fields under other names.
-pub run-tagged : (l : FieldRenaming) → KeepsFieldsDistinct l → (m : Tree Name module_text) → passes_type_check naming_by_spelling m ≡ true → (input : List ℤ) (c t : ℕ) → run_over naming_by_spelling (rename_fields_in_module tagged m) input c t ≡ run_over naming_by_spelling (rename_fields_in_module l m) input c t
+pub run-tagged : (l : FieldRenaming) → KeepsFieldsDistinct l → (m : Tree Name module_text) → passes_type_check naming_by_spelling m ≡ true → (input : List ℤ) (c t : ℕ) → run_with_naming naming_by_spelling (rename_fields_in_module tagged m) input c t ≡ run_with_naming naming_by_spelling (rename_fields_in_module l m) input c t
 run-tagged l apart (is_module x b closing) fits input c t =
     run-parts tagged x closing b input c t
     ∙ (same-finish l (run_parts tagged b input c t) (run_parts l b input c t)
-    (entered-goes l apart 0 (outermost naming_by_spelling) b (call naming_by_spelling c t) (call naming_by_spelling c t) (calls-alike l apart c t) t (Some (frame_by tagged record { scene = outermost_scene; store = [] })) (Some (frame_by l record { scene = outermost_scene; store = [] }))
+    (entered-goes l apart 0 (outermost_environment naming_by_spelling) b (call naming_by_spelling c t) (call naming_by_spelling c t) (calls-alike l apart c t) t (Some (frame_by tagged record { scene = outermost_scene; store = [] })) (Some (frame_by l record { scene = outermost_scene; store = [] }))
     (Some record { scene = outermost_scene; store = [] }, refl, refl) record { store = []; input = input; output = [] })
     (subst (λ r. r.ending ≢ Stuck) (run-parts tagged x closing b input c t) (fitting-run naming_by_spelling (rename_fields_in_module tagged (is_module x b closing)) input c t (field_renaming_keeps_type_check-holds tagged (is_module x b closing) tagged-apart ∙ fits)))
     ∙ sym (run-parts l x closing b input c t))

@@ -4,14 +4,14 @@ use Rattle.ob0_tree.specs.Tree.{Tree, arguments, assigns, branches, calls, compa
 use Rattle.ob0_language_names.specs.Names.{Name}
 use Rattle.ob0_language_types.specs.Arguments.{arguments_listed, further_arguments}
 use Rattle.ob0_language_types.specs.Expressions.{Object, a_constant, a_procedure, a_standard, a_type, a_variable}
-use Rattle.ob0_language_types.specs.Typing.{lone_designator, object_type, type_at, type_of}
-use Rattle.ob0_language_types.specs.WellTyped.{FormalParameter, Mode, Signature, TypeMeanings, same_known_shape, argument_fits, arguments_fit, by_place, by_value, call_fits, condition_fits, else_fits, elsifs_fit, sequence_fits, signature_of, statement_fits, statements_fit, variable_type}
+use Rattle.ob0_language_types.specs.Typing.{lone_designator, object_type, type_after_selectors, type_of}
+use Rattle.ob0_language_types.specs.WellTyped.{FormalParameter, Mode, Signature, TypeMeanings, same_known_shape, argument_matches, arguments_match, by_place, by_value, call_is_well_typed, condition_is_boolean, else_is_well_typed, elsifs_are_well_typed, sequence_is_well_typed, signature_of, statement_is_well_typed, further_statements_are_well_typed, variable_type}
 use Rattle.ob0_language_values.specs.Values.{Shape, boolean_shape}
 use Rattle.ob0_language_fields.specs.Fields.{FieldRenaming, rename_fields}
 use Rattle.ob0_language_fields.proofs.NamesMeant.{named}
 use Rattle.ob0_language_field_laws.specs.FieldLaws.{KeepsFieldsDistinct}
 use Rattle.ob0_language_field_laws.proofs.Apart.{same_known_shape-by, formal_by, named_by, object_by, shape_by, signature_of-by}
-use Rattle.ob0_language_field_laws.proofs.RefieldedTypes.{type_at-rename_fields, type_of-rename_fields}
+use Rattle.ob0_language_field_laws.proofs.RefieldedTypes.{type_after_selectors-rename_fields, type_of-rename_fields}
 
 abbrev pub refield_designator : FieldRenaming → TypeMeanings Name → Name × Tree Name (items selector) → Name × Tree Name (items selector)
 refield_designator l meaning d = (d.0, rename_fields l meaning (object_type (meaning.object_for d.0)) d.1)
@@ -34,19 +34,19 @@ unfolding variable_type
 variable_type-rename_fields l apart objects None = refl
 variable_type-rename_fields l apart objects (Some (x, path)) = go (objects x)
   where
-    go : (o : Option (Object Shape Signature)) → (elim (option_map (object_by l) o) [ Some (a_variable s) ↦ type_at (named_by l objects) s (rename_fields l (named objects) (object_type o) path) | _ ↦ None ])
-        ≡ option_map (shape_by l) (elim o [ Some (a_variable s) ↦ type_at (named objects) s path | _ ↦ None ])
+    go : (o : Option (Object Shape Signature)) → (elim (option_map (object_by l) o) [ Some (a_variable s) ↦ type_after_selectors (named_by l objects) s (rename_fields l (named objects) (object_type o) path) | _ ↦ None ])
+        ≡ option_map (shape_by l) (elim o [ Some (a_variable s) ↦ type_after_selectors (named objects) s path | _ ↦ None ])
     go None = refl
     go (Some (a_type s)) = refl
     go (Some (a_constant v)) = refl
-    go (Some (a_variable s)) = type_at-rename_fields l apart objects s path
+    go (Some (a_variable s)) = type_after_selectors-rename_fields l apart objects s path
     go (Some (a_procedure p)) = refl
     go (Some (a_standard p)) = refl
 
-pub argument_fits-rename_fields : (l : FieldRenaming) → KeepsFieldsDistinct l → (objects : Name → Option (Object Shape Signature)) (f : FormalParameter) (e : Tree Name expression)
-    → argument_fits (named_by l objects) (formal_by l f) (rename_fields l (named objects) None e) ≡ argument_fits (named objects) f e
-unfolding argument_fits
-argument_fits-rename_fields l apart objects f e = go f.mode
+pub argument_matches-rename_fields : (l : FieldRenaming) → KeepsFieldsDistinct l → (objects : Name → Option (Object Shape Signature)) (f : FormalParameter) (e : Tree Name expression)
+    → argument_matches (named_by l objects) (formal_by l f) (rename_fields l (named objects) None e) ≡ argument_matches (named objects) f e
+unfolding argument_matches
+argument_matches-rename_fields l apart objects f e = go f.mode
   where
     go : (m : Mode) → same_known_shape (Some (shape_by l f.shape)) (elim m [ by_value ↦ type_of (named_by l objects) (rename_fields l (named objects) None e) | by_place ↦ variable_type (named_by l objects) (lone_designator (rename_fields l (named objects) None e)) ])
         ≡ same_known_shape (Some f.shape) (elim m [ by_value ↦ type_of (named objects) e | by_place ↦ variable_type (named objects) (lone_designator e) ])
@@ -55,49 +55,49 @@ argument_fits-rename_fields l apart objects f e = go f.mode
         ap (same_known_shape (Some (shape_by l f.shape))) (ap (variable_type (named_by l objects)) (lone_designator-rename_fields l (named objects) e) ∙ variable_type-rename_fields l apart objects (lone_designator e))
         ∙ same_known_shape-by l apart (Some f.shape) (variable_type (named objects) (lone_designator e))
 
-pub arguments_fit-rename_fields : (l : FieldRenaming) → KeepsFieldsDistinct l → (objects : Name → Option (Object Shape Signature)) (fs : Signature) (es : List (Tree Name expression))
-    → arguments_fit (named_by l objects) (map (formal_by l) fs) (map (rename_fields l (named objects) None) es) ≡ arguments_fit (named objects) fs es
-unfolding arguments_fit
-arguments_fit-rename_fields l apart objects [] [] = refl
-arguments_fit-rename_fields l apart objects (f ∷ fs) (e ∷ es) = λ i. argument_fits-rename_fields l apart objects f e i && arguments_fit-rename_fields l apart objects fs es i
-arguments_fit-rename_fields l apart objects _ _ = refl
+pub arguments_match-rename_fields : (l : FieldRenaming) → KeepsFieldsDistinct l → (objects : Name → Option (Object Shape Signature)) (fs : Signature) (es : List (Tree Name expression))
+    → arguments_match (named_by l objects) (map (formal_by l) fs) (map (rename_fields l (named objects) None) es) ≡ arguments_match (named objects) fs es
+unfolding arguments_match
+arguments_match-rename_fields l apart objects [] [] = refl
+arguments_match-rename_fields l apart objects (f ∷ fs) (e ∷ es) = λ i. argument_matches-rename_fields l apart objects f e i && arguments_match-rename_fields l apart objects fs es i
+arguments_match-rename_fields l apart objects _ _ = refl
 
-pub call_fits-rename_fields : (l : FieldRenaming) → KeepsFieldsDistinct l → (objects : Name → Option (Object Shape Signature)) (signature : Option Signature) (es : Tree Name (maybe arguments))
-    → call_fits (named_by l objects) (option_map (map (formal_by l)) signature) (arguments_listed (rename_fields l (named objects) None es)) ≡ call_fits (named objects) signature (arguments_listed es)
-unfolding call_fits
-call_fits-rename_fields l apart objects None es = refl
-call_fits-rename_fields l apart objects (Some fs) es = ap (arguments_fit (named_by l objects) (map (formal_by l) fs)) (arguments-rename_fields l (named objects) es) ∙ arguments_fit-rename_fields l apart objects fs (arguments_listed es)
+pub call_is_well_typed-rename_fields : (l : FieldRenaming) → KeepsFieldsDistinct l → (objects : Name → Option (Object Shape Signature)) (signature : Option Signature) (es : Tree Name (maybe arguments))
+    → call_is_well_typed (named_by l objects) (option_map (map (formal_by l)) signature) (arguments_listed (rename_fields l (named objects) None es)) ≡ call_is_well_typed (named objects) signature (arguments_listed es)
+unfolding call_is_well_typed
+call_is_well_typed-rename_fields l apart objects None es = refl
+call_is_well_typed-rename_fields l apart objects (Some fs) es = ap (arguments_match (named_by l objects) (map (formal_by l) fs)) (arguments-rename_fields l (named objects) es) ∙ arguments_match-rename_fields l apart objects fs (arguments_listed es)
 
-pub condition_fits-rename_fields : (l : FieldRenaming) → KeepsFieldsDistinct l → (objects : Name → Option (Object Shape Signature)) (e : Tree Name expression) → condition_fits (named_by l objects) (rename_fields l (named objects) None e) ≡ condition_fits (named objects) e
-unfolding condition_fits
-condition_fits-rename_fields l apart objects e = ap (same_known_shape (Some boolean_shape)) (type_of-rename_fields l apart objects e) ∙ same_known_shape-by l apart (Some boolean_shape) (type_of (named objects) e)
+pub condition_is_boolean-rename_fields : (l : FieldRenaming) → KeepsFieldsDistinct l → (objects : Name → Option (Object Shape Signature)) (e : Tree Name expression) → condition_is_boolean (named_by l objects) (rename_fields l (named objects) None e) ≡ condition_is_boolean (named objects) e
+unfolding condition_is_boolean
+condition_is_boolean-rename_fields l apart objects e = ap (same_known_shape (Some boolean_shape)) (type_of-rename_fields l apart objects e) ∙ same_known_shape-by l apart (Some boolean_shape) (type_of (named objects) e)
 
 mutual
-  unfolding statement_fits
+  unfolding statement_is_well_typed
 
-  pub statement_fits-rename_fields : (l : FieldRenaming) → KeepsFieldsDistinct l → (objects : Name → Option (Object Shape Signature)) (a : Tree Name statement) → statement_fits (named_by l objects) (rename_fields l (named objects) None a) ≡ statement_fits (named objects) a
-  statement_fits-rename_fields l apart objects empty = refl
-  statement_fits-rename_fields l apart objects (assigns x path e) =
+  pub statement_is_well_typed-rename_fields : (l : FieldRenaming) → KeepsFieldsDistinct l → (objects : Name → Option (Object Shape Signature)) (a : Tree Name statement) → statement_is_well_typed (named_by l objects) (rename_fields l (named objects) None a) ≡ statement_is_well_typed (named objects) a
+  statement_is_well_typed-rename_fields l apart objects empty = refl
+  statement_is_well_typed-rename_fields l apart objects (assigns x path e) =
       (λ i. same_known_shape (variable_type-rename_fields l apart objects (Some (x, path)) i) (type_of-rename_fields l apart objects e i)) ∙ same_known_shape-by l apart (variable_type (named objects) (Some (x, path))) (type_of (named objects) e)
-  statement_fits-rename_fields l apart objects (calls x es) =
-      ap (λ o. call_fits (named_by l objects) o (arguments_listed (rename_fields l (named objects) None es))) (signature_of-by l (objects x)) ∙ call_fits-rename_fields l apart objects (signature_of (objects x)) es
-  statement_fits-rename_fields l apart objects (branches e statements rest last) = λ i.
-      condition_fits-rename_fields l apart objects e i && (sequence_fits-rename_fields l apart objects statements i && (elsifs_fit-rename_fields l apart objects rest i && else_fits-rename_fields l apart objects last i))
-  statement_fits-rename_fields l apart objects (while_loop e statements) = λ i. condition_fits-rename_fields l apart objects e i && sequence_fits-rename_fields l apart objects statements i
-  statement_fits-rename_fields l apart objects (repeat_loop statements e) = λ i. sequence_fits-rename_fields l apart objects statements i && condition_fits-rename_fields l apart objects e i
+  statement_is_well_typed-rename_fields l apart objects (calls x es) =
+      ap (λ o. call_is_well_typed (named_by l objects) o (arguments_listed (rename_fields l (named objects) None es))) (signature_of-by l (objects x)) ∙ call_is_well_typed-rename_fields l apart objects (signature_of (objects x)) es
+  statement_is_well_typed-rename_fields l apart objects (branches e statements rest last) = λ i.
+      condition_is_boolean-rename_fields l apart objects e i && (sequence_is_well_typed-rename_fields l apart objects statements i && (elsifs_are_well_typed-rename_fields l apart objects rest i && else_is_well_typed-rename_fields l apart objects last i))
+  statement_is_well_typed-rename_fields l apart objects (while_loop e statements) = λ i. condition_is_boolean-rename_fields l apart objects e i && sequence_is_well_typed-rename_fields l apart objects statements i
+  statement_is_well_typed-rename_fields l apart objects (repeat_loop statements e) = λ i. sequence_is_well_typed-rename_fields l apart objects statements i && condition_is_boolean-rename_fields l apart objects e i
 
-  pub sequence_fits-rename_fields : (l : FieldRenaming) → KeepsFieldsDistinct l → (objects : Name → Option (Object Shape Signature)) (a : Tree Name sequence) → sequence_fits (named_by l objects) (rename_fields l (named objects) None a) ≡ sequence_fits (named objects) a
-  sequence_fits-rename_fields l apart objects (runs a rest) = λ i. statement_fits-rename_fields l apart objects a i && statements_fit-rename_fields l apart objects rest i
+  pub sequence_is_well_typed-rename_fields : (l : FieldRenaming) → KeepsFieldsDistinct l → (objects : Name → Option (Object Shape Signature)) (a : Tree Name sequence) → sequence_is_well_typed (named_by l objects) (rename_fields l (named objects) None a) ≡ sequence_is_well_typed (named objects) a
+  sequence_is_well_typed-rename_fields l apart objects (runs a rest) = λ i. statement_is_well_typed-rename_fields l apart objects a i && further_statements_are_well_typed-rename_fields l apart objects rest i
 
-  pub statements_fit-rename_fields : (l : FieldRenaming) → KeepsFieldsDistinct l → (objects : Name → Option (Object Shape Signature)) (a : Tree Name (items further_statement)) → statements_fit (named_by l objects) (rename_fields l (named objects) None a) ≡ statements_fit (named objects) a
-  statements_fit-rename_fields l apart objects end = refl
-  statements_fit-rename_fields l apart objects (more (then_statement a) rest) = λ i. statement_fits-rename_fields l apart objects a i && statements_fit-rename_fields l apart objects rest i
+  pub further_statements_are_well_typed-rename_fields : (l : FieldRenaming) → KeepsFieldsDistinct l → (objects : Name → Option (Object Shape Signature)) (a : Tree Name (items further_statement)) → further_statements_are_well_typed (named_by l objects) (rename_fields l (named objects) None a) ≡ further_statements_are_well_typed (named objects) a
+  further_statements_are_well_typed-rename_fields l apart objects end = refl
+  further_statements_are_well_typed-rename_fields l apart objects (more (then_statement a) rest) = λ i. statement_is_well_typed-rename_fields l apart objects a i && further_statements_are_well_typed-rename_fields l apart objects rest i
 
-  pub elsifs_fit-rename_fields : (l : FieldRenaming) → KeepsFieldsDistinct l → (objects : Name → Option (Object Shape Signature)) (a : Tree Name (items elsif_part)) → elsifs_fit (named_by l objects) (rename_fields l (named objects) None a) ≡ elsifs_fit (named objects) a
-  elsifs_fit-rename_fields l apart objects end = refl
-  elsifs_fit-rename_fields l apart objects (more (elsif_branch e statements) rest) = λ i.
-      condition_fits-rename_fields l apart objects e i && (sequence_fits-rename_fields l apart objects statements i && elsifs_fit-rename_fields l apart objects rest i)
+  pub elsifs_are_well_typed-rename_fields : (l : FieldRenaming) → KeepsFieldsDistinct l → (objects : Name → Option (Object Shape Signature)) (a : Tree Name (items elsif_part)) → elsifs_are_well_typed (named_by l objects) (rename_fields l (named objects) None a) ≡ elsifs_are_well_typed (named objects) a
+  elsifs_are_well_typed-rename_fields l apart objects end = refl
+  elsifs_are_well_typed-rename_fields l apart objects (more (elsif_branch e statements) rest) = λ i.
+      condition_is_boolean-rename_fields l apart objects e i && (sequence_is_well_typed-rename_fields l apart objects statements i && elsifs_are_well_typed-rename_fields l apart objects rest i)
 
-  pub else_fits-rename_fields : (l : FieldRenaming) → KeepsFieldsDistinct l → (objects : Name → Option (Object Shape Signature)) (a : Tree Name (maybe else_part)) → else_fits (named_by l objects) (rename_fields l (named objects) None a) ≡ else_fits (named objects) a
-  else_fits-rename_fields l apart objects none = refl
-  else_fits-rename_fields l apart objects (one (else_branch statements)) = sequence_fits-rename_fields l apart objects statements
+  pub else_is_well_typed-rename_fields : (l : FieldRenaming) → KeepsFieldsDistinct l → (objects : Name → Option (Object Shape Signature)) (a : Tree Name (maybe else_part)) → else_is_well_typed (named_by l objects) (rename_fields l (named objects) None a) ≡ else_is_well_typed (named objects) a
+  else_is_well_typed-rename_fields l apart objects none = refl
+  else_is_well_typed-rename_fields l apart objects (one (else_branch statements)) = sequence_is_well_typed-rename_fields l apart objects statements

@@ -7,7 +7,7 @@ use Rattle.ob0_language_names.specs.Names.{Name}
 use Rattle.ob0_language_names.specs.Parts.{further_names, names_in_list}
 use Rattle.ob0_language_names.proofs.SameNames.{map_names-id}
 use Rattle.ob0_language_types.specs.Expressions.{Object}
-use Rattle.ob0_language_types.specs.Typing.{addition_type, array_length, negation_type, constant_of, constant_value, constructor_count, denoted, denoted_group, denoted_groups, element_type, field_type, group_constructor_count, groups_constructor_count, multiplication_type, object_type, relation_type, sign_type, type_at, type_of, type_of_addends, type_of_factor, type_of_multipliers, type_of_name, type_of_simple, type_of_term, prepend_fields, check_limits}
+use Rattle.ob0_language_types.specs.Typing.{addition_type, array_length, negation_type, constant_of, constant_value, constructor_count, denoted_type, denoted_group_fields, denoted_further_fields, element_type, field_type, group_constructor_count, groups_constructor_count, multiplication_type, object_type, relation_type, sign_type, type_after_selectors, type_of, type_of_addends, type_of_factor, type_of_multipliers, type_of_name, type_of_simple, type_of_term, prepend_fields, check_limits}
 use Rattle.ob0_language_types.specs.WellTyped.{Signature}
 use Rattle.ob0_language_types.proofs.TypeNaturality.{constant_value-map}
 use Rattle.ob0_language_values.specs.Values.{FieldShapes, Shape, array_shape, integer_shape, record_shape}
@@ -54,22 +54,22 @@ mutual
 
   pub type_of_factor-rename_fields : (l : FieldRenaming) → KeepsFieldsDistinct l → (objects : Name → Option (Object Shape Signature)) (a : Tree Name factor) → type_of_factor (named_by l objects) (rename_fields l (named objects) None a) ≡ option_map (shape_by l) (type_of_factor (named objects) a)
   type_of_factor-rename_fields l apart objects (designator x path) =
-      ap (option_and_then (λ s. type_at (named_by l objects) s (rename_fields l (named objects) (object_type (objects x)) path))) (object_type-by l (objects x))
-      ∙ (elim (object_type (objects x)) as (λ o. option_and_then (λ s. type_at (named_by l objects) s (rename_fields l (named objects) o path)) (option_map (shape_by l) o) ≡ option_map (shape_by l) (option_and_then (λ s. type_at (named objects) s path) o))
-      [ None ↦ refl | Some s ↦ type_at-rename_fields l apart objects s path ])
+      ap (option_and_then (λ s. type_after_selectors (named_by l objects) s (rename_fields l (named objects) (object_type (objects x)) path))) (object_type-by l (objects x))
+      ∙ (elim (object_type (objects x)) as (λ o. option_and_then (λ s. type_after_selectors (named_by l objects) s (rename_fields l (named objects) o path)) (option_map (shape_by l) o) ≡ option_map (shape_by l) (option_and_then (λ s. type_after_selectors (named objects) s path) o))
+      [ None ↦ refl | Some s ↦ type_after_selectors-rename_fields l apart objects s path ])
   type_of_factor-rename_fields l apart objects (integer n) = refl
   type_of_factor-rename_fields l apart objects (parenthesised e) = type_of-rename_fields l apart objects e
   type_of_factor-rename_fields l apart objects (negation a) = map-then (shape_by l) (shape_by l) _ _ negation_type negation_type (type_of_factor-rename_fields l apart objects a) (negation_type-by l)
 
-  pub type_at-rename_fields : (l : FieldRenaming) → KeepsFieldsDistinct l → (objects : Name → Option (Object Shape Signature)) (s : Shape) (path : Tree Name (items selector)) → type_at (named_by l objects) (shape_by l s) (rename_fields l (named objects) (Some s) path) ≡ option_map (shape_by l) (type_at (named objects) s path)
-  type_at-rename_fields l apart objects s end = refl
-  type_at-rename_fields l apart objects s (more (field x) rest) =
-      ap (option_and_then (λ t. type_at (named_by l objects) t (rename_fields l (named objects) (field_type s x) rest))) (field_type-by l apart s x)
-      ∙ (elim (field_type s x) as (λ o. option_and_then (λ t. type_at (named_by l objects) t (rename_fields l (named objects) o rest)) (option_map (shape_by l) o) ≡ option_map (shape_by l) (option_and_then (λ t. type_at (named objects) t rest) o))
-      [ None ↦ refl | Some t ↦ type_at-rename_fields l apart objects t rest ])
-  type_at-rename_fields l apart objects s (more (index e) rest) =
-      map-then (shape_by l) (shape_by l) _ _ (λ i. option_and_then (λ t. type_at (named objects) t rest) (element_type s i)) (λ i. option_and_then (λ t. type_at (named_by l objects) t (rename_fields l (named objects) (element_type s integer_shape) rest)) (element_type (shape_by l s) i)) (type_of-rename_fields l apart objects e)
-      (λ i. index-step l s i (λ t o. type_at (named_by l objects) t (rename_fields l (named objects) o rest)) (λ t. type_at (named objects) t rest) (λ u. type_at-rename_fields l apart objects u rest))
+  pub type_after_selectors-rename_fields : (l : FieldRenaming) → KeepsFieldsDistinct l → (objects : Name → Option (Object Shape Signature)) (s : Shape) (path : Tree Name (items selector)) → type_after_selectors (named_by l objects) (shape_by l s) (rename_fields l (named objects) (Some s) path) ≡ option_map (shape_by l) (type_after_selectors (named objects) s path)
+  type_after_selectors-rename_fields l apart objects s end = refl
+  type_after_selectors-rename_fields l apart objects s (more (field x) rest) =
+      ap (option_and_then (λ t. type_after_selectors (named_by l objects) t (rename_fields l (named objects) (field_type s x) rest))) (field_type-by l apart s x)
+      ∙ (elim (field_type s x) as (λ o. option_and_then (λ t. type_after_selectors (named_by l objects) t (rename_fields l (named objects) o rest)) (option_map (shape_by l) o) ≡ option_map (shape_by l) (option_and_then (λ t. type_after_selectors (named objects) t rest) o))
+      [ None ↦ refl | Some t ↦ type_after_selectors-rename_fields l apart objects t rest ])
+  type_after_selectors-rename_fields l apart objects s (more (index e) rest) =
+      map-then (shape_by l) (shape_by l) _ _ (λ i. option_and_then (λ t. type_after_selectors (named objects) t rest) (element_type s i)) (λ i. option_and_then (λ t. type_after_selectors (named_by l objects) t (rename_fields l (named objects) (element_type s integer_shape) rest)) (element_type (shape_by l s) i)) (type_of-rename_fields l apart objects e)
+      (λ i. index-step l s i (λ t o. type_after_selectors (named_by l objects) t (rename_fields l (named objects) o rest)) (λ t. type_after_selectors (named objects) t rest) (λ u. type_after_selectors-rename_fields l apart objects u rest))
 
 -- A type's text with its fields under other names denotes the same type with these names.
 
@@ -101,41 +101,41 @@ constant_value-alike there here same e =
     ap (constant_value (named there)) (sym (map_names-id e)) ∙ constant_value-map (λ x. x) (λ x. x) (named there) (named here) e same (λ x. refl)
 
 mutual
-  unfolding denoted
+  unfolding denoted_type
 
-  pub denoted-rename_fields : {V P W Q : Type 0} (l : FieldRenaming) (there : Name → Option (Object V P)) (here : Name → Option (Object W Q))
+  pub denoted_type-rename_fields : {V P W Q : Type 0} (l : FieldRenaming) (there : Name → Option (Object V P)) (here : Name → Option (Object W Q))
       → ((x : Name) → constant_of (there x) ≡ constant_of (here x)) → ((x : Name) → type_of_name (there x) ≡ option_map (shape_by l) (type_of_name (here x)))
-      → (k : ℕ) (t : Tree Name written_type) → denoted (named there) k (rename_fields_in_type l k t) ≡ option_map (shape_by l) (denoted (named here) k t)
-  denoted-rename_fields l there here hc ht k (named_type x) = ht x
-  denoted-rename_fields l there here hc ht k (array_type e t) =
-      ap (option_and_then (λ v. option_and_then (λ n. option_and_then (λ s. check_limits (array_shape k n s)) (denoted (named there) (suc k) (rename_fields_in_type l (suc k) t))) (array_length v))) (constant_value-alike there here hc e)
-      ∙ each-then (shape_by l) (constant_value (named here) e) (λ v. option_and_then (λ n. option_and_then (λ s. check_limits (array_shape k n s)) (denoted (named here) (suc k) t)) (array_length v))
-      (λ v. option_and_then (λ n. option_and_then (λ s. check_limits (array_shape k n s)) (denoted (named there) (suc k) (rename_fields_in_type l (suc k) t))) (array_length v))
-      (λ v. each-then (shape_by l) (array_length v) (λ n. option_and_then (λ s. check_limits (array_shape k n s)) (denoted (named here) (suc k) t)) (λ n. option_and_then (λ s. check_limits (array_shape k n s)) (denoted (named there) (suc k) (rename_fields_in_type l (suc k) t)))
-      (λ n. map-then (shape_by l) (shape_by l) (denoted (named here) (suc k) t) (denoted (named there) (suc k) (rename_fields_in_type l (suc k) t)) (λ s. check_limits (array_shape k n s)) (λ s. check_limits (array_shape k n s)) (denoted-rename_fields l there here hc ht (suc k) t) (λ s. check_limits-by l (array_shape k n s))))
-  denoted-rename_fields l there here hc ht k (record_type g rest) =
-      ap (λ n. option_and_then (λ later. option_and_then (λ fs. check_limits (record_shape k fs)) (denoted_group (named there) (suc k) later (rename_fields_in_group l k (suc k) g))) (denoted_groups (named there) (suc k + n) (rename_fields_in_groups l k (suc k + group_constructor_count g) rest))) (group_constructor_count-rename_fields l k (suc k) g)
-      ∙ map-then (fields_by l k) (shape_by l) (denoted_groups (named here) (suc k + group_constructor_count g) rest) (denoted_groups (named there) (suc k + group_constructor_count g) (rename_fields_in_groups l k (suc k + group_constructor_count g) rest))
-      (λ later. option_and_then (λ fs. check_limits (record_shape k fs)) (denoted_group (named here) (suc k) later g)) (λ later. option_and_then (λ fs. check_limits (record_shape k fs)) (denoted_group (named there) (suc k) later (rename_fields_in_group l k (suc k) g)))
-      (denoted_groups-rename_fields l there here hc ht k (suc k + group_constructor_count g) rest)
-      (λ later. map-then (fields_by l k) (shape_by l) (denoted_group (named here) (suc k) later g) (denoted_group (named there) (suc k) (fields_by l k later) (rename_fields_in_group l k (suc k) g)) (λ fs. check_limits (record_shape k fs)) (λ fs. check_limits (record_shape k fs))
-      (denoted_group-rename_fields l there here hc ht k (suc k) later g) (λ fs. check_limits-by l (record_shape k fs)))
+      → (k : ℕ) (t : Tree Name written_type) → denoted_type (named there) k (rename_fields_in_type l k t) ≡ option_map (shape_by l) (denoted_type (named here) k t)
+  denoted_type-rename_fields l there here hc ht k (named_type x) = ht x
+  denoted_type-rename_fields l there here hc ht k (array_type e t) =
+      ap (option_and_then (λ v. option_and_then (λ n. option_and_then (λ s. check_limits (array_shape k n s)) (denoted_type (named there) (suc k) (rename_fields_in_type l (suc k) t))) (array_length v))) (constant_value-alike there here hc e)
+      ∙ each-then (shape_by l) (constant_value (named here) e) (λ v. option_and_then (λ n. option_and_then (λ s. check_limits (array_shape k n s)) (denoted_type (named here) (suc k) t)) (array_length v))
+      (λ v. option_and_then (λ n. option_and_then (λ s. check_limits (array_shape k n s)) (denoted_type (named there) (suc k) (rename_fields_in_type l (suc k) t))) (array_length v))
+      (λ v. each-then (shape_by l) (array_length v) (λ n. option_and_then (λ s. check_limits (array_shape k n s)) (denoted_type (named here) (suc k) t)) (λ n. option_and_then (λ s. check_limits (array_shape k n s)) (denoted_type (named there) (suc k) (rename_fields_in_type l (suc k) t)))
+      (λ n. map-then (shape_by l) (shape_by l) (denoted_type (named here) (suc k) t) (denoted_type (named there) (suc k) (rename_fields_in_type l (suc k) t)) (λ s. check_limits (array_shape k n s)) (λ s. check_limits (array_shape k n s)) (denoted_type-rename_fields l there here hc ht (suc k) t) (λ s. check_limits-by l (array_shape k n s))))
+  denoted_type-rename_fields l there here hc ht k (record_type g rest) =
+      ap (λ n. option_and_then (λ later. option_and_then (λ fs. check_limits (record_shape k fs)) (denoted_group_fields (named there) (suc k) later (rename_fields_in_group l k (suc k) g))) (denoted_further_fields (named there) (suc k + n) (rename_fields_in_groups l k (suc k + group_constructor_count g) rest))) (group_constructor_count-rename_fields l k (suc k) g)
+      ∙ map-then (fields_by l k) (shape_by l) (denoted_further_fields (named here) (suc k + group_constructor_count g) rest) (denoted_further_fields (named there) (suc k + group_constructor_count g) (rename_fields_in_groups l k (suc k + group_constructor_count g) rest))
+      (λ later. option_and_then (λ fs. check_limits (record_shape k fs)) (denoted_group_fields (named here) (suc k) later g)) (λ later. option_and_then (λ fs. check_limits (record_shape k fs)) (denoted_group_fields (named there) (suc k) later (rename_fields_in_group l k (suc k) g)))
+      (denoted_further_fields-rename_fields l there here hc ht k (suc k + group_constructor_count g) rest)
+      (λ later. map-then (fields_by l k) (shape_by l) (denoted_group_fields (named here) (suc k) later g) (denoted_group_fields (named there) (suc k) (fields_by l k later) (rename_fields_in_group l k (suc k) g)) (λ fs. check_limits (record_shape k fs)) (λ fs. check_limits (record_shape k fs))
+      (denoted_group_fields-rename_fields l there here hc ht k (suc k) later g) (λ fs. check_limits-by l (record_shape k fs)))
 
-  pub denoted_group-rename_fields : {V P W Q : Type 0} (l : FieldRenaming) (there : Name → Option (Object V P)) (here : Name → Option (Object W Q))
+  pub denoted_group_fields-rename_fields : {V P W Q : Type 0} (l : FieldRenaming) (there : Name → Option (Object V P)) (here : Name → Option (Object W Q))
       → ((x : Name) → constant_of (there x) ≡ constant_of (here x)) → ((x : Name) → type_of_name (there x) ≡ option_map (shape_by l) (type_of_name (here x)))
-      → (r k : ℕ) (later : FieldShapes) (g : Tree Name fields) → denoted_group (named there) k (fields_by l r later) (rename_fields_in_group l r k g) ≡ option_map (fields_by l r) (denoted_group (named here) k later g)
-  denoted_group-rename_fields l there here hc ht r k later no_fields = refl
-  denoted_group-rename_fields l there here hc ht r k later (some_fields ns t) =
-      map-then (shape_by l) (fields_by l r) (denoted (named here) k t) (denoted (named there) k (rename_fields_in_type l k t)) (λ s. Some (prepend_fields (map (λ x. x) (names_in_list ns)) s later))
-      (λ s. Some (prepend_fields (map (λ x. x) (names_in_list (map_names (λ x. x) (l (Some r)) ns))) s (fields_by l r later))) (denoted-rename_fields l there here hc ht k t)
+      → (r k : ℕ) (later : FieldShapes) (g : Tree Name fields) → denoted_group_fields (named there) k (fields_by l r later) (rename_fields_in_group l r k g) ≡ option_map (fields_by l r) (denoted_group_fields (named here) k later g)
+  denoted_group_fields-rename_fields l there here hc ht r k later no_fields = refl
+  denoted_group_fields-rename_fields l there here hc ht r k later (some_fields ns t) =
+      map-then (shape_by l) (fields_by l r) (denoted_type (named here) k t) (denoted_type (named there) k (rename_fields_in_type l k t)) (λ s. Some (prepend_fields (map (λ x. x) (names_in_list ns)) s later))
+      (λ s. Some (prepend_fields (map (λ x. x) (names_in_list (map_names (λ x. x) (l (Some r)) ns))) s (fields_by l r later))) (denoted_type-rename_fields l there here hc ht k t)
       (λ s i. Some (((λ j. prepend_fields (names-rename_fields (l (Some r)) ns j) (shape_by l s) (fields_by l r later)) ∙ prepend_fields-by l r (map (λ x. x) (names_in_list ns)) s later) i))
 
-  pub denoted_groups-rename_fields : {V P W Q : Type 0} (l : FieldRenaming) (there : Name → Option (Object V P)) (here : Name → Option (Object W Q))
+  pub denoted_further_fields-rename_fields : {V P W Q : Type 0} (l : FieldRenaming) (there : Name → Option (Object V P)) (here : Name → Option (Object W Q))
       → ((x : Name) → constant_of (there x) ≡ constant_of (here x)) → ((x : Name) → type_of_name (there x) ≡ option_map (shape_by l) (type_of_name (here x)))
-      → (r k : ℕ) (gs : Tree Name (items further_fields)) → denoted_groups (named there) k (rename_fields_in_groups l r k gs) ≡ option_map (fields_by l r) (denoted_groups (named here) k gs)
-  denoted_groups-rename_fields l there here hc ht r k end = refl
-  denoted_groups-rename_fields l there here hc ht r k (more (then_fields g) rest) =
-      ap (λ n. option_and_then (λ later. denoted_group (named there) k later (rename_fields_in_group l r k g)) (denoted_groups (named there) (k + n) (rename_fields_in_groups l r (k + group_constructor_count g) rest))) (group_constructor_count-rename_fields l r k g)
-      ∙ map-then (fields_by l r) (fields_by l r) (denoted_groups (named here) (k + group_constructor_count g) rest) (denoted_groups (named there) (k + group_constructor_count g) (rename_fields_in_groups l r (k + group_constructor_count g) rest))
-      (λ later. denoted_group (named here) k later g) (λ later. denoted_group (named there) k later (rename_fields_in_group l r k g)) (denoted_groups-rename_fields l there here hc ht r (k + group_constructor_count g) rest)
-      (λ later. denoted_group-rename_fields l there here hc ht r k later g)
+      → (r k : ℕ) (gs : Tree Name (items further_fields)) → denoted_further_fields (named there) k (rename_fields_in_groups l r k gs) ≡ option_map (fields_by l r) (denoted_further_fields (named here) k gs)
+  denoted_further_fields-rename_fields l there here hc ht r k end = refl
+  denoted_further_fields-rename_fields l there here hc ht r k (more (then_fields g) rest) =
+      ap (λ n. option_and_then (λ later. denoted_group_fields (named there) k later (rename_fields_in_group l r k g)) (denoted_further_fields (named there) (k + n) (rename_fields_in_groups l r (k + group_constructor_count g) rest))) (group_constructor_count-rename_fields l r k g)
+      ∙ map-then (fields_by l r) (fields_by l r) (denoted_further_fields (named here) (k + group_constructor_count g) rest) (denoted_further_fields (named there) (k + group_constructor_count g) (rename_fields_in_groups l r (k + group_constructor_count g) rest))
+      (λ later. denoted_group_fields (named here) k later g) (λ later. denoted_group_fields (named there) k later (rename_fields_in_group l r k g)) (denoted_further_fields-rename_fields l there here hc ht r (k + group_constructor_count g) rest)
+      (λ later. denoted_group_fields-rename_fields l there here hc ht r k later g)

@@ -10,9 +10,9 @@ use Rattle.ob0_tree.specs.declared.tree.MultiplyOperator.{MultiplyOperator}
 use Rattle.ob0_tree.specs.declared.tree.MultiplyOperator.TheVariants as multiply_operator
 use Rattle.ob0_tree.specs.Tree.{Tree, addend, adds, compares, designator, end, expression, factor, integer, items, more, multiplier, multiplies, negation, none, one, parenthesised, product, relates, simple, sum, term}
 use Rattle.ob0_language_names.specs.Names.{Name}
-use Rattle.ob0_language_types.specs.Expressions.{Meanings, Object, a_constant, evaluate, evaluate_addends, evaluate_factor, evaluate_multipliers, evaluate_simple, evaluate_term, follow, object_value}
+use Rattle.ob0_language_types.specs.Expressions.{Meanings, Object, a_constant, evaluate, evaluate_addends, evaluate_factor, evaluate_multipliers, evaluate_simple, evaluate_term, evaluate_selectors, object_value}
 use Rattle.ob0_language_types.specs.Typing.{constant_of, constant_value, constant_meanings, outcome_value, type_of}
-use Rattle.ob0_language_values.specs.Values.{Outcome, Overflow, Place, Shape, Step, Value, add, add_short_circuits, value_at_path, checked_division, division_outcome, elements, ends, fits, gives, checked_number, members, multiply, multiply_short_circuits, negate, number, or_stuck, quotient, relate, remainder, apply_sign, truth, ◌>>=◌}
+use Rattle.ob0_language_values.specs.Values.{Outcome, Overflow, Place, Shape, Step, Value, add, add_short_circuits, value_at_path, checked_division, division_outcome, elements, ends_run_with, fits_in_32_bits, succeeds_with, checked_number, members, multiply, multiply_short_circuits, negate, number, or_stuck, quotient, apply_relation, remainder, apply_sign, truth, ◌>>=◌}
 use Rattle.ob0_language_field_laws.proofs.RefieldedExpressions.{Scalar, logical, scalar_value, whole}
 use Rattle.ob0_language_fields.proofs.NamesMeant.{named}
 
@@ -22,21 +22,21 @@ IsScalarValue (members k ms) = ⊥
 IsScalarValue _ = Unit {0}
 
 abbrev pub Holds : {A : Type 0} → (A → Type 0) → Outcome A → Type 0
-Holds P (gives a) = P a
-Holds P (ends e) = Unit {0}
+Holds P (succeeds_with a) = P a
+Holds P (ends_run_with e) = Unit {0}
 
 holds-then : {A B : Type 0} (P : B → Type 0) (o : Outcome A) (next : A → Outcome B) → ((a : A) → Holds P (next a)) → Holds P (o >>= next)
-holds-then P (gives a) next each = each a
-holds-then P (ends e) next each = tt
+holds-then P (succeeds_with a) next each = each a
+holds-then P (ends_run_with e) next each = tt
 
 -- If a step gives values with one property and the next step turns them into values with another, both steps together
 -- give values with the latter.
 holds-with : {A B : Type 0} (Q : A → Type 0) (P : B → Type 0) (o : Outcome A) (next : A → Outcome B) → Holds Q o → ((a : A) → Q a → Holds P (next a)) → Holds P (o >>= next)
-holds-with Q P (gives a) next h each = each a h
-holds-with Q P (ends e) next h each = tt
+holds-with Q P (succeeds_with a) next h each = each a h
+holds-with Q P (ends_run_with e) next h each = tt
 
 checked_number-scalar : (n : ℤ) → Holds IsScalarValue (checked_number n)
-checked_number-scalar n = elim (fits n) as (λ b. Holds IsScalarValue (if b then gives (number n) else ends Overflow)) [ true ↦ tt | false ↦ tt ]
+checked_number-scalar n = elim (fits_in_32_bits n) as (λ b. Holds IsScalarValue (if b then succeeds_with (number n) else ends_run_with Overflow)) [ true ↦ tt | false ↦ tt ]
 
 division_outcome-scalar : (result : Option ℤ) → Holds IsScalarValue (division_outcome result)
 division_outcome-scalar None = tt
@@ -55,11 +55,11 @@ multiply-scalar multiply_operator.Modulo (number a) (number b) = division_outcom
 multiply-scalar multiply_operator.And (truth a) (truth b) = tt
 multiply-scalar _ _ _ = tt
 
-relate-scalar : (r : Relation) (v w : Value) → Holds IsScalarValue (relate r v w)
-relate-scalar r (number a) (number b) = tt
-relate-scalar relation.Equal (truth a) (truth b) = tt
-relate-scalar relation.NotEqual (truth a) (truth b) = tt
-relate-scalar _ _ _ = tt
+apply_relation-scalar : (r : Relation) (v w : Value) → Holds IsScalarValue (apply_relation r v w)
+apply_relation-scalar r (number a) (number b) = tt
+apply_relation-scalar relation.Equal (truth a) (truth b) = tt
+apply_relation-scalar relation.NotEqual (truth a) (truth b) = tt
+apply_relation-scalar _ _ _ = tt
 
 apply_sign-scalar : (s : Option Sign) (v : Value) → IsScalarValue v → Holds IsScalarValue (apply_sign s v)
 apply_sign-scalar None v h = h
@@ -71,7 +71,7 @@ negate-scalar : (v : Value) → Holds IsScalarValue (negate v)
 negate-scalar (truth b) = tt
 negate-scalar _ = tt
 
-settled-scalar : (b : Bool) (v : Value) (o : Outcome Value) → IsScalarValue v → Holds IsScalarValue o → Holds IsScalarValue (elim b [ true ↦ gives v | false ↦ o ])
+settled-scalar : (b : Bool) (v : Value) (o : Outcome Value) → IsScalarValue v → Holds IsScalarValue o → Holds IsScalarValue (elim b [ true ↦ succeeds_with v | false ↦ o ])
 settled-scalar true v o h k = h
 settled-scalar false v o h k = k
 
@@ -98,8 +98,8 @@ mutual
   evaluate-scalar : (cs : Constants) (e : Tree Name expression) → Holds IsScalarValue (evaluate {P = Unit {0}} (constant_meaning cs) [] e)
   evaluate-scalar cs (compares a none) = evaluate_simple-scalar cs a
   evaluate-scalar cs (compares a (one (relates r b))) =
-      holds-then IsScalarValue (evaluate_simple {P = Unit {0}} (constant_meaning cs) [] a) (λ x. evaluate_simple {P = Unit {0}} (constant_meaning cs) [] b >>= relate r x)
-      (λ x. holds-then IsScalarValue (evaluate_simple {P = Unit {0}} (constant_meaning cs) [] b) (relate r x) (relate-scalar r x))
+      holds-then IsScalarValue (evaluate_simple {P = Unit {0}} (constant_meaning cs) [] a) (λ x. evaluate_simple {P = Unit {0}} (constant_meaning cs) [] b >>= apply_relation r x)
+      (λ x. holds-then IsScalarValue (evaluate_simple {P = Unit {0}} (constant_meaning cs) [] b) (apply_relation r x) (apply_relation-scalar r x))
 
   evaluate_simple-scalar : (cs : Constants) (a : Tree Name simple) → Holds IsScalarValue (evaluate_simple {P = Unit {0}} (constant_meaning cs) [] a)
   evaluate_simple-scalar cs (sum s t rest) =
@@ -109,7 +109,7 @@ mutual
   evaluate_addends-scalar : (cs : Constants) (v : Value) (a : Tree Name (items addend)) → IsScalarValue v → Holds IsScalarValue (evaluate_addends {P = Unit {0}} (constant_meaning cs) [] v a)
   evaluate_addends-scalar cs v end h = h
   evaluate_addends-scalar cs v (more (adds o t) rest) h =
-      holds-with IsScalarValue IsScalarValue (elim (add_short_circuits o v) [ true ↦ gives v | false ↦ evaluate_term {P = Unit {0}} (constant_meaning cs) [] t >>= add o v ]) (λ y. evaluate_addends {P = Unit {0}} (constant_meaning cs) [] y rest)
+      holds-with IsScalarValue IsScalarValue (elim (add_short_circuits o v) [ true ↦ succeeds_with v | false ↦ evaluate_term {P = Unit {0}} (constant_meaning cs) [] t >>= add o v ]) (λ y. evaluate_addends {P = Unit {0}} (constant_meaning cs) [] y rest)
       (settled-scalar (add_short_circuits o v) v (evaluate_term {P = Unit {0}} (constant_meaning cs) [] t >>= add o v) h (holds-then IsScalarValue (evaluate_term {P = Unit {0}} (constant_meaning cs) [] t) (add o v) (add-scalar o v)))
       (λ y hy. evaluate_addends-scalar cs y rest hy)
 
@@ -120,14 +120,14 @@ mutual
   evaluate_multipliers-scalar : (cs : Constants) (v : Value) (a : Tree Name (items multiplier)) → IsScalarValue v → Holds IsScalarValue (evaluate_multipliers {P = Unit {0}} (constant_meaning cs) [] v a)
   evaluate_multipliers-scalar cs v end h = h
   evaluate_multipliers-scalar cs v (more (multiplies o t) rest) h =
-      holds-with IsScalarValue IsScalarValue (elim (multiply_short_circuits o v) [ true ↦ gives v | false ↦ evaluate_factor {P = Unit {0}} (constant_meaning cs) [] t >>= multiply o v ]) (λ y. evaluate_multipliers {P = Unit {0}} (constant_meaning cs) [] y rest)
+      holds-with IsScalarValue IsScalarValue (elim (multiply_short_circuits o v) [ true ↦ succeeds_with v | false ↦ evaluate_factor {P = Unit {0}} (constant_meaning cs) [] t >>= multiply o v ]) (λ y. evaluate_multipliers {P = Unit {0}} (constant_meaning cs) [] y rest)
       (settled-scalar (multiply_short_circuits o v) v (evaluate_factor {P = Unit {0}} (constant_meaning cs) [] t >>= multiply o v) h (holds-then IsScalarValue (evaluate_factor {P = Unit {0}} (constant_meaning cs) [] t) (multiply o v) (multiply-scalar o v)))
       (λ y hy. evaluate_multipliers-scalar cs y rest hy)
 
   evaluate_factor-scalar : (cs : Constants) (a : Tree Name factor) → Holds IsScalarValue (evaluate_factor {P = Unit {0}} (constant_meaning cs) [] a)
   evaluate_factor-scalar cs (designator x path) =
-      holds-with IsScalarValue IsScalarValue (object_value {P = Unit {0}} [] (option_map (λ c. a_constant (scalar_value c)) (cs x))) (λ v. follow {P = Unit {0}} (constant_meaning cs) [] v path >>= (λ steps. or_stuck (value_at_path steps v))) (object_value-scalar (cs x))
-      (λ v hv. holds-then IsScalarValue (follow {P = Unit {0}} (constant_meaning cs) [] v path) (λ steps. or_stuck (value_at_path steps v)) (λ steps. value_at_path-scalar steps v hv))
+      holds-with IsScalarValue IsScalarValue (object_value {P = Unit {0}} [] (option_map (λ c. a_constant (scalar_value c)) (cs x))) (λ v. evaluate_selectors {P = Unit {0}} (constant_meaning cs) [] v path >>= (λ steps. or_stuck (value_at_path steps v))) (object_value-scalar (cs x))
+      (λ v hv. holds-then IsScalarValue (evaluate_selectors {P = Unit {0}} (constant_meaning cs) [] v path) (λ steps. or_stuck (value_at_path steps v)) (λ steps. value_at_path-scalar steps v hv))
   evaluate_factor-scalar cs (integer n) = tt
   evaluate_factor-scalar cs (parenthesised e) = evaluate-scalar cs e
   evaluate_factor-scalar cs (negation a) = holds-then IsScalarValue (evaluate_factor {P = Unit {0}} (constant_meaning cs) [] a) negate negate-scalar
@@ -138,8 +138,8 @@ scalar_is (truth b) h = (logical b, refl)
 scalar_is _ h = absurd h
 
 given-scalar : (o : Outcome Value) → Holds IsScalarValue o → (c : Option Scalar) × (outcome_value o ≡ option_map scalar_value c)
-given-scalar (gives v) h = let s = scalar_is v h in (Some s.0, ap Some s.1)
-given-scalar (ends e) h = (None, refl)
+given-scalar (succeeds_with v) h = let s = scalar_is v h in (Some s.0, ap Some s.1)
+given-scalar (ends_run_with e) h = (None, refl)
 
 abbrev as_constant : Value → Object Place (Unit {0})
 as_constant v = a_constant v

@@ -2,14 +2,14 @@
 -- that its records declare.
 use Rattle.std.proofs.Common.{◌≡◌, ℕ, suc, ◌+◌, true, false, ◌&&◌, List, [], ◌∷◌, ◌++◌, map, if◌then◌else◌, nat_le, Some, None, Option, option_and_then, sym, refl, ap, ◌∙◌, subst}
 use Rattle.ob0_tree.specs.Tree.{Tree, addend, adds, arguments, array_type, assigns, branches, calls, compares, designator, else_branch, else_part, elsif_branch, elsif_part, empty, end, expression, factor, field, fields, further_argument, further_fields, further_name, further_statement, index, integer, items, listed, maybe, more, multiplier, multiplies, named_type, names, negation, no_arguments, no_fields, none, one, parenthesised, product, record_type, relates, repeat_loop, runs, selector, sequence, simple, some_arguments, some_fields, statement, sum, term, then_argument, then_fields, then_name, then_statement, while_loop, written_type}
-use Rattle.ob0_language_names.specs.DeclaredOnce.{group_fields, further_group_fields}
+use Rattle.ob0_language_names.specs.ConsistentNames.{group_field_names, further_field_names}
 use Rattle.ob0_language_names.specs.Mapping.{map_names}
 use Rattle.ob0_language_names.specs.Names.{Name, same_name}
 use Rattle.ob0_language_names.specs.Parts.{further_names, names_in_list}
 use Rattle.ob0_language_types.specs.Arguments.{arguments_listed, further_arguments}
 use Rattle.ob0_language_types.specs.Expressions.{Object, a_constant, a_procedure, a_standard, a_type, a_variable}
-use Rattle.ob0_language_types.specs.Typing.{addition_type, array_length, negation_type, constant_value, denoted, denoted_group, denoted_groups, depth, lone_designator, element_type, field_type, group_constructor_count, multiplication_type, object_type, relation_type, scalars, shape_of_field, sign_type, type_at, type_of, type_of_addends, type_of_factor, type_of_multipliers, type_of_name, type_of_simple, type_of_term, value_type, prepend_fields, check_limits}
-use Rattle.ob0_language_types.specs.WellTyped.{FormalParameter, Mode, Signature, TypeMeanings, same_known_shape, argument_fits, arguments_fit, by_place, by_value, condition_fits, else_fits, elsifs_fit, sequence_fits, signature_of, statement_fits, statements_fit, variable_type}
+use Rattle.ob0_language_types.specs.Typing.{addition_type, array_length, negation_type, constant_value, denoted_type, denoted_group_fields, denoted_further_fields, depth, lone_designator, element_type, field_type, group_constructor_count, multiplication_type, object_type, relation_type, scalars, shape_of_field, sign_type, type_after_selectors, type_of, type_of_addends, type_of_factor, type_of_multipliers, type_of_name, type_of_simple, type_of_term, value_type, prepend_fields, check_limits}
+use Rattle.ob0_language_types.specs.WellTyped.{FormalParameter, Mode, Signature, TypeMeanings, same_known_shape, argument_matches, arguments_match, by_place, by_value, condition_is_boolean, else_is_well_typed, elsifs_are_well_typed, sequence_is_well_typed, signature_of, statement_is_well_typed, further_statements_are_well_typed, variable_type}
 use Rattle.ob0_language_types.proofs.Conditions.{same_known_shape-true, both_true, call-typed, of_some, same_name-true, variable-typed}
 use Rattle.ob0_language_types.proofs.Literals.{some_inverse}
 use Rattle.ob0_language_types.proofs.TypedElsewhere.{then_some}
@@ -145,23 +145,23 @@ mutual
 
   pub factor-alike : (p q : FieldRenaming) (objects : Name → Option (Object Shape Signature)) → ObjectsAgree p q objects → (a : Tree Name factor) (s : Shape) → type_of_factor (named objects) a ≡ Some s → rename_fields p (named objects) None a ≡ rename_fields q (named objects) None a
   factor-alike p q objects known (designator x path) s h =
-      let (t, et, h₁) = then_some (object_type (objects x)) (λ t. type_at (named objects) t path) s h in
+      let (t, et, h₁) = then_some (object_type (objects x)) (λ t. type_after_selectors (named objects) t path) s h in
       λ i. designator x (subst (λ o. rename_fields p (named objects) o path ≡ rename_fields q (named objects) o path) (sym et) (path-alike p q objects known t path s (object_type-agrees p q (objects x) t (known x) et) h₁) i)
   factor-alike p q objects known (integer n) s h = refl
   factor-alike p q objects known (parenthesised e) s h = λ i. parenthesised (expression-alike p q objects known e s h i)
   factor-alike p q objects known (negation a) s h =
       let (x, ex, h₁) = then_some (type_of_factor (named objects) a) negation_type s h in λ i. negation (factor-alike p q objects known a x ex i)
 
-  pub path-alike : (p q : FieldRenaming) (objects : Name → Option (Object Shape Signature)) → ObjectsAgree p q objects → (t : Shape) (path : Tree Name (items selector)) (s : Shape) → ShapeAgrees p q t → type_at (named objects) t path ≡ Some s
+  pub path-alike : (p q : FieldRenaming) (objects : Name → Option (Object Shape Signature)) → ObjectsAgree p q objects → (t : Shape) (path : Tree Name (items selector)) (s : Shape) → ShapeAgrees p q t → type_after_selectors (named objects) t path ≡ Some s
       → rename_fields p (named objects) (Some t) path ≡ rename_fields q (named objects) (Some t) path
   path-alike p q objects known t end s agrees h = refl
   path-alike p q objects known t (more (field x) rest) s agrees h =
-      let (u, eu, h₁) = then_some (field_type t x) (λ u. type_at (named objects) u rest) s h in
+      let (u, eu, h₁) = then_some (field_type t x) (λ u. type_after_selectors (named objects) u rest) s h in
       let f = field_type-agrees p q t x u agrees eu in
       λ i. more (field (f.0 i)) (subst (λ o. rename_fields p (named objects) o rest ≡ rename_fields q (named objects) o rest) (sym eu) (path-alike p q objects known u rest s f.1 h₁) i)
   path-alike p q objects known t (more (index e) rest) s agrees h =
-      let (j, ej, h₁) = then_some (type_of (named objects) e) (λ j. option_and_then (λ u. type_at (named objects) u rest) (element_type t j)) s h in
-      let (u, eu, h₂) = then_some (element_type t j) (λ u. type_at (named objects) u rest) s h₁ in
+      let (j, ej, h₁) = then_some (type_of (named objects) e) (λ j. option_and_then (λ u. type_after_selectors (named objects) u rest) (element_type t j)) s h in
+      let (u, eu, h₂) = then_some (element_type t j) (λ u. type_after_selectors (named objects) u rest) s h₁ in
       let f = element_type-agrees p q t j u agrees eu in
       λ i. more (index (expression-alike p q objects known e j ej i)) (subst (λ o. rename_fields p (named objects) o rest ≡ rename_fields q (named objects) o rest) (sym f.0) (path-alike p q objects known u rest s f.1 h₂) i)
 
@@ -171,12 +171,12 @@ pub lone_designator-typed : (objects : Name → Option (Object Shape Signature))
 unfolding type_of variable_type
 lone_designator-typed objects (compares (sum None (product (designator x path) end) end) none) s h =
     let (t, et, h₁) = variable-typed (named objects) x path s h in
-    let typed : type_of_factor (named objects) (designator x path) ≡ Some s = ap (λ o. option_and_then (λ u. type_at (named objects) u path) (object_type o)) et ∙ h₁ in
+    let typed : type_of_factor (named objects) (designator x path) ≡ Some s = ap (λ o. option_and_then (λ u. type_after_selectors (named objects) u path) (object_type o)) et ∙ h₁ in
     ap (λ o. option_and_then (λ x. option_and_then (λ y. Some y) (sign_type None x)) (option_and_then (λ x. Some x) o)) typed
 lone_designator-typed objects _ s h = absurd (cc)
 
-argument-alike : (p q : FieldRenaming) (objects : Name → Option (Object Shape Signature)) → ObjectsAgree p q objects → (f : FormalParameter) (e : Tree Name expression) → argument_fits (named objects) f e ≡ true → rename_fields p (named objects) None e ≡ rename_fields q (named objects) None e
-unfolding argument_fits
+argument-alike : (p q : FieldRenaming) (objects : Name → Option (Object Shape Signature)) → ObjectsAgree p q objects → (f : FormalParameter) (e : Tree Name expression) → argument_matches (named objects) f e ≡ true → rename_fields p (named objects) None e ≡ rename_fields q (named objects) None e
+unfolding argument_matches
 argument-alike p q objects known f e h = go f.mode h
   where
     go : (m : Mode) → same_known_shape (Some f.shape) (elim m [ by_value ↦ type_of (named objects) e | by_place ↦ variable_type (named objects) (lone_designator e) ]) ≡ true → rename_fields p (named objects) None e ≡ rename_fields q (named objects) None e
@@ -187,13 +187,13 @@ abbrev EachAlike : FieldRenaming → FieldRenaming → TypeMeanings Name → Lis
 EachAlike p q meaning [] = Unit {0}
 EachAlike p q meaning (e ∷ es) = (rename_fields p meaning None e ≡ rename_fields q meaning None e) × EachAlike p q meaning es
 
-each-alike : (p q : FieldRenaming) (objects : Name → Option (Object Shape Signature)) → ObjectsAgree p q objects → (fs : Signature) (es : List (Tree Name expression)) → arguments_fit (named objects) fs es ≡ true → EachAlike p q (named objects) es
-unfolding arguments_fit
+each-alike : (p q : FieldRenaming) (objects : Name → Option (Object Shape Signature)) → ObjectsAgree p q objects → (fs : Signature) (es : List (Tree Name expression)) → arguments_match (named objects) fs es ≡ true → EachAlike p q (named objects) es
+unfolding arguments_match
 each-alike p q objects known [] [] h = tt
 each-alike p q objects known [] (e ∷ es) h = absurd (cc)
 each-alike p q objects known (f ∷ fs) [] h = tt
 each-alike p q objects known (f ∷ fs) (e ∷ es) h =
-    let g = both_true (argument_fits (named objects) f e) (arguments_fit (named objects) fs es) h in (argument-alike p q objects known f e g.0, each-alike p q objects known fs es g.1)
+    let g = both_true (argument_matches (named objects) f e) (arguments_match (named objects) fs es) h in (argument-alike p q objects known f e g.0, each-alike p q objects known fs es g.1)
 
 further-alike : (p q : FieldRenaming) (meaning : TypeMeanings Name) (es : Tree Name (items further_argument)) → EachAlike p q meaning (further_arguments es) → rename_fields p meaning None es ≡ rename_fields q meaning None es
 further-alike p q meaning end h = refl
@@ -206,14 +206,14 @@ arguments-alike p q meaning (one (some_arguments e es)) h = λ i. one (some_argu
 
 -- Well-typed statements are the same under two functions that agree on the meanings of their names.
 
-condition-alike : (p q : FieldRenaming) (objects : Name → Option (Object Shape Signature)) → ObjectsAgree p q objects → (e : Tree Name expression) → condition_fits (named objects) e ≡ true → rename_fields p (named objects) None e ≡ rename_fields q (named objects) None e
-unfolding condition_fits
+condition-alike : (p q : FieldRenaming) (objects : Name → Option (Object Shape Signature)) → ObjectsAgree p q objects → (e : Tree Name expression) → condition_is_boolean (named objects) e ≡ true → rename_fields p (named objects) None e ≡ rename_fields q (named objects) None e
+unfolding condition_is_boolean
 condition-alike p q objects known e h = let (t, et, ht) = same_known_shape-true (Some boolean_shape) (type_of (named objects) e) h in expression-alike p q objects known e t ht
 
 mutual
-  unfolding statement_fits
+  unfolding statement_is_well_typed
 
-  pub statement-alike : (p q : FieldRenaming) (objects : Name → Option (Object Shape Signature)) → ObjectsAgree p q objects → (a : Tree Name statement) → statement_fits (named objects) a ≡ true → rename_fields p (named objects) None a ≡ rename_fields q (named objects) None a
+  pub statement-alike : (p q : FieldRenaming) (objects : Name → Option (Object Shape Signature)) → ObjectsAgree p q objects → (a : Tree Name statement) → statement_is_well_typed (named objects) a ≡ true → rename_fields p (named objects) None a ≡ rename_fields q (named objects) None a
   statement-alike p q objects known empty h = refl
   statement-alike p q objects known (assigns x path e) h =
       let (s, es, et) = same_known_shape-true (variable_type (named objects) (Some (x, path))) (type_of (named objects) e) h in
@@ -224,34 +224,34 @@ mutual
       let (signature, sig, fit) = call-typed (named objects) (signature_of (objects x)) (arguments_listed es) h in
       λ i. calls x (arguments-alike p q (named objects) es (each-alike p q objects known signature (arguments_listed es) fit) i)
   statement-alike p q objects known (branches e statements rest last) h =
-      let h₁ = both_true (condition_fits (named objects) e) (sequence_fits (named objects) statements && (elsifs_fit (named objects) rest && else_fits (named objects) last)) h in
-      let h₂ = both_true (sequence_fits (named objects) statements) (elsifs_fit (named objects) rest && else_fits (named objects) last) h₁.1 in
-      let h₃ = both_true (elsifs_fit (named objects) rest) (else_fits (named objects) last) h₂.1 in
+      let h₁ = both_true (condition_is_boolean (named objects) e) (sequence_is_well_typed (named objects) statements && (elsifs_are_well_typed (named objects) rest && else_is_well_typed (named objects) last)) h in
+      let h₂ = both_true (sequence_is_well_typed (named objects) statements) (elsifs_are_well_typed (named objects) rest && else_is_well_typed (named objects) last) h₁.1 in
+      let h₃ = both_true (elsifs_are_well_typed (named objects) rest) (else_is_well_typed (named objects) last) h₂.1 in
       λ i. branches (condition-alike p q objects known e h₁.0 i) (sequence-alike p q objects known statements h₂.0 i) (elsifs-alike p q objects known rest h₃.0 i) (else-alike p q objects known last h₃.1 i)
   statement-alike p q objects known (while_loop e statements) h =
-      let h₁ = both_true (condition_fits (named objects) e) (sequence_fits (named objects) statements) h in
+      let h₁ = both_true (condition_is_boolean (named objects) e) (sequence_is_well_typed (named objects) statements) h in
       λ i. while_loop (condition-alike p q objects known e h₁.0 i) (sequence-alike p q objects known statements h₁.1 i)
   statement-alike p q objects known (repeat_loop statements e) h =
-      let h₁ = both_true (sequence_fits (named objects) statements) (condition_fits (named objects) e) h in
+      let h₁ = both_true (sequence_is_well_typed (named objects) statements) (condition_is_boolean (named objects) e) h in
       λ i. repeat_loop (sequence-alike p q objects known statements h₁.0 i) (condition-alike p q objects known e h₁.1 i)
 
-  pub sequence-alike : (p q : FieldRenaming) (objects : Name → Option (Object Shape Signature)) → ObjectsAgree p q objects → (a : Tree Name sequence) → sequence_fits (named objects) a ≡ true → rename_fields p (named objects) None a ≡ rename_fields q (named objects) None a
+  pub sequence-alike : (p q : FieldRenaming) (objects : Name → Option (Object Shape Signature)) → ObjectsAgree p q objects → (a : Tree Name sequence) → sequence_is_well_typed (named objects) a ≡ true → rename_fields p (named objects) None a ≡ rename_fields q (named objects) None a
   sequence-alike p q objects known (runs a rest) h =
-      let h₁ = both_true (statement_fits (named objects) a) (statements_fit (named objects) rest) h in λ i. runs (statement-alike p q objects known a h₁.0 i) (statements-alike p q objects known rest h₁.1 i)
+      let h₁ = both_true (statement_is_well_typed (named objects) a) (further_statements_are_well_typed (named objects) rest) h in λ i. runs (statement-alike p q objects known a h₁.0 i) (statements-alike p q objects known rest h₁.1 i)
 
-  pub statements-alike : (p q : FieldRenaming) (objects : Name → Option (Object Shape Signature)) → ObjectsAgree p q objects → (a : Tree Name (items further_statement)) → statements_fit (named objects) a ≡ true → rename_fields p (named objects) None a ≡ rename_fields q (named objects) None a
+  pub statements-alike : (p q : FieldRenaming) (objects : Name → Option (Object Shape Signature)) → ObjectsAgree p q objects → (a : Tree Name (items further_statement)) → further_statements_are_well_typed (named objects) a ≡ true → rename_fields p (named objects) None a ≡ rename_fields q (named objects) None a
   statements-alike p q objects known end h = refl
   statements-alike p q objects known (more (then_statement a) rest) h =
-      let h₁ = both_true (statement_fits (named objects) a) (statements_fit (named objects) rest) h in λ i. more (then_statement (statement-alike p q objects known a h₁.0 i)) (statements-alike p q objects known rest h₁.1 i)
+      let h₁ = both_true (statement_is_well_typed (named objects) a) (further_statements_are_well_typed (named objects) rest) h in λ i. more (then_statement (statement-alike p q objects known a h₁.0 i)) (statements-alike p q objects known rest h₁.1 i)
 
-  pub elsifs-alike : (p q : FieldRenaming) (objects : Name → Option (Object Shape Signature)) → ObjectsAgree p q objects → (a : Tree Name (items elsif_part)) → elsifs_fit (named objects) a ≡ true → rename_fields p (named objects) None a ≡ rename_fields q (named objects) None a
+  pub elsifs-alike : (p q : FieldRenaming) (objects : Name → Option (Object Shape Signature)) → ObjectsAgree p q objects → (a : Tree Name (items elsif_part)) → elsifs_are_well_typed (named objects) a ≡ true → rename_fields p (named objects) None a ≡ rename_fields q (named objects) None a
   elsifs-alike p q objects known end h = refl
   elsifs-alike p q objects known (more (elsif_branch e statements) rest) h =
-      let h₁ = both_true (condition_fits (named objects) e) (sequence_fits (named objects) statements && elsifs_fit (named objects) rest) h in
-      let h₂ = both_true (sequence_fits (named objects) statements) (elsifs_fit (named objects) rest) h₁.1 in
+      let h₁ = both_true (condition_is_boolean (named objects) e) (sequence_is_well_typed (named objects) statements && elsifs_are_well_typed (named objects) rest) h in
+      let h₂ = both_true (sequence_is_well_typed (named objects) statements) (elsifs_are_well_typed (named objects) rest) h₁.1 in
       λ i. more (elsif_branch (condition-alike p q objects known e h₁.0 i) (sequence-alike p q objects known statements h₂.0 i)) (elsifs-alike p q objects known rest h₂.1 i)
 
-  pub else-alike : (p q : FieldRenaming) (objects : Name → Option (Object Shape Signature)) → ObjectsAgree p q objects → (a : Tree Name (maybe else_part)) → else_fits (named objects) a ≡ true → rename_fields p (named objects) None a ≡ rename_fields q (named objects) None a
+  pub else-alike : (p q : FieldRenaming) (objects : Name → Option (Object Shape Signature)) → ObjectsAgree p q objects → (a : Tree Name (maybe else_part)) → else_is_well_typed (named objects) a ≡ true → rename_fields p (named objects) None a ≡ rename_fields q (named objects) None a
   else-alike p q objects known none h = refl
   else-alike p q objects known (one (else_branch statements)) h = λ i. one (else_branch (sequence-alike p q objects known statements h i))
 
@@ -269,18 +269,18 @@ mutual
   type-alike p q k (named_type x) h = refl
   type-alike p q k (array_type e t) h = λ i. array_type e (type-alike p q (suc k) t h i)
   type-alike p q k (record_type g rest) h =
-      let h₁ = names-split p q k (group_fields g) (further_group_fields rest) h.0 in
+      let h₁ = names-split p q k (group_field_names g) (further_field_names rest) h.0 in
       let h₂ = records-split p q (records_in_group (suc k) g) (records_in_groups (suc k + group_constructor_count g) rest) h.1 in
       λ i. record_type (group-alike p q k (suc k) g h₁.0 h₂.0 i) (groups-alike p q k (suc k + group_constructor_count g) rest h₁.1 h₂.1 i)
 
-  pub group-alike : (p q : FieldRenaming) (r k : ℕ) (g : Tree Name fields) → NamesAgree p q r (group_fields g) → RecordsAgree p q (records_in_group k g) → rename_fields_in_group p r k g ≡ rename_fields_in_group q r k g
+  pub group-alike : (p q : FieldRenaming) (r k : ℕ) (g : Tree Name fields) → NamesAgree p q r (group_field_names g) → RecordsAgree p q (records_in_group k g) → rename_fields_in_group p r k g ≡ rename_fields_in_group q r k g
   group-alike p q r k no_fields h h' = refl
   group-alike p q r k (some_fields ns t) h h' = λ i. some_fields (names-alike p q r ns h i) (type-alike p q k t h' i)
 
-  pub groups-alike : (p q : FieldRenaming) (r k : ℕ) (gs : Tree Name (items further_fields)) → NamesAgree p q r (further_group_fields gs) → RecordsAgree p q (records_in_groups k gs) → rename_fields_in_groups p r k gs ≡ rename_fields_in_groups q r k gs
+  pub groups-alike : (p q : FieldRenaming) (r k : ℕ) (gs : Tree Name (items further_fields)) → NamesAgree p q r (further_field_names gs) → RecordsAgree p q (records_in_groups k gs) → rename_fields_in_groups p r k gs ≡ rename_fields_in_groups q r k gs
   groups-alike p q r k end h h' = refl
   groups-alike p q r k (more (then_fields g) rest) h h' =
-      let h₁ = names-split p q r (group_fields g) (further_group_fields rest) h in
+      let h₁ = names-split p q r (group_field_names g) (further_field_names rest) h in
       let h₂ = records-split p q (records_in_group k g) (records_in_groups (k + group_constructor_count g) rest) h' in
       λ i. more (then_fields (group-alike p q r k g h₁.0 h₂.0 i)) (groups-alike p q r (k + group_constructor_count g) rest h₁.1 h₂.1 i)
 
@@ -292,35 +292,35 @@ prepend_fields-same_known_shape p q k [] s rest h hs hr = hr
 prepend_fields-same_known_shape p q k (x ∷ xs) s rest h hs hr = (h.0, hs, prepend_fields-same_known_shape p q k xs s rest h.1 hs hr)
 
 mutual
-  unfolding denoted
+  unfolding denoted_type
 
-  pub denoted-agrees : (p q : FieldRenaming) (objects : Name → Option (Object Shape Signature)) → ObjectsAgree p q objects → (k : ℕ) (t : Tree Name written_type) (s : Shape) → RecordsAgree p q (records_in_type k t) → denoted (named objects) k t ≡ Some s → ShapeAgrees p q s
-  denoted-agrees p q objects known k (named_type x) s h e = type_of_name-agrees p q (objects x) s (known x) e
-  denoted-agrees p q objects known k (array_type c t) s h e =
-      let (v, ev, e₁) = then_some (constant_value (named objects) c) (λ v. option_and_then (λ n. option_and_then (λ u. check_limits (array_shape k n u)) (denoted (named objects) (suc k) t)) (array_length v)) s e in
-      let (n, en, e₂) = then_some (array_length v) (λ n. option_and_then (λ u. check_limits (array_shape k n u)) (denoted (named objects) (suc k) t)) s e₁ in
-      let (u, eu, e₃) = then_some (denoted (named objects) (suc k) t) (λ u. check_limits (array_shape k n u)) s e₂ in
-      subst (ShapeAgrees p q) (within-is (array_shape k n u) s e₃) (denoted-agrees p q objects known (suc k) t u h eu)
-  denoted-agrees p q objects known k (record_type g rest) s h e =
-      let h₁ = names-split p q k (group_fields g) (further_group_fields rest) h.0 in
+  pub denoted_type-agrees : (p q : FieldRenaming) (objects : Name → Option (Object Shape Signature)) → ObjectsAgree p q objects → (k : ℕ) (t : Tree Name written_type) (s : Shape) → RecordsAgree p q (records_in_type k t) → denoted_type (named objects) k t ≡ Some s → ShapeAgrees p q s
+  denoted_type-agrees p q objects known k (named_type x) s h e = type_of_name-agrees p q (objects x) s (known x) e
+  denoted_type-agrees p q objects known k (array_type c t) s h e =
+      let (v, ev, e₁) = then_some (constant_value (named objects) c) (λ v. option_and_then (λ n. option_and_then (λ u. check_limits (array_shape k n u)) (denoted_type (named objects) (suc k) t)) (array_length v)) s e in
+      let (n, en, e₂) = then_some (array_length v) (λ n. option_and_then (λ u. check_limits (array_shape k n u)) (denoted_type (named objects) (suc k) t)) s e₁ in
+      let (u, eu, e₃) = then_some (denoted_type (named objects) (suc k) t) (λ u. check_limits (array_shape k n u)) s e₂ in
+      subst (ShapeAgrees p q) (within-is (array_shape k n u) s e₃) (denoted_type-agrees p q objects known (suc k) t u h eu)
+  denoted_type-agrees p q objects known k (record_type g rest) s h e =
+      let h₁ = names-split p q k (group_field_names g) (further_field_names rest) h.0 in
       let h₂ = records-split p q (records_in_group (suc k) g) (records_in_groups (suc k + group_constructor_count g) rest) h.1 in
-      let (later, el, e₁) = then_some (denoted_groups (named objects) (suc k + group_constructor_count g) rest) (λ later. option_and_then (λ fs. check_limits (record_shape k fs)) (denoted_group (named objects) (suc k) later g)) s e in
-      let (fs, ef, e₂) = then_some (denoted_group (named objects) (suc k) later g) (λ fs. check_limits (record_shape k fs)) s e₁ in
+      let (later, el, e₁) = then_some (denoted_further_fields (named objects) (suc k + group_constructor_count g) rest) (λ later. option_and_then (λ fs. check_limits (record_shape k fs)) (denoted_group_fields (named objects) (suc k) later g)) s e in
+      let (fs, ef, e₂) = then_some (denoted_group_fields (named objects) (suc k) later g) (λ fs. check_limits (record_shape k fs)) s e₁ in
       subst (ShapeAgrees p q) (within-is (record_shape k fs) s e₂)
-      (denoted_group-agrees p q objects known k (suc k) later g fs h₁.0 h₂.0 (denoted_groups-same_known_shape p q objects known k (suc k + group_constructor_count g) rest later h₁.1 h₂.1 el) ef)
+      (denoted_group_fields-agrees p q objects known k (suc k) later g fs h₁.0 h₂.0 (denoted_further_fields-same_known_shape p q objects known k (suc k + group_constructor_count g) rest later h₁.1 h₂.1 el) ef)
 
-  pub denoted_group-agrees : (p q : FieldRenaming) (objects : Name → Option (Object Shape Signature)) → ObjectsAgree p q objects → (r k : ℕ) (later : FieldShapes) (g : Tree Name fields) (fs : FieldShapes) → NamesAgree p q r (group_fields g) → RecordsAgree p q (records_in_group k g)
-      → FieldsAgree p q r later → denoted_group (named objects) k later g ≡ Some fs → FieldsAgree p q r fs
-  denoted_group-agrees p q objects known r k later no_fields fs h h' hl e = subst (FieldsAgree p q r) (some_inverse {a = later} {b = fs} e) hl
-  denoted_group-agrees p q objects known r k later (some_fields ns t) fs h h' hl e =
-      let (u, eu, e₁) = then_some (denoted (named objects) k t) (λ s. Some (prepend_fields (map (λ x. x) (names_in_list ns)) s later)) fs e in
-      subst (FieldsAgree p q r) (some_inverse {a = prepend_fields (map (λ x. x) (names_in_list ns)) u later} {b = fs} e₁) (prepend_fields-same_known_shape p q r (names_in_list ns) u later h (denoted-agrees p q objects known k t u h' eu) hl)
+  pub denoted_group_fields-agrees : (p q : FieldRenaming) (objects : Name → Option (Object Shape Signature)) → ObjectsAgree p q objects → (r k : ℕ) (later : FieldShapes) (g : Tree Name fields) (fs : FieldShapes) → NamesAgree p q r (group_field_names g) → RecordsAgree p q (records_in_group k g)
+      → FieldsAgree p q r later → denoted_group_fields (named objects) k later g ≡ Some fs → FieldsAgree p q r fs
+  denoted_group_fields-agrees p q objects known r k later no_fields fs h h' hl e = subst (FieldsAgree p q r) (some_inverse {a = later} {b = fs} e) hl
+  denoted_group_fields-agrees p q objects known r k later (some_fields ns t) fs h h' hl e =
+      let (u, eu, e₁) = then_some (denoted_type (named objects) k t) (λ s. Some (prepend_fields (map (λ x. x) (names_in_list ns)) s later)) fs e in
+      subst (FieldsAgree p q r) (some_inverse {a = prepend_fields (map (λ x. x) (names_in_list ns)) u later} {b = fs} e₁) (prepend_fields-same_known_shape p q r (names_in_list ns) u later h (denoted_type-agrees p q objects known k t u h' eu) hl)
 
-  pub denoted_groups-same_known_shape : (p q : FieldRenaming) (objects : Name → Option (Object Shape Signature)) → ObjectsAgree p q objects → (r k : ℕ) (gs : Tree Name (items further_fields)) (fs : FieldShapes) → NamesAgree p q r (further_group_fields gs) → RecordsAgree p q (records_in_groups k gs)
-      → denoted_groups (named objects) k gs ≡ Some fs → FieldsAgree p q r fs
-  denoted_groups-same_known_shape p q objects known r k end fs h h' e = subst (FieldsAgree p q r) (some_inverse {a = no_field_shape} {b = fs} e) tt
-  denoted_groups-same_known_shape p q objects known r k (more (then_fields g) rest) fs h h' e =
-      let h₁ = names-split p q r (group_fields g) (further_group_fields rest) h in
+  pub denoted_further_fields-same_known_shape : (p q : FieldRenaming) (objects : Name → Option (Object Shape Signature)) → ObjectsAgree p q objects → (r k : ℕ) (gs : Tree Name (items further_fields)) (fs : FieldShapes) → NamesAgree p q r (further_field_names gs) → RecordsAgree p q (records_in_groups k gs)
+      → denoted_further_fields (named objects) k gs ≡ Some fs → FieldsAgree p q r fs
+  denoted_further_fields-same_known_shape p q objects known r k end fs h h' e = subst (FieldsAgree p q r) (some_inverse {a = no_field_shape} {b = fs} e) tt
+  denoted_further_fields-same_known_shape p q objects known r k (more (then_fields g) rest) fs h h' e =
+      let h₁ = names-split p q r (group_field_names g) (further_field_names rest) h in
       let h₂ = records-split p q (records_in_group k g) (records_in_groups (k + group_constructor_count g) rest) h' in
-      let (later, el, e₁) = then_some (denoted_groups (named objects) (k + group_constructor_count g) rest) (λ later. denoted_group (named objects) k later g) fs e in
-      denoted_group-agrees p q objects known r k later g fs h₁.0 h₂.0 (denoted_groups-same_known_shape p q objects known r (k + group_constructor_count g) rest later h₁.1 h₂.1 el) e₁
+      let (later, el, e₁) = then_some (denoted_further_fields (named objects) (k + group_constructor_count g) rest) (λ later. denoted_group_fields (named objects) k later g) fs e in
+      denoted_group_fields-agrees p q objects known r k later g fs h₁.0 h₂.0 (denoted_further_fields-same_known_shape p q objects known r (k + group_constructor_count g) rest later h₁.1 h₂.1 el) e₁

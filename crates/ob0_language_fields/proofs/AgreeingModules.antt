@@ -1,21 +1,21 @@
 -- Two functions for the names of fields give the same block and the same module. The module must be well-typed, and
 -- both functions must agree on each field that its records declare.
 use Rattle.std.proofs.Common.{◌≡◌, ℕ, ◌+◌, true, false, ◌&&◌, List, [], ◌∷◌, ◌++◌, map, Some, None, option_and_then, unwrap_or, sym, refl, ap, subst}
-use Rattle.ob0_tree.specs.Tree.{Tree, begins, block, body, constant, declares, declares_constant, declares_procedure, declares_type, declares_types, declares_variable, declares_variables, end, formals, further_section, has_body, is_module, item, items, maybe, module_text, more, no_formals, none, one, procedure, section, some_formals, then_section, type_name, type_names, value_section, variable, variable_section, variables}
+use Rattle.ob0_tree.specs.Tree.{Tree, begins, block, body, constant, declares, declares_constant, declares_procedure, declares_type, declares_types, declares_variable, declares_variables, end, formals, further_section, forms_block, is_module, item, items, maybe, module_text, more, no_formals, none, one, procedure, section, some_formals, then_section, type_definition, type_definitions, value_section, variable, variable_section, variables}
 use Rattle.ob0_language_names.specs.Names.{Name, naming_by_spelling, same_name}
 use Rattle.ob0_language_names.specs.Parts.{formal_sections, names_in_list, procedure_formals, procedure_name, section_constants, section_names, section_type, section_types, section_variables}
-use Rattle.ob0_language_types.specs.Declarations.{constructor_after_formals, constructors_before_variables, constructor_after_variables, declare_constants, declare_first, declare_types, formals_constructor_count, procedure_constructor_count}
-use Rattle.ob0_language_types.specs.Environments.{environment_from_binding, meanings, newest_object, outermost}
+use Rattle.ob0_language_types.specs.Declarations.{constructors_before_procedure_block, constructors_before_variables, constructors_before_procedures, declare_constants, declare_constants_and_types, declare_types, formals_constructor_count, procedure_constructor_count}
+use Rattle.ob0_language_types.specs.Environments.{environment_from_binding, meanings, newest_object, outermost_environment}
 use Rattle.ob0_language_types.specs.Expressions.{Object, a_constant, a_type, a_variable}
-use Rattle.ob0_language_types.specs.Typing.{constant_value, constructor_count, denoted}
-use Rattle.ob0_language_types.specs.WellTyped.{Mode, TypeEnvironment, TypedParameter, Signature, bind_names, bind_typed_parameters, block_fits, body_fits, declare_typed, passes_type_check, bind_procedure, procedure_fits, procedures_fit, section_mode, typed_parameters}
+use Rattle.ob0_language_types.specs.Typing.{constant_value, constructor_count, denoted_type}
+use Rattle.ob0_language_types.specs.WellTyped.{Mode, TypeEnvironment, TypedParameter, Signature, bind_names, bind_typed_parameters, block_is_well_typed, body_is_well_typed, declare_typed_variables, passes_type_check, bind_procedure, procedure_is_well_typed, procedures_are_well_typed, section_mode, typed_parameters}
 use Rattle.ob0_language_types.proofs.Conditions.{both_true, hold-true}
 use Rattle.ob0_language_types.proofs.Literals.{some_inverse}
 use Rattle.ob0_language_types.proofs.TypedElsewhere.{then_some}
 use Rattle.ob0_language_values.specs.Values.{Shape}
 use Rattle.ob0_language_fields.specs.Fields.{FieldRenaming, environment_after_procedures, rename_fields, rename_fields_in_block, rename_fields_in_formals, rename_fields_in_procedure, rename_fields_in_procedures, rename_fields_in_section, rename_fields_in_sections, rename_fields_in_type_section, rename_fields_in_types, rename_fields_in_variable_section, rename_fields_in_variables, rename_fields_in_module}
 use Rattle.ob0_language_fields.specs.Renaming.{records, records_in_block, records_in_procedure, records_in_procedures, records_in_sections, records_in_type, records_in_types, records_in_variables}
-use Rattle.ob0_language_fields.proofs.AgreeingFields.{ObjectsAgree, ObjectAgrees, OptionAgrees, RecordsAgree, ShapeAgrees, denoted-agrees, records-split, sequence-alike, type-alike}
+use Rattle.ob0_language_fields.proofs.AgreeingFields.{ObjectsAgree, ObjectAgrees, OptionAgrees, RecordsAgree, ShapeAgrees, denoted_type-agrees, records-split, sequence-alike, type-alike}
 use Rattle.ob0_language_fields.proofs.NamesMeant.{parameter_of, object_in}
 
 -- holds if two functions for the names of fields agree on all types of an environment
@@ -50,22 +50,22 @@ constants-agree p q env (more (declares_constant x c) cs) after h e =
     let (v, ev, e₁) = then_some (constant_value (meanings naming_by_spelling env) c) (λ v. declare_constants naming_by_spelling ((x, a_constant v) ∷ env) cs) after e in
     constants-agree p q ((x, a_constant v) ∷ env) cs after (tt, h) e₁
 
-types-agree : (p q : FieldRenaming) (env : TypeEnvironment Name) (k : ℕ) (ds : Tree Name (items type_name)) (after : TypeEnvironment Name) → EnvironmentAgrees p q env → RecordsAgree p q (records_in_types k ds) → declare_types naming_by_spelling env k ds ≡ Some after → EnvironmentAgrees p q after
+types-agree : (p q : FieldRenaming) (env : TypeEnvironment Name) (k : ℕ) (ds : Tree Name (items type_definition)) (after : TypeEnvironment Name) → EnvironmentAgrees p q env → RecordsAgree p q (records_in_types k ds) → declare_types naming_by_spelling env k ds ≡ Some after → EnvironmentAgrees p q after
 unfolding declare_types
 types-agree p q env k end after h r e = subst (EnvironmentAgrees p q) (some_inverse {a = env} {b = after} e) h
 types-agree p q env k (more (declares_type x u) ds) after h r e =
     let r₁ = records-split p q (records_in_type k u) (records_in_types (k + constructor_count u) ds) r in
-    let (s, es, e₁) = then_some (denoted (meanings naming_by_spelling env) k u) (λ s. declare_types naming_by_spelling ((x, a_type s) ∷ env) (k + constructor_count u) ds) after e in
-    types-agree p q ((x, a_type s) ∷ env) (k + constructor_count u) ds after (denoted-agrees p q (object_in env) (objects-agree p q env h) k u s r₁.0 es, h) r₁.1 e₁
+    let (s, es, e₁) = then_some (denoted_type (meanings naming_by_spelling env) k u) (λ s. declare_types naming_by_spelling ((x, a_type s) ∷ env) (k + constructor_count u) ds) after e in
+    types-agree p q ((x, a_type s) ∷ env) (k + constructor_count u) ds after (denoted_type-agrees p q (object_in env) (objects-agree p q env h) k u s r₁.0 es, h) r₁.1 e₁
 
-variables-agree : (p q : FieldRenaming) (env : TypeEnvironment Name) (k : ℕ) (gs : Tree Name (items variable)) (after : TypeEnvironment Name) → EnvironmentAgrees p q env → RecordsAgree p q (records_in_variables k gs) → declare_typed naming_by_spelling k gs env ≡ Some after → EnvironmentAgrees p q after
-unfolding declare_typed
+variables-agree : (p q : FieldRenaming) (env : TypeEnvironment Name) (k : ℕ) (gs : Tree Name (items variable)) (after : TypeEnvironment Name) → EnvironmentAgrees p q env → RecordsAgree p q (records_in_variables k gs) → declare_typed_variables naming_by_spelling k gs env ≡ Some after → EnvironmentAgrees p q after
+unfolding declare_typed_variables
 variables-agree p q env k end after h r e = subst (EnvironmentAgrees p q) (some_inverse {a = env} {b = after} e) h
 variables-agree p q env k (more (declares_variable ns u) gs) after h r e =
     let r₁ = records-split p q (records_in_type k u) (records_in_variables (k + constructor_count u) gs) r in
-    let (s, es, e₁) = then_some (denoted (meanings naming_by_spelling env) k u) (λ s. declare_typed naming_by_spelling (k + constructor_count u) gs (bind_names (names_in_list ns) (a_variable s) env)) after e in
+    let (s, es, e₁) = then_some (denoted_type (meanings naming_by_spelling env) k u) (λ s. declare_typed_variables naming_by_spelling (k + constructor_count u) gs (bind_names (names_in_list ns) (a_variable s) env)) after e in
     variables-agree p q (bind_names (names_in_list ns) (a_variable s) env) (k + constructor_count u) gs after
-    (bind_names-agree p q (names_in_list ns) (a_variable s) env (denoted-agrees p q (object_in env) (objects-agree p q env h) k u s r₁.0 es) h) r₁.1 e₁
+    (bind_names-agree p q (names_in_list ns) (a_variable s) env (denoted_type-agrees p q (object_in env) (objects-agree p q env h) k u s r₁.0 es) h) r₁.1 e₁
 
 parameters-join : (p q : FieldRenaming) (m : Mode) (s : Shape) (xs : List Name) (rest : List (TypedParameter Name)) → ShapeAgrees p q s → ParametersAgree p q rest → ParametersAgree p q (map (parameter_of m s) xs ++ rest)
 parameters-join p q m s [] rest h k = k
@@ -76,21 +76,21 @@ unfolding typed_parameters
 parameters-agree p q env k end ps h r e = subst (ParametersAgree p q) (some_inverse {a = []} {b = ps} e) tt
 parameters-agree p q env k (more (then_section f) fs) ps h r e =
     let r₁ = records-split p q (records_in_type k (section_type f)) (records_in_sections (k + constructor_count (section_type f)) fs) r in
-    let (s, es, e₁) = then_some (denoted (meanings naming_by_spelling env) k (section_type f)) (λ s. option_and_then (λ rest. Some (map (parameter_of (section_mode f) s) (section_names f) ++ rest)) (typed_parameters naming_by_spelling (bind_names (section_names f) (a_variable s) env) (k + constructor_count (section_type f)) fs)) ps e in
+    let (s, es, e₁) = then_some (denoted_type (meanings naming_by_spelling env) k (section_type f)) (λ s. option_and_then (λ rest. Some (map (parameter_of (section_mode f) s) (section_names f) ++ rest)) (typed_parameters naming_by_spelling (bind_names (section_names f) (a_variable s) env) (k + constructor_count (section_type f)) fs)) ps e in
     let (rest, er, e₂) = then_some (typed_parameters naming_by_spelling (bind_names (section_names f) (a_variable s) env) (k + constructor_count (section_type f)) fs) (λ rest. Some (map (parameter_of (section_mode f) s) (section_names f) ++ rest)) ps e₁ in
-    let agrees : ShapeAgrees p q s = denoted-agrees p q (object_in env) (objects-agree p q env h) k (section_type f) s r₁.0 es in
+    let agrees : ShapeAgrees p q s = denoted_type-agrees p q (object_in env) (objects-agree p q env h) k (section_type f) s r₁.0 es in
     subst (ParametersAgree p q) (some_inverse {a = map (parameter_of (section_mode f) s) (section_names f) ++ rest} {b = ps} e₂)
     (parameters-join p q (section_mode f) s (section_names f) rest agrees
     (parameters-agree p q (bind_names (section_names f) (a_variable s) env) (k + constructor_count (section_type f)) fs rest (bind_names-agree p q (section_names f) (a_variable s) env agrees h) r₁.1 er))
 
 -- The texts of declarations are the same under two functions that agree on their records.
 
-types-alike : (p q : FieldRenaming) (k : ℕ) (ds : Tree Name (items type_name)) → RecordsAgree p q (records_in_types k ds) → rename_fields_in_types p k ds ≡ rename_fields_in_types q k ds
+types-alike : (p q : FieldRenaming) (k : ℕ) (ds : Tree Name (items type_definition)) → RecordsAgree p q (records_in_types k ds) → rename_fields_in_types p k ds ≡ rename_fields_in_types q k ds
 types-alike p q k end r = refl
 types-alike p q k (more (declares_type x u) ds) r =
     let r₁ = records-split p q (records_in_type k u) (records_in_types (k + constructor_count u) ds) r in λ i. more (declares_type x (type-alike p q k u r₁.0 i)) (types-alike p q (k + constructor_count u) ds r₁.1 i)
 
-type_section-alike : (p q : FieldRenaming) (k : ℕ) (ts : Tree Name (maybe type_names)) → RecordsAgree p q (records_in_types k (section_types ts)) → rename_fields_in_type_section p k ts ≡ rename_fields_in_type_section q k ts
+type_section-alike : (p q : FieldRenaming) (k : ℕ) (ts : Tree Name (maybe type_definitions)) → RecordsAgree p q (records_in_types k (section_types ts)) → rename_fields_in_type_section p k ts ≡ rename_fields_in_type_section q k ts
 type_section-alike p q k none r = refl
 type_section-alike p q k (one (declares_types ts)) r = λ i. one (declares_types (types-alike p q k ts r i))
 
@@ -121,13 +121,13 @@ formals-alike p q k (one (some_formals f fs)) r =
     λ i. one (some_formals (section-alike p q k f r₁.0 i) (sections-alike p q (k + constructor_count (section_type f)) fs r₁.1 i))
 
 procedure-records : (p q : FieldRenaming) (k : ℕ) (a : Tree Name (item procedure)) → RecordsAgree p q (records_in_procedure k a) → RecordsAgree p q (records_in_sections k (procedure_formals a))
-procedure-records p q k (declares_procedure x fs b closing) r = (records-split p q (records_in_sections k (formal_sections fs)) (records_in_block (constructor_after_formals k (declares_procedure x fs b closing)) b) r).0
+procedure-records p q k (declares_procedure x fs b closing) r = (records-split p q (records_in_sections k (formal_sections fs)) (records_in_block (constructors_before_procedure_block k (declares_procedure x fs b closing)) b) r).0
 
 -- A well-typed block is the same under two functions that agree on its environment and its records.
 
-body-alike : (p q : FieldRenaming) (env : TypeEnvironment Name) (statements : Tree Name (maybe body)) → EnvironmentAgrees p q env → body_fits naming_by_spelling env statements ≡ true
+body-alike : (p q : FieldRenaming) (env : TypeEnvironment Name) (statements : Tree Name (maybe body)) → EnvironmentAgrees p q env → body_is_well_typed naming_by_spelling env statements ≡ true
     → rename_fields p (meanings naming_by_spelling env) None statements ≡ rename_fields q (meanings naming_by_spelling env) None statements
-unfolding body_fits
+unfolding body_is_well_typed
 body-alike p q env none h e = refl
 body-alike p q env (one (begins a)) h e = λ i. one (begins (sequence-alike p q (object_in env) (objects-agree p q env h) a e i))
 
@@ -137,28 +137,28 @@ ProceduresAlike p q env k statements ps =
     × (rename_fields p (meanings naming_by_spelling (environment_after_procedures env k ps)) None statements ≡ rename_fields q (meanings naming_by_spelling (environment_after_procedures env k ps)) None statements)
 
 mutual
-  unfolding block_fits
+  unfolding block_is_well_typed
 
-  pub block-alike : (p q : FieldRenaming) (env : TypeEnvironment Name) (k : ℕ) (b : Tree Name block) → EnvironmentAgrees p q env → RecordsAgree p q (records_in_block k b) → block_fits naming_by_spelling env k b ≡ true → rename_fields_in_block p env k b ≡ rename_fields_in_block q env k b
-  block-alike p q env k (has_body (declares cs ts vs ps) statements) h r e =
-      let b : Tree Name block = has_body (declares cs ts vs ps) statements in
-      let r₁ = records-split p q (records_in_types k (section_types ts)) (records_in_variables (constructors_before_variables k b) (section_variables vs) ++ records_in_procedures (constructor_after_variables k b) ps) r in
-      let r₂ = records-split p q (records_in_variables (constructors_before_variables k b) (section_variables vs)) (records_in_procedures (constructor_after_variables k b) ps) r₁.1 in
-      let (inner, e₁, e₂) = hold-true (option_and_then (declare_typed naming_by_spelling (constructors_before_variables k b) (section_variables vs)) (declare_first naming_by_spelling env k b)) (λ inner. procedures_fit naming_by_spelling inner (constructor_after_variables k b) statements ps) e in
-      let (first, ef, e₃) = then_some (declare_first naming_by_spelling env k b) (declare_typed naming_by_spelling (constructors_before_variables k b) (section_variables vs)) inner e₁ in
+  pub block-alike : (p q : FieldRenaming) (env : TypeEnvironment Name) (k : ℕ) (b : Tree Name block) → EnvironmentAgrees p q env → RecordsAgree p q (records_in_block k b) → block_is_well_typed naming_by_spelling env k b ≡ true → rename_fields_in_block p env k b ≡ rename_fields_in_block q env k b
+  block-alike p q env k (forms_block (declares cs ts vs ps) statements) h r e =
+      let b : Tree Name block = forms_block (declares cs ts vs ps) statements in
+      let r₁ = records-split p q (records_in_types k (section_types ts)) (records_in_variables (constructors_before_variables k b) (section_variables vs) ++ records_in_procedures (constructors_before_procedures k b) ps) r in
+      let r₂ = records-split p q (records_in_variables (constructors_before_variables k b) (section_variables vs)) (records_in_procedures (constructors_before_procedures k b) ps) r₁.1 in
+      let (inner, e₁, e₂) = hold-true (option_and_then (declare_typed_variables naming_by_spelling (constructors_before_variables k b) (section_variables vs)) (declare_constants_and_types naming_by_spelling env k b)) (λ inner. procedures_are_well_typed naming_by_spelling inner (constructors_before_procedures k b) statements ps) e in
+      let (first, ef, e₃) = then_some (declare_constants_and_types naming_by_spelling env k b) (declare_typed_variables naming_by_spelling (constructors_before_variables k b) (section_variables vs)) inner e₁ in
       let (consts, ec, e₄) = then_some (declare_constants naming_by_spelling env (section_constants cs)) (λ env. declare_types naming_by_spelling env k (section_types ts)) first ef in
       let agrees : EnvironmentAgrees p q inner =
       variables-agree p q first (constructors_before_variables k b) (section_variables vs) inner (types-agree p q consts k (section_types ts) first (constants-agree p q env (section_constants cs) consts h ec) r₁.0 e₄) r₂.0 e₃ in
-      let alike = subst (λ inner. ProceduresAlike p q inner (constructor_after_variables k b) statements ps) (sym (ap (λ o. unwrap_or o env) e₁)) (procedures-alike p q inner (constructor_after_variables k b) statements ps agrees r₂.1 e₂) in
-      λ i. has_body (declares cs (type_section-alike p q k ts r₁.0 i) (variable_section-alike p q (constructors_before_variables k b) vs r₂.0 i) (alike.0 i)) (alike.1 i)
+      let alike = subst (λ inner. ProceduresAlike p q inner (constructors_before_procedures k b) statements ps) (sym (ap (λ o. unwrap_or o env) e₁)) (procedures-alike p q inner (constructors_before_procedures k b) statements ps agrees r₂.1 e₂) in
+      λ i. forms_block (declares cs (type_section-alike p q k ts r₁.0 i) (variable_section-alike p q (constructors_before_variables k b) vs r₂.0 i) (alike.0 i)) (alike.1 i)
 
   pub procedures-alike : (p q : FieldRenaming) (env : TypeEnvironment Name) (k : ℕ) (statements : Tree Name (maybe body)) (ps : Tree Name (items procedure)) → EnvironmentAgrees p q env → RecordsAgree p q (records_in_procedures k ps)
-      → procedures_fit naming_by_spelling env k statements ps ≡ true → ProceduresAlike p q env k statements ps
+      → procedures_are_well_typed naming_by_spelling env k statements ps ≡ true → ProceduresAlike p q env k statements ps
   procedures-alike p q env k statements end h r e = (refl, body-alike p q env statements h e)
   procedures-alike p q env k statements (more a rest) h r e =
       let r₁ = records-split p q (records_in_procedure k a) (records_in_procedures (k + procedure_constructor_count a) rest) r in
-      let (qs, eqs, e₁) = hold-true (typed_parameters naming_by_spelling env k (procedure_formals a)) (λ qs. procedure_fits naming_by_spelling (bind_typed_parameters qs (bind_procedure (procedure_name a) qs env)) k a && procedures_fit naming_by_spelling (bind_procedure (procedure_name a) qs env) (k + procedure_constructor_count a) statements rest) e in
-      let both = both_true (procedure_fits naming_by_spelling (bind_typed_parameters qs (bind_procedure (procedure_name a) qs env)) k a) (procedures_fit naming_by_spelling (bind_procedure (procedure_name a) qs env) (k + procedure_constructor_count a) statements rest) e₁ in
+      let (qs, eqs, e₁) = hold-true (typed_parameters naming_by_spelling env k (procedure_formals a)) (λ qs. procedure_is_well_typed naming_by_spelling (bind_typed_parameters qs (bind_procedure (procedure_name a) qs env)) k a && procedures_are_well_typed naming_by_spelling (bind_procedure (procedure_name a) qs env) (k + procedure_constructor_count a) statements rest) e in
+      let both = both_true (procedure_is_well_typed naming_by_spelling (bind_typed_parameters qs (bind_procedure (procedure_name a) qs env)) k a) (procedures_are_well_typed naming_by_spelling (bind_procedure (procedure_name a) qs env) (k + procedure_constructor_count a) statements rest) e₁ in
       let agree = parameters-agree p q env k (procedure_formals a) qs h (procedure-records p q k a r₁.0) eqs in
       let own : rename_fields_in_procedure p (bind_typed_parameters qs (bind_procedure (procedure_name a) qs env)) k a ≡ rename_fields_in_procedure q (bind_typed_parameters qs (bind_procedure (procedure_name a) qs env)) k a =
       procedure-alike p q (bind_typed_parameters qs (bind_procedure (procedure_name a) qs env)) k a (bind_typed_parameters-agrees p q qs (bind_procedure (procedure_name a) qs env) agree (tt, h)) r₁.0 both.0 in
@@ -169,12 +169,12 @@ mutual
       × (rename_fields p (meanings naming_by_spelling (environment_after_procedures (bind_procedure (procedure_name a) qs env) (k + procedure_constructor_count a) rest)) None statements ≡ rename_fields q (meanings naming_by_spelling (environment_after_procedures (bind_procedure (procedure_name a) qs env) (k + procedure_constructor_count a) rest)) None statements))
       (sym (ap (λ o. unwrap_or o []) eqs)) (λ i. more (own i) (others.0 i), others.1)
 
-  pub procedure-alike : (p q : FieldRenaming) (env : TypeEnvironment Name) (k : ℕ) (a : Tree Name (item procedure)) → EnvironmentAgrees p q env → RecordsAgree p q (records_in_procedure k a) → procedure_fits naming_by_spelling env k a ≡ true
+  pub procedure-alike : (p q : FieldRenaming) (env : TypeEnvironment Name) (k : ℕ) (a : Tree Name (item procedure)) → EnvironmentAgrees p q env → RecordsAgree p q (records_in_procedure k a) → procedure_is_well_typed naming_by_spelling env k a ≡ true
       → rename_fields_in_procedure p env k a ≡ rename_fields_in_procedure q env k a
   procedure-alike p q env k (declares_procedure x fs b closing) h r e =
-      let r₁ = records-split p q (records_in_sections k (formal_sections fs)) (records_in_block (constructor_after_formals k (declares_procedure x fs b closing)) b) r in
+      let r₁ = records-split p q (records_in_sections k (formal_sections fs)) (records_in_block (constructors_before_procedure_block k (declares_procedure x fs b closing)) b) r in
       λ i. declares_procedure x (formals-alike p q k fs r₁.0 i) (block-alike p q env (k + formals_constructor_count (formal_sections fs)) b h r₁.1 e i) closing
 
 pub module-alike : (p q : FieldRenaming) (m : Tree Name module_text) → RecordsAgree p q (records m) → passes_type_check naming_by_spelling m ≡ true → rename_fields_in_module p m ≡ rename_fields_in_module q m
 unfolding passes_type_check
-module-alike p q (is_module x b closing) r e = λ i. is_module x (block-alike p q (outermost naming_by_spelling) 0 b (tt, (tt, (tt, (tt, (tt, (tt, (tt, tt))))))) r e i) closing
+module-alike p q (is_module x b closing) r e = λ i. is_module x (block-alike p q (outermost_environment naming_by_spelling) 0 b (tt, (tt, (tt, (tt, (tt, (tt, (tt, tt))))))) r e i) closing

@@ -1,11 +1,11 @@
 -- If each field gets its present name, the module doesn't change.
 use Rattle.std.proofs.Common.{◌≡◌, ℕ, suc, ◌+◌, None, Option, refl}
-use Rattle.ob0_tree.specs.Tree.{Sort, Tree, adds, array_type, assigns, begins, block, branches, calls, compares, declares, declares_procedure, declares_type, declares_types, declares_variable, declares_variables, designator, else_branch, elsif_branch, end, field, fields, formals, further_fields, further_section, has_body, index, is_module, item, items, maybe, module_text, more, multiplies, named_type, negation, no_fields, no_formals, none, one, parenthesised, procedure, product, record_type, relates, repeat_loop, runs, section, some_arguments, some_fields, some_formals, sum, then_argument, then_fields, then_section, then_statement, type_name, type_names, value_section, variable, variable_section, variables, while_loop, written_type}
+use Rattle.ob0_tree.specs.Tree.{Sort, Tree, adds, array_type, assigns, begins, block, branches, calls, compares, declares, declares_procedure, declares_type, declares_types, declares_variable, declares_variables, designator, else_branch, elsif_branch, end, field, fields, formals, further_fields, further_section, forms_block, index, is_module, item, items, maybe, module_text, more, multiplies, named_type, negation, no_fields, no_formals, none, one, parenthesised, procedure, product, record_type, relates, repeat_loop, runs, section, some_arguments, some_fields, some_formals, sum, then_argument, then_fields, then_section, then_statement, type_definition, type_definitions, value_section, variable, variable_section, variables, while_loop, written_type}
 use Rattle.ob0_language_names.specs.Names.{Name, naming_by_spelling}
 use Rattle.ob0_language_names.specs.Parts.{section_type}
 use Rattle.ob0_language_names.proofs.SameNames.{map_names-id}
-use Rattle.ob0_language_types.specs.Declarations.{constructor_after_formals, constructors_before_variables, constructor_after_variables, procedure_constructor_count}
-use Rattle.ob0_language_types.specs.Environments.{meanings, outermost}
+use Rattle.ob0_language_types.specs.Declarations.{constructors_before_procedure_block, constructors_before_variables, constructors_before_procedures, procedure_constructor_count}
+use Rattle.ob0_language_types.specs.Environments.{meanings, outermost_environment}
 use Rattle.ob0_language_types.specs.Typing.{constructor_count, group_constructor_count, object_type}
 use Rattle.ob0_language_types.specs.WellTyped.{TypeEnvironment, TypeMeanings, bind_typed_parameters}
 use Rattle.ob0_language_values.specs.Values.{Shape}
@@ -58,11 +58,11 @@ mutual
   rename_fields_in_groups-bare r k end = refl
   rename_fields_in_groups-bare r k (more (then_fields g) rest) = λ i. more (then_fields (rename_fields_in_group-bare r k g i)) (rename_fields_in_groups-bare r (k + group_constructor_count g) rest i)
 
-rename_fields_in_types-bare : (k : ℕ) (ds : Tree Name (items type_name)) → rename_fields_in_types bare k ds ≡ ds
+rename_fields_in_types-bare : (k : ℕ) (ds : Tree Name (items type_definition)) → rename_fields_in_types bare k ds ≡ ds
 rename_fields_in_types-bare k end = refl
 rename_fields_in_types-bare k (more (declares_type x u) ds) = λ i. more (declares_type x (rename_fields_in_type-bare k u i)) (rename_fields_in_types-bare (k + constructor_count u) ds i)
 
-rename_fields_in_type_section-bare : (k : ℕ) (ts : Tree Name (maybe type_names)) → rename_fields_in_type_section bare k ts ≡ ts
+rename_fields_in_type_section-bare : (k : ℕ) (ts : Tree Name (maybe type_definitions)) → rename_fields_in_type_section bare k ts ≡ ts
 rename_fields_in_type_section-bare k none = refl
 rename_fields_in_type_section-bare k (one (declares_types ts)) = λ i. one (declares_types (rename_fields_in_types-bare k ts i))
 
@@ -89,10 +89,10 @@ rename_fields_in_formals-bare k (one (some_formals f fs)) = λ i. one (some_form
 
 mutual
   rename_fields_in_block-bare : (env : TypeEnvironment Name) (k : ℕ) (b : Tree Name block) → rename_fields_in_block bare env k b ≡ b
-  rename_fields_in_block-bare env k (has_body (declares cs ts vs ps) statements) =
-      let b : Tree Name block = has_body (declares cs ts vs ps) statements in λ i.
-      has_body (declares cs (rename_fields_in_type_section-bare k ts i) (rename_fields_in_variable_section-bare (constructors_before_variables k b) vs i) (rename_fields_in_procedures-bare (environment_after_variables env k b) (constructor_after_variables k b) ps i))
-      (rename_fields-bare (meanings naming_by_spelling (environment_after_procedures (environment_after_variables env k b) (constructor_after_variables k b) ps)) None statements i)
+  rename_fields_in_block-bare env k (forms_block (declares cs ts vs ps) statements) =
+      let b : Tree Name block = forms_block (declares cs ts vs ps) statements in λ i.
+      forms_block (declares cs (rename_fields_in_type_section-bare k ts i) (rename_fields_in_variable_section-bare (constructors_before_variables k b) vs i) (rename_fields_in_procedures-bare (environment_after_variables env k b) (constructors_before_procedures k b) ps i))
+      (rename_fields-bare (meanings naming_by_spelling (environment_after_procedures (environment_after_variables env k b) (constructors_before_procedures k b) ps)) None statements i)
 
   rename_fields_in_procedures-bare : (env : TypeEnvironment Name) (k : ℕ) (ps : Tree Name (items procedure)) → rename_fields_in_procedures bare env k ps ≡ ps
   rename_fields_in_procedures-bare env k end = refl
@@ -101,7 +101,7 @@ mutual
 
   rename_fields_in_procedure-bare : (env : TypeEnvironment Name) (k : ℕ) (p : Tree Name (item procedure)) → rename_fields_in_procedure bare env k p ≡ p
   rename_fields_in_procedure-bare env k (declares_procedure x fs b closing) = λ i.
-      declares_procedure x (rename_fields_in_formals-bare k fs i) (rename_fields_in_block-bare env (constructor_after_formals k (declares_procedure x fs b closing)) b i) closing
+      declares_procedure x (rename_fields_in_formals-bare k fs i) (rename_fields_in_block-bare env (constructors_before_procedure_block k (declares_procedure x fs b closing)) b i) closing
 
 pub rename_fields_in_module-bare : (m : Tree Name module_text) → rename_fields_in_module bare m ≡ m
-rename_fields_in_module-bare (is_module x b closing) = λ i. is_module x (rename_fields_in_block-bare (outermost naming_by_spelling) 0 b i) closing
+rename_fields_in_module-bare (is_module x b closing) = λ i. is_module x (rename_fields_in_block-bare (outermost_environment naming_by_spelling) 0 b i) closing

@@ -2,14 +2,14 @@
 -- selector that selects this field.
 -- Rule: docs/LANGUAGE.md, Scopes 7.
 use Rattle.std.specs.Prelude.{ℕ, suc, ◌+◌, List, [], Some, None, Option, option_and_then, unwrap_or}
-use Rattle.ob0_tree.specs.Tree.{Item, Sort, Tree, adds, array_type, assigns, begins, block, branches, calls, compares, declares, declares_procedure, declares_type, declares_types, declares_variable, declares_variables, designator, else_branch, elsif_branch, end, field, fields, formals, further_fields, further_section, has_body, index, is_module, item, items, maybe, module_text, more, multiplies, named_type, negation, no_fields, no_formals, none, one, parenthesised, procedure, product, record_type, relates, repeat_loop, runs, section, some_arguments, some_fields, some_formals, sum, then_argument, then_fields, then_section, then_statement, type_name, type_names, value_section, variable, variable_section, variables, while_loop, written_type}
+use Rattle.ob0_tree.specs.Tree.{Item, Sort, Tree, adds, array_type, assigns, begins, block, branches, calls, compares, declares, declares_procedure, declares_type, declares_types, declares_variable, declares_variables, designator, else_branch, elsif_branch, end, field, fields, formals, further_fields, further_section, forms_block, index, is_module, item, items, maybe, module_text, more, multiplies, named_type, negation, no_fields, no_formals, none, one, parenthesised, procedure, product, record_type, relates, repeat_loop, runs, section, some_arguments, some_fields, some_formals, sum, then_argument, then_fields, then_section, then_statement, type_definition, type_definitions, value_section, variable, variable_section, variables, while_loop, written_type}
 use Rattle.ob0_language_names.specs.Mapping.{map_names}
 use Rattle.ob0_language_names.specs.Names.{Name, naming_by_spelling}
 use Rattle.ob0_language_names.specs.Parts.{block_variables, procedure_formals, procedure_name, section_type}
-use Rattle.ob0_language_types.specs.Declarations.{constructor_after_formals, constructors_before_variables, constructor_after_variables, declare_first, procedure_constructor_count}
-use Rattle.ob0_language_types.specs.Environments.{meanings, outermost}
+use Rattle.ob0_language_types.specs.Declarations.{constructors_before_procedure_block, constructors_before_variables, constructors_before_procedures, declare_constants_and_types, procedure_constructor_count}
+use Rattle.ob0_language_types.specs.Environments.{meanings, outermost_environment}
 use Rattle.ob0_language_types.specs.Typing.{constructor_count, element_type, field_type, group_constructor_count, object_type}
-use Rattle.ob0_language_types.specs.WellTyped.{TypeEnvironment, TypeMeanings, TypedParameter, bind_typed_parameters, declare_typed, bind_procedure, typed_parameters}
+use Rattle.ob0_language_types.specs.WellTyped.{TypeEnvironment, TypeMeanings, TypedParameter, bind_typed_parameters, declare_typed_variables, bind_procedure, typed_parameters}
 use Rattle.ob0_language_values.specs.Values.{Shape, array_shape, boolean_shape, integer_shape, record_shape}
 
 -- A function that returns the new name of a field. Its arguments are the ordinal of the field's
@@ -115,8 +115,8 @@ abbrev mutual
 -- ARRAY and RECORD before these declarations
 abbrev pub rename_fields_in_types : FieldRenaming
     → ℕ
-    → Tree Name (items type_name)
-    → Tree Name (items type_name)
+    → Tree Name (items type_definition)
+    → Tree Name (items type_definition)
 rename_fields_in_types l k end = end
 rename_fields_in_types l k (more (declares_type x u) ds) =
     more (declares_type x (rename_fields_in_type l k u)) (rename_fields_in_types l (k + constructor_count u) ds)
@@ -125,8 +125,8 @@ rename_fields_in_types l k (more (declares_type x u) ds) =
 -- RECORD before the section
 abbrev pub rename_fields_in_type_section : FieldRenaming
     → ℕ
-    → Tree Name (maybe type_names)
-    → Tree Name (maybe type_names)
+    → Tree Name (maybe type_definitions)
+    → Tree Name (maybe type_definitions)
 rename_fields_in_type_section l k none = none
 rename_fields_in_type_section l k (one (declares_types ts)) = one (declares_types (rename_fields_in_types l k ts))
 
@@ -181,8 +181,8 @@ rename_fields_in_formals l k (one (some_formals f fs)) =
 -- before the block.
 abbrev pub environment_after_variables : TypeEnvironment Name → ℕ → Tree Name block → TypeEnvironment Name
 environment_after_variables env k b =
-    unwrap_or (option_and_then (declare_typed naming_by_spelling (constructors_before_variables k b) (block_variables b))
-    (declare_first naming_by_spelling env k b)) env
+    unwrap_or (option_and_then (declare_typed_variables naming_by_spelling (constructors_before_variables k b) (block_variables b))
+    (declare_constants_and_types naming_by_spelling env k b)) env
 
 -- returns the parameters of a procedure, or an empty list if a parameter's type has an error; `k`
 -- is the number of words ARRAY and RECORD before the procedure
@@ -216,16 +216,16 @@ abbrev mutual
   -- returns a block with the fields in its types, variables, procedures and statements renamed;
   -- `env` is the environment around the block
   pub rename_fields_in_block : FieldRenaming → TypeEnvironment Name → ℕ → Tree Name block → Tree Name block
-  rename_fields_in_block l env k (has_body (declares cs ts vs ps) statements) =
-      has_body
+  rename_fields_in_block l env k (forms_block (declares cs ts vs ps) statements) =
+      forms_block
       (declares cs (rename_fields_in_type_section l k ts)
-      (rename_fields_in_variable_section l (constructors_before_variables k (has_body (declares cs ts vs ps) statements)) vs)
+      (rename_fields_in_variable_section l (constructors_before_variables k (forms_block (declares cs ts vs ps) statements)) vs)
       (rename_fields_in_procedures l
-      (environment_after_variables env k (has_body (declares cs ts vs ps) statements))
-      (constructor_after_variables k (has_body (declares cs ts vs ps) statements)) ps))
+      (environment_after_variables env k (forms_block (declares cs ts vs ps) statements))
+      (constructors_before_procedures k (forms_block (declares cs ts vs ps) statements)) ps))
       (rename_fields l (meanings naming_by_spelling (environment_after_procedures
-      (environment_after_variables env k (has_body (declares cs ts vs ps) statements))
-      (constructor_after_variables k (has_body (declares cs ts vs ps) statements)) ps)) None statements)
+      (environment_after_variables env k (forms_block (declares cs ts vs ps) statements))
+      (constructors_before_procedures k (forms_block (declares cs ts vs ps) statements)) ps)) None statements)
 
   -- returns procedures with their fields renamed; each procedure is visible in the later procedures
   pub rename_fields_in_procedures : FieldRenaming
@@ -248,8 +248,8 @@ abbrev mutual
       → Tree Name (item procedure)
   rename_fields_in_procedure l env k (declares_procedure x fs b closing) =
       declares_procedure x (rename_fields_in_formals l k fs)
-      (rename_fields_in_block l env (constructor_after_formals k (declares_procedure x fs b closing)) b) closing
+      (rename_fields_in_block l env (constructors_before_procedure_block k (declares_procedure x fs b closing)) b) closing
 
 -- returns a module with its fields renamed by the function `l`
 abbrev pub rename_fields_in_module : FieldRenaming → Tree Name module_text → Tree Name module_text
-rename_fields_in_module l (is_module x b closing) = is_module x (rename_fields_in_block l (outermost naming_by_spelling) 0 b) closing
+rename_fields_in_module l (is_module x b closing) = is_module x (rename_fields_in_block l (outermost_environment naming_by_spelling) 0 b) closing

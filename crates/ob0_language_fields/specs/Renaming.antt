@@ -3,12 +3,12 @@
 -- Rule: docs/PROTOCOL.md, Requests on documents 6.
 use Rattle.std.specs.Prelude.{◌≡◌, ℕ, suc, ◌+◌, Bool, false, not, ◌&&◌, List, [], ◌∷◌, ◌++◌, if◌then◌else◌, ◌==◌}
 use Rattle.std.specs.List.{list_any}
-use Rattle.ob0_tree.specs.Tree.{Tree, array_type, block, declares_procedure, declares_type, declares_variable, end, fields, further_fields, further_section, has_body, declares, item, items, module_text, more, named_type, no_fields, procedure, record_type, some_fields, then_fields, then_section, type_name, variable, written_type}
-use Rattle.ob0_language_names.specs.DeclaredOnce.{group_fields, further_group_fields}
+use Rattle.ob0_tree.specs.Tree.{Tree, array_type, block, declares_procedure, declares_type, declares_variable, end, fields, further_fields, further_section, forms_block, declares, item, items, module_text, more, named_type, no_fields, procedure, record_type, some_fields, then_fields, then_section, type_definition, variable, written_type}
+use Rattle.ob0_language_names.specs.ConsistentNames.{group_field_names, further_field_names}
 use Rattle.ob0_language_names.specs.Names.{Name, same_name}
 use Rattle.ob0_language_names.specs.Parts.{formal_sections, module_block, section_type, section_types, section_variables}
 use Rattle.ob0_language_names.specs.Scopes.{same_ordinal}
-use Rattle.ob0_language_types.specs.Declarations.{constructor_after_formals, constructors_before_variables, constructor_after_variables, procedure_constructor_count}
+use Rattle.ob0_language_types.specs.Declarations.{constructors_before_procedure_block, constructors_before_variables, constructors_before_procedures, procedure_constructor_count}
 use Rattle.ob0_language_types.specs.Typing.{constructor_count, group_constructor_count}
 use Rattle.ob0_language_fields.specs.Fields.{FieldRenaming, rename_fields_in_module}
 
@@ -35,7 +35,7 @@ abbrev mutual
   records_in_type k (named_type x) = []
   records_in_type k (array_type e t) = records_in_type (suc k) t
   records_in_type k (record_type g rest) =
-      record { ordinal = k; declared = group_fields g ++ further_group_fields rest }
+      record { ordinal = k; declared = group_field_names g ++ further_field_names rest }
       ∷ (records_in_group (suc k) g ++ records_in_groups (suc k + group_constructor_count g) rest)
 
   -- returns the records in the type of a group of fields
@@ -51,7 +51,7 @@ abbrev mutual
 
 -- returns the records in declarations of types, in text order; `k` is the number of words ARRAY and
 -- RECORD before these declarations
-abbrev pub records_in_types : ℕ → Tree Name (items type_name) → List RecordFields
+abbrev pub records_in_types : ℕ → Tree Name (items type_definition) → List RecordFields
 records_in_types k end = []
 records_in_types k (more (declares_type x u) ds) =
     records_in_type k u ++ records_in_types (k + constructor_count u) ds
@@ -75,11 +75,11 @@ records_in_sections k (more (then_section f) fs) =
 abbrev mutual
   -- returns the records in the types, the variables and the procedures of a block
   pub records_in_block : ℕ → Tree Name block → List RecordFields
-  records_in_block k (has_body (declares cs ts vs ps) statements) =
+  records_in_block k (forms_block (declares cs ts vs ps) statements) =
       records_in_types k (section_types ts)
-      ++ (records_in_variables (constructors_before_variables k (has_body (declares cs ts vs ps) statements))
+      ++ (records_in_variables (constructors_before_variables k (forms_block (declares cs ts vs ps) statements))
       (section_variables vs)
-      ++ records_in_procedures (constructor_after_variables k (has_body (declares cs ts vs ps) statements)) ps)
+      ++ records_in_procedures (constructors_before_procedures k (forms_block (declares cs ts vs ps) statements)) ps)
 
   -- returns the records in procedures, in text order
   pub records_in_procedures : ℕ → Tree Name (items procedure) → List RecordFields
@@ -91,7 +91,7 @@ abbrev mutual
   pub records_in_procedure : ℕ → Tree Name (item procedure) → List RecordFields
   records_in_procedure k (declares_procedure x fs b closing) =
       records_in_sections k (formal_sections fs)
-      ++ records_in_block (constructor_after_formals k (declares_procedure x fs b closing)) b
+      ++ records_in_block (constructors_before_procedure_block k (declares_procedure x fs b closing)) b
 
 -- returns all records of a module, in the order of their words RECORD in the text
 abbrev pub records : Tree Name module_text → List RecordFields

@@ -2,7 +2,7 @@
 -- unique. A scope is a list with the newest binding first, so a block's scope has the block's names in reverse text
 -- order. `onto xs ys` is xs reversed, followed by ys, and `onto (xs ++ ys) zs` is `onto ys (onto xs zs)`.
 use Rattle.std.proofs.Common.{Bool, List, Some, [], ap, arith, eqb-true, falls, false, if◌then◌else◌, ne_eqb, not, refl, sym, true, ℕ, ◌&&◌, ◌++◌, ◌<◌, ◌==◌, ◌||◌, ◌∙◌, ◌∷◌, ◌≡◌, ◌≤◌}
-use Rattle.ob0_language_names.specs.DeclaredOnce.{are_distinct, is_among}
+use Rattle.ob0_language_names.specs.ConsistentNames.{are_distinct, is_among}
 use Rattle.ob0_language_names.specs.Names.{Name, same_name}
 use Rattle.ob0_language_names.specs.Occurrences.{declares_ordinal, another_has_name}
 use Rattle.ob0_language_names.specs.Scopes.{Labelling, Scope, same_ordinal}

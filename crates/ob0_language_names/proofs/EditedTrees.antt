@@ -2,7 +2,7 @@
 -- edit of a module writes a literal in place of uses of a constant, or removes the constant's declaration, or does both
 -- or neither.
 use Rattle.std.proofs.Common.{Bool, List, [], add-zero, ap, arith, eqb-true, false, if◌then◌else◌, length, ne_eqb, refl, subst, suc, sym, true, ℕ, ◌&&◌, ◌++◌, ◌+◌, ◌<◌, ◌==◌, ◌∙◌, ◌∷◌, ◌≡◌}
-use Rattle.ob0_tree.specs.Tree.{Sort, Tree, adds, array_type, assigns, begins, block, branches, calls, compares, constant, constants, declares, declares_constant, declares_constants, declares_procedure, declares_type, declares_types, declares_variable, declares_variables, designator, else_branch, elsif_branch, empty, end, factor, field, further_name, has_body, index, integer, is_module, item, items, listed, maybe, module_text, more, multiplies, named_type, names, negation, no_arguments, no_fields, no_formals, none, occurrences, one, parenthesised, procedure, product, record_type, relates, repeat_loop, runs, some_arguments, some_fields, some_formals, sum, then_argument, then_fields, then_name, then_section, then_statement, value_section, variable_section, while_loop}
+use Rattle.ob0_tree.specs.Tree.{Sort, Tree, adds, array_type, assigns, begins, block, branches, calls, compares, constant, constants, declares, declares_constant, declares_constants, declares_procedure, declares_type, declares_types, declares_variable, declares_variables, designator, else_branch, elsif_branch, empty, end, factor, field, further_name, forms_block, index, integer, is_module, item, items, listed, maybe, module_text, more, multiplies, named_type, names, negation, no_arguments, no_fields, no_formals, none, occurrences, one, parenthesised, procedure, product, record_type, relates, repeat_loop, runs, some_arguments, some_fields, some_formals, sum, then_argument, then_fields, then_name, then_section, then_statement, value_section, variable_section, while_loop}
 use Rattle.ob0_language_names.specs.Inlining.{OccurrenceSet, block_without, inline_in, inlined, module_without, procedure_without, procedures_without, section_without, constants_without}
 use Rattle.ob0_language_names.specs.Mapping.{map_names}
 use Rattle.ob0_language_names.specs.Names.{Name}
@@ -77,7 +77,7 @@ inline-nothing uses v k (declares_variables vs) u = λ i. declares_variables (in
 inline-nothing uses v k (declares_procedure name fs b closing) u = let s0 = none-split uses k (occurrences fs) (occurrences b) u in λ i. declares_procedure name (inline-nothing uses v k fs s0.0 i) (inline-nothing uses v (k + length (occurrences fs)) b s0.1 i) closing
 inline-nothing uses v k (declares cs ts vs ps) u = let s0 = none-split uses k (occurrences cs) (occurrences ts ++ (occurrences vs ++ (occurrences ps))) u in let s1 = none-split uses (k + length (occurrences cs)) (occurrences ts) (occurrences vs ++ (occurrences ps)) s0.1 in let s2 = none-split uses (k + length (occurrences cs) + length (occurrences ts)) (occurrences vs) (occurrences ps) s1.1 in λ i. declares (inline-nothing uses v k cs s0.0 i) (inline-nothing uses v (k + length (occurrences cs)) ts s1.0 i) (inline-nothing uses v (k + length (occurrences cs) + length (occurrences ts)) vs s2.0 i) (inline-nothing uses v (k + length (occurrences cs) + length (occurrences ts) + length (occurrences vs)) ps s2.1 i)
 inline-nothing uses v k (begins s) u = λ i. begins (inline-nothing uses v k s u i)
-inline-nothing uses v k (has_body ds b) u = let s0 = none-split uses k (occurrences ds) (occurrences b) u in λ i. has_body (inline-nothing uses v k ds s0.0 i) (inline-nothing uses v (k + length (occurrences ds)) b s0.1 i)
+inline-nothing uses v k (forms_block ds b) u = let s0 = none-split uses k (occurrences ds) (occurrences b) u in λ i. forms_block (inline-nothing uses v k ds s0.0 i) (inline-nothing uses v (k + length (occurrences ds)) b s0.1 i)
 inline-nothing uses v k (is_module name b closing) u = λ i. is_module name (inline-nothing uses v k b u i) closing
 
 abbrev pub SameAt : {N M : Type 0} → (N → M) → (N → M) → List N → Type 0
@@ -147,7 +147,7 @@ map_names-same f g h (declares_variables vs) u = λ i. declares_variables (map_n
 map_names-same f g h (declares_procedure name fs b closing) u = let s0 = same-split f g (occurrences fs) (occurrences b) u in λ i. declares_procedure (h name) (map_names-same f g h fs s0.0 i) (map_names-same f g h b s0.1 i) (h closing)
 map_names-same f g h (declares cs ts vs ps) u = let s0 = same-split f g (occurrences cs) (occurrences ts ++ (occurrences vs ++ (occurrences ps))) u in let s1 = same-split f g (occurrences ts) (occurrences vs ++ (occurrences ps)) s0.1 in let s2 = same-split f g (occurrences vs) (occurrences ps) s1.1 in λ i. declares (map_names-same f g h cs s0.0 i) (map_names-same f g h ts s1.0 i) (map_names-same f g h vs s2.0 i) (map_names-same f g h ps s2.1 i)
 map_names-same f g h (begins s) u = λ i. begins (map_names-same f g h s u i)
-map_names-same f g h (has_body ds b) u = let s0 = same-split f g (occurrences ds) (occurrences b) u in λ i. has_body (map_names-same f g h ds s0.0 i) (map_names-same f g h b s0.1 i)
+map_names-same f g h (forms_block ds b) u = let s0 = same-split f g (occurrences ds) (occurrences b) u in λ i. forms_block (map_names-same f g h ds s0.0 i) (map_names-same f g h b s0.1 i)
 map_names-same f g h (is_module name b closing) u = λ i. is_module (h name) (map_names-same f g h b u i) (h closing)
 
 -- an edit: the occurrences that the literal replaces, the literal, the constant, and whether the constant's declaration
@@ -173,10 +173,10 @@ edited_section edit j k (one (declares_constants cs)) = one (declares_constants 
 
 abbrev mutual
   pub edited_block : Edit → ℕ → ℕ → Tree Name block → Tree Name block
-  edited_block edit j k (has_body (declares cs ts vs ps) statements) =
-      has_body
+  edited_block edit j k (forms_block (declares cs ts vs ps) statements) =
+      forms_block
       (declares (edited_section edit j k cs) (leaf edit (j + length (occurrences cs)) ts) (leaf edit (j + length (occurrences cs) + length (occurrences ts)) vs)
-      (edited_procedures edit (j + length (occurrences cs) + length (occurrences ts) + length (occurrences vs)) (first_procedure_ordinal k (has_body (declares cs ts vs ps) statements)) ps))
+      (edited_procedures edit (j + length (occurrences cs) + length (occurrences ts) + length (occurrences vs)) (first_procedure_ordinal k (forms_block (declares cs ts vs ps) statements)) ps))
       (leaf edit (j + length (occurrences (declares cs ts vs ps))) statements)
 
   pub edited_procedures : Edit → ℕ → ℕ → Tree Name (items procedure) → Tree Name (items procedure)
@@ -202,10 +202,10 @@ written-section uses v d j k (one (declares_constants cs)) = λ i. one (declares
 
 mutual
   pub written-block : (uses : OccurrenceSet) (v : Tree Name factor) (d j k : ℕ) (b : Tree Name block) → edited_block (writing uses v d) j k b ≡ inline_in uses v j b
-  written-block uses v d j k (has_body (declares cs ts vs ps) statements) = λ i.
-      has_body
+  written-block uses v d j k (forms_block (declares cs ts vs ps) statements) = λ i.
+      forms_block
       (declares (written-section uses v d j k cs i) (inline_in uses v (j + length (occurrences cs)) ts) (inline_in uses v (j + length (occurrences cs) + length (occurrences ts)) vs)
-      (written-procedures uses v d (j + length (occurrences cs) + length (occurrences ts) + length (occurrences vs)) (first_procedure_ordinal k (has_body (declares cs ts vs ps) statements)) ps i))
+      (written-procedures uses v d (j + length (occurrences cs) + length (occurrences ts) + length (occurrences vs)) (first_procedure_ordinal k (forms_block (declares cs ts vs ps) statements)) ps i))
       (inline_in uses v (j + length (occurrences (declares cs ts vs ps))) statements)
 
   written-procedures : (uses : OccurrenceSet) (v : Tree Name factor) (d j k : ℕ) (ps : Tree Name (items procedure)) → edited_procedures (writing uses v d) j k ps ≡ inline_in uses v j ps
@@ -254,10 +254,10 @@ left-section v d j k (one (declares_constants cs)) = λ i. one (declares_constan
 
 mutual
   pub left-block : (v : Tree Name factor) (d j k : ℕ) (b : Tree Name block) → edited_block (leaving_out v d) j k b ≡ block_without d k b
-  left-block v d j k (has_body (declares cs ts vs ps) statements) = λ i.
-      has_body
+  left-block v d j k (forms_block (declares cs ts vs ps) statements) = λ i.
+      forms_block
       (declares (left-section v d j k cs i) (leaf-kept v (j + length (occurrences cs)) ts i) (leaf-kept v (j + length (occurrences cs) + length (occurrences ts)) vs i)
-      (left-procedures v d (j + length (occurrences cs) + length (occurrences ts) + length (occurrences vs)) (first_procedure_ordinal k (has_body (declares cs ts vs ps) statements)) ps i))
+      (left-procedures v d (j + length (occurrences cs) + length (occurrences ts) + length (occurrences vs)) (first_procedure_ordinal k (forms_block (declares cs ts vs ps) statements)) ps i))
       (leaf-kept v (j + length (occurrences (declares cs ts vs ps))) statements i)
 
   left-procedures : (v : Tree Name factor) (d j k : ℕ) (ps : Tree Name (items procedure)) → edited_procedures (leaving_out v d) j k ps ≡ procedures_without d k ps

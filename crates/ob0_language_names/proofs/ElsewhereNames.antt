@@ -1,6 +1,6 @@
 -- After the names of a tree are replaced, its names that aren't whole factors are the replaced ones.
 use Rattle.std.proofs.Common.{[], map, refl, ◌++◌, ◌∷◌, ◌≡◌}
-use Rattle.ob0_tree.specs.Tree.{Sort, Tree, adds, array_type, assigns, begins, branches, calls, compares, declares, declares_constant, declares_constants, declares_procedure, declares_type, declares_types, declares_variable, declares_variables, designator, else_branch, elsif_branch, empty, end, field, has_body, index, integer, is_module, listed, more, multiplies, named_type, negation, no_arguments, no_fields, no_formals, none, one, parenthesised, product, record_type, relates, repeat_loop, runs, some_arguments, some_fields, some_formals, sum, then_argument, then_fields, then_name, then_section, then_statement, value_section, variable_section, while_loop}
+use Rattle.ob0_tree.specs.Tree.{Sort, Tree, adds, array_type, assigns, begins, branches, calls, compares, declares, declares_constant, declares_constants, declares_procedure, declares_type, declares_types, declares_variable, declares_variables, designator, else_branch, elsif_branch, empty, end, field, forms_block, index, integer, is_module, listed, more, multiplies, named_type, negation, no_arguments, no_fields, no_formals, none, one, parenthesised, product, record_type, relates, repeat_loop, runs, some_arguments, some_fields, some_formals, sum, then_argument, then_fields, then_name, then_section, then_statement, value_section, variable_section, while_loop}
 use Rattle.ob0_language_names.specs.NonFactorNames.{names_beside_factors}
 use Rattle.ob0_language_names.proofs.OccurrenceNames.{joined}
 use Rattle.ob0_language_names.specs.Mapping.{map_names}
@@ -58,5 +58,5 @@ elsewhere-map_names look keep (declares_variables vs) = elsewhere-map_names look
 elsewhere-map_names look keep (declares_procedure name fs b closing) = joined look (names_beside_factors fs) (names_beside_factors b) (elsewhere-map_names look keep fs) (elsewhere-map_names look keep b)
 elsewhere-map_names look keep (declares cs ts vs ps) = joined look (names_beside_factors cs) (names_beside_factors ts ++ (names_beside_factors vs ++ (names_beside_factors ps))) (elsewhere-map_names look keep cs) (joined look (names_beside_factors ts) (names_beside_factors vs ++ (names_beside_factors ps)) (elsewhere-map_names look keep ts) (joined look (names_beside_factors vs) (names_beside_factors ps) (elsewhere-map_names look keep vs) (elsewhere-map_names look keep ps)))
 elsewhere-map_names look keep (begins s) = elsewhere-map_names look keep s
-elsewhere-map_names look keep (has_body ds b) = joined look (names_beside_factors ds) (names_beside_factors b) (elsewhere-map_names look keep ds) (elsewhere-map_names look keep b)
+elsewhere-map_names look keep (forms_block ds b) = joined look (names_beside_factors ds) (names_beside_factors b) (elsewhere-map_names look keep ds) (elsewhere-map_names look keep b)
 elsewhere-map_names look keep (is_module name b closing) = elsewhere-map_names look keep b

@@ -1,11 +1,11 @@
 -- Writing the literals and removing the declaration in one edit gives the same module as doing one after the other.
 use Rattle.std.proofs.Common.{ap, arith, eqb-true, false, if◌then◌else◌, length, ne_eqb, refl, suc, sym, true, ℕ, ◌+◌, ◌<◌, ◌==◌, ◌∙◌, ◌∷◌, ◌≡◌}
-use Rattle.ob0_tree.specs.Tree.{Tree, block, constant, constants, declares, declares_constant, declares_constants, declares_procedure, end, factor, has_body, is_module, item, items, maybe, module_text, more, none, occurrences, one, procedure}
+use Rattle.ob0_tree.specs.Tree.{Tree, block, constant, constants, declares, declares_constant, declares_constants, declares_procedure, end, factor, forms_block, is_module, item, items, maybe, module_text, more, none, occurrences, one, procedure}
 use Rattle.ob0_language_names.specs.Inlining.{OccurrenceSet, block_without, inline_in, inlined, module_without, procedure_without, procedures_without, section_without, constants_without}
 use Rattle.ob0_language_names.specs.Names.{Name}
 use Rattle.ob0_language_names.specs.Parts.{constant_names, formal_names, formal_sections, section_constants}
 use Rattle.ob0_language_names.specs.Scopes.{ordinal_after_block, ordinal_after_names, ordinal_after_procedure, ordinal_after_procedures, first_procedure_ordinal}
-use Rattle.ob0_language_names.proofs.EditedOnce.{formal_names-leaf, type_names-leaf, variable_names-leaf}
+use Rattle.ob0_language_names.proofs.EditedOnce.{formal_names-leaf, type_definitions-leaf, variable_names-leaf}
 use Rattle.ob0_language_names.proofs.EditedTrees.{Edit, edited, edited_block, edited_constants, edited_procedure, edited_procedures, edited_section, writing}
 
 abbrev pub everywhere : OccurrenceSet → Tree Name factor → ℕ → Edit
@@ -21,13 +21,13 @@ section_names-inlined uses v j (one (declares_constants cs)) = constant_names-in
 
 -- Inlining leaves the ordinals of a tree's declarations unchanged.
 pub first_procedure_ordinal-inlined : (uses : OccurrenceSet) (v : Tree Name factor) (d j k : ℕ) (b : Tree Name block) → first_procedure_ordinal k (inline_in uses v j b) ≡ first_procedure_ordinal k b
-first_procedure_ordinal-inlined uses v d j k (has_body (declares cs ts vs ps) statements) = λ i.
-    ordinal_after_names (ordinal_after_names (ordinal_after_names k (section_names-inlined uses v j cs i)) (type_names-leaf (writing uses v d) (j + length (occurrences cs)) ts i)) (variable_names-leaf (writing uses v d) (j + length (occurrences cs) + length (occurrences ts)) vs i)
+first_procedure_ordinal-inlined uses v d j k (forms_block (declares cs ts vs ps) statements) = λ i.
+    ordinal_after_names (ordinal_after_names (ordinal_after_names k (section_names-inlined uses v j cs i)) (type_definitions-leaf (writing uses v d) (j + length (occurrences cs)) ts i)) (variable_names-leaf (writing uses v d) (j + length (occurrences cs) + length (occurrences ts)) vs i)
 
 mutual
   ordinal_after_block-inlined : (uses : OccurrenceSet) (v : Tree Name factor) (d j k : ℕ) (b : Tree Name block) → ordinal_after_block k (inline_in uses v j b) ≡ ordinal_after_block k b
-  ordinal_after_block-inlined uses v d j k (has_body (declares cs ts vs ps) statements) =
-      let b : Tree Name block = has_body (declares cs ts vs ps) statements in
+  ordinal_after_block-inlined uses v d j k (forms_block (declares cs ts vs ps) statements) =
+      let b : Tree Name block = forms_block (declares cs ts vs ps) statements in
       let jp : ℕ = j + length (occurrences cs) + length (occurrences ts) + length (occurrences vs) in
       ap (λ n. ordinal_after_procedures n (inline_in uses v jp ps)) (first_procedure_ordinal-inlined uses v d j k b) ∙ ordinal_after_procedures-inlined uses v d jp (first_procedure_ordinal k b) ps
 
@@ -62,10 +62,10 @@ gone-section uses v d j k (one (declares_constants cs)) = λ i. one (declares_co
 
 mutual
   gone-block : (uses : OccurrenceSet) (v : Tree Name factor) (d j k : ℕ) (b : Tree Name block) → edited_block (everywhere uses v d) j k b ≡ block_without d k (inline_in uses v j b)
-  gone-block uses v d j k (has_body (declares cs ts vs ps) statements) =
-      let b : Tree Name block = has_body (declares cs ts vs ps) statements in
+  gone-block uses v d j k (forms_block (declares cs ts vs ps) statements) =
+      let b : Tree Name block = forms_block (declares cs ts vs ps) statements in
       let jp : ℕ = j + length (occurrences cs) + length (occurrences ts) + length (occurrences vs) in
-      λ i. has_body
+      λ i. forms_block
       (declares (gone-section uses v d j k cs i) (inline_in uses v (j + length (occurrences cs)) ts) (inline_in uses v (j + length (occurrences cs) + length (occurrences ts)) vs)
       ((gone-procedures uses v d jp (first_procedure_ordinal k b) ps ∙ ap (λ n. procedures_without d n (inline_in uses v jp ps)) (sym (first_procedure_ordinal-inlined uses v d j k b))) i))
       (inline_in uses v (j + length (occurrences (declares cs ts vs ps))) statements)

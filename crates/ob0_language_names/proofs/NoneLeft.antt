@@ -1,7 +1,7 @@
 -- After an inlining that replaces all occurrences that satisfy `P`, no such occurrence remains. Each such name must be
 -- a whole factor, and the literal must have no such name.
 use Rattle.std.proofs.Common.{List, [], add-zero, arith, false, if◌then◌else◌, length, refl, subst, suc, sym, true, true≢false, ℕ, ◌++◌, ◌+◌, ◌∙◌, ◌∷◌, ◌≡◌}
-use Rattle.ob0_tree.specs.Tree.{Sort, Tree, adds, array_type, assigns, begins, branches, calls, compares, declares, declares_constant, declares_constants, declares_procedure, declares_type, declares_types, declares_variable, declares_variables, designator, else_branch, elsif_branch, empty, end, factor, field, has_body, index, integer, is_module, listed, more, multiplies, named_type, negation, no_arguments, no_fields, no_formals, none, occurrences, one, parenthesised, product, record_type, relates, repeat_loop, runs, some_arguments, some_fields, some_formals, sum, then_argument, then_fields, then_name, then_section, then_statement, value_section, variable_section, while_loop}
+use Rattle.ob0_tree.specs.Tree.{Sort, Tree, adds, array_type, assigns, begins, branches, calls, compares, declares, declares_constant, declares_constants, declares_procedure, declares_type, declares_types, declares_variable, declares_variables, designator, else_branch, elsif_branch, empty, end, factor, field, forms_block, index, integer, is_module, listed, more, multiplies, named_type, negation, no_arguments, no_fields, no_formals, none, occurrences, one, parenthesised, product, record_type, relates, repeat_loop, runs, some_arguments, some_fields, some_formals, sum, then_argument, then_fields, then_name, then_section, then_statement, value_section, variable_section, while_loop}
 use Rattle.ob0_language_names.specs.NonFactorNames.{names_beside_factors}
 use Rattle.ob0_language_names.specs.Inlining.{OccurrenceSet, inline_in}
 use Rattle.ob0_language_names.specs.Names.{Name}
@@ -83,5 +83,5 @@ none-left uses v P lit k (declares_variables vs) u h = none-left uses v P lit k 
 none-left uses v P lit k (declares_procedure name fs b closing) u h = let s0 = all-split uses P k (occurrences fs) (occurrences b) u in let g0 = none-of-split P (names_beside_factors fs) (names_beside_factors b) h in none-of-join P _ _ (none-left uses v P lit k fs s0.0 g0.0) (none-left uses v P lit (k + length (occurrences fs)) b s0.1 g0.1)
 none-left uses v P lit k (declares cs ts vs ps) u h = let s0 = all-split uses P k (occurrences cs) (occurrences ts ++ (occurrences vs ++ (occurrences ps))) u in let g0 = none-of-split P (names_beside_factors cs) (names_beside_factors ts ++ (names_beside_factors vs ++ names_beside_factors ps)) h in let s1 = all-split uses P (k + length (occurrences cs)) (occurrences ts) (occurrences vs ++ (occurrences ps)) s0.1 in let g1 = none-of-split P (names_beside_factors ts) (names_beside_factors vs ++ names_beside_factors ps) g0.1 in let s2 = all-split uses P (k + length (occurrences cs) + length (occurrences ts)) (occurrences vs) (occurrences ps) s1.1 in let g2 = none-of-split P (names_beside_factors vs) (names_beside_factors ps) g1.1 in none-of-join P _ _ (none-left uses v P lit k cs s0.0 g0.0) (none-of-join P _ _ (none-left uses v P lit (k + length (occurrences cs)) ts s1.0 g1.0) (none-of-join P _ _ (none-left uses v P lit (k + length (occurrences cs) + length (occurrences ts)) vs s2.0 g2.0) (none-left uses v P lit (k + length (occurrences cs) + length (occurrences ts) + length (occurrences vs)) ps s2.1 g2.1)))
 none-left uses v P lit k (begins s) u h = none-left uses v P lit k s u h
-none-left uses v P lit k (has_body ds b) u h = let s0 = all-split uses P k (occurrences ds) (occurrences b) u in let g0 = none-of-split P (names_beside_factors ds) (names_beside_factors b) h in none-of-join P _ _ (none-left uses v P lit k ds s0.0 g0.0) (none-left uses v P lit (k + length (occurrences ds)) b s0.1 g0.1)
+none-left uses v P lit k (forms_block ds b) u h = let s0 = all-split uses P k (occurrences ds) (occurrences b) u in let g0 = none-of-split P (names_beside_factors ds) (names_beside_factors b) h in none-of-join P _ _ (none-left uses v P lit k ds s0.0 g0.0) (none-left uses v P lit (k + length (occurrences ds)) b s0.1 g0.1)
 none-left uses v P lit k (is_module name b closing) u h = none-left uses v P lit k b u h

@@ -1,7 +1,7 @@
 -- Replacing the names of a tree replaces the names of its occurrences in the same way. A relabelled tree has as many
 -- occurrences as the original tree.
 use Rattle.std.proofs.Common.{List, None, [], ap, length, length-append, map, refl, suc, sym, ℕ, ◌++◌, ◌+◌, ◌∙◌, ◌∷◌, ◌≡◌}
-use Rattle.ob0_tree.specs.Tree.{Sort, Tree, adds, array_type, assigns, begins, block, branches, calls, compares, constant, constants, declares, declares_constant, declares_constants, declares_procedure, declares_type, declares_types, declares_variable, declares_variables, designator, else_branch, elsif_branch, empty, end, field, formals, further_section, has_body, index, integer, is_module, item, items, listed, maybe, module_text, more, multiplies, named_type, negation, no_arguments, no_fields, no_formals, none, occurrences, one, parenthesised, procedure, product, record_type, relates, repeat_loop, runs, section, some_arguments, some_fields, some_formals, sum, then_argument, then_fields, then_name, then_section, then_statement, type_name, type_names, value_section, variable, variable_section, variables, while_loop}
+use Rattle.ob0_tree.specs.Tree.{Sort, Tree, adds, array_type, assigns, begins, block, branches, calls, compares, constant, constants, declares, declares_constant, declares_constants, declares_procedure, declares_type, declares_types, declares_variable, declares_variables, designator, else_branch, elsif_branch, empty, end, field, formals, further_section, forms_block, index, integer, is_module, item, items, listed, maybe, module_text, more, multiplies, named_type, negation, no_arguments, no_fields, no_formals, none, occurrences, one, parenthesised, procedure, product, record_type, relates, repeat_loop, runs, section, some_arguments, some_fields, some_formals, sum, then_argument, then_fields, then_name, then_section, then_statement, type_definition, type_definitions, value_section, variable, variable_section, variables, while_loop}
 use Rattle.ob0_language_names.specs.Mapping.{map_names}
 use Rattle.ob0_language_names.specs.Names.{Naming}
 use Rattle.ob0_language_names.specs.Parts.{formal_names, formal_sections, names_in_list, procedure_name, section_names}
@@ -63,7 +63,7 @@ occurrences-map_names look keep (declares_variables vs) = occurrences-map_names 
 occurrences-map_names look keep (declares_procedure name fs b closing) = joined look (occurrences fs) (occurrences b) (occurrences-map_names look keep fs) (occurrences-map_names look keep b)
 occurrences-map_names look keep (declares cs ts vs ps) = joined look (occurrences cs) (occurrences ts ++ (occurrences vs ++ (occurrences ps))) (occurrences-map_names look keep cs) (joined look (occurrences ts) (occurrences vs ++ (occurrences ps)) (occurrences-map_names look keep ts) (joined look (occurrences vs) (occurrences ps) (occurrences-map_names look keep vs) (occurrences-map_names look keep ps)))
 occurrences-map_names look keep (begins s) = occurrences-map_names look keep s
-occurrences-map_names look keep (has_body ds b) = joined look (occurrences ds) (occurrences b) (occurrences-map_names look keep ds) (occurrences-map_names look keep b)
+occurrences-map_names look keep (forms_block ds b) = joined look (occurrences ds) (occurrences b) (occurrences-map_names look keep ds) (occurrences-map_names look keep b)
 occurrences-map_names look keep (is_module name b closing) = occurrences-map_names look keep b
 
 pub length-map : {N M : Type 0} (f : N → M) (xs : List N) → length (map f xs) ≡ length xs
@@ -86,7 +86,7 @@ as_many-constants naming label scope k end = refl
 as_many-constants naming label scope k (more (declares_constant x e) cs) =
     longer _ _ (occurrences e) (occurrences cs) (as_many-uses naming label scope e) (as_many-constants naming label ((x, k) ∷ scope) (suc k) cs)
 
-pub as_many-types : {N M : Type 0} (naming : Naming N) (label : Labelling N M) (scope : Scope N) (k : ℕ) (ds : Tree N (items type_name)) → AsMany (relabel_types naming label scope k ds) ds
+pub as_many-types : {N M : Type 0} (naming : Naming N) (label : Labelling N M) (scope : Scope N) (k : ℕ) (ds : Tree N (items type_definition)) → AsMany (relabel_types naming label scope k ds) ds
 as_many-types naming label scope k end = refl
 as_many-types naming label scope k (more (declares_type x t) ds) =
     longer _ _ (occurrences t) (occurrences ds) (as_many-uses naming label scope t) (as_many-types naming label ((x, k) ∷ scope) (suc k) ds)
@@ -115,7 +115,7 @@ pub as_many-constant_section : {N M : Type 0} (naming : Naming N) (label : Label
 as_many-constant_section naming label scope k none = refl
 as_many-constant_section naming label scope k (one (declares_constants cs)) = as_many-constants naming label scope k cs
 
-pub as_many-type_section : {N M : Type 0} (naming : Naming N) (label : Labelling N M) (scope : Scope N) (k : ℕ) (ts : Tree N (maybe type_names)) → AsMany (relabel_type_section naming label scope k ts) ts
+pub as_many-type_section : {N M : Type 0} (naming : Naming N) (label : Labelling N M) (scope : Scope N) (k : ℕ) (ts : Tree N (maybe type_definitions)) → AsMany (relabel_type_section naming label scope k ts) ts
 as_many-type_section naming label scope k none = refl
 as_many-type_section naming label scope k (one (declares_types ts)) = as_many-types naming label scope k ts
 
@@ -125,8 +125,8 @@ as_many-variable_section naming label scope k (one (declares_variables vs)) = as
 
 mutual
   pub as_many-block : {N M : Type 0} (naming : Naming N) (label : Labelling N M) (scope : Scope N) (k : ℕ) (b : Tree N block) → AsMany (relabel_block naming label scope k b) b
-  as_many-block {N} naming label scope k (has_body (declares cs ts vs ps) statements) =
-      let b : Tree N block = has_body (declares cs ts vs ps) statements in
+  as_many-block {N} naming label scope k (forms_block (declares cs ts vs ps) statements) =
+      let b : Tree N block = forms_block (declares cs ts vs ps) statements in
       longer _ _ (occurrences cs ++ (occurrences ts ++ (occurrences vs ++ occurrences ps))) (occurrences statements)
       (longer _ _ (occurrences cs) (occurrences ts ++ (occurrences vs ++ occurrences ps)) (as_many-constant_section naming label scope k cs)
       (longer _ _ (occurrences ts) (occurrences vs ++ occurrences ps) (as_many-type_section naming label (types_scope k b scope) (first_type_ordinal k b) ts)

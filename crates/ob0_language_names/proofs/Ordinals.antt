@@ -1,6 +1,6 @@
 -- Declaring two joined lists of names gives the same ordinal and scope as declaring one list and then the other.
 use Rattle.std.proofs.Common.{◌≡◌, ℕ, suc, ◌≤◌, List, [], ◌∷◌, ◌++◌, refl, le_trans, le_refl, le_of_lt}
-use Rattle.ob0_tree.specs.Tree.{Tree, block, declares, declares_procedure, end, has_body, item, items, more, procedure}
+use Rattle.ob0_tree.specs.Tree.{Tree, block, declares, declares_procedure, end, forms_block, item, items, more, procedure}
 use Rattle.ob0_language_names.specs.Parts.{constant_names, formal_names, formal_sections, declared_type_names, section_constants, section_types, section_variables, variable_names}
 use Rattle.ob0_language_names.specs.Scopes.{Scope, ordinal_after_block, ordinal_after_names, ordinal_after_procedure, ordinal_after_procedures, declare_names}
 
@@ -18,7 +18,7 @@ le-ordinal_after_names k (x ∷ xs) = le_trans (le_of_lt (le_refl (suc k))) (le-
 
 mutual
   pub le-ordinal_after_block : {N : Type 0} (k : ℕ) (b : Tree N block) → k ≤ ordinal_after_block k b
-  le-ordinal_after_block k (has_body (declares cs ts vs ps) statements) =
+  le-ordinal_after_block k (forms_block (declares cs ts vs ps) statements) =
       le_trans (le-ordinal_after_names k (constant_names (section_constants cs)))
       (le_trans (le-ordinal_after_names (ordinal_after_names k (constant_names (section_constants cs))) (declared_type_names (section_types ts)))
       (le_trans (le-ordinal_after_names (ordinal_after_names (ordinal_after_names k (constant_names (section_constants cs))) (declared_type_names (section_types ts))) (variable_names (section_variables vs)))

@@ -1,7 +1,7 @@
 -- Two trees of the same shape are equal if their looked-up names are equal. The proof removes the names of one part
 -- after another from the front of both lists.
 use Rattle.std.proofs.Common.{◌≡◌, List, [], ◌∷◌, ◌++◌, sym, refl, ap, ◌∙◌, append_assoc}
-use Rattle.ob0_tree.specs.Tree.{Sort, Tree, adds, array_type, assigns, begins, branches, calls, compares, declares, declares_constant, declares_constants, declares_procedure, declares_type, declares_types, declares_variable, declares_variables, designator, else_branch, elsif_branch, empty, end, field, further_name, has_body, index, integer, is_module, items, listed, more, multiplies, named_type, names, negation, no_arguments, no_fields, no_formals, none, occurrences, one, parenthesised, product, record_type, relates, repeat_loop, runs, some_arguments, some_fields, some_formals, sum, then_argument, then_fields, then_name, then_section, then_statement, value_section, variable_section, while_loop}
+use Rattle.ob0_tree.specs.Tree.{Sort, Tree, adds, array_type, assigns, begins, branches, calls, compares, declares, declares_constant, declares_constants, declares_procedure, declares_type, declares_types, declares_variable, declares_variables, designator, else_branch, elsif_branch, empty, end, field, further_name, forms_block, index, integer, is_module, items, listed, more, multiplies, named_type, names, negation, no_arguments, no_fields, no_formals, none, occurrences, one, parenthesised, product, record_type, relates, repeat_loop, runs, some_arguments, some_fields, some_formals, sum, then_argument, then_fields, then_name, then_section, then_statement, value_section, variable_section, while_loop}
 use Rattle.ob0_language_names.specs.Mapping.{map_names}
 
 -- holds if two equal lists that begin with `a` and with `b` imply `P` and have equal rests
@@ -99,5 +99,5 @@ peel f f' g g' h h' keeps (declares_variables a) = to (peel f f' g g' h h' keeps
 peel f f' g g' h h' keeps (declares_procedure x a b y) = to (both (peel f f' g g' h h' keeps a) (peel f f' g g' h h' keeps b)) (λ p i. declares_procedure (keeps x i) (p.first i) (p.second i) (keeps y i))
 peel f f' g g' h h' keeps (declares a b c d) = to (both (peel f f' g g' h h' keeps a) (both (peel f f' g g' h h' keeps b) (both (peel f f' g g' h h' keeps c) (peel f f' g g' h h' keeps d)))) (λ p i. declares (p.first i) (p.second.first i) (p.second.second.first i) (p.second.second.second i))
 peel f f' g g' h h' keeps (begins a) = to (peel f f' g g' h h' keeps a) (λ p i. begins (p i))
-peel f f' g g' h h' keeps (has_body a b) = to (both (peel f f' g g' h h' keeps a) (peel f f' g g' h h' keeps b)) (λ p i. has_body (p.first i) (p.second i))
+peel f f' g g' h h' keeps (forms_block a b) = to (both (peel f f' g g' h h' keeps a) (peel f f' g g' h h' keeps b)) (λ p i. forms_block (p.first i) (p.second i))
 peel f f' g g' h h' keeps (is_module x a y) = to (peel f f' g g' h h' keeps a) (λ p i. is_module (keeps x i) (p i) (keeps y i))

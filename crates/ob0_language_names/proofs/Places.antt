@@ -1,7 +1,7 @@
 -- Properties of each occurrence of a tree, according to its number, its scope and its name. `each-block` derives such a
 -- property from two lists of labels.
 use Rattle.std.proofs.Common.{List, None, [], arith, length, map, refl, subst, suc, ℕ, ◌++◌, ◌+◌, ◌∷◌, ◌≡◌}
-use Rattle.ob0_tree.specs.Tree.{Sort, Tree, block, body, constant, constants, declares, declares_constant, declares_constants, declares_procedure, declares_type, declares_types, declares_variable, declares_variables, end, expression, formals, further_section, has_body, item, items, maybe, more, no_formals, none, occurrences, one, procedure, section, some_formals, then_section, type_name, type_names, value_section, variable, variable_section, variables, written_type}
+use Rattle.ob0_tree.specs.Tree.{Sort, Tree, block, body, constant, constants, declares, declares_constant, declares_constants, declares_procedure, declares_type, declares_types, declares_variable, declares_variables, end, expression, formals, further_section, forms_block, item, items, maybe, more, no_formals, none, occurrences, one, procedure, section, some_formals, then_section, type_definition, type_definitions, value_section, variable, variable_section, variables, written_type}
 use Rattle.ob0_language_names.specs.Names.{Label, Name, Naming}
 use Rattle.ob0_language_names.specs.Parts.{formal_names, formal_sections, names_in_list, procedure_name, section_constants, section_names, section_type, section_types, section_variables}
 use Rattle.ob0_language_names.specs.Scopes.{Scope, ordinal_after_names, ordinal_after_procedure, label_from_ordinal, body_scope, declare_names, first_procedure_ordinal, first_type_ordinal, first_variable_ordinal, label_of, procedures_scope, relabel_block, relabel_constant_section, relabel_constants, relabel_formals, relabel_procedure, relabel_procedures, relabel_section, relabel_sections, relabel_type_section, relabel_types, relabel_uses, relabel_variable_section, relabel_variables, types_scope, variables_scope}
@@ -20,7 +20,7 @@ abbrev pub EachConstant : Placed → ℕ → Scope Name → ℕ → Tree Name (i
 EachConstant L j scope k end = Unit {0}
 EachConstant L j scope k (more (declares_constant x e) cs) = L expression j scope e × EachConstant L (j + length (occurrences e)) ((x, k) ∷ scope) (suc k) cs
 
-abbrev pub EachType : Placed → ℕ → Scope Name → ℕ → Tree Name (items type_name) → Type 0
+abbrev pub EachType : Placed → ℕ → Scope Name → ℕ → Tree Name (items type_definition) → Type 0
 EachType L j scope k end = Unit {0}
 EachType L j scope k (more (declares_type x t) ds) = L written_type j scope t × EachType L (j + length (occurrences t)) ((x, k) ∷ scope) (suc k) ds
 
@@ -36,12 +36,12 @@ EachSection L j scope k (more (then_section s) fs) =
 
 abbrev mutual
   pub EachBlock : Placed → ℕ → Scope Name → ℕ → Tree Name block → Type 0
-  EachBlock L j scope k (has_body (declares cs ts vs ps) statements) =
+  EachBlock L j scope k (forms_block (declares cs ts vs ps) statements) =
       EachConstant L j scope k (section_constants cs)
-      × EachType L (j + length (occurrences cs)) (types_scope k (has_body (declares cs ts vs ps) statements) scope) (first_type_ordinal k (has_body (declares cs ts vs ps) statements)) (section_types ts)
-      × EachVariable L (j + length (occurrences cs) + length (occurrences ts)) (variables_scope k (has_body (declares cs ts vs ps) statements) scope) (first_variable_ordinal k (has_body (declares cs ts vs ps) statements)) (section_variables vs)
-      × EachProcedure L (j + length (occurrences cs) + length (occurrences ts) + length (occurrences vs)) (procedures_scope k (has_body (declares cs ts vs ps) statements) scope) (first_procedure_ordinal k (has_body (declares cs ts vs ps) statements)) ps
-      × L (maybe body) (j + length (occurrences (declares cs ts vs ps))) (body_scope k (has_body (declares cs ts vs ps) statements) scope) statements
+      × EachType L (j + length (occurrences cs)) (types_scope k (forms_block (declares cs ts vs ps) statements) scope) (first_type_ordinal k (forms_block (declares cs ts vs ps) statements)) (section_types ts)
+      × EachVariable L (j + length (occurrences cs) + length (occurrences ts)) (variables_scope k (forms_block (declares cs ts vs ps) statements) scope) (first_variable_ordinal k (forms_block (declares cs ts vs ps) statements)) (section_variables vs)
+      × EachProcedure L (j + length (occurrences cs) + length (occurrences ts) + length (occurrences vs)) (procedures_scope k (forms_block (declares cs ts vs ps) statements) scope) (first_procedure_ordinal k (forms_block (declares cs ts vs ps) statements)) ps
+      × L (maybe body) (j + length (occurrences (declares cs ts vs ps))) (body_scope k (forms_block (declares cs ts vs ps) statements) scope) statements
 
   pub EachProcedure : Placed → ℕ → Scope Name → ℕ → Tree Name (items procedure) → Type 0
   EachProcedure L j scope k end = Unit {0}
@@ -86,7 +86,7 @@ module _ (u v : Naming Name) (R S : ℕ → Label → Type 0) (L : Placed) (make
       let g' = cut S j (length (occurrences e)) (occurrences (relabel_uses v (label_from_ordinal v) scope e)) (occurrences (relabel_constants v (label_from_ordinal v) ((x, k) ∷ scope) (suc k) cs)) (as_many-uses v (label_from_ordinal v) scope e) g in
       (each-uses j scope e f'.0 g'.0, each-constants (j + length (occurrences e)) ((x, k) ∷ scope) (suc k) cs f'.1 g'.1)
 
-  pub each-types : (j : ℕ) (scope : Scope Name) (k : ℕ) (ds : Tree Name (items type_name)) → AllAt R j (occurrences (relabel_types u (label_from_ordinal u) scope k ds)) → AllAt S j (occurrences (relabel_types v (label_from_ordinal v) scope k ds)) → EachType L j scope k ds
+  pub each-types : (j : ℕ) (scope : Scope Name) (k : ℕ) (ds : Tree Name (items type_definition)) → AllAt R j (occurrences (relabel_types u (label_from_ordinal u) scope k ds)) → AllAt S j (occurrences (relabel_types v (label_from_ordinal v) scope k ds)) → EachType L j scope k ds
   each-types j scope k end f g = tt
   each-types j scope k (more (declares_type x t) ds) f g =
       let f' = cut R j (length (occurrences t)) (occurrences (relabel_uses u (label_from_ordinal u) scope t)) (occurrences (relabel_types u (label_from_ordinal u) ((x, k) ∷ scope) (suc k) ds)) (as_many-uses u (label_from_ordinal u) scope t) f in
@@ -120,7 +120,7 @@ module _ (u v : Naming Name) (R S : ℕ → Label → Type 0) (L : Placed) (make
   each-constant_section j scope k none f g = tt
   each-constant_section j scope k (one (declares_constants cs)) f g = each-constants j scope k cs f g
 
-  each-type_section : (j : ℕ) (scope : Scope Name) (k : ℕ) (ts : Tree Name (maybe type_names)) → AllAt R j (occurrences (relabel_type_section u (label_from_ordinal u) scope k ts)) → AllAt S j (occurrences (relabel_type_section v (label_from_ordinal v) scope k ts)) → EachType L j scope k (section_types ts)
+  each-type_section : (j : ℕ) (scope : Scope Name) (k : ℕ) (ts : Tree Name (maybe type_definitions)) → AllAt R j (occurrences (relabel_type_section u (label_from_ordinal u) scope k ts)) → AllAt S j (occurrences (relabel_type_section v (label_from_ordinal v) scope k ts)) → EachType L j scope k (section_types ts)
   each-type_section j scope k none f g = tt
   each-type_section j scope k (one (declares_types ts)) f g = each-types j scope k ts f g
 
@@ -130,8 +130,8 @@ module _ (u v : Naming Name) (R S : ℕ → Label → Type 0) (L : Placed) (make
 
   mutual
     pub each-block : (j : ℕ) (scope : Scope Name) (k : ℕ) (b : Tree Name block) → AllAt R j (occurrences (relabel_block u (label_from_ordinal u) scope k b)) → AllAt S j (occurrences (relabel_block v (label_from_ordinal v) scope k b)) → EachBlock L j scope k b
-    each-block j scope k (has_body (declares cs ts vs ps) statements) f g =
-        let b : Tree Name block = has_body (declares cs ts vs ps) statements in
+    each-block j scope k (forms_block (declares cs ts vs ps) statements) f g =
+        let b : Tree Name block = forms_block (declares cs ts vs ps) statements in
         let part : (w : Naming Name) (T : ℕ → Label → Type 0) → AllAt T j (occurrences (relabel_block w (label_from_ordinal w) scope k b))
         → AllAt T j (occurrences (relabel_constant_section w (label_from_ordinal w) scope k cs))
         × AllAt T (j + length (occurrences cs)) (occurrences (relabel_type_section w (label_from_ordinal w) (types_scope k b scope) (first_type_ordinal k b) ts))
@@ -182,7 +182,7 @@ module _ (K L M : Placed) (make : (s : Sort) (j : ℕ) (scope : Scope Name) (t :
   both-constants j scope k end f g = tt
   both-constants j scope k (more (declares_constant x e) cs) f g = (make expression j scope e f.0 g.0, both-constants (j + length (occurrences e)) ((x, k) ∷ scope) (suc k) cs f.1 g.1)
 
-  both-types : (j : ℕ) (scope : Scope Name) (k : ℕ) (ds : Tree Name (items type_name)) → EachType K j scope k ds → EachType L j scope k ds → EachType M j scope k ds
+  both-types : (j : ℕ) (scope : Scope Name) (k : ℕ) (ds : Tree Name (items type_definition)) → EachType K j scope k ds → EachType L j scope k ds → EachType M j scope k ds
   both-types j scope k end f g = tt
   both-types j scope k (more (declares_type x t) ds) f g = (make written_type j scope t f.0 g.0, both-types (j + length (occurrences t)) ((x, k) ∷ scope) (suc k) ds f.1 g.1)
 
@@ -196,8 +196,8 @@ module _ (K L M : Placed) (make : (s : Sort) (j : ℕ) (scope : Scope Name) (t :
 
   mutual
     pub both-block : (j : ℕ) (scope : Scope Name) (k : ℕ) (b : Tree Name block) → EachBlock K j scope k b → EachBlock L j scope k b → EachBlock M j scope k b
-    both-block j scope k (has_body (declares cs ts vs ps) statements) f g =
-        let b : Tree Name block = has_body (declares cs ts vs ps) statements in (
+    both-block j scope k (forms_block (declares cs ts vs ps) statements) f g =
+        let b : Tree Name block = forms_block (declares cs ts vs ps) statements in (
           both-constants j scope k (section_constants cs) f.0 g.0,
           both-types (j + length (occurrences cs)) (types_scope k b scope) (first_type_ordinal k b) (section_types ts) f.1 g.1,
           both-variables (j + length (occurrences cs) + length (occurrences ts)) (variables_scope k b scope) (first_variable_ordinal k b) (section_variables vs) f.2 g.2,

@@ -1,6 +1,6 @@
 -- The parts of a relabelled tree are the relabelled parts of the tree.
 use Rattle.std.proofs.Common.{◌≡◌, ℕ, suc, ◌∷◌, Some, refl}
-use Rattle.ob0_tree.specs.Tree.{Tree, constants, declares_constants, declares_types, declares_variables, end, formals, further_name, items, listed, maybe, more, names, no_formals, none, one, section, some_formals, then_name, type_names, value_section, variable_section, variables}
+use Rattle.ob0_tree.specs.Tree.{Tree, constants, declares_constants, declares_types, declares_variables, end, formals, further_name, items, listed, maybe, more, names, no_formals, none, one, section, some_formals, then_name, type_definitions, value_section, variable_section, variables}
 use Rattle.ob0_language_names.specs.Names.{Naming}
 use Rattle.ob0_language_names.specs.Parts.{formal_sections, further_names, names_in_list, section_constants, section_names, section_type, section_types, section_variables}
 use Rattle.ob0_language_names.specs.Scopes.{Labelling, Scope, label_names, relabel_constant_section, relabel_constants, relabel_formals, relabel_further_names, relabel_names, relabel_section, relabel_sections, relabel_type_section, relabel_types, relabel_uses, relabel_variable_section, relabel_variables}
@@ -24,7 +24,7 @@ pub constants-section : {N M : Type 0} (naming : Naming N) (label : Labelling N 
 constants-section naming label scope k none = refl
 constants-section naming label scope k (one (declares_constants cs)) = refl
 
-pub types-section : {N M : Type 0} (naming : Naming N) (label : Labelling N M) (scope : Scope N) (k : ℕ) (ts : Tree N (maybe type_names)) → section_types (relabel_type_section naming label scope k ts) ≡ relabel_types naming label scope k (section_types ts)
+pub types-section : {N M : Type 0} (naming : Naming N) (label : Labelling N M) (scope : Scope N) (k : ℕ) (ts : Tree N (maybe type_definitions)) → section_types (relabel_type_section naming label scope k ts) ≡ relabel_types naming label scope k (section_types ts)
 types-section naming label scope k none = refl
 types-section naming label scope k (one (declares_types ts)) = refl
 

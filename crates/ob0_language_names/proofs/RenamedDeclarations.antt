@@ -1,12 +1,12 @@
 -- If a new name is free, the renamed module declares names once.
 use Rattle.std.proofs.Common.{Bool, List, Some, [], ap, append-nil, falls, false, if◌then◌else◌, le_refl, refl, suc, sym, true, ℕ, ◌&&◌, ◌++◌, ◌==◌, ◌∙◌, ◌∷◌, ◌≡◌}
-use Rattle.ob0_tree.specs.Tree.{Tree, array_type, block, constant, declares, declares_constant, declares_procedure, declares_type, declares_variable, end, fields, further_fields, further_name, further_section, has_body, is_module, item, items, listed, more, named_type, names, no_fields, procedure, record_type, some_fields, then_fields, then_name, then_section, type_name, variable, written_type}
-use Rattle.ob0_language_names.specs.DeclaredOnce.{are_distinct, block_names, block_once, has_distinct_fields, formals_have_distinct_fields, group_fields, group_has_distinct_fields, further_group_fields, groups_have_distinct_fields, procedure_names, procedure_once, procedures_once, types_have_distinct_fields, variables_have_distinct_fields}
+use Rattle.ob0_tree.specs.Tree.{Tree, array_type, block, constant, declares, declares_constant, declares_procedure, declares_type, declares_variable, end, fields, further_fields, further_name, further_section, forms_block, is_module, item, items, listed, more, named_type, names, no_fields, procedure, record_type, some_fields, then_fields, then_name, then_section, type_definition, variable, written_type}
+use Rattle.ob0_language_names.specs.ConsistentNames.{are_distinct, block_names, block_has_consistent_names, has_distinct_fields, formals_have_distinct_fields, group_field_names, group_has_distinct_fields, further_field_names, groups_have_distinct_fields, procedure_names, procedure_has_consistent_names, procedures_have_consistent_names, types_have_distinct_fields, variables_have_distinct_fields}
 use Rattle.ob0_language_names.specs.Mapping.{map_names}
 use Rattle.ob0_language_names.specs.Names.{Name, Naming, naming_by_spelling, same_name}
-use Rattle.ob0_language_names.specs.Occurrences.{blocks_in, blocks_in_procedure, blocks_in_procedures, declares_ordinal, another_has_name}
+use Rattle.ob0_language_names.specs.Occurrences.{scopes_in_block, scopes_in_procedure, scopes_in_procedures, declares_ordinal, another_has_name}
 use Rattle.ob0_language_names.specs.Parts.{constant_names, formal_names, formal_sections, further_names, declared_type_names, names_in_list, procedure_name, section_constants, section_names, section_type, section_types, section_variables, variable_names}
-use Rattle.ob0_language_names.specs.RenamingLaws.{FreeRenamingKeepsDeclaredOnce}
+use Rattle.ob0_language_names.specs.RenamingLaws.{FreeRenamingKeepsConsistentNames}
 use Rattle.ob0_language_names.proofs.DistinctNames.{Falls, distinct-onto, distinct-renamed, labels_in, new_name, onto, onto-append, own_name}
 use Rattle.ob0_language_names.proofs.Ordinals.{le-ordinal_after_procedure}
 use Rattle.ob0_language_names.proofs.Relabelled.{constants-section, formals-section, names-relabel, section_names-relabel, section_type-relabel, types-section, variables-section}
@@ -30,7 +30,7 @@ pub constants-labels : {N M : Type 0} (naming : Naming N) (label : Labelling N M
 constants-labels naming label scope k end = refl
 constants-labels naming label scope k (more (declares_constant x e) cs) = λ i. label (Some k) x ∷ constants-labels naming label ((x, k) ∷ scope) (suc k) cs i
 
-pub types-labels : {N M : Type 0} (naming : Naming N) (label : Labelling N M) (scope : Scope N) (k : ℕ) (ds : Tree N (items type_name)) → declared_type_names (relabel_types naming label scope k ds) ≡ label_names label k (declared_type_names ds)
+pub types-labels : {N M : Type 0} (naming : Naming N) (label : Labelling N M) (scope : Scope N) (k : ℕ) (ds : Tree N (items type_definition)) → declared_type_names (relabel_types naming label scope k ds) ≡ label_names label k (declared_type_names ds)
 types-labels naming label scope k end = refl
 types-labels naming label scope k (more (declares_type x t) ds) = λ i. label (Some k) x ∷ types-labels naming label ((x, k) ∷ scope) (suc k) ds i
 
@@ -69,8 +69,8 @@ onto-parts cs ts vs ps own =
 -- The labels of a block's scope are the names of the relabelled block, in reverse.
 pub labels_in-block : {N M : Type 0} (naming : Naming N) (label : Labelling N M) (visible : Scope N) (k : ℕ) (b : Tree N block) (own : Scope N)
     → labels_in label (body_scope k b own) ≡ onto (block_names (relabel_block naming label visible k b)) (labels_in label own)
-labels_in-block {N} naming label visible k (has_body (declares cs ts vs ps) statements) own =
-    let b : Tree N block = has_body (declares cs ts vs ps) statements in
+labels_in-block {N} naming label visible k (forms_block (declares cs ts vs ps) statements) own =
+    let b : Tree N block = forms_block (declares cs ts vs ps) statements in
     labels_in-procedures naming label (procedures_scope k b visible) (first_procedure_ordinal k b) ps (procedures_scope k b own)
     ∙ (ap (onto (procedure_names (relabel_procedures naming label (procedures_scope k b visible) (first_procedure_ordinal k b) ps)))
     (labels_in-names label (first_variable_ordinal k b) (variable_names (section_variables vs)) (variables_scope k b own)
@@ -85,8 +85,8 @@ labels_in-block {N} naming label visible k (has_body (declares cs ts vs ps) stat
     (procedure_names (relabel_procedures naming label (procedures_scope k b visible) (first_procedure_ordinal k b) ps)) (labels_in label own))
 
 pub own_names-block : (k : ℕ) (b : Tree Name block) (own : Scope Name) → labels_in own_name (body_scope k b own) ≡ onto (block_names b) (labels_in own_name own)
-own_names-block k (has_body (declares cs ts vs ps) statements) own =
-    let b : Tree Name block = has_body (declares cs ts vs ps) statements in
+own_names-block k (forms_block (declares cs ts vs ps) statements) own =
+    let b : Tree Name block = forms_block (declares cs ts vs ps) statements in
     own_names-procedures (first_procedure_ordinal k b) ps (procedures_scope k b own)
     ∙ (ap (onto (procedure_names ps)) (named (first_variable_ordinal k b) (variable_names (section_variables vs)) (variables_scope k b own)
     ∙ ap (onto (variable_names (section_variables vs))) (named (first_type_ordinal k b) (declared_type_names (section_types ts)) (types_scope k b own)
@@ -107,8 +107,8 @@ falls-procedures k end scope falls = falls
 falls-procedures k (more p rest) scope falls = falls-procedures (ordinal_after_procedure (suc k) p) rest ((procedure_name p, k) ∷ scope) (le-ordinal_after_procedure (suc k) p, falls)
 
 pub falls-block : {N : Type 0} (k : ℕ) (b : Tree N block) (own : Scope N) → Falls k own → Falls (ordinal_after_block k b) (body_scope k b own)
-falls-block {N} k (has_body (declares cs ts vs ps) statements) own falls =
-    let b : Tree N block = has_body (declares cs ts vs ps) statements in
+falls-block {N} k (forms_block (declares cs ts vs ps) statements) own falls =
+    let b : Tree N block = forms_block (declares cs ts vs ps) statements in
     falls-procedures (first_procedure_ordinal k b) ps (procedures_scope k b own)
     (falls-names (first_variable_ordinal k b) (variable_names (section_variables vs)) (variables_scope k b own)
     (falls-names (first_type_ordinal k b) (declared_type_names (section_types ts)) (types_scope k b own)
@@ -123,20 +123,20 @@ further-kept f (more (then_name x) xs) = λ i. x ∷ further-kept f xs i
 pub listed-kept : (f : Name → Name) (ns : Tree Name names) → names_in_list (map_names f (λ x. x) ns) ≡ names_in_list ns
 listed-kept f (listed x xs) = λ i. x ∷ further-kept f xs i
 
-pub group_fields-kept : (f : Name → Name) (g : Tree Name fields) → group_fields (map_names f (λ x. x) g) ≡ group_fields g
-group_fields-kept f no_fields = refl
-group_fields-kept f (some_fields ns t) = listed-kept f ns
+pub group_field_names-kept : (f : Name → Name) (g : Tree Name fields) → group_field_names (map_names f (λ x. x) g) ≡ group_field_names g
+group_field_names-kept f no_fields = refl
+group_field_names-kept f (some_fields ns t) = listed-kept f ns
 
-pub further_group_fields-kept : (f : Name → Name) (gs : Tree Name (items further_fields)) → further_group_fields (map_names f (λ x. x) gs) ≡ further_group_fields gs
-further_group_fields-kept f end = refl
-further_group_fields-kept f (more (then_fields g) rest) = λ i. group_fields-kept f g i ++ further_group_fields-kept f rest i
+pub further_field_names-kept : (f : Name → Name) (gs : Tree Name (items further_fields)) → further_field_names (map_names f (λ x. x) gs) ≡ further_field_names gs
+further_field_names-kept f end = refl
+further_field_names-kept f (more (then_fields g) rest) = λ i. group_field_names-kept f g i ++ further_field_names-kept f rest i
 
 mutual
   pub has_distinct_fields-kept : (f : Name → Name) (t : Tree Name written_type) → has_distinct_fields (map_names f (λ x. x) t) ≡ has_distinct_fields t
   has_distinct_fields-kept f (named_type x) = refl
   has_distinct_fields-kept f (array_type e t) = has_distinct_fields-kept f t
   has_distinct_fields-kept f (record_type g rest) = λ i.
-      are_distinct (group_fields-kept f g i ++ further_group_fields-kept f rest i) && (group_has_distinct_fields-kept f g i && groups_have_distinct_fields-kept f rest i)
+      are_distinct (group_field_names-kept f g i ++ further_field_names-kept f rest i) && (group_has_distinct_fields-kept f g i && groups_have_distinct_fields-kept f rest i)
 
   pub group_has_distinct_fields-kept : (f : Name → Name) (g : Tree Name fields) → group_has_distinct_fields (map_names f (λ x. x) g) ≡ group_has_distinct_fields g
   group_has_distinct_fields-kept f no_fields = refl
@@ -146,7 +146,7 @@ mutual
   groups_have_distinct_fields-kept f end = refl
   groups_have_distinct_fields-kept f (more (then_fields g) rest) = λ i. group_has_distinct_fields-kept f g i && groups_have_distinct_fields-kept f rest i
 
-pub types_have_distinct_fields-renamed : (d : ℕ) (new : Name) (scope : Scope Name) (k : ℕ) (ds : Tree Name (items type_name)) → types_have_distinct_fields (relabel_types naming_by_spelling (new_name d new) scope k ds) ≡ types_have_distinct_fields ds
+pub types_have_distinct_fields-renamed : (d : ℕ) (new : Name) (scope : Scope Name) (k : ℕ) (ds : Tree Name (items type_definition)) → types_have_distinct_fields (relabel_types naming_by_spelling (new_name d new) scope k ds) ≡ types_have_distinct_fields ds
 types_have_distinct_fields-renamed d new scope k end = refl
 types_have_distinct_fields-renamed d new scope k (more (declares_type x t) ds) = λ i.
     has_distinct_fields-kept (label_of naming_by_spelling (new_name d new) scope) t i && types_have_distinct_fields-renamed d new ((x, k) ∷ scope) (suc k) ds i
@@ -172,18 +172,18 @@ same-renamed d new k x y h =
     elim (k == d) as (λ v. same_name (if v then new else x) (if v then new else y) ≡ true) [ true ↦ nat_list_eq_equiv.refl new | false ↦ h ]
 
 mutual
-  pub block_once-renamed : (d : ℕ) (new : Name) (j : ℕ) (own : List Name) (scope : Scope Name) (b : Tree Name block)
-      → list_any (Clashes d new) (blocks_in (ordinal_after_names j own) (declare_names j own []) b) ≡ false → block_once own b ≡ true
-      → block_once (label_names (new_name d new) j own) (relabel_block naming_by_spelling (new_name d new) scope (ordinal_after_names j own) b) ≡ true
-  block_once-renamed d new j own scope (has_body (declares cs ts vs ps) statements) free once =
-      let b : Tree Name block = has_body (declares cs ts vs ps) statements in
+  pub block_has_consistent_names-renamed : (d : ℕ) (new : Name) (j : ℕ) (own : List Name) (scope : Scope Name) (b : Tree Name block)
+      → list_any (Clashes d new) (scopes_in_block (ordinal_after_names j own) (declare_names j own []) b) ≡ false → block_has_consistent_names own b ≡ true
+      → block_has_consistent_names (label_names (new_name d new) j own) (relabel_block naming_by_spelling (new_name d new) scope (ordinal_after_names j own) b) ≡ true
+  block_has_consistent_names-renamed d new j own scope (forms_block (declares cs ts vs ps) statements) free once =
+      let b : Tree Name block = forms_block (declares cs ts vs ps) statements in
       let k : ℕ = ordinal_after_names j own in
       let ren : Labelling Name Name = new_name d new in
       let mine : Scope Name = body_scope k b (declare_names j own []) in
-      let frees = or_parts (Clashes d new mine) (list_any (Clashes d new) (blocks_in_procedures (first_procedure_ordinal k b) ps)) free in
-      let onces = and_parts (are_distinct (own ++ block_names b)) (types_have_distinct_fields (section_types ts) && (variables_have_distinct_fields (section_variables vs) && procedures_once ps)) once in
-      let onces₁ = and_parts (types_have_distinct_fields (section_types ts)) (variables_have_distinct_fields (section_variables vs) && procedures_once ps) onces.1 in
-      let onces₂ = and_parts (variables_have_distinct_fields (section_variables vs)) (procedures_once ps) onces₁.1 in
+      let frees = or_parts (Clashes d new mine) (list_any (Clashes d new) (scopes_in_procedures (first_procedure_ordinal k b) ps)) free in
+      let onces = and_parts (are_distinct (own ++ block_names b)) (types_have_distinct_fields (section_types ts) && (variables_have_distinct_fields (section_variables vs) && procedures_have_consistent_names ps)) once in
+      let onces₁ = and_parts (types_have_distinct_fields (section_types ts)) (variables_have_distinct_fields (section_variables vs) && procedures_have_consistent_names ps) onces.1 in
+      let onces₂ = and_parts (variables_have_distinct_fields (section_variables vs)) (procedures_have_consistent_names ps) onces₁.1 in
       let in_scope : are_distinct (labels_in own_name mine) ≡ true =
       ap are_distinct (own_names-block k b (declare_names j own [])
       ∙ ap (onto (block_names b)) (labels_in-names own_name j own [] ∙ ap (λ xs. onto xs []) (label_names-own j own)))
@@ -197,33 +197,33 @@ mutual
       and_from (are_distinct (own' ++ block_names b')) _ listed_once
       (and_from _ _ (ap types_have_distinct_fields (types-section naming_by_spelling ren (types_scope k b scope) (first_type_ordinal k b) ts) ∙ (types_have_distinct_fields-renamed d new (types_scope k b scope) (first_type_ordinal k b) (section_types ts) ∙ onces₁.0))
       (and_from _ _ (ap variables_have_distinct_fields (variables-section naming_by_spelling ren (variables_scope k b scope) (first_variable_ordinal k b) vs) ∙ (variables_have_distinct_fields-renamed d new (variables_scope k b scope) (first_variable_ordinal k b) (section_variables vs) ∙ onces₂.0))
-      (procedures_once-renamed d new (first_procedure_ordinal k b) (procedures_scope k b scope) ps frees.1 onces₂.1)))
+      (procedures_have_consistent_names-renamed d new (first_procedure_ordinal k b) (procedures_scope k b scope) ps frees.1 onces₂.1)))
 
-  pub procedures_once-renamed : (d : ℕ) (new : Name) (k : ℕ) (scope : Scope Name) (ps : Tree Name (items procedure))
-      → list_any (Clashes d new) (blocks_in_procedures k ps) ≡ false → procedures_once ps ≡ true → procedures_once (relabel_procedures naming_by_spelling (new_name d new) scope k ps) ≡ true
-  procedures_once-renamed d new k scope end free once = refl
-  procedures_once-renamed d new k scope (more p rest) free once =
-      let frees = or_parts (list_any (Clashes d new) (blocks_in_procedure (suc k) p)) (list_any (Clashes d new) (blocks_in_procedures (ordinal_after_procedure (suc k) p) rest))
-      (sym (list_any-append (Clashes d new) (blocks_in_procedure (suc k) p) (blocks_in_procedures (ordinal_after_procedure (suc k) p) rest)) ∙ free) in
-      let onces = and_parts (procedure_once p) (procedures_once rest) once in
-      and_from _ _ (procedure_once-renamed d new k scope p frees.0 onces.0)
-      (procedures_once-renamed d new (ordinal_after_procedure (suc k) p) ((procedure_name p, k) ∷ scope) rest frees.1 onces.1)
+  pub procedures_have_consistent_names-renamed : (d : ℕ) (new : Name) (k : ℕ) (scope : Scope Name) (ps : Tree Name (items procedure))
+      → list_any (Clashes d new) (scopes_in_procedures k ps) ≡ false → procedures_have_consistent_names ps ≡ true → procedures_have_consistent_names (relabel_procedures naming_by_spelling (new_name d new) scope k ps) ≡ true
+  procedures_have_consistent_names-renamed d new k scope end free once = refl
+  procedures_have_consistent_names-renamed d new k scope (more p rest) free once =
+      let frees = or_parts (list_any (Clashes d new) (scopes_in_procedure (suc k) p)) (list_any (Clashes d new) (scopes_in_procedures (ordinal_after_procedure (suc k) p) rest))
+      (sym (list_any-append (Clashes d new) (scopes_in_procedure (suc k) p) (scopes_in_procedures (ordinal_after_procedure (suc k) p) rest)) ∙ free) in
+      let onces = and_parts (procedure_has_consistent_names p) (procedures_have_consistent_names rest) once in
+      and_from _ _ (procedure_has_consistent_names-renamed d new k scope p frees.0 onces.0)
+      (procedures_have_consistent_names-renamed d new (ordinal_after_procedure (suc k) p) ((procedure_name p, k) ∷ scope) rest frees.1 onces.1)
 
-  pub procedure_once-renamed : (d : ℕ) (new : Name) (k : ℕ) (scope : Scope Name) (p : Tree Name (item procedure))
-      → list_any (Clashes d new) (blocks_in_procedure (suc k) p) ≡ false → procedure_once p ≡ true → procedure_once (relabel_procedure naming_by_spelling (new_name d new) scope k p) ≡ true
-  procedure_once-renamed d new k scope (declares_procedure x fs b closing) free once =
+  pub procedure_has_consistent_names-renamed : (d : ℕ) (new : Name) (k : ℕ) (scope : Scope Name) (p : Tree Name (item procedure))
+      → list_any (Clashes d new) (scopes_in_procedure (suc k) p) ≡ false → procedure_has_consistent_names p ≡ true → procedure_has_consistent_names (relabel_procedure naming_by_spelling (new_name d new) scope k p) ≡ true
+  procedure_has_consistent_names-renamed d new k scope (declares_procedure x fs b closing) free once =
       let ren : Labelling Name Name = new_name d new in
       let own : List Name = formal_names (formal_sections fs) in
       let inner : Scope Name = declare_names (suc k) own ((x, k) ∷ scope) in
-      let onces = and_parts (same_name x closing) (formals_have_distinct_fields (formal_sections fs) && block_once own b) once in
-      let onces₁ = and_parts (formals_have_distinct_fields (formal_sections fs)) (block_once own b) onces.1 in
+      let onces = and_parts (same_name x closing) (formals_have_distinct_fields (formal_sections fs) && block_has_consistent_names own b) once in
+      let onces₁ = and_parts (formals_have_distinct_fields (formal_sections fs)) (block_has_consistent_names own b) onces.1 in
       let labelled = formals-section naming_by_spelling ren scope (suc k) fs in
       and_from _ _ (same-renamed d new k x closing onces.0)
       (and_from _ _ (ap formals_have_distinct_fields labelled ∙ (formals_have_distinct_fields-renamed d new scope (suc k) (formal_sections fs) ∙ onces₁.0))
-      (ap (λ xs. block_once xs (relabel_block naming_by_spelling ren inner (ordinal_after_names (suc k) own) b)) (ap formal_names labelled ∙ sections-labels naming_by_spelling ren scope (suc k) (formal_sections fs))
-      ∙ block_once-renamed d new (suc k) own inner b free onces₁.1))
+      (ap (λ xs. block_has_consistent_names xs (relabel_block naming_by_spelling ren inner (ordinal_after_names (suc k) own) b)) (ap formal_names labelled ∙ sections-labels naming_by_spelling ren scope (suc k) (formal_sections fs))
+      ∙ block_has_consistent_names-renamed d new (suc k) own inner b free onces₁.1))
 
-pub free_renaming_keeps_declared_once-holds : FreeRenamingKeepsDeclaredOnce
-free_renaming_keeps_declared_once-holds (is_module x b closing) d new free once =
-    let onces = and_parts (same_name x closing) (block_once [] b) once in
-    and_from _ _ onces.0 (block_once-renamed d new 7 [] (predeclared_scope naming_by_spelling) b free.0 onces.1)
+pub free_renaming_keeps_consistent_names-holds : FreeRenamingKeepsConsistentNames
+free_renaming_keeps_consistent_names-holds (is_module x b closing) d new free once =
+    let onces = and_parts (same_name x closing) (block_has_consistent_names [] b) once in
+    and_from _ _ onces.0 (block_has_consistent_names-renamed d new 7 [] (predeclared_scope naming_by_spelling) b free.0 onces.1)

@@ -1,6 +1,6 @@
 -- If every occurrence keeps its binding, the renamed module has the numbered tree of the original.
 use Rattle.std.proofs.Common.{◌≡◌, ℕ, suc, List, [], ◌∷◌, ◌++◌, if◌then◌else◌, Some, None, sym, refl, ap, ◌∙◌}
-use Rattle.ob0_tree.specs.Tree.{Sort, Tree, block, constant, constants, declares, declares_constant, declares_constants, declares_procedure, declares_type, declares_types, declares_variable, declares_variables, end, formals, further_name, further_section, has_body, is_module, item, items, listed, maybe, module_text, more, names, no_formals, none, occurrences, one, procedure, section, some_formals, then_name, then_section, type_name, type_names, value_section, variable, variable_section, variables}
+use Rattle.ob0_tree.specs.Tree.{Sort, Tree, block, constant, constants, declares, declares_constant, declares_constants, declares_procedure, declares_type, declares_types, declares_variable, declares_variables, end, formals, further_name, further_section, forms_block, is_module, item, items, listed, maybe, module_text, more, names, no_formals, none, occurrences, one, procedure, section, some_formals, then_name, then_section, type_definition, type_definitions, value_section, variable, variable_section, variables}
 use Rattle.ob0_language_names.specs.Laws.{FreeRenamingKeepsNumbering}
 use Rattle.ob0_language_names.specs.Names.{Label, Name, Naming, naming_by_spelling, as_written, declared}
 use Rattle.ob0_language_names.specs.Occurrences.{bindings}
@@ -20,7 +20,7 @@ pub after_constants : {N M : Type 0} (naming : Naming N) (label : Labelling N M)
 after_constants naming label scope j k end e = e
 after_constants naming label scope j k (more (declares_constant x v) cs) e = after_constants naming label ((x, k) ∷ scope) (suc j) (suc k) cs (ap suc e)
 
-pub after_types_named : {N M : Type 0} (naming : Naming N) (label : Labelling N M) (scope : Scope N) (j k : ℕ) (ds : Tree N (items type_name)) → j ≡ k → ordinal_after_names j (declared_type_names (relabel_types naming label scope k ds)) ≡ ordinal_after_names k (declared_type_names ds)
+pub after_types_named : {N M : Type 0} (naming : Naming N) (label : Labelling N M) (scope : Scope N) (j k : ℕ) (ds : Tree N (items type_definition)) → j ≡ k → ordinal_after_names j (declared_type_names (relabel_types naming label scope k ds)) ≡ ordinal_after_names k (declared_type_names ds)
 after_types_named naming label scope j k end e = e
 after_types_named naming label scope j k (more (declares_type x u) ds) e = after_types_named naming label ((x, k) ∷ scope) (suc j) (suc k) ds (ap suc e)
 
@@ -41,24 +41,24 @@ after_sections naming label scope j k (more (then_section f) fs) e =
     ∙ sym (ordinal_after_names-append k (section_names f) (formal_names fs))))
 
 pub first_type_ordinal-relabel : {N M : Type 0} (naming : Naming N) (label : Labelling N M) (scope : Scope N) (j k : ℕ) (b : Tree N block) → j ≡ k → first_type_ordinal j (relabel_block naming label scope k b) ≡ first_type_ordinal k b
-first_type_ordinal-relabel naming label scope j k (has_body (declares cs ts vs ps) statements) e =
+first_type_ordinal-relabel naming label scope j k (forms_block (declares cs ts vs ps) statements) e =
     ap (λ l. ordinal_after_names j (constant_names l)) (constants-section naming label scope k cs) ∙ after_constants naming label scope j k (section_constants cs) e
 
 pub first_variable_ordinal-relabel : {N M : Type 0} (naming : Naming N) (label : Labelling N M) (scope : Scope N) (j k : ℕ) (b : Tree N block) → j ≡ k → first_variable_ordinal j (relabel_block naming label scope k b) ≡ first_variable_ordinal k b
-first_variable_ordinal-relabel naming label scope j k (has_body (declares cs ts vs ps) statements) e =
-    ap (λ l. ordinal_after_names (first_type_ordinal j (relabel_block naming label scope k (has_body (declares cs ts vs ps) statements))) (declared_type_names l)) (types-section naming label (types_scope k (has_body (declares cs ts vs ps) statements) scope) (first_type_ordinal k (has_body (declares cs ts vs ps) statements)) ts)
-    ∙ after_types_named naming label (types_scope k (has_body (declares cs ts vs ps) statements) scope) (first_type_ordinal j (relabel_block naming label scope k (has_body (declares cs ts vs ps) statements))) (first_type_ordinal k (has_body (declares cs ts vs ps) statements)) (section_types ts) (first_type_ordinal-relabel naming label scope j k (has_body (declares cs ts vs ps) statements) e)
+first_variable_ordinal-relabel naming label scope j k (forms_block (declares cs ts vs ps) statements) e =
+    ap (λ l. ordinal_after_names (first_type_ordinal j (relabel_block naming label scope k (forms_block (declares cs ts vs ps) statements))) (declared_type_names l)) (types-section naming label (types_scope k (forms_block (declares cs ts vs ps) statements) scope) (first_type_ordinal k (forms_block (declares cs ts vs ps) statements)) ts)
+    ∙ after_types_named naming label (types_scope k (forms_block (declares cs ts vs ps) statements) scope) (first_type_ordinal j (relabel_block naming label scope k (forms_block (declares cs ts vs ps) statements))) (first_type_ordinal k (forms_block (declares cs ts vs ps) statements)) (section_types ts) (first_type_ordinal-relabel naming label scope j k (forms_block (declares cs ts vs ps) statements) e)
 
 pub first_procedure_ordinal-relabel : {N M : Type 0} (naming : Naming N) (label : Labelling N M) (scope : Scope N) (j k : ℕ) (b : Tree N block) → j ≡ k → first_procedure_ordinal j (relabel_block naming label scope k b) ≡ first_procedure_ordinal k b
-first_procedure_ordinal-relabel naming label scope j k (has_body (declares cs ts vs ps) statements) e =
-    ap (λ l. ordinal_after_names (first_variable_ordinal j (relabel_block naming label scope k (has_body (declares cs ts vs ps) statements))) (variable_names l)) (variables-section naming label (variables_scope k (has_body (declares cs ts vs ps) statements) scope) (first_variable_ordinal k (has_body (declares cs ts vs ps) statements)) vs)
-    ∙ after_groups naming label (variables_scope k (has_body (declares cs ts vs ps) statements) scope) (first_variable_ordinal j (relabel_block naming label scope k (has_body (declares cs ts vs ps) statements))) (first_variable_ordinal k (has_body (declares cs ts vs ps) statements)) (section_variables vs) (first_variable_ordinal-relabel naming label scope j k (has_body (declares cs ts vs ps) statements) e)
+first_procedure_ordinal-relabel naming label scope j k (forms_block (declares cs ts vs ps) statements) e =
+    ap (λ l. ordinal_after_names (first_variable_ordinal j (relabel_block naming label scope k (forms_block (declares cs ts vs ps) statements))) (variable_names l)) (variables-section naming label (variables_scope k (forms_block (declares cs ts vs ps) statements) scope) (first_variable_ordinal k (forms_block (declares cs ts vs ps) statements)) vs)
+    ∙ after_groups naming label (variables_scope k (forms_block (declares cs ts vs ps) statements) scope) (first_variable_ordinal j (relabel_block naming label scope k (forms_block (declares cs ts vs ps) statements))) (first_variable_ordinal k (forms_block (declares cs ts vs ps) statements)) (section_variables vs) (first_variable_ordinal-relabel naming label scope j k (forms_block (declares cs ts vs ps) statements) e)
 
 mutual
   pub ordinal_after_block-relabel : {N M : Type 0} (naming : Naming N) (label : Labelling N M) (scope : Scope N) (j k : ℕ) (b : Tree N block) → j ≡ k → ordinal_after_block j (relabel_block naming label scope k b) ≡ ordinal_after_block k b
-  ordinal_after_block-relabel naming label scope j k (has_body (declares cs ts vs ps) statements) e =
-      ordinal_after_procedures-relabel naming label (procedures_scope k (has_body (declares cs ts vs ps) statements) scope) (first_procedure_ordinal j (relabel_block naming label scope k (has_body (declares cs ts vs ps) statements))) (first_procedure_ordinal k (has_body (declares cs ts vs ps) statements)) ps
-      (first_procedure_ordinal-relabel naming label scope j k (has_body (declares cs ts vs ps) statements) e)
+  ordinal_after_block-relabel naming label scope j k (forms_block (declares cs ts vs ps) statements) e =
+      ordinal_after_procedures-relabel naming label (procedures_scope k (forms_block (declares cs ts vs ps) statements) scope) (first_procedure_ordinal j (relabel_block naming label scope k (forms_block (declares cs ts vs ps) statements))) (first_procedure_ordinal k (forms_block (declares cs ts vs ps) statements)) ps
+      (first_procedure_ordinal-relabel naming label scope j k (forms_block (declares cs ts vs ps) statements) e)
 
   pub ordinal_after_procedures-relabel : {N M : Type 0} (naming : Naming N) (label : Labelling N M) (scope : Scope N) (j k : ℕ) (ps : Tree N (items procedure)) → j ≡ k → ordinal_after_procedures j (relabel_procedures naming label scope k ps) ≡ ordinal_after_procedures k ps
   ordinal_after_procedures-relabel naming label scope j k end e = e
@@ -98,7 +98,7 @@ peel_constants naming ren keeps there here j k jk (more (declares_constant x e) 
     to (both (peel_uses naming ren keeps there here e) (peel_constants naming ren keeps ((ren (Some k) x, j) ∷ there) ((x, k) ∷ here) (suc j) (suc k) (ap suc jk) cs))
     (λ p i. more (declares_constant (declared (jk i)) (p.first i)) (p.second i))
 
-pub peel_types : {N : Type 0} (naming : Naming N) (ren : Labelling N N) → LeavesUnbound ren → (there here : Scope N) (j k : ℕ) → j ≡ k → (ds : Tree N (items type_name))
+pub peel_types : {N : Type 0} (naming : Naming N) (ren : Labelling N N) → LeavesUnbound ren → (there here : Scope N) (j k : ℕ) → j ≡ k → (ds : Tree N (items type_definition))
     → Peel Label (occurrences (relabel_types naming (label_from_ordinal naming) there j (relabel_types naming ren here k ds))) (occurrences (relabel_types naming (label_from_ordinal naming) here k ds))
     (relabel_types naming (label_from_ordinal naming) there j (relabel_types naming ren here k ds) ≡ relabel_types naming (label_from_ordinal naming) here k ds)
 peel_types naming ren keeps there here j k jk end = nothing refl
@@ -152,7 +152,7 @@ pub peel_constant_section : {N : Type 0} (naming : Naming N) (ren : Labelling N 
 peel_constant_section naming ren keeps there here j k jk none = nothing refl
 peel_constant_section naming ren keeps there here j k jk (one (declares_constants cs)) = to (peel_constants naming ren keeps there here j k jk cs) (λ p i. one (declares_constants (p i)))
 
-pub peel_type_section : {N : Type 0} (naming : Naming N) (ren : Labelling N N) → LeavesUnbound ren → (there here : Scope N) (j k : ℕ) → j ≡ k → (ts : Tree N (maybe type_names))
+pub peel_type_section : {N : Type 0} (naming : Naming N) (ren : Labelling N N) → LeavesUnbound ren → (there here : Scope N) (j k : ℕ) → j ≡ k → (ts : Tree N (maybe type_definitions))
     → Peel Label (occurrences (relabel_type_section naming (label_from_ordinal naming) there j (relabel_type_section naming ren here k ts))) (occurrences (relabel_type_section naming (label_from_ordinal naming) here k ts))
     (relabel_type_section naming (label_from_ordinal naming) there j (relabel_type_section naming ren here k ts) ≡ relabel_type_section naming (label_from_ordinal naming) here k ts)
 peel_type_section naming ren keeps there here j k jk none = nothing refl
@@ -168,8 +168,8 @@ mutual
   pub peel_block : {N : Type 0} (naming : Naming N) (ren : Labelling N N) → LeavesUnbound ren → (there here : Scope N) (j k : ℕ) → j ≡ k → (b : Tree N block)
       → Peel Label (occurrences (relabel_block naming (label_from_ordinal naming) there j (relabel_block naming ren here k b))) (occurrences (relabel_block naming (label_from_ordinal naming) here k b))
       (relabel_block naming (label_from_ordinal naming) there j (relabel_block naming ren here k b) ≡ relabel_block naming (label_from_ordinal naming) here k b)
-  peel_block {N} naming ren keeps there here j k jk (has_body (declares cs ts vs ps) statements) =
-      let b : Tree N block = has_body (declares cs ts vs ps) statements in
+  peel_block {N} naming ren keeps there here j k jk (forms_block (declares cs ts vs ps) statements) =
+      let b : Tree N block = forms_block (declares cs ts vs ps) statements in
       let b' : Tree N block = relabel_block naming ren here k b in
       to (both
       (both (peel_constant_section naming ren keeps there here j k jk cs)
@@ -177,7 +177,7 @@ mutual
       (both (peel_variable_section naming ren keeps (variables_scope j b' there) (variables_scope k b here) (first_variable_ordinal j b') (first_variable_ordinal k b) (first_variable_ordinal-relabel naming ren here j k b jk) vs)
       (peel_procedures naming ren keeps (procedures_scope j b' there) (procedures_scope k b here) (first_procedure_ordinal j b') (first_procedure_ordinal k b) (first_procedure_ordinal-relabel naming ren here j k b jk) ps))))
       (peel_uses naming ren keeps (body_scope j b' there) (body_scope k b here) statements))
-      (λ p i. has_body (declares (p.first.first i) (p.first.second.first i) (p.first.second.second.first i) (p.first.second.second.second i)) (p.second i))
+      (λ p i. forms_block (declares (p.first.first i) (p.first.second.first i) (p.first.second.second.first i) (p.first.second.second.second i)) (p.second i))
 
   pub peel_procedures : {N : Type 0} (naming : Naming N) (ren : Labelling N N) → LeavesUnbound ren → (there here : Scope N) (j k : ℕ) → j ≡ k → (ps : Tree N (items procedure))
       → Peel Label (occurrences (relabel_procedures naming (label_from_ordinal naming) there j (relabel_procedures naming ren here k ps))) (occurrences (relabel_procedures naming (label_from_ordinal naming) here k ps))

@@ -1,6 +1,6 @@
 -- Replacing each name of a tree by itself gives the same tree.
 use Rattle.std.proofs.Common.{◌≡◌, refl}
-use Rattle.ob0_tree.specs.Tree.{Sort, Tree, adds, array_type, assigns, begins, branches, calls, compares, declares, declares_constant, declares_constants, declares_procedure, declares_type, declares_types, declares_variable, declares_variables, designator, else_branch, elsif_branch, empty, end, field, has_body, index, integer, is_module, listed, more, multiplies, named_type, negation, no_arguments, no_fields, no_formals, none, one, parenthesised, product, record_type, relates, repeat_loop, runs, some_arguments, some_fields, some_formals, sum, then_argument, then_fields, then_name, then_section, then_statement, value_section, variable_section, while_loop}
+use Rattle.ob0_tree.specs.Tree.{Sort, Tree, adds, array_type, assigns, begins, branches, calls, compares, declares, declares_constant, declares_constants, declares_procedure, declares_type, declares_types, declares_variable, declares_variables, designator, else_branch, elsif_branch, empty, end, field, forms_block, index, integer, is_module, listed, more, multiplies, named_type, negation, no_arguments, no_fields, no_formals, none, one, parenthesised, product, record_type, relates, repeat_loop, runs, some_arguments, some_fields, some_formals, sum, then_argument, then_fields, then_name, then_section, then_statement, value_section, variable_section, while_loop}
 use Rattle.ob0_language_names.specs.Mapping.{map_names}
 
 pub map_names-id : {N : Type 0} {s : Sort} (t : Tree N s) → map_names (λ x. x) (λ x. x) t ≡ t
@@ -55,5 +55,5 @@ map_names-id (declares_variables vs) = λ i. declares_variables (map_names-id vs
 map_names-id (declares_procedure name fs b closing) = λ i. declares_procedure name (map_names-id fs i) (map_names-id b i) closing
 map_names-id (declares cs ts vs ps) = λ i. declares (map_names-id cs i) (map_names-id ts i) (map_names-id vs i) (map_names-id ps i)
 map_names-id (begins s) = λ i. begins (map_names-id s i)
-map_names-id (has_body ds b) = λ i. has_body (map_names-id ds i) (map_names-id b i)
+map_names-id (forms_block ds b) = λ i. forms_block (map_names-id ds i) (map_names-id b i)
 map_names-id (is_module name b closing) = λ i. is_module name (map_names-id b i) closing

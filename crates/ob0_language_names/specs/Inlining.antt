@@ -1,7 +1,7 @@
 -- Inlining a constant: a factor replaces uses of the constant, and the constant's declaration may be removed.
 -- Rule: docs/PROTOCOL.md, Requests on documents 9.
 use Rattle.std.specs.Prelude.{ℕ, suc, ◌+◌, Bool, length, if◌then◌else◌, ◌==◌}
-use Rattle.ob0_tree.specs.Tree.{Sort, Tree, adds, array_type, assigns, begins, block, branches, calls, compares, constant, constants, declares, declares_constant, declares_constants, declares_procedure, declares_type, declares_types, declares_variable, declares_variables, designator, else_branch, elsif_branch, empty, end, factor, field, has_body, index, integer, is_module, item, items, listed, maybe, module_text, more, multiplies, named_type, negation, no_arguments, no_fields, no_formals, none, occurrences, one, parenthesised, procedure, product, record_type, relates, repeat_loop, runs, some_arguments, some_fields, some_formals, sum, then_argument, then_fields, then_name, then_section, then_statement, value_section, variable_section, while_loop}
+use Rattle.ob0_tree.specs.Tree.{Sort, Tree, adds, array_type, assigns, begins, block, branches, calls, compares, constant, constants, declares, declares_constant, declares_constants, declares_procedure, declares_type, declares_types, declares_variable, declares_variables, designator, else_branch, elsif_branch, empty, end, factor, field, forms_block, index, integer, is_module, item, items, listed, maybe, module_text, more, multiplies, named_type, negation, no_arguments, no_fields, no_formals, none, occurrences, one, parenthesised, procedure, product, record_type, relates, repeat_loop, runs, some_arguments, some_fields, some_formals, sum, then_argument, then_fields, then_name, then_section, then_statement, value_section, variable_section, while_loop}
 use Rattle.ob0_language_names.specs.Names.{Name}
 use Rattle.ob0_language_names.specs.Occurrences.{binds}
 use Rattle.ob0_language_names.specs.Parts.{formal_names, formal_sections}
@@ -98,8 +98,8 @@ inline_in uses v k (declares cs ts vs ps) =
     (inline_in uses v
     (k + length (occurrences cs) + length (occurrences ts) + length (occurrences vs)) ps)
 inline_in uses v k (begins s) = begins (inline_in uses v k s)
-inline_in uses v k (has_body ds b) =
-    has_body (inline_in uses v k ds) (inline_in uses v (k + length (occurrences ds)) b)
+inline_in uses v k (forms_block ds b) =
+    forms_block (inline_in uses v k ds) (inline_in uses v (k + length (occurrences ds)) b)
 inline_in uses v k (is_module name b closing) = is_module name (inline_in uses v k b) closing
 
 -- returns the module in which the factor `v` replaces each occurrence in the set `uses` that is a
@@ -122,9 +122,9 @@ section_without d k (one (declares_constants cs)) = one (declares_constants (con
 abbrev mutual
   -- returns a block without the constant with ordinal `d`; the block's first declaration has ordinal `k`
   pub block_without : ℕ → ℕ → Tree Name block → Tree Name block
-  block_without d k (has_body (declares cs ts vs ps) statements) =
-      has_body (declares (section_without d k cs) ts vs (procedures_without d
-      (first_procedure_ordinal k (has_body (declares cs ts vs ps) statements)) ps)) statements
+  block_without d k (forms_block (declares cs ts vs ps) statements) =
+      forms_block (declares (section_without d k cs) ts vs (procedures_without d
+      (first_procedure_ordinal k (forms_block (declares cs ts vs ps) statements)) ps)) statements
 
   -- returns procedures without the constant with ordinal `d`; the first procedure has ordinal `k`
   pub procedures_without : ℕ → ℕ → Tree Name (items procedure) → Tree Name (items procedure)

@@ -3,7 +3,7 @@ pub mod Parts
 pub mod Mapping
 pub mod Scopes
 pub mod Occurrences
-pub mod DeclaredOnce
+pub mod ConsistentNames
 pub mod Inlining
 pub mod Laws
 pub mod RenamingLaws

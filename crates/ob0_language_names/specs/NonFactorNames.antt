@@ -2,7 +2,7 @@
 -- the names of called procedures and of types.
 -- Rule: none; for contracts of inlining.
 use Rattle.std.specs.Prelude.{List, [], ◌++◌, ◌∷◌}
-use Rattle.ob0_tree.specs.Tree.{Sort, Tree, adds, array_type, assigns, begins, branches, calls, compares, declares, declares_constant, declares_constants, declares_procedure, declares_type, declares_types, declares_variable, declares_variables, designator, else_branch, elsif_branch, empty, end, field, has_body, index, integer, is_module, listed, more, multiplies, named_type, negation, no_arguments, no_fields, no_formals, none, one, parenthesised, product, record_type, relates, repeat_loop, runs, some_arguments, some_fields, some_formals, sum, then_argument, then_fields, then_name, then_section, then_statement, value_section, variable_section, while_loop}
+use Rattle.ob0_tree.specs.Tree.{Sort, Tree, adds, array_type, assigns, begins, branches, calls, compares, declares, declares_constant, declares_constants, declares_procedure, declares_type, declares_types, declares_variable, declares_variables, designator, else_branch, elsif_branch, empty, end, field, forms_block, index, integer, is_module, listed, more, multiplies, named_type, negation, no_arguments, no_fields, no_formals, none, one, parenthesised, product, record_type, relates, repeat_loop, runs, some_arguments, some_fields, some_formals, sum, then_argument, then_fields, then_name, then_section, then_statement, value_section, variable_section, while_loop}
 
 -- returns the looked-up names of a tree in text order, except the names that are whole factors
 abbrev pub names_beside_factors : {N : Type 0} {s : Sort} → Tree N s → List N
@@ -61,5 +61,5 @@ names_beside_factors (declares_procedure name fs b closing) = names_beside_facto
 names_beside_factors (declares cs ts vs ps) =
     names_beside_factors cs ++ (names_beside_factors ts ++ (names_beside_factors vs ++ names_beside_factors ps))
 names_beside_factors (begins s) = names_beside_factors s
-names_beside_factors (has_body ds b) = names_beside_factors ds ++ names_beside_factors b
+names_beside_factors (forms_block ds b) = names_beside_factors ds ++ names_beside_factors b
 names_beside_factors (is_module name b closing) = names_beside_factors b

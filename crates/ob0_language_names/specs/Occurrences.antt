@@ -1,7 +1,7 @@
 -- The declaration that each occurrence of a name is bound to, and the new names that are free for a declaration.
 -- Rule: docs/LANGUAGE.md, Scopes 2 to 4; docs/PROTOCOL.md, Refusals of edits (Duplicate, Captures).
 use Rattle.std.specs.Prelude.{◌≡◌, ℕ, suc, Bool, false, not, ◌&&◌, List, [], ◌∷◌, ◌++◌, if◌then◌else◌, ◌==◌, slice_get, Some, None, Option, option_map, option_and_then}
-use Rattle.ob0_tree.specs.Tree.{Tree, block, declares, declares_procedure, end, has_body, item, items, module_text, more, occurrences, procedure}
+use Rattle.ob0_tree.specs.Tree.{Tree, block, declares, declares_procedure, end, forms_block, item, items, module_text, more, occurrences, procedure}
 use Rattle.ob0_language_names.specs.Names.{Label, Name, as_written, declared, same_label, same_name}
 use Rattle.ob0_language_names.specs.Parts.{formal_names, formal_sections, module_block}
 use Rattle.ob0_language_names.specs.Scopes.{Scope, ordinal_after_names, ordinal_after_procedure, body_scope, declare_names, first_procedure_ordinal, numbered, predeclared_count, renamed}
@@ -28,22 +28,22 @@ binds m occurrence = option_and_then label_ordinal (slice_get (bindings m) occur
 abbrev mutual
   -- Returns a list with the declarations of a block, then the declarations of each block within it. The block's first
   -- declaration has ordinal `k`. If this is a procedure's block, `own` has the declarations of the parameters.
-  pub blocks_in : {N : Type 0} → ℕ → Scope N → Tree N block → List (Scope N)
-  blocks_in k own (has_body (declares cs ts vs ps) statements) =
-      body_scope k (has_body (declares cs ts vs ps) statements) own
-      ∷ blocks_in_procedures (first_procedure_ordinal k (has_body (declares cs ts vs ps) statements)) ps
+  pub scopes_in_block : {N : Type 0} → ℕ → Scope N → Tree N block → List (Scope N)
+  scopes_in_block k own (forms_block (declares cs ts vs ps) statements) =
+      body_scope k (forms_block (declares cs ts vs ps) statements) own
+      ∷ scopes_in_procedures (first_procedure_ordinal k (forms_block (declares cs ts vs ps) statements)) ps
 
   -- returns the declarations of each block in a list of procedures, the first of which has ordinal `k`
-  pub blocks_in_procedures : {N : Type 0} → ℕ → Tree N (items procedure) → List (Scope N)
-  blocks_in_procedures k end = []
-  blocks_in_procedures k (more p rest) =
-      blocks_in_procedure (suc k) p ++ blocks_in_procedures (ordinal_after_procedure (suc k) p) rest
+  pub scopes_in_procedures : {N : Type 0} → ℕ → Tree N (items procedure) → List (Scope N)
+  scopes_in_procedures k end = []
+  scopes_in_procedures k (more p rest) =
+      scopes_in_procedure (suc k) p ++ scopes_in_procedures (ordinal_after_procedure (suc k) p) rest
 
   -- returns the declarations of each block in a procedure; the procedure has ordinal `k - 1`, so
   -- `k` is the first ordinal after its name
-  pub blocks_in_procedure : {N : Type 0} → ℕ → Tree N (item procedure) → List (Scope N)
-  blocks_in_procedure k (declares_procedure x fs b closing) =
-      blocks_in (ordinal_after_names k (formal_names (formal_sections fs)))
+  pub scopes_in_procedure : {N : Type 0} → ℕ → Tree N (item procedure) → List (Scope N)
+  scopes_in_procedure k (declares_procedure x fs b closing) =
+      scopes_in_block (ordinal_after_names k (formal_names (formal_sections fs)))
       (declare_names k (formal_names (formal_sections fs)) []) b
 
 -- returns whether one of the declarations `own` of a block has the ordinal `d`
@@ -58,7 +58,7 @@ another_has_name own d new = list_any (λ b. same_name b.0 new && not (b.1 == d)
 abbrev pub is_duplicate : Tree Name module_text → ℕ → Name → Bool
 is_duplicate m d new =
     list_any (λ own. declares_ordinal own d && another_has_name own d new)
-    (blocks_in predeclared_count [] (module_block m))
+    (scopes_in_block predeclared_count [] (module_block m))
 
 -- States that the name `new` is free for the declaration with ordinal `d`. No other declaration in the block that
 -- declares `d` has this name, and renaming `d` to `new` doesn't change the binding of any occurrence.

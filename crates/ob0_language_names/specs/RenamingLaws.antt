@@ -6,16 +6,16 @@ use Rattle.ob0_tree.specs.Tree.{Tree, module_text}
 use Rattle.ob0_language_names.specs.Names.{Name}
 use Rattle.ob0_language_names.specs.Occurrences.{Free, first_name_conflict}
 use Rattle.ob0_language_names.specs.Scopes.{renamed}
-use Rattle.ob0_language_names.specs.DeclaredOnce.{declared_once}
+use Rattle.ob0_language_names.specs.ConsistentNames.{has_consistent_names}
 
--- States that renaming a declaration to a free name keeps `declared_once` true: no name is declared
+-- States that renaming a declaration to a free name keeps `has_consistent_names` true: no name is declared
 -- twice in a block or record, and the closing names are right.
-abbrev pub FreeRenamingKeepsDeclaredOnce : Type 0
-FreeRenamingKeepsDeclaredOnce =
+abbrev pub FreeRenamingKeepsConsistentNames : Type 0
+FreeRenamingKeepsConsistentNames =
     (m : Tree Name module_text) (d : ℕ) (new : Name)
     → Free m d new
-    → IsTrue (declared_once m)
-    → IsTrue (declared_once (renamed m d new))
+    → IsTrue (has_consistent_names m)
+    → IsTrue (has_consistent_names (renamed m d new))
 
 -- States that a new name for a declaration has no conflict exactly if it is free.
 abbrev pub FreeMeansNoConflict : Type 0

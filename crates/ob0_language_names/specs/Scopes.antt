@@ -1,7 +1,7 @@
 -- Scopes: the declaration that each name is bound to, and trees in which labels replace the names.
 -- Rule: docs/LANGUAGE.md, Scopes 1 to 6.
 use Rattle.std.specs.Prelude.{ℕ, suc, Bool, true, false, List, [], ◌∷◌, map, if◌then◌else◌, ◌==◌, Some, None, Option}
-use Rattle.ob0_tree.specs.Tree.{Sort, Tree, block, constant, constants, declares, declares_constant, declares_constants, declares_procedure, declares_type, declares_types, declares_variable, declares_variables, end, formals, further_name, further_section, has_body, is_module, item, items, listed, maybe, module_text, more, names, no_formals, none, one, procedure, section, some_formals, then_name, then_section, type_name, type_names, value_section, variable, variable_section, variables}
+use Rattle.ob0_tree.specs.Tree.{Sort, Tree, block, constant, constants, declares, declares_constant, declares_constants, declares_procedure, declares_type, declares_types, declares_variable, declares_variables, end, formals, further_name, further_section, forms_block, is_module, item, items, listed, maybe, module_text, more, names, no_formals, none, one, procedure, section, some_formals, then_name, then_section, type_definition, type_definitions, value_section, variable, variable_section, variables}
 use Rattle.ob0_language_names.specs.Mapping.{map_names}
 use Rattle.ob0_language_names.specs.Names.{Label, Name, Naming, naming_by_spelling, as_written, declared}
 use Rattle.ob0_language_names.specs.Parts.{block_constants, block_procedures, block_types, block_variables, constant_names, formal_names, formal_sections, declared_type_names, names_in_list, procedure_name, section_constants, section_names, section_types, section_variables, variable_names}
@@ -42,7 +42,7 @@ ordinal_after_names k (x ∷ xs) = ordinal_after_names (suc k) xs
 abbrev mutual
   -- returns the first ordinal after a block whose first declaration has ordinal `k`
   pub ordinal_after_block : {N : Type 0} → ℕ → Tree N block → ℕ
-  ordinal_after_block k (has_body (declares cs ts vs ps) statements) =
+  ordinal_after_block k (forms_block (declares cs ts vs ps) statements) =
       ordinal_after_procedures (ordinal_after_names (ordinal_after_names
       (ordinal_after_names k (constant_names (section_constants cs))) (declared_type_names (section_types ts)))
       (variable_names (section_variables vs))) ps
@@ -119,8 +119,8 @@ abbrev pub relabel_types : {N M : Type 0}
     → Labelling N M
     → Scope N
     → ℕ
-    → Tree N (items type_name)
-    → Tree M (items type_name)
+    → Tree N (items type_definition)
+    → Tree M (items type_definition)
 relabel_types naming label scope k end = end
 relabel_types naming label scope k (more (declares_type x t) ds) =
     more (declares_type (label (Some k) x) (relabel_uses naming label scope t))
@@ -203,8 +203,8 @@ abbrev pub relabel_type_section : {N M : Type 0}
     → Labelling N M
     → Scope N
     → ℕ
-    → Tree N (maybe type_names)
-    → Tree M (maybe type_names)
+    → Tree N (maybe type_definitions)
+    → Tree M (maybe type_definitions)
 relabel_type_section naming label scope k none = none
 relabel_type_section naming label scope k (one (declares_types ts)) =
     one (declares_types (relabel_types naming label scope k ts))
@@ -278,19 +278,19 @@ abbrev mutual
       → ℕ
       → Tree N block
       → Tree M block
-  relabel_block naming label scope k (has_body (declares cs ts vs ps) statements) =
-      has_body
+  relabel_block naming label scope k (forms_block (declares cs ts vs ps) statements) =
+      forms_block
       (declares (relabel_constant_section naming label scope k cs)
       (relabel_type_section naming label
-      (types_scope k (has_body (declares cs ts vs ps) statements) scope)
-      (first_type_ordinal k (has_body (declares cs ts vs ps) statements)) ts)
+      (types_scope k (forms_block (declares cs ts vs ps) statements) scope)
+      (first_type_ordinal k (forms_block (declares cs ts vs ps) statements)) ts)
       (relabel_variable_section naming label
-      (variables_scope k (has_body (declares cs ts vs ps) statements) scope)
-      (first_variable_ordinal k (has_body (declares cs ts vs ps) statements)) vs)
+      (variables_scope k (forms_block (declares cs ts vs ps) statements) scope)
+      (first_variable_ordinal k (forms_block (declares cs ts vs ps) statements)) vs)
       (relabel_procedures naming label
-      (procedures_scope k (has_body (declares cs ts vs ps) statements) scope)
-      (first_procedure_ordinal k (has_body (declares cs ts vs ps) statements)) ps))
-      (relabel_uses naming label (body_scope k (has_body (declares cs ts vs ps) statements) scope)
+      (procedures_scope k (forms_block (declares cs ts vs ps) statements) scope)
+      (first_procedure_ordinal k (forms_block (declares cs ts vs ps) statements)) ps))
+      (relabel_uses naming label (body_scope k (forms_block (declares cs ts vs ps) statements) scope)
       statements)
 
   -- returns procedures with labels instead of names; the first procedure has ordinal `k`, and each procedure is visible

@@ -1,22 +1,22 @@
 -- A module has the same run as its numbered tree.
 use Rattle.std.proofs.Common.{◌≡◌, ℕ, zero, suc, ◌+◌, true, false, List, [], ◌∷◌, ◌++◌, map, length, ℤ, Some, None, Option, option_map, option_and_then, sym, refl, ap, ◌∙◌, subst, subst₂, le_refl, lit<}
-use Rattle.ob0_tree.specs.Tree.{Tree, begins, block, body, constant, declares, declares_constant, declares_procedure, declares_type, declares_variable, end, formals, further_section, has_body, is_module, item, items, maybe, module_text, more, none, one, procedure, section, then_section, type_name, value_section, variable, variable_section}
+use Rattle.ob0_tree.specs.Tree.{Tree, begins, block, body, constant, declares, declares_constant, declares_procedure, declares_type, declares_variable, end, formals, further_section, forms_block, is_module, item, items, maybe, module_text, more, none, one, procedure, section, then_section, type_definition, value_section, variable, variable_section}
 use Rattle.ob0_language_names.specs.Mapping.{map_names}
 use Rattle.ob0_language_names.specs.Names.{Label, Naming, naming_by_label, declared}
 use Rattle.ob0_language_names.specs.Parts.{block_statements, constant_names, formal_names, formal_sections, declared_type_names, names_in_list, procedure_formals, procedure_name, section_constants, section_names, section_types, section_variables, variable_names}
 use Rattle.ob0_language_names.specs.Scopes.{Labelling, Scope, ordinal_after_block, ordinal_after_names, ordinal_after_procedure, ordinal_after_procedures, label_from_ordinal, body_scope, declare_names, declare_procedure_names, first_procedure_ordinal, first_type_ordinal, first_variable_ordinal, label_names, label_of, predeclared_scope, procedures_scope, relabel_block, relabel_constants, relabel_formals, relabel_procedure, relabel_procedures, relabel_section, relabel_sections, relabel_type_section, relabel_types, relabel_uses, relabel_variable_section, relabel_variables, relabel_module, types_scope, variables_scope}
 use Rattle.ob0_language_names.proofs.Ordinals.{ordinal_after_names-append, declare_names-append, le-ordinal_after_procedure}
 use Rattle.ob0_language_names.proofs.Relabelled.{constants-section, formals-section, names-relabel, types-section, variables-section}
-use Rattle.ob0_language_types.specs.Declarations.{constructors_before_variables, constructor_after_variables, declare_constants, declare_first, declare_types, formals_constructor_count, procedure_constructor_count, types_constructor_count, variables_constructor_count}
+use Rattle.ob0_language_types.specs.Declarations.{constructors_before_variables, constructors_before_procedures, declare_constants, declare_constants_and_types, declare_types, formals_constructor_count, procedure_constructor_count, types_constructor_count, variables_constructor_count}
 use Rattle.ob0_language_types.specs.Environments.{meanings, newest_object}
-use Rattle.ob0_language_types.specs.Expressions.{Object, a_constant, a_procedure, a_standard, a_type, a_variable, reads, writes, writes_line}
-use Rattle.ob0_language_types.specs.Typing.{constant_of, constant_value, constructor_count, denoted, type_of_name}
-use Rattle.ob0_language_values.specs.Values.{Place, Store, Value, boolean_shape, initial, integer_shape, truth}
+use Rattle.ob0_language_types.specs.Expressions.{Object, a_constant, a_procedure, a_standard, a_type, a_variable, read_procedure, write_procedure, write_line_procedure}
+use Rattle.ob0_language_types.specs.Typing.{constant_of, constant_value, constructor_count, denoted_type, type_of_name}
+use Rattle.ob0_language_values.specs.Values.{Place, Store, Value, boolean_shape, initial_value, integer_shape, truth}
 use Rattle.ob0_language_types.specs.WellTyped.{Mode, by_place, by_value, section_mode}
 use Rattle.ob0_language_types.proofs.Agreeing.{Agree, HoldsOf, agree-map, agree-then, agree-value}
 use Rattle.ob0_language_types.proofs.Constructors.{formals_constructor_count-relabel, procedure_constructor_count-relabel, types_constructor_count-relabel, variables_constructor_count-relabel}
-use Rattle.ob0_language_types.proofs.TypeNaturality.{constant_value-map, constructor_count-map, denoted-map}
-use Rattle.ob0_language_runs.specs.Runs.{Activation, Argument, CallFunction, ProcedureText, Frame, Parameter, Progress, State, activate, allocate, bind_parameter, bind_parameters, call, declare_block, declare_procedures, declare_variables, execute_all, execute_body, run_result, formal_modes, continue_in_frame, parameters, statement_object, place_argument, run_over, statement_meanings, value_argument, declare_procedures_in_frame}
+use Rattle.ob0_language_types.proofs.TypeNaturality.{constant_value-map, constructor_count-map, denoted_type-map}
+use Rattle.ob0_language_runs.specs.Runs.{Activation, Argument, CallFunction, ProcedureText, Frame, Parameter, Progress, State, activate, allocate, bind_parameter, bind_parameters, call, declare_block, declare_procedures, declare_variables, execute_all, execute_body, run_result, formal_modes, continue_in_frame, parameters, statement_object, place_argument, run_with_naming, statement_meanings, value_argument, declare_procedures_in_frame}
 use Rattle.ob0_language_runs.proofs.Noted.{Below, Below-from, Noted, OwnName, by_name, by_name-from, by_ordinal, by_ordinal-from, noted_from, numbered_code, numbered_object, scope_of}
 use Rattle.ob0_language_runs.proofs.RunNaturality.{execute_all-map}
 
@@ -109,7 +109,7 @@ constants_declared naming k noted below (more (declares_constant x e) cs) =
     (constant_value-map (label_at_token naming noted) (label_from_ordinal naming None) (meanings naming_by_label (by_ordinal naming noted)) (meanings naming (by_name noted)) e (constants-agree naming k noted below) (λ x. refl))
     (λ v. constants_declared naming (suc k) (record { name = x; ordinal = k; object = a_constant v } ∷ noted) (le_refl (suc k), tt, below) cs)
 
-pub types_declared : {N : Type 0} (naming : Naming N) (j k : ℕ) (noted : Noted N) → Below k noted → (ds : Tree N (items type_name))
+pub types_declared : {N : Type 0} (naming : Naming N) (j k : ℕ) (noted : Noted N) → Below k noted → (ds : Tree N (items type_definition))
     → Agree by_name (by_ordinal naming) (Within (ordinal_after_names k (declared_type_names ds)) (declare_names k (declared_type_names ds) (scope_of noted)))
     (declare_types naming (by_name noted) j ds) (declare_types naming_by_label (by_ordinal naming noted) j (relabel_types naming (label_from_ordinal naming) (scope_of noted) k ds))
 unfolding declare_types
@@ -119,8 +119,8 @@ types_declared naming j k noted below (more (declares_type x u) ds) =
     (agree-value by_name (by_ordinal naming) (Within (ordinal_after_names (suc k) (declared_type_names ds)) (declare_names (suc k) (declared_type_names ds) ((x, k) ∷ scope_of noted)))
     (λ s. declare_types naming ((x, a_type s) ∷ by_name noted) (j + constructor_count u) ds)
     (λ s. declare_types naming_by_label ((declared k, a_type s) ∷ by_ordinal naming noted) (j + constructor_count u) (relabel_types naming (label_from_ordinal naming) ((x, k) ∷ scope_of noted) (suc k) ds))
-    (denoted (meanings naming (by_name noted)) j u) (denoted (meanings naming_by_label (by_ordinal naming noted)) j (relabel_uses naming (label_from_ordinal naming) (scope_of noted) u))
-    (denoted-map (label_at_token naming noted) (label_from_ordinal naming None) (meanings naming_by_label (by_ordinal naming noted)) (meanings naming (by_name noted)) (constants-agree naming k noted below) (types-agree naming k noted below) (λ x. refl) j u)
+    (denoted_type (meanings naming (by_name noted)) j u) (denoted_type (meanings naming_by_label (by_ordinal naming noted)) j (relabel_uses naming (label_from_ordinal naming) (scope_of noted) u))
+    (denoted_type-map (label_at_token naming noted) (label_from_ordinal naming None) (meanings naming_by_label (by_ordinal naming noted)) (meanings naming (by_name noted)) (constants-agree naming k noted below) (types-agree naming k noted below) (λ x. refl) j u)
     (λ s. types_declared naming (j + constructor_count u) (suc k) (record { name = x; ordinal = k; object = a_type s } ∷ noted) (le_refl (suc k), tt, below) ds))
 
 -- a frame whose bindings also have the ordinals of their declarations
@@ -178,13 +178,13 @@ variables_declared naming j k f below end = (Some f, refl, refl, (refl, below))
 variables_declared naming j k f below (more (declares_variable ns u) gs) =
     rw (constructor_count-map (label_of naming (label_from_ordinal naming) (scope_of f.noted)) (label_from_ordinal naming None) u, names-relabel (label_from_ordinal naming) k ns)
     (agree-value frame_by_name (frame_by_ordinal naming) (FrameWithin (ordinal_after_names k (names_in_list ns ++ variable_names gs)) (declare_names k (names_in_list ns ++ variable_names gs) (scope_of f.noted)))
-    (λ s. declare_variables naming (j + constructor_count u) gs (allocate (names_in_list ns) (initial s) (frame_by_name f)))
-    (λ s. declare_variables naming_by_label (j + constructor_count u) (relabel_variables naming (label_from_ordinal naming) (declare_names k (names_in_list ns) (scope_of f.noted)) (ordinal_after_names k (names_in_list ns)) gs) (allocate (label_names (label_from_ordinal naming) k (names_in_list ns)) (initial s) (frame_by_ordinal naming f)))
-    (denoted (meanings naming (by_name f.noted)) j u) (denoted (meanings naming_by_label (by_ordinal naming f.noted)) j (relabel_uses naming (label_from_ordinal naming) (scope_of f.noted) u))
-    (denoted-map (label_at_token naming f.noted) (label_from_ordinal naming None) (meanings naming_by_label (by_ordinal naming f.noted)) (meanings naming (by_name f.noted)) (constants-agree naming k f.noted below) (types-agree naming k f.noted below) (λ x. refl) j u)
+    (λ s. declare_variables naming (j + constructor_count u) gs (allocate (names_in_list ns) (initial_value s) (frame_by_name f)))
+    (λ s. declare_variables naming_by_label (j + constructor_count u) (relabel_variables naming (label_from_ordinal naming) (declare_names k (names_in_list ns) (scope_of f.noted)) (ordinal_after_names k (names_in_list ns)) gs) (allocate (label_names (label_from_ordinal naming) k (names_in_list ns)) (initial_value s) (frame_by_ordinal naming f)))
+    (denoted_type (meanings naming (by_name f.noted)) j u) (denoted_type (meanings naming_by_label (by_ordinal naming f.noted)) j (relabel_uses naming (label_from_ordinal naming) (scope_of f.noted) u))
+    (denoted_type-map (label_at_token naming f.noted) (label_from_ordinal naming None) (meanings naming_by_label (by_ordinal naming f.noted)) (meanings naming (by_name f.noted)) (constants-agree naming k f.noted below) (types-agree naming k f.noted below) (λ x. refl) j u)
     (λ s. moved (λ n scope inner i a b. Agree frame_by_name (frame_by_ordinal naming) (FrameWithin n scope) (declare_variables naming i gs a) (declare_variables naming_by_label i (relabel_variables naming (label_from_ordinal naming) inner (ordinal_after_names k (names_in_list ns)) gs) b))
-    naming k (names_in_list ns) (variable_names gs) (initial s) f below (j + constructor_count u)
-    (variables_declared naming (j + constructor_count u) (ordinal_after_names k (names_in_list ns)) (noted_variables k (names_in_list ns) (initial s) f) (noted_variables-within k (names_in_list ns) (initial s) f below).1 gs)))
+    naming k (names_in_list ns) (variable_names gs) (initial_value s) f below (j + constructor_count u)
+    (variables_declared naming (j + constructor_count u) (ordinal_after_names k (names_in_list ns)) (noted_variables k (names_in_list ns) (initial_value s) f) (noted_variables-within k (names_in_list ns) (initial_value s) f below).1 gs)))
 
 -- binds procedures in a noted environment, each with its ordinal and the ordinal of its first ARRAY or RECORD
 
@@ -218,12 +218,12 @@ procedures-within j k (more p rest) noted below =
 
 pub firsts_declared : {N : Type 0} (naming : Naming N) (j k : ℕ) (noted : Noted N) → Below k noted → (b : Tree N block)
     → Agree by_name (by_ordinal naming) (Within (first_variable_ordinal k b) (variables_scope k b (scope_of noted)))
-    (declare_first naming (by_name noted) j b) (declare_first naming_by_label (by_ordinal naming noted) j (relabel_block naming (label_from_ordinal naming) (scope_of noted) k b))
-unfolding declare_first
-firsts_declared {N} naming j k noted below (has_body (declares cs ts vs ps) statements) =
-    let b : Tree N block = has_body (declares cs ts vs ps) statements in
+    (declare_constants_and_types naming (by_name noted) j b) (declare_constants_and_types naming_by_label (by_ordinal naming noted) j (relabel_block naming (label_from_ordinal naming) (scope_of noted) k b))
+unfolding declare_constants_and_types
+firsts_declared {N} naming j k noted below (forms_block (declares cs ts vs ps) statements) =
+    let b : Tree N block = forms_block (declares cs ts vs ps) statements in
     subst₂ (λ u v. Agree by_name (by_ordinal naming) (Within (first_variable_ordinal k b) (variables_scope k b (scope_of noted)))
-    (declare_first naming (by_name noted) j b) (option_and_then (λ env. declare_types naming_by_label env j v) (declare_constants naming_by_label (by_ordinal naming noted) u)))
+    (declare_constants_and_types naming (by_name noted) j b) (option_and_then (λ env. declare_types naming_by_label env j v) (declare_constants naming_by_label (by_ordinal naming noted) u)))
     (sym (constants-section naming (label_from_ordinal naming) (scope_of noted) k cs))
     (sym (types-section naming (label_from_ordinal naming) (types_scope k b (scope_of noted)) (first_type_ordinal k b) ts))
     (agree-then by_name (by_ordinal naming) (Within (first_type_ordinal k b) (types_scope k b (scope_of noted))) by_name (by_ordinal naming) (Within (first_variable_ordinal k b) (variables_scope k b (scope_of noted)))
@@ -260,35 +260,35 @@ pub block_declared : {N : Type 0} (naming : Naming N) (j k : ℕ) (f : NotedFram
     → Agree frame_by_name (frame_by_ordinal naming) (FrameWithin (ordinal_after_block k b) (body_scope k b (scope_of f.noted)))
     (declare_block naming j b (frame_by_name f)) (declare_block naming_by_label j (relabel_block naming (label_from_ordinal naming) (scope_of f.noted) k b) (frame_by_ordinal naming f))
 unfolding declare_block
-block_declared {N} naming j k f below (has_body (declares cs ts vs ps) statements) =
-    let b : Tree N block = has_body (declares cs ts vs ps) statements in
+block_declared {N} naming j k f below (forms_block (declares cs ts vs ps) statements) =
+    let b : Tree N block = forms_block (declares cs ts vs ps) statements in
     let scope : Scope N = scope_of f.noted in
     let ts-same : types_constructor_count (section_types (relabel_type_section naming (label_from_ordinal naming) (types_scope k b scope) (first_type_ordinal k b) ts)) ≡ types_constructor_count (section_types ts) =
     ap types_constructor_count (types-section naming (label_from_ordinal naming) (types_scope k b scope) (first_type_ordinal k b) ts) ∙ types_constructor_count-relabel naming (label_from_ordinal naming) (types_scope k b scope) (first_type_ordinal k b) (section_types ts) in
     let vs-same : variables_constructor_count (section_variables (relabel_variable_section naming (label_from_ordinal naming) (variables_scope k b scope) (first_variable_ordinal k b) vs)) ≡ variables_constructor_count (section_variables vs) =
     ap variables_constructor_count (variables-section naming (label_from_ordinal naming) (variables_scope k b scope) (first_variable_ordinal k b) vs) ∙ variables_constructor_count-relabel naming (label_from_ordinal naming) (variables_scope k b scope) (first_variable_ordinal k b) (section_variables vs) in
     agree-then by_name (by_ordinal naming) (Within (first_variable_ordinal k b) (variables_scope k b scope)) frame_by_name (frame_by_ordinal naming) (FrameWithin (ordinal_after_block k b) (body_scope k b scope))
-    (λ env. option_map (declare_procedures_in_frame (constructor_after_variables j b) ps) (declare_variables naming (constructors_before_variables j b) (section_variables vs) record { env = env; store = f.store }))
-    (λ env. option_map (declare_procedures_in_frame (constructor_after_variables j (relabel_block naming (label_from_ordinal naming) scope k b)) (relabel_procedures naming (label_from_ordinal naming) (procedures_scope k b scope) (first_procedure_ordinal k b) ps))
+    (λ env. option_map (declare_procedures_in_frame (constructors_before_procedures j b) ps) (declare_variables naming (constructors_before_variables j b) (section_variables vs) record { env = env; store = f.store }))
+    (λ env. option_map (declare_procedures_in_frame (constructors_before_procedures j (relabel_block naming (label_from_ordinal naming) scope k b)) (relabel_procedures naming (label_from_ordinal naming) (procedures_scope k b scope) (first_procedure_ordinal k b) ps))
     (declare_variables naming_by_label (constructors_before_variables j (relabel_block naming (label_from_ordinal naming) scope k b)) (section_variables (relabel_variable_section naming (label_from_ordinal naming) (variables_scope k b scope) (first_variable_ordinal k b) vs)) record { env = env; store = f.store }))
-    (declare_first naming (by_name f.noted) j b) (declare_first naming_by_label (by_ordinal naming f.noted) j (relabel_block naming (label_from_ordinal naming) scope k b))
+    (declare_constants_and_types naming (by_name f.noted) j b) (declare_constants_and_types naming_by_label (by_ordinal naming f.noted) j (relabel_block naming (label_from_ordinal naming) scope k b))
     (firsts_declared naming j k f.noted below b)
     (λ inner within. subst (λ s. Agree frame_by_name (frame_by_ordinal naming) (FrameWithin (ordinal_after_block k b) (declare_procedure_names (first_procedure_ordinal k b) ps (declare_names (first_variable_ordinal k b) (variable_names (section_variables vs)) s)))
-    (option_map (declare_procedures_in_frame (constructor_after_variables j b) ps) (declare_variables naming (constructors_before_variables j b) (section_variables vs) record { env = by_name inner; store = f.store }))
-    (option_map (declare_procedures_in_frame (constructor_after_variables j (relabel_block naming (label_from_ordinal naming) scope k b)) (relabel_procedures naming (label_from_ordinal naming) (declare_names (first_variable_ordinal k b) (variable_names (section_variables vs)) s) (first_procedure_ordinal k b) ps))
+    (option_map (declare_procedures_in_frame (constructors_before_procedures j b) ps) (declare_variables naming (constructors_before_variables j b) (section_variables vs) record { env = by_name inner; store = f.store }))
+    (option_map (declare_procedures_in_frame (constructors_before_procedures j (relabel_block naming (label_from_ordinal naming) scope k b)) (relabel_procedures naming (label_from_ordinal naming) (declare_names (first_variable_ordinal k b) (variable_names (section_variables vs)) s) (first_procedure_ordinal k b) ps))
     (declare_variables naming_by_label (constructors_before_variables j (relabel_block naming (label_from_ordinal naming) scope k b)) (section_variables (relabel_variable_section naming (label_from_ordinal naming) s (first_variable_ordinal k b) vs)) record { env = by_ordinal naming inner; store = f.store })))
     within.0
     (subst₂ (λ u v. Agree frame_by_name (frame_by_ordinal naming) (FrameWithin (ordinal_after_block k b) (declare_procedure_names (first_procedure_ordinal k b) ps (declare_names (first_variable_ordinal k b) (variable_names (section_variables vs)) (scope_of inner))))
-    (option_map (declare_procedures_in_frame (constructor_after_variables j b) ps) (declare_variables naming (constructors_before_variables j b) (section_variables vs) record { env = by_name inner; store = f.store }))
+    (option_map (declare_procedures_in_frame (constructors_before_procedures j b) ps) (declare_variables naming (constructors_before_variables j b) (section_variables vs) record { env = by_name inner; store = f.store }))
     (option_map (declare_procedures_in_frame (j + u + v) (relabel_procedures naming (label_from_ordinal naming) (declare_names (first_variable_ordinal k b) (variable_names (section_variables vs)) (scope_of inner)) (first_procedure_ordinal k b) ps))
     (declare_variables naming_by_label (j + u) (section_variables (relabel_variable_section naming (label_from_ordinal naming) (scope_of inner) (first_variable_ordinal k b) vs)) record { env = by_ordinal naming inner; store = f.store })))
     (sym ts-same) (sym vs-same)
     (subst (λ gs. Agree frame_by_name (frame_by_ordinal naming) (FrameWithin (ordinal_after_block k b) (declare_procedure_names (first_procedure_ordinal k b) ps (declare_names (first_variable_ordinal k b) (variable_names (section_variables vs)) (scope_of inner))))
-    (option_map (declare_procedures_in_frame (constructor_after_variables j b) ps) (declare_variables naming (constructors_before_variables j b) (section_variables vs) record { env = by_name inner; store = f.store }))
-    (option_map (declare_procedures_in_frame (constructor_after_variables j b) (relabel_procedures naming (label_from_ordinal naming) (declare_names (first_variable_ordinal k b) (variable_names (section_variables vs)) (scope_of inner)) (first_procedure_ordinal k b) ps))
+    (option_map (declare_procedures_in_frame (constructors_before_procedures j b) ps) (declare_variables naming (constructors_before_variables j b) (section_variables vs) record { env = by_name inner; store = f.store }))
+    (option_map (declare_procedures_in_frame (constructors_before_procedures j b) (relabel_procedures naming (label_from_ordinal naming) (declare_names (first_variable_ordinal k b) (variable_names (section_variables vs)) (scope_of inner)) (first_procedure_ordinal k b) ps))
     (declare_variables naming_by_label (constructors_before_variables j b) gs record { env = by_ordinal naming inner; store = f.store })))
     (sym (variables-section naming (label_from_ordinal naming) (scope_of inner) (first_variable_ordinal k b) vs))
-    (rest_declared naming (constructors_before_variables j b) (constructor_after_variables j b) (first_variable_ordinal k b) record { noted = inner; store = f.store } within.1 (section_variables vs) ps))))
+    (rest_declared naming (constructors_before_variables j b) (constructors_before_procedures j b) (first_variable_ordinal k b) record { noted = inner; store = f.store } within.1 (section_variables vs) ps))))
 
 -- `parameter_names` returns the names of parameters. `label_parameters` returns the parameters with labels instead of
 -- names.
@@ -375,7 +375,7 @@ CallsAgree {N} naming there here =
     (n : ℕ) (noted : Noted N) → Below n noted → (x : N) → there (by_ordinal naming noted) (label_at_token naming noted x) ≡ here (by_name noted) x
 
 pub statements-relabel : {N : Type 0} (naming : Naming N) (scope : Scope N) (k : ℕ) (b : Tree N block) → block_statements (relabel_block naming (label_from_ordinal naming) scope k b) ≡ relabel_uses naming (label_from_ordinal naming) (body_scope k b scope) (block_statements b)
-statements-relabel naming scope k (has_body (declares cs ts vs ps) statements) = refl
+statements-relabel naming scope k (forms_block (declares cs ts vs ps) statements) = refl
 
 -- The statements of a declared block do the same by name and by ordinal, in its frame.
 pub block-agrees : {N : Type 0} (naming : Naming N) (there : Activation Label → CallFunction Label) (here : Activation N → CallFunction N) (known : CallsAgree naming there here) (t k : ℕ) (scope : Scope N) (b : Tree N block) (f : NotedFrame N)
@@ -448,7 +448,7 @@ calls-agree naming (suc c) t n noted below x = λ i args s.
 -- the noted environment of the outermost block, which has the predeclared names
 abbrev pub noted_outermost : {N : Type 0} → Naming N → Noted N
 noted_outermost naming =
-    record { name = naming.predeclared 6; ordinal = 6; object = a_standard writes_line } ∷ record { name = naming.predeclared 5; ordinal = 5; object = a_standard writes } ∷ record { name = naming.predeclared 4; ordinal = 4; object = a_standard reads }
+    record { name = naming.predeclared 6; ordinal = 6; object = a_standard write_line_procedure } ∷ record { name = naming.predeclared 5; ordinal = 5; object = a_standard write_procedure } ∷ record { name = naming.predeclared 4; ordinal = 4; object = a_standard read_procedure }
     ∷ record { name = naming.predeclared 3; ordinal = 3; object = a_constant (truth false) } ∷ record { name = naming.predeclared 2; ordinal = 2; object = a_constant (truth true) }
     ∷ record { name = naming.predeclared 1; ordinal = 1; object = a_type boolean_shape } ∷ record { name = naming.predeclared 0; ordinal = 0; object = a_type integer_shape } ∷ []
 
@@ -457,8 +457,8 @@ outermost-below naming =
     (lit< tt, tt, (lit< tt, tt, (lit< tt, tt, (lit< tt, tt, (lit< tt, tt, (lit< tt, tt, (lit< tt, tt, tt)))))))
 
 -- A tree has the same run as its numbered tree.
-pub run-relabel : {N : Type 0} (naming : Naming N) (m : Tree N module_text) (input : List ℤ) (c t : ℕ) → run_over naming_by_label (relabel_module naming (label_from_ordinal naming) m) input c t ≡ run_over naming m input c t
-unfolding run_over
+pub run-relabel : {N : Type 0} (naming : Naming N) (m : Tree N module_text) (input : List ℤ) (c t : ℕ) → run_with_naming naming_by_label (relabel_module naming (label_from_ordinal naming) m) input c t ≡ run_with_naming naming m input c t
+unfolding run_with_naming
 run-relabel naming (is_module x b closing) input c t =
     ap run_result (continue_in_frame-agrees naming (FrameWithin (ordinal_after_block 7 b) (body_scope 7 b (predeclared_scope naming))) record { store = []; input = input; output = [] } _ _ _ _
     (block_declared naming 0 7 record { noted = noted_outermost naming; store = [] } (outermost-below naming) b)

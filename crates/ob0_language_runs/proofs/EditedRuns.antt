@@ -1,17 +1,17 @@
 -- An edited module has the same run as the original module.
 use Rattle.std.proofs.Common.{List, None, Option, Some, [], ap, arith, false, if◌then◌else◌, le_refl, length, map, option_and_then, option_map, refl, subst, subst₂, suc, sym, true, zero, ℕ, ℤ, ⊎_elim, ◌++◌, ◌+◌, ◌<◌, ◌∙◌, ◌∷◌, ◌≡◌, ◌≤◌}
-use Rattle.ob0_tree.specs.Tree.{Tree, begins, block, body, declares, declares_procedure, declares_variable, end, formals, further_section, has_body, is_module, item, items, maybe, module_text, more, none, occurrences, one, procedure, sequence, then_section, value_section, variable, variable_section}
+use Rattle.ob0_tree.specs.Tree.{Tree, begins, block, body, declares, declares_procedure, declares_variable, end, formals, further_section, forms_block, is_module, item, items, maybe, module_text, more, none, occurrences, one, procedure, sequence, then_section, value_section, variable, variable_section}
 use Rattle.ob0_language_names.specs.Names.{Name, naming_by_spelling, same_name}
 use Rattle.ob0_language_names.specs.Parts.{block_statements, constant_names, formal_names, formal_sections, declared_type_names, names_in_list, procedure_formals, procedure_name, section_constants, section_types, section_variables, variable_names}
 use Rattle.ob0_language_names.proofs.EditedTrees.{Edit, SameAt, edited, edited_block, edited_procedure, edited_procedures, inline-nothing, leaf, leaving_out, left-module, map_names-same, writing, written-module}
 use Rattle.ob0_language_names.proofs.Ordinals.{ordinal_after_names-append, le-ordinal_after_names, le-ordinal_after_procedure}
 use Rattle.ob0_language_names.proofs.Places.{EachBlock, EachProcedure, EachVariable, OneProcedure}
-use Rattle.ob0_language_values.specs.Values.{Place, Store, Stuck, Value, initial, truth}
+use Rattle.ob0_language_values.specs.Values.{Place, Store, Stuck, Value, initial_value, truth}
 use Rattle.ob0_language_types.specs.ConstantValues.{ConstantEnvironment, non_constant, value_in_block, value_in_procedure, value_in_procedures}
-use Rattle.ob0_language_types.specs.Declarations.{constructors_before_variables, constructor_after_variables, declare_constants, declare_first, formals_constructor_count, procedure_constructor_count, types_constructor_count, variables_constructor_count}
+use Rattle.ob0_language_types.specs.Declarations.{constructors_before_variables, constructors_before_procedures, declare_constants, declare_constants_and_types, formals_constructor_count, procedure_constructor_count, types_constructor_count, variables_constructor_count}
 use Rattle.ob0_language_types.specs.Environments.{meanings}
 use Rattle.ob0_language_types.specs.Expressions.{Meanings, Object, a_constant, a_procedure, a_standard, a_type, a_variable}
-use Rattle.ob0_language_types.specs.Typing.{constructor_count, denoted}
+use Rattle.ob0_language_types.specs.Typing.{constructor_count, denoted_type}
 use Rattle.ob0_language_types.specs.WellTyped.{Mode, bind_names, by_place, by_value}
 use Rattle.ob0_language_types.proofs.Agreeing.{Agree, HoldsOf, agree-map, agree-then}
 use Rattle.ob0_language_types.proofs.DenotedInlined.{NamesConstant, constructor_count-inlined, uses-map}
@@ -20,11 +20,11 @@ use Rattle.ob0_language_types.proofs.EditedModules.{IsFitted, inlining_keeps_wel
 use Rattle.ob0_language_types.proofs.EditedParts.{agree-weaken, all-left, bind_all, body-has_value, edited-all, first-edited, formals-of, formals_constructor_count-leaf, bind_procedure-outside, left-join, left-then, mark_all, names_of, own-has_value, procedure_constructor_count-edited, procedures-has_value, read-all, rest-has_value, types-of, types-outside, types_constructor_count-leaf, variables-of, variables_constructor_count-leaf}
 use Rattle.ob0_language_types.proofs.EditedTypes.{procedures-below}
 use Rattle.ob0_language_types.proofs.Inlined.{IsConstantOf}
-use Rattle.ob0_language_types.proofs.Leaves.{AllStay, Here, Literal, denoted-leaf, edited-object_for, edited_meanings, none-used, read-object_for, read_meanings, seen-read, shown, uses-read}
+use Rattle.ob0_language_types.proofs.Leaves.{AllStay, Here, Literal, denoted_type-leaf, edited-object_for, edited_meanings, none-used, read-object_for, read_meanings, seen-read, shown, uses-read}
 use Rattle.ob0_language_types.proofs.Literals.{IsSeen, literal-has_value, some_inverse}
 use Rattle.ob0_language_types.proofs.Marks.{IsRight, Mark, Marks, OfProcedure, Sound, Sound-from, Stays, found, is_left, knowns, marks_from, not-left, object_as, object_of, read, read-from, read_edited, read_edited-from, scope_marked}
 use Rattle.ob0_language_runs.specs.EditLaws.{InliningKeepsTypingAndRuns, RemovingUnusedKeepsTypingAndRuns}
-use Rattle.ob0_language_runs.specs.Runs.{Activation, Argument, CallFunction, ProcedureText, Frame, Parameter, Progress, State, activate, allocate, bind_parameter, bind_parameters, call, declare_block, declare_procedures, declare_variables, execute_all, execute_body, run_result, formal_modes, continue_in_frame, parameters, statement_object, place_argument, run, run_over, statement_meanings, stopped, value_argument, declare_procedures_in_frame}
+use Rattle.ob0_language_runs.specs.Runs.{Activation, Argument, CallFunction, ProcedureText, Frame, Parameter, Progress, State, activate, allocate, bind_parameter, bind_parameters, call, declare_block, declare_procedures, declare_variables, execute_all, execute_body, run_result, formal_modes, continue_in_frame, parameters, statement_object, place_argument, run, run_with_naming, statement_meanings, stopped, value_argument, declare_procedures_in_frame}
 use Rattle.ob0_language_runs.proofs.ByOrdinal.{formal_names-parameters, parameter_names}
 use Rattle.ob0_language_runs.proofs.InlinedStatements.{execute_all-written}
 use Rattle.ob0_language_runs.proofs.RunNaturality.{execute_all-map}
@@ -197,14 +197,14 @@ variables-kept edit w lit i j k f s seven (more (declares_variable ns t) gs) her
     let joined : ordinal_after_names k (xs ++ ys) ≡ ordinal_after_names n ys = ordinal_after_names-append k xs ys in
     let last : n ≤ ordinal_after_names n ys = le-ordinal_after_names n ys in
     let Result : MarkedFrame → Type 0 = LeftFrame edit w (ordinal_after_names k (xs ++ ys)) (declare_names k (xs ++ ys) (scope_marked f.marks)) (Some (bind_names (xs ++ ys) non_constant (knowns f.marks))) in
-    subst (λ m. Agree frame_before (frame_after edit) Result (option_and_then (λ shape. declare_variables naming_by_spelling (i + constructor_count t) gs (allocate xs (initial shape) (frame_before f))) (denoted (read_meanings before f.marks) i t))
-    (option_and_then (λ shape. declare_variables naming_by_spelling (i + m) gs' (allocate xs (initial shape) (frame_after edit f))) (denoted (edited_meanings edit (after edit) f.marks) i (leaf edit j t))))
+    subst (λ m. Agree frame_before (frame_after edit) Result (option_and_then (λ shape. declare_variables naming_by_spelling (i + constructor_count t) gs (allocate xs (initial_value shape) (frame_before f))) (denoted_type (read_meanings before f.marks) i t))
+    (option_and_then (λ shape. declare_variables naming_by_spelling (i + m) gs' (allocate xs (initial_value shape) (frame_after edit f))) (denoted_type (edited_meanings edit (after edit) f.marks) i (leaf edit j t))))
     (sym (constructor_count-inlined edit.uses edit.literal j t))
-    (agree-known frame_before (frame_after edit) Result (λ shape. declare_variables naming_by_spelling (i + constructor_count t) gs (allocate xs (initial shape) (frame_before f))) (λ shape. declare_variables naming_by_spelling (i + constructor_count t) gs' (allocate xs (initial shape) (frame_after edit f)))
-    (denoted (read_meanings before f.marks) i t) (denoted (edited_meanings edit (after edit) f.marks) i (leaf edit j t)) (denoted-leaf edit w lit (IsText edit w) before (after edit) k f.marks s j i t here.0)
+    (agree-known frame_before (frame_after edit) Result (λ shape. declare_variables naming_by_spelling (i + constructor_count t) gs (allocate xs (initial_value shape) (frame_before f))) (λ shape. declare_variables naming_by_spelling (i + constructor_count t) gs' (allocate xs (initial_value shape) (frame_after edit f)))
+    (denoted_type (read_meanings before f.marks) i t) (denoted_type (edited_meanings edit (after edit) f.marks) i (leaf edit j t)) (denoted_type-leaf edit w lit (IsText edit w) before (after edit) k f.marks s j i t here.0)
     (λ shape known.
-    let inner : MarkedFrame = record { marks = mark_all k (places xs (initial shape) f.store) f.marks; store = stored xs (initial shape) f.store } in
-    let bound = allocated edit w k xs (initial shape) f s seven (λ l m. outside l (omega (arith, m, joined, last))) in
+    let inner : MarkedFrame = record { marks = mark_all k (places xs (initial_value shape) f.store) f.marks; store = stored xs (initial_value shape) f.store } in
+    let bound = allocated edit w k xs (initial_value shape) f s seven (λ l m. outside l (omega (arith, m, joined, last))) in
     subst₂ (λ a b. Agree frame_before (frame_after edit) Result (declare_variables naming_by_spelling (i + constructor_count t) gs a) (declare_variables naming_by_spelling (i + constructor_count t) gs' b)) (sym bound.1) (sym bound.2)
     (agree-weaken frame_before (frame_after edit) (LeftFrame edit w (ordinal_after_names n ys) (declare_names n ys (scope_marked inner.marks)) (Some (bind_names ys non_constant (knowns inner.marks)))) Result
     (declare_variables naming_by_spelling (i + constructor_count t) gs (frame_before inner)) (declare_variables naming_by_spelling (i + constructor_count t) gs' (frame_after edit inner))
@@ -270,8 +270,8 @@ pub block-kept : (edit : Edit) (w : Value) → Literal edit w → (i j k : ℕ) 
     → Agree frame_before (frame_after edit) (RightFrame edit w (ordinal_after_block k b) (body_scope k b (scope_marked f.marks)))
     (declare_block naming_by_spelling i b (frame_before f)) (declare_block naming_by_spelling i (edited_block edit j k b) (frame_after edit f))
 unfolding declare_block
-block-kept edit w lit i j k f s seven (has_body (declares cs ts vs ps) statements) here has_value =
-    let b : Tree Name block = has_body (declares cs ts vs ps) statements in
+block-kept edit w lit i j k f s seven (forms_block (declares cs ts vs ps) statements) here has_value =
+    let b : Tree Name block = forms_block (declares cs ts vs ps) statements in
     let jt : ℕ = j + length (occurrences cs) in
     let jv : ℕ = j + length (occurrences cs) + length (occurrences ts) in
     let jp : ℕ = j + length (occurrences cs) + length (occurrences ts) + length (occurrences vs) in
@@ -284,22 +284,22 @@ block-kept edit w lit i j k f s seven (has_body (declares cs ts vs ps) statement
     let Result : MarkedFrame → Type 0 = RightFrame edit w (ordinal_after_block k b) (body_scope k b (scope_marked f.marks)) in
     let there : ℕ → ℕ → Tree Name (items variable) → Activation Name → Option (Frame Name) = λ n m gs env. option_map (declare_procedures_in_frame (i + n + m) ps') (declare_variables naming_by_spelling (i + n) gs record { env = env; store = f.store }) in
     subst (λ gs. Agree frame_before (frame_after edit) Result (declare_block naming_by_spelling i b (frame_before f))
-    (option_and_then (there (types_constructor_count (section_types (leaf edit jt ts))) (variables_constructor_count (section_variables (leaf edit jv vs))) gs) (declare_first naming_by_spelling (read_edited edit (after edit) f.marks) i (edited_block edit j k b))))
+    (option_and_then (there (types_constructor_count (section_types (leaf edit jt ts))) (variables_constructor_count (section_variables (leaf edit jv vs))) gs) (declare_constants_and_types naming_by_spelling (read_edited edit (after edit) f.marks) i (edited_block edit j k b))))
     (sym (variables-of edit jv vs))
     (subst₂ (λ n m. Agree frame_before (frame_after edit) Result (declare_block naming_by_spelling i b (frame_before f))
-    (option_and_then (there n m (leaf edit jv (section_variables vs))) (declare_first naming_by_spelling (read_edited edit (after edit) f.marks) i (edited_block edit j k b))))
+    (option_and_then (there n m (leaf edit jv (section_variables vs))) (declare_constants_and_types naming_by_spelling (read_edited edit (after edit) f.marks) i (edited_block edit j k b))))
     (sym (ap types_constructor_count (types-of edit jt ts) ∙ types_constructor_count-leaf edit jt (section_types ts)))
     (sym (ap variables_constructor_count (variables-of edit jv vs) ∙ variables_constructor_count-leaf edit jv (section_variables vs)))
     (agree-then (read before) (read_edited edit (after edit)) Middle frame_before (frame_after edit) Result
-    (λ env. option_map (declare_procedures_in_frame (constructor_after_variables i b) ps) (declare_variables naming_by_spelling (constructors_before_variables i b) (section_variables vs) record { env = env; store = f.store }))
+    (λ env. option_map (declare_procedures_in_frame (constructors_before_procedures i b) ps) (declare_variables naming_by_spelling (constructors_before_variables i b) (section_variables vs) record { env = env; store = f.store }))
     (there (types_constructor_count (section_types ts)) (variables_constructor_count (section_variables vs)) (leaf edit jv (section_variables vs)))
-    (declare_first naming_by_spelling (read before f.marks) i b) (declare_first naming_by_spelling (read_edited edit (after edit) f.marks) i (edited_block edit j k b))
+    (declare_constants_and_types naming_by_spelling (read before f.marks) i b) (declare_constants_and_types naming_by_spelling (read_edited edit (after edit) f.marks) i (edited_block edit j k b))
     (first-edited edit w lit (IsText edit w) before (after edit) i j k f.marks s seven b here has_value)
     (λ inner left.
     let g : MarkedFrame = record { marks = inner; store = f.store } in
     agree-map frame_before (frame_after edit) (LeftFrame edit w (first_procedure_ordinal k b) (declare_names (first_variable_ordinal k b) (variable_names (section_variables vs)) (scope_marked inner)) (Some (bind_names (variable_names (section_variables vs)) non_constant (knowns inner))))
     frame_before (frame_after edit) Result
-    (declare_procedures_in_frame (constructor_after_variables i b) ps) (declare_procedures_in_frame (constructor_after_variables i b) ps')
+    (declare_procedures_in_frame (constructors_before_procedures i b) ps) (declare_procedures_in_frame (constructors_before_procedures i b) ps')
     (declare_variables naming_by_spelling (constructors_before_variables i b) (section_variables vs) (frame_before g)) (declare_variables naming_by_spelling (constructors_before_variables i b) (leaf edit jv (section_variables vs)) (frame_after edit g))
     (variables-kept edit w lit (constructors_before_variables i b) jv (first_variable_ordinal k b) g left.sound (omega (arith, seven, above, types)) (section_variables vs)
     (subst (λ scope. EachVariable (Here edit w) jv scope (first_variable_ordinal k b) (section_variables vs)) (sym left.scoped) here.2)
@@ -308,10 +308,10 @@ block-kept edit w lit i j k f s seven (has_body (declares cs ts vs ps) statement
     let final = left-then edit w (IsText edit w) (first_procedure_ordinal k b) (declare_names (first_variable_ordinal k b) (variable_names (section_variables vs)) (scope_marked inner)) (scope_marked inner) (procedures_scope k b (scope_marked f.marks)) (bind_names (variable_names (section_variables vs)) non_constant) known (knowns inner) h.marks
     (ap (declare_names (first_variable_ordinal k b) (variable_names (section_variables vs))) left.scoped) left.value last in
     let procedures = procedures-has_value edit w (knowns f.marks) (knowns h.marks) k b has_value final.value in
-    let right = procedures-right edit w (constructor_after_variables i b) jp (first_procedure_ordinal k b) ps h.marks final.sound (omega (arith, seven, over)) (subst (λ scope. EachProcedure (Here edit w) jp scope (first_procedure_ordinal k b) ps) (sym final.scoped) here.3) procedures in (
-      record { marks = mark_procedures (constructor_after_variables i b) jp (first_procedure_ordinal k b) ps h.marks; store = h.store },
-      ap (λ env. record { env = env; store = h.store }) (procedures-before (constructor_after_variables i b) jp (first_procedure_ordinal k b) ps h.marks),
-      ap (λ env. record { env = env; store = h.store }) (procedures-after edit w (constructor_after_variables i b) jp (first_procedure_ordinal k b) ps h.marks procedures),
+    let right = procedures-right edit w (constructors_before_procedures i b) jp (first_procedure_ordinal k b) ps h.marks final.sound (omega (arith, seven, over)) (subst (λ scope. EachProcedure (Here edit w) jp scope (first_procedure_ordinal k b) ps) (sym final.scoped) here.3) procedures in (
+      record { marks = mark_procedures (constructors_before_procedures i b) jp (first_procedure_ordinal k b) ps h.marks; store = h.store },
+      ap (λ env. record { env = env; store = h.store }) (procedures-before (constructors_before_procedures i b) jp (first_procedure_ordinal k b) ps h.marks),
+      ap (λ env. record { env = env; store = h.store }) (procedures-after edit w (constructors_before_procedures i b) jp (first_procedure_ordinal k b) ps h.marks procedures),
       (right.0 ∙ ap (declare_procedure_names (first_procedure_ordinal k b) ps) final.scoped, right.1),
     )))))
 
@@ -373,7 +373,7 @@ CallsKept edit w there here =
 
 pub statements-of : (edit : Edit) (j k : ℕ) (b : Tree Name block) (scope : Scope Name) (w : Value) → EachBlock (Here edit w) j scope k b
     → (m : ℕ) × (block_statements (edited_block edit j k b) ≡ leaf edit m (block_statements b)) × Here edit w (maybe body) m (body_scope k b scope) (block_statements b)
-statements-of edit j k (has_body (declares cs ts vs ps) statements) scope w here = (j + length (occurrences (declares cs ts vs ps)), refl, here.4)
+statements-of edit j k (forms_block (declares cs ts vs ps) statements) scope w here = (j + length (occurrences (declares cs ts vs ps)), refl, here.4)
 
 -- The statements of a declared block do the same before and after the edit, in its frame.
 pub block-runs : (edit : Edit) (w : Value) → Literal edit w → (there here : Activation Name → CallFunction Name) → CallsKept edit w there here → (t j k : ℕ) (scope : Scope Name) (b : Tree Name block) → EachBlock (Here edit w) j scope k b
@@ -475,8 +475,8 @@ calls-kept edit w lit (suc c) t n marks sound x stays = λ i args s.
     ∙ sym (ap (λ env. activate naming_by_spelling (call naming_by_spelling c t) t env args s) (read-from before marks x)))) i
 
 -- An edited module has the same run as the original module.
-pub run-edited : (edit : Edit) (w : Value) (m : Tree Name module_text) → IsFitted edit w m → (input : List ℤ) (c t : ℕ) → run_over naming_by_spelling (edited edit m) input c t ≡ run_over naming_by_spelling m input c t
-unfolding run_over
+pub run-edited : (edit : Edit) (w : Value) (m : Tree Name module_text) → IsFitted edit w m → (input : List ℤ) (c t : ℕ) → run_with_naming naming_by_spelling (edited edit m) input c t ≡ run_with_naming naming_by_spelling m input c t
+unfolding run_with_naming
 run-edited edit w (is_module x b closing) h input c t =
     let sound : Run_sound edit w 7 marked_outermost = outermost-sound edit w (IsText edit w) h.literal.ordinal in
     let f : MarkedFrame = record { marks = marked_outermost; store = [] } in
@@ -491,12 +491,12 @@ pub inlining_keeps_typing_and_runs-holds : InliningKeepsTypingAndRuns
 unfolding run
 inlining_keeps_typing_and_runs-holds m d w v uses c u well = (
   inlining_keeps_well_typed-holds m d w v uses c u well,
-  λ input c' t. ap (λ a. run_over naming_by_spelling a input c' t) (sym (written-module uses v d m)) ∙ run-edited (writing uses v d) w m (written-fitted m d w v uses c u) input c' t,
+  λ input c' t. ap (λ a. run_with_naming naming_by_spelling a input c' t) (sym (written-module uses v d m)) ∙ run-edited (writing uses v d) w m (written-fitted m d w v uses c u) input c' t,
 )
 
 pub removing_unused_keeps_typing_and_runs-holds : RemovingUnusedKeepsTypingAndRuns
 unfolding run
 removing_unused_keeps_typing_and_runs-holds m d w v c u well = (
   removing_unused_keeps_well_typed-holds m d w v c u well,
-  λ input c' t. ap (λ a. run_over naming_by_spelling a input c' t) (sym (left-module v d m)) ∙ run-edited (leaving_out v d) w m (left-fitted m d w v c u) input c' t,
+  λ input c' t. ap (λ a. run_with_naming naming_by_spelling a input c' t) (sym (left-module v d m)) ∙ run-edited (leaving_out v d) w m (left-fitted m d w v c u) input c' t,
 )

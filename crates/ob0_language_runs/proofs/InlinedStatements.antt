@@ -3,9 +3,9 @@ use Rattle.std.proofs.Common.{List, None, Option, Some, [], ap, false, if◌then
 use Rattle.ob0_tree.specs.Tree.{Tree, arguments, assigns, branches, calls, compares, designator, else_branch, else_part, elsif_branch, elsif_part, empty, end, expression, factor, further_argument, further_statement, items, maybe, more, no_arguments, none, occurrences, one, product, repeat_loop, runs, selector, sequence, some_arguments, statement, sum, then_argument, then_statement, while_loop}
 use Rattle.ob0_language_names.specs.Inlining.{OccurrenceSet, inline_in}
 use Rattle.ob0_language_names.specs.Names.{Name}
-use Rattle.ob0_language_values.specs.Values.{Outcome, Place, Store, Stuck, Value, value_at_path, ends, gives, or_stuck, read_place, ◌>>=◌}
+use Rattle.ob0_language_values.specs.Values.{Outcome, Place, Store, Stuck, Value, value_at_path, ends_run_with, succeeds_with, or_stuck, read_place, ◌>>=◌}
 use Rattle.ob0_language_types.specs.Arguments.{arguments_listed, further_arguments}
-use Rattle.ob0_language_types.specs.Expressions.{Meanings, Object, a_constant, a_variable, designate, evaluate, evaluate_factor, follow, object_place, object_value}
+use Rattle.ob0_language_types.specs.Expressions.{Meanings, Object, a_constant, a_variable, designate, evaluate, evaluate_factor, evaluate_selectors, object_place, object_value}
 use Rattle.ob0_language_types.specs.Laws.{EachUseHas}
 use Rattle.ob0_language_types.specs.Typing.{lone_designator}
 use Rattle.ob0_language_types.specs.WellTyped.{Mode, by_place, by_value}
@@ -16,7 +16,7 @@ use Rattle.ob0_language_runs.specs.Runs.{CallFunction, Progress, State, choose, 
 
 -- holds if the factor evaluates to the value in every store
 pub record EvaluatesTo (meaning : Meanings Name Place (List Mode)) (v : Tree Name factor) (w : Value) : Type 0 where
-  pub in_store : (store : Store) → evaluate_factor meaning store v ≡ gives w
+  pub in_store : (store : Store) → evaluate_factor meaning store v ≡ succeeds_with w
 
 abbrev pub IsUse : Meanings Name Place (List Mode) → Value → OccurrenceSet → ℕ → List Name → Type 0
 IsUse meaning w uses k xs = EachUseHas uses (IsConstantOf meaning w) k xs
@@ -29,32 +29,32 @@ pub designate-written : (meaning : Meanings Name Place (List Mode)) (uses : Occu
     → IsUse meaning w uses k (occurrences path) → designate meaning store x (inline_in uses v k path) ≡ designate meaning store x path
 unfolding designate
 designate-written meaning uses v w h store k x path u = λ i.
-    object_place (meaning.object_for x) >>= (λ p. or_stuck (read_place store p) >>= (λ z. follow-inlined meaning store uses v w record { has_value = h.in_store store } k z path u i >>= (λ steps. gives record { variable = p.variable; path = p.path ++ steps })))
+    object_place (meaning.object_for x) >>= (λ p. or_stuck (read_place store p) >>= (λ z. follow-inlined meaning store uses v w record { has_value = h.in_store store } k z path u i >>= (λ steps. succeeds_with record { variable = p.variable; path = p.path ++ steps })))
 
 -- An expression that isn't a designator gives no place, and neither does a constant.
 
 abbrev pub place_at : Meanings Name Place (List Mode) → Store → Option (Name × Tree Name (items selector)) → Outcome Place
 place_at meaning store d = or_stuck d >>= (λ d. designate meaning store d.0 d.1)
 
-pub constant-no_place : (o : Option (Object Place (List Mode))) (w : Value) → o ≡ Some (a_constant w) → object_place o ≡ ends Stuck
+pub constant-no_place : (o : Option (Object Place (List Mode))) (w : Value) → o ≡ Some (a_constant w) → object_place o ≡ ends_run_with Stuck
 constant-no_place o w e = ap object_place e
 
 -- A name that evaluates to a value in every store isn't a variable.
-pub has_value-no_place : (o : Option (Object Place (List Mode))) (next : Value → Outcome Value) (w : Value) → object_value {P = List Mode} [] o >>= next ≡ gives w → object_place o ≡ ends Stuck
+pub has_value-no_place : (o : Option (Object Place (List Mode))) (next : Value → Outcome Value) (w : Value) → object_value {P = List Mode} [] o >>= next ≡ succeeds_with w → object_place o ≡ ends_run_with Stuck
 has_value-no_place (Some (a_variable p)) next w e = absurd (cc)
 has_value-no_place _ next w e = refl
 
-pub written-no_place : (meaning : Meanings Name Place (List Mode)) (v : Tree Name factor) (w : Value) → EvaluatesTo meaning v w → (store : Store) → place_at meaning store (lone_designator (alone v)) ≡ ends Stuck
+pub written-no_place : (meaning : Meanings Name Place (List Mode)) (v : Tree Name factor) (w : Value) → EvaluatesTo meaning v w → (store : Store) → place_at meaning store (lone_designator (alone v)) ≡ ends_run_with Stuck
 unfolding designate evaluate
 written-no_place meaning (designator x path) w h store =
-    ap (λ o. o >>= (λ p. or_stuck (read_place store p) >>= (λ z. follow meaning store z path >>= (λ steps. gives record { variable = p.variable; path = p.path ++ steps }))))
-    (has_value-no_place (meaning.object_for x) (λ z. follow meaning [] z path >>= (λ steps. or_stuck (value_at_path steps z))) w (h.in_store []))
+    ap (λ o. o >>= (λ p. or_stuck (read_place store p) >>= (λ z. evaluate_selectors meaning store z path >>= (λ steps. succeeds_with record { variable = p.variable; path = p.path ++ steps }))))
+    (has_value-no_place (meaning.object_for x) (λ z. evaluate_selectors meaning [] z path >>= (λ steps. or_stuck (value_at_path steps z))) w (h.in_store []))
 written-no_place meaning _ w h store = refl
 
-pub use-no_place : (meaning : Meanings Name Place (List Mode)) (x : Name) (w : Value) (store : Store) → meaning.object_for x ≡ Some (a_constant w) → place_at meaning store (Some (x, end)) ≡ ends Stuck
+pub use-no_place : (meaning : Meanings Name Place (List Mode)) (x : Name) (w : Value) (store : Store) → meaning.object_for x ≡ Some (a_constant w) → place_at meaning store (Some (x, end)) ≡ ends_run_with Stuck
 unfolding designate
 use-no_place meaning x w store e =
-    ap (λ o. o >>= (λ p. or_stuck (read_place store p) >>= (λ z. follow meaning store z end >>= (λ steps. gives record { variable = p.variable; path = p.path ++ steps })))) (constant-no_place (meaning.object_for x) w e)
+    ap (λ o. o >>= (λ p. or_stuck (read_place store p) >>= (λ z. evaluate_selectors meaning store z end >>= (λ steps. succeeds_with record { variable = p.variable; path = p.path ++ steps })))) (constant-no_place (meaning.object_for x) w e)
 
 pub place-written : (meaning : Meanings Name Place (List Mode)) (uses : OccurrenceSet) (v : Tree Name factor) (w : Value) → EvaluatesTo meaning v w → (store : Store) (k : ℕ) (e : Tree Name expression)
     → IsUse meaning w uses k (occurrences e) → place_at meaning store (lone_designator (inline_in uses v k e)) ≡ place_at meaning store (lone_designator e)
@@ -74,11 +74,11 @@ place-written meaning uses v w h store k _ u = refl
 pub argument-written : (meaning : Meanings Name Place (List Mode)) (uses : OccurrenceSet) (v : Tree Name factor) (w : Value) → EvaluatesTo meaning v w → (store : Store) (m : Mode) (k : ℕ) (e : Tree Name expression)
     → IsUse meaning w uses k (occurrences e) → evaluate_argument meaning store m (inline_in uses v k e) ≡ evaluate_argument meaning store m e
 unfolding evaluate_argument
-argument-written meaning uses v w h store by_value k e u = λ i. evaluate-written meaning uses v w h store k e u i >>= (λ z. gives (value_argument z))
+argument-written meaning uses v w h store by_value k e u = λ i. evaluate-written meaning uses v w h store k e u i >>= (λ z. succeeds_with (value_argument z))
 argument-written meaning uses v w h store by_place k e u =
-    by_steps (lone_designator (inline_in uses v k e)) ∙ ((λ i. place-written meaning uses v w h store k e u i >>= (λ p. gives (place_argument p))) ∙ sym (by_steps (lone_designator e)))
+    by_steps (lone_designator (inline_in uses v k e)) ∙ ((λ i. place-written meaning uses v w h store k e u i >>= (λ p. succeeds_with (place_argument p))) ∙ sym (by_steps (lone_designator e)))
   where
-    by_steps : (d : Option (Name × Tree Name (items selector))) → or_stuck d >>= (λ d. designate meaning store d.0 d.1 >>= (λ p. gives (place_argument p))) ≡ place_at meaning store d >>= (λ p. gives (place_argument p))
+    by_steps : (d : Option (Name × Tree Name (items selector))) → or_stuck d >>= (λ d. designate meaning store d.0 d.1 >>= (λ p. succeeds_with (place_argument p))) ≡ place_at meaning store d >>= (λ p. succeeds_with (place_argument p))
     by_steps None = refl
     by_steps (Some d) = refl
 
@@ -88,7 +88,7 @@ unfolding evaluate_arguments
 further-written meaning uses v w h store [] k (more (then_argument e) es) u = refl
 further-written meaning uses v w h store (m ∷ ms) k (more (then_argument e) es) u =
     let s = uses-split uses (IsConstantOf meaning w) k (occurrences e) (occurrences es) u in
-    λ i. argument-written meaning uses v w h store m k e s.0 i >>= (λ a. further-written meaning uses v w h store ms (k + length (occurrences e)) es s.1 i >>= (λ rest. gives (a ∷ rest)))
+    λ i. argument-written meaning uses v w h store m k e s.0 i >>= (λ a. further-written meaning uses v w h store ms (k + length (occurrences e)) es s.1 i >>= (λ rest. succeeds_with (a ∷ rest)))
 further-written meaning uses v w h store _ k _ u = refl
 
 pub arguments-written : (meaning : Meanings Name Place (List Mode)) (uses : OccurrenceSet) (v : Tree Name factor) (w : Value) → EvaluatesTo meaning v w → (store : Store) (ms : List Mode) (k : ℕ) (es : Tree Name (maybe arguments))
@@ -97,7 +97,7 @@ unfolding evaluate_arguments
 arguments-written meaning uses v w h store ms k (one no_arguments) u = refl
 arguments-written meaning uses v w h store (m ∷ ms) k (one (some_arguments e es)) u =
     let s = uses-split uses (IsConstantOf meaning w) k (occurrences e) (occurrences es) u in
-    λ i. argument-written meaning uses v w h store m k e s.0 i >>= (λ a. further-written meaning uses v w h store ms (k + length (occurrences e)) es s.1 i >>= (λ rest. gives (a ∷ rest)))
+    λ i. argument-written meaning uses v w h store m k e s.0 i >>= (λ a. further-written meaning uses v w h store ms (k + length (occurrences e)) es s.1 i >>= (λ rest. succeeds_with (a ∷ rest)))
 arguments-written meaning uses v w h store _ k _ u = refl
 
 mutual

@@ -3,20 +3,20 @@
 -- Statements leave the list unchanged, because a call that returns cuts the smaller store back to it. Declarations and
 -- parameters add new variables after it (`FrameGrown`). No types are needed: a missing value makes both runs stuck.
 use Rattle.std.proofs.Common.{◌≡◌, ℕ, zero, suc, ◌+◌, true, false, List, [], ◌∷◌, ◌++◌, length, ℤ, Some, None, Option, option_map, option_and_then, sym, refl, ap, ◌∙◌, subst, append_assoc, append-nil}
-use Rattle.ob0_tree.specs.Tree.{Tree, begins, block, body, constant, declares_constant, declares_type, declares_variable, end, expression, items, maybe, module_text, more, none, one, procedure, type_name, variable, written_type}
+use Rattle.ob0_tree.specs.Tree.{Tree, begins, block, body, constant, declares_constant, declares_type, declares_variable, end, expression, items, maybe, module_text, more, none, one, procedure, type_definition, variable, written_type}
 use Rattle.ob0_language_names.specs.Names.{Naming}
 use Rattle.ob0_language_names.specs.Parts.{block_constants, block_procedures, block_statements, block_types, block_variables, module_block, names_in_list, procedure_block, procedure_formals, procedure_name}
 use Rattle.ob0_language_names.proofs.SameNames.{map_names-id}
-use Rattle.ob0_language_types.specs.Declarations.{constructor_after_formals, constructors_before_variables, constructor_after_variables, declare_constants, declare_first, declare_types, procedure_constructor_count}
-use Rattle.ob0_language_types.specs.Environments.{environment_from_binding, meanings, newest_object, outermost}
+use Rattle.ob0_language_types.specs.Declarations.{constructors_before_procedure_block, constructors_before_variables, constructors_before_procedures, declare_constants, declare_constants_and_types, declare_types, procedure_constructor_count}
+use Rattle.ob0_language_types.specs.Environments.{environment_from_binding, meanings, newest_object, outermost_environment}
 use Rattle.ob0_language_types.specs.Expressions.{Object, a_constant, a_procedure, a_standard, a_type, a_variable}
-use Rattle.ob0_language_types.specs.Typing.{constant_of, constant_value, constructor_count, denoted, type_of_name}
+use Rattle.ob0_language_types.specs.Typing.{constant_of, constant_value, constructor_count, denoted_type, type_of_name}
 use Rattle.ob0_language_types.specs.WellTyped.{by_place, by_value}
-use Rattle.ob0_language_types.proofs.TypeNaturality.{constant_value-map, denoted-map}
-use Rattle.ob0_language_values.specs.Values.{Place, Value, initial}
+use Rattle.ob0_language_types.proofs.TypeNaturality.{constant_value-map, denoted_type-map}
+use Rattle.ob0_language_values.specs.Values.{Place, Value, initial_value}
 use Rattle.ob0_language_runs.specs.Freed.{call_freeing, drop_variables, run_freeing}
-use Rattle.ob0_language_runs.specs.Laws.{FreeingKeepsRuns}
-use Rattle.ob0_language_runs.specs.Runs.{Activation, Argument, CallFunction, ProcedureText, Frame, Parameter, Progress, State, activate, allocate, bind_parameter, bind_parameters, call, declare_block, declare_procedures, declare_variables, execute_body, run_result, formal_modes, continue_in_frame, parameters, statement_object, place_argument, run_over, running, statement_meanings, stopped, value_argument, declare_procedures_in_frame}
+use Rattle.ob0_language_runs.specs.Laws.{FreeingVariablesKeepsRuns}
+use Rattle.ob0_language_runs.specs.Runs.{Activation, Argument, CallFunction, ProcedureText, Frame, Parameter, Progress, State, activate, allocate, bind_parameter, bind_parameters, call, declare_block, declare_procedures, declare_variables, execute_body, run_result, formal_modes, continue_in_frame, parameters, statement_object, place_argument, run_with_naming, running, statement_meanings, stopped, value_argument, declare_procedures_in_frame}
 use Rattle.ob0_language_runs.proofs.OtherPlaces.{Alike, ArgumentIs, ArgumentsAre, EntersAlike, MeaningIs, ObjectIs, PlaceIs, ProgressIs, StateIs, StoreIs, execute_all-alike, variable-added, variable-last, variables-cut}
 use Rattle.ob0_language_runs.proofs.SoundStatements.{slice_get-grows}
 
@@ -138,10 +138,10 @@ module _ {N : Type 0} (naming : Naming N) where
       ∙ constant_value-map (λ x. x) (λ x. x) (meanings naming env) (meanings naming other) e
       (λ x. constant-same at (newest_object (environment_from_binding naming env x)) (newest_object (environment_from_binding naming other x)) (newest_object-is at (environment_from_binding naming env x) (environment_from_binding naming other x) (environment_from_binding-is naming at env other x h))) (λ x. refl)
 
-  denoted-same : (at : List ℕ) (env other : Activation N) → EnvironmentIs at env other → (k : ℕ) (t : Tree N written_type) → denoted (meanings naming env) k t ≡ denoted (meanings naming other) k t
-  denoted-same at env other h k t =
-      ap (denoted (meanings naming env) k) (sym (map_names-id t))
-      ∙ denoted-map (λ x. x) (λ x. x) (meanings naming env) (meanings naming other)
+  denoted_type-same : (at : List ℕ) (env other : Activation N) → EnvironmentIs at env other → (k : ℕ) (t : Tree N written_type) → denoted_type (meanings naming env) k t ≡ denoted_type (meanings naming other) k t
+  denoted_type-same at env other h k t =
+      ap (denoted_type (meanings naming env) k) (sym (map_names-id t))
+      ∙ denoted_type-map (λ x. x) (λ x. x) (meanings naming env) (meanings naming other)
       (λ x. constant-same at (newest_object (environment_from_binding naming env x)) (newest_object (environment_from_binding naming other x)) (newest_object-is at (environment_from_binding naming env x) (environment_from_binding naming other x) (environment_from_binding-is naming at env other x h)))
       (λ x. type-same at (newest_object (environment_from_binding naming env x)) (newest_object (environment_from_binding naming other x)) (newest_object-is at (environment_from_binding naming env x) (environment_from_binding naming other x) (environment_from_binding-is naming at env other x h))) (λ x. refl) k t
 
@@ -152,15 +152,15 @@ module _ {N : Type 0} (naming : Naming N) where
       same_option-then (EnvironmentIs at) (constant_value (meanings naming env) e) (constant_value (meanings naming other) e) (λ v. declare_constants naming ((x, a_constant v) ∷ env) cs) (λ v. declare_constants naming ((x, a_constant v) ∷ other) cs) (value-same at env other h e)
       (λ v. constants-are at ((x, a_constant v) ∷ env) ((x, a_constant v) ∷ other) cs (refl, refl, h))
 
-  types-are : (at : List ℕ) (env other : Activation N) (k : ℕ) (ds : Tree N (items type_name)) → EnvironmentIs at env other → OptionIs (EnvironmentIs at) (declare_types naming env k ds) (declare_types naming other k ds)
+  types-are : (at : List ℕ) (env other : Activation N) (k : ℕ) (ds : Tree N (items type_definition)) → EnvironmentIs at env other → OptionIs (EnvironmentIs at) (declare_types naming env k ds) (declare_types naming other k ds)
   unfolding declare_types
   types-are at env other k end h = h
   types-are at env other k (more (declares_type x u) ds) h =
-      same_option-then (EnvironmentIs at) (denoted (meanings naming env) k u) (denoted (meanings naming other) k u) (λ s. declare_types naming ((x, a_type s) ∷ env) (k + constructor_count u) ds) (λ s. declare_types naming ((x, a_type s) ∷ other) (k + constructor_count u) ds) (denoted-same at env other h k u)
+      same_option-then (EnvironmentIs at) (denoted_type (meanings naming env) k u) (denoted_type (meanings naming other) k u) (λ s. declare_types naming ((x, a_type s) ∷ env) (k + constructor_count u) ds) (λ s. declare_types naming ((x, a_type s) ∷ other) (k + constructor_count u) ds) (denoted_type-same at env other h k u)
       (λ s. types-are at ((x, a_type s) ∷ env) ((x, a_type s) ∷ other) (k + constructor_count u) ds (refl, refl, h))
 
-  first-are : (at : List ℕ) (env other : Activation N) (k : ℕ) (b : Tree N block) → EnvironmentIs at env other → OptionIs (EnvironmentIs at) (declare_first naming env k b) (declare_first naming other k b)
-  unfolding declare_first
+  first-are : (at : List ℕ) (env other : Activation N) (k : ℕ) (b : Tree N block) → EnvironmentIs at env other → OptionIs (EnvironmentIs at) (declare_constants_and_types naming env k b) (declare_constants_and_types naming other k b)
+  unfolding declare_constants_and_types
   first-are at env other k b h =
       option-then (EnvironmentIs at) (EnvironmentIs at) (declare_constants naming env (block_constants b)) (declare_constants naming other (block_constants b)) (λ env. declare_types naming env k (block_types b)) (λ env. declare_types naming env k (block_types b)) (constants-are at env other (block_constants b) h)
       (λ env other h. types-are at env other k (block_types b) h)
@@ -180,10 +180,10 @@ module _ {N : Type 0} (naming : Naming N) where
   unfolding declare_variables
   variables-are at k end f g h = frame-here at f g h
   variables-are at k (more (declares_variable ns u) gs) f g h =
-      same_option-then (FrameGrown at) (denoted (meanings naming f.env) k u) (denoted (meanings naming g.env) k u) (λ s. declare_variables naming (k + constructor_count u) gs (allocate (names_in_list ns) (initial s) f)) (λ s. declare_variables naming (k + constructor_count u) gs (allocate (names_in_list ns) (initial s) g)) (denoted-same at f.env g.env h.same_bindings k u)
-      (λ s. let inner = allocate-is at (names_in_list ns) (initial s) f g h in
-      frames-on at inner.0 (declare_variables naming (k + constructor_count u) gs (allocate (names_in_list ns) (initial s) f)) (declare_variables naming (k + constructor_count u) gs (allocate (names_in_list ns) (initial s) g))
-      (variables-are (at ++ inner.0) (k + constructor_count u) gs (allocate (names_in_list ns) (initial s) f) (allocate (names_in_list ns) (initial s) g) inner.1))
+      same_option-then (FrameGrown at) (denoted_type (meanings naming f.env) k u) (denoted_type (meanings naming g.env) k u) (λ s. declare_variables naming (k + constructor_count u) gs (allocate (names_in_list ns) (initial_value s) f)) (λ s. declare_variables naming (k + constructor_count u) gs (allocate (names_in_list ns) (initial_value s) g)) (denoted_type-same at f.env g.env h.same_bindings k u)
+      (λ s. let inner = allocate-is at (names_in_list ns) (initial_value s) f g h in
+      frames-on at inner.0 (declare_variables naming (k + constructor_count u) gs (allocate (names_in_list ns) (initial_value s) f)) (declare_variables naming (k + constructor_count u) gs (allocate (names_in_list ns) (initial_value s) g))
+      (variables-are (at ++ inner.0) (k + constructor_count u) gs (allocate (names_in_list ns) (initial_value s) f) (allocate (names_in_list ns) (initial_value s) g) inner.1))
 
   procedures-are : (at : List ℕ) (k : ℕ) (ps : Tree N (items procedure)) (env other : Activation N) → EnvironmentIs at env other → EnvironmentIs at (declare_procedures k ps env) (declare_procedures k ps other)
   procedures-are at k end env other h = h
@@ -198,10 +198,10 @@ module _ {N : Type 0} (naming : Naming N) where
   block-is : (at : List ℕ) (k : ℕ) (b : Tree N block) (f g : Frame N) → FrameIs at f g → OptionIs (FrameGrown at) (declare_block naming k b f) (declare_block naming k b g)
   unfolding declare_block
   block-is at k b f g h =
-      option-then (EnvironmentIs at) (FrameGrown at) (declare_first naming f.env k b) (declare_first naming g.env k b)
-      (λ env. option_map (declare_procedures_in_frame (constructor_after_variables k b) (block_procedures b)) (declare_variables naming (constructors_before_variables k b) (block_variables b) record { env = env; store = f.store }))
-      (λ env. option_map (declare_procedures_in_frame (constructor_after_variables k b) (block_procedures b)) (declare_variables naming (constructors_before_variables k b) (block_variables b) record { env = env; store = g.store })) (first-are at f.env g.env k b h.same_bindings)
-      (λ env other same. declare_procedures_in_frame-are at (constructor_after_variables k b) (block_procedures b) (declare_variables naming (constructors_before_variables k b) (block_variables b) record { env = env; store = f.store }) (declare_variables naming (constructors_before_variables k b) (block_variables b) record { env = other; store = g.store })
+      option-then (EnvironmentIs at) (FrameGrown at) (declare_constants_and_types naming f.env k b) (declare_constants_and_types naming g.env k b)
+      (λ env. option_map (declare_procedures_in_frame (constructors_before_procedures k b) (block_procedures b)) (declare_variables naming (constructors_before_variables k b) (block_variables b) record { env = env; store = f.store }))
+      (λ env. option_map (declare_procedures_in_frame (constructors_before_procedures k b) (block_procedures b)) (declare_variables naming (constructors_before_variables k b) (block_variables b) record { env = env; store = g.store })) (first-are at f.env g.env k b h.same_bindings)
+      (λ env other same. declare_procedures_in_frame-are at (constructors_before_procedures k b) (block_procedures b) (declare_variables naming (constructors_before_variables k b) (block_variables b) record { env = env; store = f.store }) (declare_variables naming (constructors_before_variables k b) (block_variables b) record { env = other; store = g.store })
       (variables-are at (constructors_before_variables k b) (block_variables b) record { env = env; store = f.store } record { env = other; store = g.store } record { same_variables = h.same_variables; same_bindings = same }))
 
   parameter-is : (at : List ℕ) (p : Parameter N) (a b : Argument) (f g : Frame N) → ArgumentIs at a b → FrameIs at f g → OptionIs (FrameGrown at) (bind_parameter p.mode p.name a f) (bind_parameter p.mode p.name b g)
@@ -262,7 +262,7 @@ module _ {N : Type 0} (naming : Naming N) where
           let f : Frame N = record { env = (x, a_procedure code) ∷ rest; store = s.store } in
           let g : Frame N = record { env = (y, a_procedure code) ∷ other; store = u.store } in
           let ps = parameters (procedure_formals code.text) in
-          let k = constructor_after_formals code.first_constructor code.text in
+          let k = constructors_before_procedure_block code.first_constructor code.text in
           continue_in_frame-alike enter enter' known t at s u (option_and_then (declare_block naming k (procedure_block code.text)) (bind_parameters ps args f)) (option_and_then (declare_block naming k (procedure_block code.text)) (bind_parameters ps others g)) (block_statements (procedure_block code.text)) h
           (option-then (FrameGrown at) (FrameGrown at) (bind_parameters ps args f) (bind_parameters ps others g) (declare_block naming k (procedure_block code.text)) (declare_block naming k (procedure_block code.text))
           (parameters-are at ps args others f g are record { same_variables = h.same_variables; same_bindings = (env.0, refl, env.2) })
@@ -296,15 +296,15 @@ module _ {N : Type 0} (naming : Naming N) where
   run_result-same at (stopped e out) (stopped x written) h = λ i. record { output = h.1 i; ending = h.0 i }
   run_result-same at _ _ h = absurd h
 
-  pub freeing-keeps : (m : Tree N module_text) (input : List ℤ) (c t : ℕ) → run_freeing naming m input c t ≡ run_over naming m input c t
-  unfolding run_over run_freeing
+  pub freeing-keeps : (m : Tree N module_text) (input : List ℤ) (c t : ℕ) → run_freeing naming m input c t ≡ run_with_naming naming m input c t
+  unfolding run_with_naming run_freeing
   freeing-keeps m input c t =
       let start : State = record { store = []; input = input; output = [] } in
-      let f : Frame N = record { env = outermost naming; store = [] } in
+      let f : Frame N = record { env = outermost_environment naming; store = [] } in
       let o = declare_block naming 0 (module_block m) f in
       let (new, same) = continue_in_frame-alike (call_freeing naming c t) (call naming c t) (calls-alike c t) t [] start start o o (block_statements (module_block m)) record { same_variables = tt; same_input = refl; same_output = refl }
       (block-is [] 0 (module_block m) f f record { same_variables = tt; same_bindings = (refl, refl, (refl, refl, (refl, refl, (refl, refl, (refl, refl, (refl, refl, (refl, refl, tt))))))) }) in
       run_result-same new (continue_in_frame start o (λ f. execute_body naming f.env (call_freeing naming c t f.env) t (block_statements (module_block m)))) (continue_in_frame start o (λ f. execute_body naming f.env (call naming c t f.env) t (block_statements (module_block m)))) same
 
-pub freeing_keeps_runs-holds : FreeingKeepsRuns
-freeing_keeps_runs-holds = (λ naming. freeing-keeps naming, λ naming. freeing-keeps naming)
+pub freeing_variables_keeps_runs-holds : FreeingVariablesKeepsRuns
+freeing_variables_keeps_runs-holds = (λ naming. freeing-keeps naming, λ naming. freeing-keeps naming)

@@ -2,11 +2,11 @@
 use Rattle.std.proofs.Common.{◌≡◌, ℕ, zero, suc, ◌-◌, true, false, ◌≢◌, List, [], ◌∷◌, ◌++◌, length, take, ℤ, slice_get, slice_set, Some, None, Option, option_map, option_and_then, sym, refl, ap, ◌∙◌, subst}
 use Rattle.ob0_tree.specs.Tree.{Tree, addend, adds, assigns, branches, calls, compares, designator, else_branch, else_part, elsif_branch, elsif_part, empty, end, expression, factor, field, further_statement, index, integer, items, maybe, more, multiplier, multiplies, negation, none, one, parenthesised, product, relates, repeat_loop, runs, selector, sequence, simple, statement, sum, term, then_statement, while_loop}
 use Rattle.ob0_language_types.specs.Arguments.{arguments_listed}
-use Rattle.ob0_language_types.specs.Expressions.{Meanings, Object, StandardProcedure, a_constant, a_procedure, a_standard, a_type, a_variable, designate, element_step, evaluate, evaluate_addends, evaluate_factor, evaluate_multipliers, evaluate_simple, evaluate_term, follow, object_place, reads, object_value, writes, writes_line}
+use Rattle.ob0_language_types.specs.Expressions.{Meanings, Object, StandardProcedure, a_constant, a_procedure, a_standard, a_type, a_variable, designate, element_step, evaluate, evaluate_addends, evaluate_factor, evaluate_multipliers, evaluate_simple, evaluate_term, evaluate_selectors, object_place, read_procedure, object_value, write_procedure, write_line_procedure}
 use Rattle.ob0_language_types.specs.Typing.{lone_designator}
 use Rattle.ob0_language_types.specs.WellTyped.{Mode, by_place, by_value}
 use Rattle.ob0_language_types.proofs.Literals.{some_inverse}
-use Rattle.ob0_language_values.specs.Values.{Outcome, Place, Store, TurnBound, Value, add, add_short_circuits, at_field, value_at_path, elements, ends, gives, members, multiply, multiply_short_circuits, negate, number, or_stuck, part, read_place, relate, apply_sign, truth, with_value_at_path, ◌>>=◌}
+use Rattle.ob0_language_values.specs.Values.{Outcome, Place, Store, TurnBound, Value, add, add_short_circuits, at_field, value_at_path, elements, ends_run_with, succeeds_with, members, multiply, multiply_short_circuits, negate, number, or_stuck, part, read_place, apply_relation, apply_sign, truth, with_value_at_path, ◌>>=◌}
 use Rattle.ob0_language_runs.specs.Runs.{Argument, CallFunction, Progress, State, PrintedItem, choose, evaluate_argument, evaluate_arguments, execute, execute_all, execute_else, execute_elsifs, execute_further, continue_with, line_out, modes_of, number_out, perform_call, place_argument, append_output, read_number, running, stopped, store_at, execute_while, execute_repeat, use_result, value_argument}
 use Rattle.ob0_language_runs.proofs.SoundStatements.{slice_get-grows}
 
@@ -119,28 +119,28 @@ MeaningIs at (Some a) (Some b) = ObjectIs at a b
 MeaningIs at _ _ = ⊥
 
 abbrev pub OutcomeIs : {A B : Type 0} → (A → B → Type 0) → Outcome A → Outcome B → Type 0
-OutcomeIs Is (gives a) (gives b) = Is a b
-OutcomeIs Is (ends e) (ends f) = e ≡ f
+OutcomeIs Is (succeeds_with a) (succeeds_with b) = Is a b
+OutcomeIs Is (ends_run_with e) (ends_run_with f) = e ≡ f
 OutcomeIs Is _ _ = ⊥
 
 pub outcome-then : {A B C D : Type 0} (Is : A → B → Type 0) (Then : C → D → Type 0) (o : Outcome A) (q : Outcome B) (f : A → Outcome C) (g : B → Outcome D) → OutcomeIs Is o q → ((a : A) (b : B) → Is a b → OutcomeIs Then (f a) (g b)) → OutcomeIs Then (o >>= f) (q >>= g)
-outcome-then Is Then (gives a) (gives b) f g h each = each a b h
-outcome-then Is Then (ends e) (ends x) f g h each = h
+outcome-then Is Then (succeeds_with a) (succeeds_with b) f g h each = each a b h
+outcome-then Is Then (ends_run_with e) (ends_run_with x) f g h each = h
 outcome-then Is Then _ _ f g h each = absurd h
 
 pub same-then : {A C D : Type 0} (Then : C → D → Type 0) (o q : Outcome A) (f : A → Outcome C) (g : A → Outcome D) → o ≡ q → ((a : A) → OutcomeIs Then (f a) (g a)) → OutcomeIs Then (o >>= f) (q >>= g)
 same-then {A} Then o q f g e each = subst (λ q. OutcomeIs Then (o >>= f) (q >>= g)) e (go o)
   where
     go : (o : Outcome A) → OutcomeIs Then (o >>= f) (o >>= g)
-    go (gives a) = each a
-    go (ends x) = refl
+    go (succeeds_with a) = each a
+    go (ends_run_with x) = refl
 
 read-same : (at : List ℕ) (small large : Store) (p q : Place) → StoreIs at small large → PlaceIs at p q → read_place small p ≡ read_place large q
 read-same at small large p q h is = λ i. option_and_then (value_at_path (is.same_path i)) (variable-found at small large p.variable q.variable h is.variable_is i)
 
 value-same : {P : Type 0} (at : List ℕ) (small large : Store) (o q : Option (Object Place P)) → StoreIs at small large → MeaningIs at o q → object_value small o ≡ object_value large q
 value-same at small large None None h is = refl
-value-same at small large (Some (a_constant v)) (Some (a_constant w)) h is = ap gives is
+value-same at small large (Some (a_constant v)) (Some (a_constant w)) h is = ap succeeds_with is
 value-same at small large (Some (a_variable p)) (Some (a_variable q)) h is = ap or_stuck (read-same at small large p q h is)
 value-same at small large (Some (a_type s)) (Some (a_type t)) h is = refl
 value-same at small large (Some (a_procedure a)) (Some (a_procedure b)) h is = refl
@@ -165,7 +165,7 @@ module _ {N P : Type 0} (here there : Meanings N Place P) (small large : Store) 
     pub evaluate-same : (e : Tree N expression) → evaluate here small e ≡ evaluate there large e
     evaluate-same (compares a none) = evaluate_simple-same a
     evaluate-same (compares a (one (relates r b))) = λ i.
-        evaluate_simple-same a i >>= (λ x. evaluate_simple-same b i >>= (λ y. relate r x y))
+        evaluate_simple-same a i >>= (λ x. evaluate_simple-same b i >>= (λ y. apply_relation r x y))
 
     pub evaluate_simple-same : (a : Tree N simple) → evaluate_simple here small a ≡ evaluate_simple there large a
     evaluate_simple-same (sum s t rest) = λ i.
@@ -174,7 +174,7 @@ module _ {N P : Type 0} (here there : Meanings N Place P) (small large : Store) 
     pub evaluate_addends-same : (x : Value) (rest : Tree N (items addend)) → evaluate_addends here small x rest ≡ evaluate_addends there large x rest
     evaluate_addends-same x end = refl
     evaluate_addends-same x (more (adds o t) rest) = λ i.
-        (elim (add_short_circuits o x) [ true ↦ gives x | false ↦ evaluate_term-same t i >>= add o x ])
+        (elim (add_short_circuits o x) [ true ↦ succeeds_with x | false ↦ evaluate_term-same t i >>= add o x ])
         >>= (λ y. evaluate_addends-same y rest i)
 
     pub evaluate_term-same : (t : Tree N term) → evaluate_term here small t ≡ evaluate_term there large t
@@ -184,7 +184,7 @@ module _ {N P : Type 0} (here there : Meanings N Place P) (small large : Store) 
     pub evaluate_multipliers-same : (x : Value) (rest : Tree N (items multiplier)) → evaluate_multipliers here small x rest ≡ evaluate_multipliers there large x rest
     evaluate_multipliers-same x end = refl
     evaluate_multipliers-same x (more (multiplies o a) rest) = λ i.
-        (elim (multiply_short_circuits o x) [ true ↦ gives x | false ↦ evaluate_factor-same a i >>= multiply o x ])
+        (elim (multiply_short_circuits o x) [ true ↦ succeeds_with x | false ↦ evaluate_factor-same a i >>= multiply o x ])
         >>= (λ y. evaluate_multipliers-same y rest i)
 
     pub evaluate_factor-same : (a : Tree N factor) → evaluate_factor here small a ≡ evaluate_factor there large a
@@ -194,12 +194,12 @@ module _ {N P : Type 0} (here there : Meanings N Place P) (small large : Store) 
     evaluate_factor-same (parenthesised e) = evaluate-same e
     evaluate_factor-same (negation a) = λ i. evaluate_factor-same a i >>= negate
 
-    pub follow-same : (v : Value) (path : Tree N (items selector)) → follow here small v path ≡ follow there large v path
+    pub follow-same : (v : Value) (path : Tree N (items selector)) → evaluate_selectors here small v path ≡ evaluate_selectors there large v path
     follow-same v end = refl
     follow-same v (more (field x) rest) = λ i.
-        or_stuck (part v (at_field (written x i))) >>= (λ w. follow-same w rest i >>= (λ steps. gives (at_field (written x i) ∷ steps)))
+        or_stuck (part v (at_field (written x i))) >>= (λ w. follow-same w rest i >>= (λ steps. succeeds_with (at_field (written x i) ∷ steps)))
     follow-same v (more (index e) rest) = λ i.
-        evaluate-same e i >>= (λ j. element_step v j >>= (λ s. or_stuck (part v s) >>= (λ w. follow-same w rest i >>= (λ steps. gives (s ∷ steps)))))
+        evaluate-same e i >>= (λ j. element_step v j >>= (λ s. or_stuck (part v s) >>= (λ w. follow-same w rest i >>= (λ steps. succeeds_with (s ∷ steps)))))
 
 -- holds if the meanings of names are related in both stores, and fields are spelled alike
 pub record NamesAre {N P : Type 0} (at : List ℕ) (here there : Meanings N Place P) : Type 0 where
@@ -214,13 +214,13 @@ pub designate-is : {N P : Type 0} (at : List ℕ) (here there : Meanings N Place
 unfolding designate
 designate-is at here there small large names h x path =
     outcome-then (PlaceIs at) (PlaceIs at) (object_place (here.object_for x)) (object_place (there.object_for x))
-    (λ p. or_stuck (read_place small p) >>= (λ v. follow here small v path >>= (λ steps. gives record { variable = p.variable; path = p.path ++ steps })))
-    (λ p. or_stuck (read_place large p) >>= (λ v. follow there large v path >>= (λ steps. gives record { variable = p.variable; path = p.path ++ steps })))
+    (λ p. or_stuck (read_place small p) >>= (λ v. evaluate_selectors here small v path >>= (λ steps. succeeds_with record { variable = p.variable; path = p.path ++ steps })))
+    (λ p. or_stuck (read_place large p) >>= (λ v. evaluate_selectors there large v path >>= (λ steps. succeeds_with record { variable = p.variable; path = p.path ++ steps })))
     (place-is at (here.object_for x) (there.object_for x) (names.mean_same x))
     (λ p q is. same-then (PlaceIs at) (or_stuck (read_place small p)) (or_stuck (read_place large q))
-    (λ v. follow here small v path >>= (λ steps. gives record { variable = p.variable; path = p.path ++ steps })) (λ v. follow there large v path >>= (λ steps. gives record { variable = q.variable; path = q.path ++ steps }))
+    (λ v. evaluate_selectors here small v path >>= (λ steps. succeeds_with record { variable = p.variable; path = p.path ++ steps })) (λ v. evaluate_selectors there large v path >>= (λ steps. succeeds_with record { variable = q.variable; path = q.path ++ steps }))
     (ap or_stuck (read-same at small large p q h is))
-    (λ v. same-then (PlaceIs at) (follow here small v path) (follow there large v path) (λ steps. gives record { variable = p.variable; path = p.path ++ steps }) (λ steps. gives record { variable = q.variable; path = q.path ++ steps })
+    (λ v. same-then (PlaceIs at) (evaluate_selectors here small v path) (evaluate_selectors there large v path) (λ steps. succeeds_with record { variable = p.variable; path = p.path ++ steps }) (λ steps. succeeds_with record { variable = q.variable; path = q.path ++ steps })
     (follow-same here there small large (λ x. value-same at small large (here.object_for x) (there.object_for x) h (names.mean_same x)) names.are_written v path)
     (λ steps. record { variable_is = is.variable_is; same_path = ap (λ l. l ++ steps) is.same_path })))
 
@@ -239,18 +239,18 @@ ArgumentsAre at _ _ = ⊥
 argument-is : {N P : Type 0} (at : List ℕ) (here there : Meanings N Place P) (small large : Store) → NamesAre at here there → StoreIs at small large → (m : Mode) (e : Tree N expression) → OutcomeIs (ArgumentIs at) (evaluate_argument here small m e) (evaluate_argument there large m e)
 unfolding evaluate_argument
 argument-is at here there small large names h by_value e =
-    same-then (ArgumentIs at) (evaluate here small e) (evaluate there large e) (λ v. gives (value_argument v)) (λ v. gives (value_argument v)) (evaluate-is at here there small large names h e) (λ v. refl)
+    same-then (ArgumentIs at) (evaluate here small e) (evaluate there large e) (λ v. succeeds_with (value_argument v)) (λ v. succeeds_with (value_argument v)) (evaluate-is at here there small large names h e) (λ v. refl)
 argument-is at here there small large names h by_place e =
-    same-then (ArgumentIs at) (or_stuck (lone_designator e)) (or_stuck (lone_designator e)) (λ d. designate here small d.0 d.1 >>= (λ p. gives (place_argument p))) (λ d. designate there large d.0 d.1 >>= (λ p. gives (place_argument p))) refl
-    (λ d. outcome-then (PlaceIs at) (ArgumentIs at) (designate here small d.0 d.1) (designate there large d.0 d.1) (λ p. gives (place_argument p)) (λ p. gives (place_argument p)) (designate-is at here there small large names h d.0 d.1) (λ p q is. is))
+    same-then (ArgumentIs at) (or_stuck (lone_designator e)) (or_stuck (lone_designator e)) (λ d. designate here small d.0 d.1 >>= (λ p. succeeds_with (place_argument p))) (λ d. designate there large d.0 d.1 >>= (λ p. succeeds_with (place_argument p))) refl
+    (λ d. outcome-then (PlaceIs at) (ArgumentIs at) (designate here small d.0 d.1) (designate there large d.0 d.1) (λ p. succeeds_with (place_argument p)) (λ p. succeeds_with (place_argument p)) (designate-is at here there small large names h d.0 d.1) (λ p q is. is))
 
 arguments-are : {N P : Type 0} (at : List ℕ) (here there : Meanings N Place P) (small large : Store) → NamesAre at here there → StoreIs at small large → (ms : List Mode) (es : List (Tree N expression)) → OutcomeIs (ArgumentsAre at) (evaluate_arguments here small ms es) (evaluate_arguments there large ms es)
 unfolding evaluate_arguments
 arguments-are at here there small large names h [] [] = tt
 arguments-are at here there small large names h (m ∷ ms) (e ∷ es) =
     outcome-then (ArgumentIs at) (ArgumentsAre at) (evaluate_argument here small m e) (evaluate_argument there large m e)
-    (λ a. evaluate_arguments here small ms es >>= (λ rest. gives (a ∷ rest))) (λ a. evaluate_arguments there large ms es >>= (λ rest. gives (a ∷ rest))) (argument-is at here there small large names h m e)
-    (λ a b is. outcome-then (ArgumentsAre at) (ArgumentsAre at) (evaluate_arguments here small ms es) (evaluate_arguments there large ms es) (λ rest. gives (a ∷ rest)) (λ rest. gives (b ∷ rest)) (arguments-are at here there small large names h ms es)
+    (λ a. evaluate_arguments here small ms es >>= (λ rest. succeeds_with (a ∷ rest))) (λ a. evaluate_arguments there large ms es >>= (λ rest. succeeds_with (a ∷ rest))) (argument-is at here there small large names h m e)
+    (λ a b is. outcome-then (ArgumentsAre at) (ArgumentsAre at) (evaluate_arguments here small ms es) (evaluate_arguments there large ms es) (λ rest. succeeds_with (a ∷ rest)) (λ rest. succeeds_with (b ∷ rest)) (arguments-are at here there small large names h ms es)
     (λ args others are. (is, are)))
 arguments-are at here there small large names h _ _ = refl
 
@@ -271,16 +271,16 @@ abbrev pub Alike : List ℕ → (State → Progress) → (State → Progress) �
 Alike at f g = (s u : State) → StateIs at s u → ProgressIs at (f s) (g u)
 
 use_result-is : {A B : Type 0} (at : List ℕ) (Is : A → B → Type 0) (s u : State) (o : Outcome A) (q : Outcome B) (f : A → Progress) (g : B → Progress) → s.output ≡ u.output → OutcomeIs Is o q → ((a : A) (b : B) → Is a b → ProgressIs at (f a) (g b)) → ProgressIs at (use_result s o f) (use_result u q g)
-use_result-is at Is s u (gives a) (gives b) f g out h each = each a b h
-use_result-is at Is s u (ends e) (ends x) f g out h each = (h, out)
+use_result-is at Is s u (succeeds_with a) (succeeds_with b) f g out h each = each a b h
+use_result-is at Is s u (ends_run_with e) (ends_run_with x) f g out h each = (h, out)
 use_result-is at Is s u _ _ f g out h each = absurd h
 
 use_same : {A : Type 0} (at : List ℕ) (s u : State) (o q : Outcome A) (f g : A → Progress) → s.output ≡ u.output → o ≡ q → ((a : A) → ProgressIs at (f a) (g a)) → ProgressIs at (use_result s o f) (use_result u q g)
 use_same {A} at s u o q f g out e each = subst (λ q. ProgressIs at (use_result s o f) (use_result u q g)) e (go o)
   where
     go : (o : Outcome A) → ProgressIs at (use_result s o f) (use_result u o g)
-    go (gives a) = each a
-    go (ends x) = (refl, out)
+    go (succeeds_with a) = each a
+    go (ends_run_with x) = (refl, out)
 
 choose-is : (at : List ℕ) (s u : State) (v : Value) (f g f' g' : State → Progress) → StateIs at s u → ProgressIs at (f s) (f' u) → ProgressIs at (g s) (g' u) → ProgressIs at (choose s v f g) (choose u v f' g')
 choose-is at s u (truth true) f g f' g' h is is' = is
@@ -327,7 +327,7 @@ modes-same at None None is = refl
 modes-same at (Some (a_constant v)) (Some (a_constant w)) is = refl
 modes-same at (Some (a_variable p)) (Some (a_variable q)) is = refl
 modes-same at (Some (a_type s)) (Some (a_type t)) is = refl
-modes-same at (Some (a_procedure a)) (Some (a_procedure b)) is = ap gives is
+modes-same at (Some (a_procedure a)) (Some (a_procedure b)) is = ap succeeds_with is
 modes-same at (Some (a_standard a)) (Some (a_standard b)) is = ap (λ a. modes_of (Some (a_standard a))) is
 modes-same at _ _ is = absurd is
 
@@ -335,7 +335,7 @@ modes-same at _ _ is = absurd is
 abbrev pub EntersAlike : List ℕ → (List Argument → State → Progress) → (List Argument → State → Progress) → Type 0
 EntersAlike at enter enter' = (args others : List Argument) (s u : State) → ArgumentsAre at args others → StateIs at s u → ProgressIs at (enter args s) (enter' others u)
 
-reads-alike : (at : List ℕ) (enter enter' : List Argument → State → Progress) → EntersAlike at (perform_call (Some (a_standard reads)) enter) (perform_call (Some (a_standard reads)) enter')
+reads-alike : (at : List ℕ) (enter enter' : List Argument → State → Progress) → EntersAlike at (perform_call (Some (a_standard read_procedure)) enter) (perform_call (Some (a_standard read_procedure)) enter')
 reads-alike at enter enter' (place_argument p ∷ []) (place_argument q ∷ []) s u are h =
     subst (λ input. ProgressIs at (read_number s p s.input) (read_number u q input)) h.same_input (read-is at s u p q s.input h are.0)
 reads-alike at enter enter' [] [] s u are h = (refl, h.same_output)
@@ -347,14 +347,14 @@ reads-alike at enter enter' (place_argument p ∷ args) (value_argument w ∷ ot
 reads-alike at enter enter' (value_argument v ∷ args) (place_argument q ∷ others) s u are h = absurd (are.0)
 reads-alike at enter enter' _ _ s u are h = absurd are
 
-written-alike : (at : List ℕ) (enter enter' : List Argument → State → Progress) (v : Value) (s u : State) → StateIs at s u → ProgressIs at (perform_call (Some (a_standard writes)) enter (value_argument v ∷ []) s) (perform_call (Some (a_standard writes)) enter' (value_argument v ∷ []) u)
+written-alike : (at : List ℕ) (enter enter' : List Argument → State → Progress) (v : Value) (s u : State) → StateIs at s u → ProgressIs at (perform_call (Some (a_standard write_procedure)) enter (value_argument v ∷ []) s) (perform_call (Some (a_standard write_procedure)) enter' (value_argument v ∷ []) u)
 written-alike at enter enter' (number n) s u h = put_out-is at s u (number_out n) h
 written-alike at enter enter' _ s u h = (refl, h.same_output)
 
-not-written : (at : List ℕ) (enter enter' : List Argument → State → Progress) (v w : Value) (a b : Argument) (args others : List Argument) (s u : State) → StateIs at s u → ProgressIs at (perform_call (Some (a_standard writes)) enter (value_argument v ∷ a ∷ args) s) (perform_call (Some (a_standard writes)) enter' (value_argument w ∷ b ∷ others) u)
+not-written : (at : List ℕ) (enter enter' : List Argument → State → Progress) (v w : Value) (a b : Argument) (args others : List Argument) (s u : State) → StateIs at s u → ProgressIs at (perform_call (Some (a_standard write_procedure)) enter (value_argument v ∷ a ∷ args) s) (perform_call (Some (a_standard write_procedure)) enter' (value_argument w ∷ b ∷ others) u)
 not-written at enter enter' v w a b args others s u h = go v w
   where
-    go : (v w : Value) → ProgressIs at (perform_call (Some (a_standard writes)) enter (value_argument v ∷ a ∷ args) s) (perform_call (Some (a_standard writes)) enter' (value_argument w ∷ b ∷ others) u)
+    go : (v w : Value) → ProgressIs at (perform_call (Some (a_standard write_procedure)) enter (value_argument v ∷ a ∷ args) s) (perform_call (Some (a_standard write_procedure)) enter' (value_argument w ∷ b ∷ others) u)
     go (number n) (number k) = (refl, h.same_output)
     go (number n) (truth k) = (refl, h.same_output)
     go (number n) (elements k) = (refl, h.same_output)
@@ -372,9 +372,9 @@ not-written at enter enter' v w a b args others s u h = go v w
     go (members m n) (elements k) = (refl, h.same_output)
     go (members m n) (members j k) = (refl, h.same_output)
 
-writes-alike : (at : List ℕ) (enter enter' : List Argument → State → Progress) → EntersAlike at (perform_call (Some (a_standard writes)) enter) (perform_call (Some (a_standard writes)) enter')
+writes-alike : (at : List ℕ) (enter enter' : List Argument → State → Progress) → EntersAlike at (perform_call (Some (a_standard write_procedure)) enter) (perform_call (Some (a_standard write_procedure)) enter')
 writes-alike at enter enter' (value_argument v ∷ []) (value_argument w ∷ []) s u are h =
-    subst (λ w. ProgressIs at (perform_call (Some (a_standard writes)) enter (value_argument v ∷ []) s) (perform_call (Some (a_standard writes)) enter' (value_argument w ∷ []) u)) are.0 (written-alike at enter enter' v s u h)
+    subst (λ w. ProgressIs at (perform_call (Some (a_standard write_procedure)) enter (value_argument v ∷ []) s) (perform_call (Some (a_standard write_procedure)) enter' (value_argument w ∷ []) u)) are.0 (written-alike at enter enter' v s u h)
 writes-alike at enter enter' [] [] s u are h = (refl, h.same_output)
 writes-alike at enter enter' (place_argument p ∷ args) (place_argument q ∷ others) s u are h = (refl, h.same_output)
 writes-alike at enter enter' (value_argument v ∷ a ∷ args) (value_argument w ∷ b ∷ others) s u are h = not-written at enter enter' v w a b args others s u h
@@ -385,11 +385,11 @@ writes-alike at enter enter' (value_argument v ∷ args) (place_argument q ∷ o
 writes-alike at enter enter' _ _ s u are h = absurd are
 
 standard-alike : (at : List ℕ) (a : StandardProcedure) (enter enter' : List Argument → State → Progress) → EntersAlike at (perform_call (Some (a_standard a)) enter) (perform_call (Some (a_standard a)) enter')
-standard-alike at reads enter enter' args others s u are h = reads-alike at enter enter' args others s u are h
-standard-alike at writes enter enter' args others s u are h = writes-alike at enter enter' args others s u are h
-standard-alike at writes_line enter enter' [] [] s u are h = put_out-is at s u line_out h
-standard-alike at writes_line enter enter' (a ∷ args) (b ∷ others) s u are h = (refl, h.same_output)
-standard-alike at writes_line enter enter' _ _ s u are h = absurd are
+standard-alike at read_procedure enter enter' args others s u are h = reads-alike at enter enter' args others s u are h
+standard-alike at write_procedure enter enter' args others s u are h = writes-alike at enter enter' args others s u are h
+standard-alike at write_line_procedure enter enter' [] [] s u are h = put_out-is at s u line_out h
+standard-alike at write_line_procedure enter enter' (a ∷ args) (b ∷ others) s u are h = (refl, h.same_output)
+standard-alike at write_line_procedure enter enter' _ _ s u are h = absurd are
 
 perform_call-alike : (at : List ℕ) (o q : Option (Object Place (List Mode))) (enter enter' : List Argument → State → Progress) → MeaningIs at o q → EntersAlike at enter enter' → EntersAlike at (perform_call o enter) (perform_call q enter')
 perform_call-alike at (Some (a_procedure a)) (Some (a_procedure b)) enter enter' is alike args others s u are h = alike args others s u are h

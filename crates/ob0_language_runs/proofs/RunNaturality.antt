@@ -5,27 +5,27 @@ use Rattle.ob0_language_names.specs.Mapping.{map_names}
 use Rattle.ob0_language_types.specs.Arguments.{arguments_listed}
 use Rattle.ob0_language_types.specs.Expressions.{Meanings, designate}
 use Rattle.ob0_language_types.specs.Typing.{lone_designator}
-use Rattle.ob0_language_values.specs.Values.{Place, Store, gives, or_stuck, ◌>>=◌}
+use Rattle.ob0_language_values.specs.Values.{Place, Store, succeeds_with, or_stuck, ◌>>=◌}
 use Rattle.ob0_language_types.specs.WellTyped.{Mode, by_place, by_value}
 use Rattle.ob0_language_types.proofs.Naturality.{arguments-map, designate-map, lone_designator-map, evaluate-map, map_designator, through}
 use Rattle.ob0_language_runs.specs.Runs.{CallFunction, Progress, State, choose, evaluate_argument, evaluate_arguments, execute, execute_all, execute_else, execute_elsifs, execute_further, continue_with, modes_of, perform_call, place_argument, store_at, execute_while, execute_repeat, use_result, value_argument}
 
 pub evaluate_argument-map : {N M P : Type 0} (f h : N → M) (meaning : Meanings M Place P) (store : Store) (m : Mode) (e : Tree N expression) → evaluate_argument meaning store m (map_names f h e) ≡ evaluate_argument (through f h meaning) store m e
 unfolding evaluate_argument
-evaluate_argument-map {N} f h meaning store by_value e = λ i. evaluate-map f h meaning store e i >>= (λ v. gives (value_argument v))
+evaluate_argument-map {N} f h meaning store by_value e = λ i. evaluate-map f h meaning store e i >>= (λ v. succeeds_with (value_argument v))
 evaluate_argument-map {N} f h meaning store by_place e =
-    (λ i. or_stuck (lone_designator-map f h e i) >>= (λ d. designate meaning store d.0 d.1 >>= (λ p. gives (place_argument p))))
+    (λ i. or_stuck (lone_designator-map f h e i) >>= (λ d. designate meaning store d.0 d.1 >>= (λ p. succeeds_with (place_argument p))))
     ∙ place (lone_designator e)
   where
-    place : (d : Option (N × Tree N (items selector))) → or_stuck (option_map (map_designator f h) d) >>= (λ d. designate meaning store d.0 d.1 >>= (λ p. gives (place_argument p))) ≡ or_stuck d >>= (λ d. designate (through f h meaning) store d.0 d.1 >>= (λ p. gives (place_argument p)))
+    place : (d : Option (N × Tree N (items selector))) → or_stuck (option_map (map_designator f h) d) >>= (λ d. designate meaning store d.0 d.1 >>= (λ p. succeeds_with (place_argument p))) ≡ or_stuck d >>= (λ d. designate (through f h meaning) store d.0 d.1 >>= (λ p. succeeds_with (place_argument p)))
     place None = refl
-    place (Some d) = λ i. designate-map f h meaning store d.0 d.1 i >>= (λ p. gives (place_argument p))
+    place (Some d) = λ i. designate-map f h meaning store d.0 d.1 i >>= (λ p. succeeds_with (place_argument p))
 
 pub evaluate_arguments-map : {N M P : Type 0} (f h : N → M) (meaning : Meanings M Place P) (store : Store) (ms : List Mode) (es : List (Tree N expression)) → evaluate_arguments meaning store ms (map (map_names f h) es) ≡ evaluate_arguments (through f h meaning) store ms es
 unfolding evaluate_arguments
 evaluate_arguments-map f h meaning store [] [] = refl
 evaluate_arguments-map f h meaning store (m ∷ ms) (e ∷ es) = λ i.
-    evaluate_argument-map f h meaning store m e i >>= (λ a. evaluate_arguments-map f h meaning store ms es i >>= (λ rest. gives (a ∷ rest)))
+    evaluate_argument-map f h meaning store m e i >>= (λ a. evaluate_arguments-map f h meaning store ms es i >>= (λ rest. succeeds_with (a ∷ rest)))
 evaluate_arguments-map f h meaning store _ _ = refl
 
 mutual

@@ -5,12 +5,12 @@ use Rattle.ob0_language_names.specs.Names.{naming_by_spelling}
 use Rattle.ob0_language_names.proofs.EverywhereTrees.{everywhere, gone-module}
 use Rattle.ob0_language_types.proofs.InlinedEverywhere.{everywhere-fitted, inlining_everywhere_keeps_well_typed-holds}
 use Rattle.ob0_language_runs.specs.EditLaws.{InliningEverywhereKeepsTypingAndRuns}
-use Rattle.ob0_language_runs.specs.Runs.{run, run_over}
+use Rattle.ob0_language_runs.specs.Runs.{run, run_with_naming}
 use Rattle.ob0_language_runs.proofs.EditedRuns.{run-edited}
 
 pub inlining_everywhere_keeps_typing_and_runs-holds : InliningEverywhereKeepsTypingAndRuns
 unfolding run
 inlining_everywhere_keeps_typing_and_runs-holds m d w v c seen well = (
   inlining_everywhere_keeps_well_typed-holds m d w v c seen well,
-  λ input c' t. ap (λ a. run_over naming_by_spelling a input c' t) (sym (gone-module (occurrences_bound_to m d) v d m)) ∙ run-edited (everywhere (occurrences_bound_to m d) v d) w m (everywhere-fitted m d w v c seen well) input c' t,
+  λ input c' t. ap (λ a. run_with_naming naming_by_spelling a input c' t) (sym (gone-module (occurrences_bound_to m d) v d m)) ∙ run-edited (everywhere (occurrences_bound_to m d) v d) w m (everywhere-fitted m d w v c seen well) input c' t,
 )

@@ -10,21 +10,21 @@ use Rattle.ob0_tree.specs.declared.tree.MultiplyOperator.{MultiplyOperator}
 use Rattle.ob0_tree.specs.declared.tree.MultiplyOperator.TheVariants as multiply_operator
 use Rattle.ob0_tree.specs.Tree.{Tree, addend, adds, compares, designator, end, expression, factor, field, index, integer, items, more, multiplier, multiplies, negation, none, one, parenthesised, product, relates, selector, simple, sum, term}
 use Rattle.ob0_language_names.specs.Names.{Name, same_name}
-use Rattle.ob0_language_types.specs.Expressions.{Meanings, Object, a_constant, a_procedure, a_standard, a_type, a_variable, element_step, evaluate, evaluate_addends, evaluate_factor, evaluate_multipliers, evaluate_simple, evaluate_term, follow, object_value}
-use Rattle.ob0_language_types.specs.Typing.{addition_type, negation_type, element_type, field_type, multiplication_type, object_type, relation_type, shape_of_field, sign_type, type_at, type_of, type_of_addends, type_of_factor, type_of_multipliers, type_of_simple, type_of_term, value_type}
-use Rattle.ob0_language_values.specs.Values.{FieldShapes, Index, Members, Outcome, Overflow, Place, Shape, Step, Store, Value, Values, add, add_short_circuits, array_shape, at_field, at_index, value_at_path, boolean_shape, count_values, checked_division, division_outcome, elements, ends, fits, gives, checked_number, integer_shape, members, multiply, multiply_short_circuits, named_member, negate, next_field_shape, next_member, next_value, no_field_shape, no_member, no_value, nth_value, number, or_stuck, part, quotient, read_place, record_shape, relate, remainder, apply_sign, truth, ◌>>=◌}
+use Rattle.ob0_language_types.specs.Expressions.{Meanings, Object, a_constant, a_procedure, a_standard, a_type, a_variable, element_step, evaluate, evaluate_addends, evaluate_factor, evaluate_multipliers, evaluate_simple, evaluate_term, evaluate_selectors, object_value}
+use Rattle.ob0_language_types.specs.Typing.{addition_type, negation_type, element_type, field_type, multiplication_type, object_type, relation_type, shape_of_field, sign_type, type_after_selectors, type_of, type_of_addends, type_of_factor, type_of_multipliers, type_of_simple, type_of_term, value_type}
+use Rattle.ob0_language_values.specs.Values.{FieldShapes, Index, Members, Outcome, Overflow, Place, Shape, Step, Store, Value, Values, add, add_short_circuits, array_shape, at_field, at_index, value_at_path, boolean_shape, count_values, checked_division, division_outcome, elements, ends_run_with, fits_in_32_bits, succeeds_with, checked_number, integer_shape, members, multiply, multiply_short_circuits, named_member, negate, next_field_shape, next_member, next_value, no_field_shape, no_member, no_value, nth_value, number, or_stuck, part, quotient, read_place, record_shape, apply_relation, remainder, apply_sign, truth, ◌>>=◌}
 use Rattle.ob0_language_types.specs.WellTyped.{Mode, Signature, TypeMeanings}
 use Rattle.ob0_language_types.proofs.Conditions.{of_some}
 use Rattle.ob0_language_types.proofs.TypedElsewhere.{then_some}
-use Rattle.ob0_language_runs.specs.Fitting.{EachHasShape, HasShape, HaveShapes, MeaningsFit, ObjectFits, PlaceFits, StoreFits, StoreTyping, part_shape, shape_at_path}
+use Rattle.ob0_language_runs.specs.TypeAgreement.{EachHasShape, HasShape, HaveShapes, RunMeaningsAgree, RunObjectAgrees, PlaceHasType, StoreHasTypes, StoreTyping, part_shape, shape_at_path}
 use Rattle.ob0_language_runs.proofs.Soundness.{OutcomeFits}
 
 pub fits-then : {A B : Type 0} (P : A → Type 0) (Q : B → Type 0) (o : Outcome A) (next : A → Outcome B) → OutcomeFits P o → ((a : A) → P a → OutcomeFits Q (next a)) → OutcomeFits Q (o >>= next)
-fits-then P Q (gives a) next h each = each a h
-fits-then P Q (ends e) next h each = h
+fits-then P Q (succeeds_with a) next h each = each a h
+fits-then P Q (ends_run_with e) next h each = h
 
 pub checked_number-fits : (n : ℤ) → OutcomeFits (λ v. HasShape v integer_shape) (checked_number n)
-checked_number-fits n = elim (fits n) as (λ b. OutcomeFits (λ v. HasShape v integer_shape) (if b then gives (number n) else ends Overflow)) [ true ↦ tt | false ↦ λ e. cc ]
+checked_number-fits n = elim (fits_in_32_bits n) as (λ b. OutcomeFits (λ v. HasShape v integer_shape) (if b then succeeds_with (number n) else ends_run_with Overflow)) [ true ↦ tt | false ↦ λ e. cc ]
 
 pub is_number : (v : Value) → HasShape v integer_shape → (n : ℤ) × (v ≡ number n)
 is_number (number n) h = (n, refl)
@@ -63,11 +63,11 @@ multiply-fits multiply_operator.Modulo integer_shape integer_shape z v w e hv hw
 multiply-fits multiply_operator.And boolean_shape boolean_shape z v w e hv hw = of_some (λ z. OutcomeFits (λ u. HasShape u z) (multiply multiply_operator.And v w)) e (on_truths (multiply multiply_operator.And) boolean_shape (λ a b. tt) v w hv hw)
 multiply-fits _ _ _ z v w e hv hw = absurd (cc)
 
-pub relate-fits : (r : Relation) (x y z : Shape) (v w : Value) → relation_type r x y ≡ Some z → HasShape v x → HasShape w y → OutcomeFits (λ u. HasShape u z) (relate r v w)
-relate-fits r integer_shape integer_shape z v w e hv hw = of_some (λ z. OutcomeFits (λ u. HasShape u z) (relate r v w)) e (on_numbers (relate r) boolean_shape (λ m n. tt) v w hv hw)
-relate-fits relation.Equal boolean_shape boolean_shape z v w e hv hw = of_some (λ z. OutcomeFits (λ u. HasShape u z) (relate relation.Equal v w)) e (on_truths (relate relation.Equal) boolean_shape (λ a b. tt) v w hv hw)
-relate-fits relation.NotEqual boolean_shape boolean_shape z v w e hv hw = of_some (λ z. OutcomeFits (λ u. HasShape u z) (relate relation.NotEqual v w)) e (on_truths (relate relation.NotEqual) boolean_shape (λ a b. tt) v w hv hw)
-relate-fits _ _ _ z v w e hv hw = absurd (cc)
+pub apply_relation-fits : (r : Relation) (x y z : Shape) (v w : Value) → relation_type r x y ≡ Some z → HasShape v x → HasShape w y → OutcomeFits (λ u. HasShape u z) (apply_relation r v w)
+apply_relation-fits r integer_shape integer_shape z v w e hv hw = of_some (λ z. OutcomeFits (λ u. HasShape u z) (apply_relation r v w)) e (on_numbers (apply_relation r) boolean_shape (λ m n. tt) v w hv hw)
+apply_relation-fits relation.Equal boolean_shape boolean_shape z v w e hv hw = of_some (λ z. OutcomeFits (λ u. HasShape u z) (apply_relation relation.Equal v w)) e (on_truths (apply_relation relation.Equal) boolean_shape (λ a b. tt) v w hv hw)
+apply_relation-fits relation.NotEqual boolean_shape boolean_shape z v w e hv hw = of_some (λ z. OutcomeFits (λ u. HasShape u z) (apply_relation relation.NotEqual v w)) e (on_truths (apply_relation relation.NotEqual) boolean_shape (λ a b. tt) v w hv hw)
+apply_relation-fits _ _ _ z v w e hv hw = absurd (cc)
 
 pub apply_sign-fits : (s : Option Sign) (x z : Shape) (v : Value) → sign_type s x ≡ Some z → HasShape v x → OutcomeFits (λ u. HasShape u z) (apply_sign s v)
 apply_sign-fits None x z v e hv = of_some (λ z. HasShape v z) e hv
@@ -93,7 +93,7 @@ multiplication_type-first multiply_operator.Modulo integer_shape integer_shape z
 multiplication_type-first multiply_operator.And boolean_shape boolean_shape z e = e
 multiplication_type-first _ _ _ z e = absurd (cc)
 
-pub settled-fits : (P : Value → Type 0) (b : Bool) (x : Value) (o : Outcome Value) → P x → OutcomeFits P o → OutcomeFits P (elim b [ true ↦ gives x | false ↦ o ])
+pub settled-fits : (P : Value → Type 0) (b : Bool) (x : Value) (o : Outcome Value) → P x → OutcomeFits P o → OutcomeFits P (elim b [ true ↦ succeeds_with x | false ↦ o ])
 settled-fits P true x o h k = h
 settled-fits P false x o h k = k
 
@@ -136,13 +136,13 @@ path-fits (step ∷ path) v s t h e =
     let (z, ez, hz) = path-fits path w u t hw e₁ in
     (z, ap (option_and_then (value_at_path path)) ew ∙ ez, hz)
 
-pub variable-fits : (typing : StoreTyping) (store : Store) (n : ℕ) (s : Shape) → StoreFits typing store → slice_get typing n ≡ Some s → (v : Value) × (slice_get store n ≡ Some v) × HasShape v s
+pub variable-fits : (typing : StoreTyping) (store : Store) (n : ℕ) (s : Shape) → StoreHasTypes typing store → slice_get typing n ≡ Some s → (v : Value) × (slice_get store n ≡ Some v) × HasShape v s
 variable-fits [] [] n s h e = absurd (cc)
 variable-fits (t ∷ typing) (v ∷ store) zero s h e = (v, refl, of_some (λ s. HasShape v s) e h.0)
 variable-fits (t ∷ typing) (v ∷ store) (suc n) s h e = variable-fits typing store n s h.1 e
 variable-fits _ _ n s h e = absurd h
 
-pub place-fits : (typing : StoreTyping) (store : Store) (p : Place) (s : Shape) → StoreFits typing store → PlaceFits typing p s → (v : Value) × (read_place store p ≡ Some v) × HasShape v s
+pub place-fits : (typing : StoreTyping) (store : Store) (p : Place) (s : Shape) → StoreHasTypes typing store → PlaceHasType typing p s → (v : Value) × (read_place store p ≡ Some v) × HasShape v s
 place-fits typing store p s h e =
     let (t, et, e₁) = then_some (slice_get typing p.variable) (shape_at_path p.path) s e in
     let (v, ev, hv) = variable-fits typing store p.variable t h et in
@@ -151,7 +151,7 @@ place-fits typing store p s h e =
 
 -- A constant or a variable evaluates to a value of its type.
 pub object-fits : (typing : StoreTyping) (store : Store) (checked : Option (Object Shape Signature)) (active : Option (Object Place (List Mode))) (s : Shape)
-    → StoreFits typing store → ObjectFits typing checked active → object_type checked ≡ Some s → OutcomeFits (λ v. HasShape v s) (object_value store active)
+    → StoreHasTypes typing store → RunObjectAgrees typing checked active → object_type checked ≡ Some s → OutcomeFits (λ v. HasShape v s) (object_value store active)
 object-fits typing store (Some (a_constant v)) (Some (a_constant w)) s h o e =
     subst (λ w. OutcomeFits (λ v. HasShape v s) (object_value {P = List Mode} store (Some (a_constant w)))) o (go v e)
   where
@@ -179,7 +179,7 @@ is_elements _ k n s h = absurd h
 pub index-fits : (vs : Values) (k n : ℕ) (s t : Shape) (i : ℤ) → count_values vs ≡ n → Some s ≡ Some t → OutcomeFits (λ step. part_shape (array_shape k n s) step ≡ Some t) (element_step (elements vs) (number i))
 index-fits vs k n s t (negsuc i) c e = λ e. cc
 index-fits vs k n s t (pos i) c e =
-    (elim (nat_lt i (count_values vs)) as (λ b. nat_lt i (count_values vs) ≡ b → OutcomeFits (λ step. part_shape (array_shape k n s) step ≡ Some t) (if b then gives (at_index i) else ends Index))
+    (elim (nat_lt i (count_values vs)) as (λ b. nat_lt i (count_values vs) ≡ b → OutcomeFits (λ step. part_shape (array_shape k n s) step ≡ Some t) (if b then succeeds_with (at_index i) else ends_run_with Index))
     [ true ↦ λ below. ap (λ b. if b then Some s else None) (ap (λ m. nat_lt i m) (sym c) ∙ below) ∙ e | false ↦ λ below e. cc ]) refl
 
 pub element_step-fits : (v : Value) (s : Shape) (i : Value) (j t : Shape) → HasShape v s → HasShape i j → element_type s j ≡ Some t → OutcomeFits (λ step. part_shape s step ≡ Some t) (element_step v i)
@@ -195,23 +195,23 @@ field_part (record_shape k fs) x u e = e
 field_part _ x u e = absurd (cc)
 
 -- holds if the store fits its typing, and the meanings of names fit the checker's
-pub record Fitting {N : Type 0} (typing : StoreTyping) (checked : TypeMeanings N) (active : Meanings N Place (List Mode)) (store : Store) : Type 0 where
-  pub store_fits : StoreFits typing store
-  pub names_fit : MeaningsFit typing checked active
+pub record TypeAgreement {N : Type 0} (typing : StoreTyping) (checked : TypeMeanings N) (active : Meanings N Place (List Mode)) (store : Store) : Type 0 where
+  pub store_fits : StoreHasTypes typing store
+  pub names_fit : RunMeaningsAgree typing checked active
 
 mutual
   unfolding evaluate type_of
 
-  pub evaluate-sound : {N : Type 0} (typing : StoreTyping) (checked : TypeMeanings N) (active : Meanings N Place (List Mode)) (store : Store) → Fitting typing checked active store → (e : Tree N expression) (s : Shape)
+  pub evaluate-sound : {N : Type 0} (typing : StoreTyping) (checked : TypeMeanings N) (active : Meanings N Place (List Mode)) (store : Store) → TypeAgreement typing checked active store → (e : Tree N expression) (s : Shape)
       → type_of checked e ≡ Some s → OutcomeFits (λ v. HasShape v s) (evaluate active store e)
   evaluate-sound typing checked active store f (compares a none) s h = evaluate_simple-sound typing checked active store f a s h
   evaluate-sound typing checked active store f (compares a (one (relates r b))) s h =
       let (x, ex, h₁) = then_some (type_of_simple checked a) (λ x. option_and_then (relation_type r x) (type_of_simple checked b)) s h in
       let (y, ey, h₂) = then_some (type_of_simple checked b) (relation_type r x) s h₁ in
-      fits-then (λ v. HasShape v x) (λ v. HasShape v s) (evaluate_simple active store a) (λ v. evaluate_simple active store b >>= relate r v) (evaluate_simple-sound typing checked active store f a x ex)
-      (λ v hv. fits-then (λ w. HasShape w y) (λ v. HasShape v s) (evaluate_simple active store b) (relate r v) (evaluate_simple-sound typing checked active store f b y ey) (λ w hw. relate-fits r x y s v w h₂ hv hw))
+      fits-then (λ v. HasShape v x) (λ v. HasShape v s) (evaluate_simple active store a) (λ v. evaluate_simple active store b >>= apply_relation r v) (evaluate_simple-sound typing checked active store f a x ex)
+      (λ v hv. fits-then (λ w. HasShape w y) (λ v. HasShape v s) (evaluate_simple active store b) (apply_relation r v) (evaluate_simple-sound typing checked active store f b y ey) (λ w hw. apply_relation-fits r x y s v w h₂ hv hw))
 
-  pub evaluate_simple-sound : {N : Type 0} (typing : StoreTyping) (checked : TypeMeanings N) (active : Meanings N Place (List Mode)) (store : Store) → Fitting typing checked active store → (a : Tree N simple) (s : Shape)
+  pub evaluate_simple-sound : {N : Type 0} (typing : StoreTyping) (checked : TypeMeanings N) (active : Meanings N Place (List Mode)) (store : Store) → TypeAgreement typing checked active store → (a : Tree N simple) (s : Shape)
       → type_of_simple checked a ≡ Some s → OutcomeFits (λ v. HasShape v s) (evaluate_simple active store a)
   evaluate_simple-sound typing checked active store f (sum sign t rest) s h =
       let (x, ex, h₁) = then_some (type_of_term checked t) (λ x. option_and_then (λ y. type_of_addends checked y rest) (sign_type sign x)) s h in
@@ -220,42 +220,42 @@ mutual
       (λ v hv. fits-then (λ w. HasShape w y) (λ v. HasShape v s) (apply_sign sign v) (λ w. evaluate_addends active store w rest) (apply_sign-fits sign x y v ey hv)
       (λ w hw. evaluate_addends-sound typing checked active store f w y rest s hw h₂))
 
-  pub evaluate_addends-sound : {N : Type 0} (typing : StoreTyping) (checked : TypeMeanings N) (active : Meanings N Place (List Mode)) (store : Store) → Fitting typing checked active store → (v : Value) (x : Shape) (a : Tree N (items addend)) (s : Shape)
+  pub evaluate_addends-sound : {N : Type 0} (typing : StoreTyping) (checked : TypeMeanings N) (active : Meanings N Place (List Mode)) (store : Store) → TypeAgreement typing checked active store → (v : Value) (x : Shape) (a : Tree N (items addend)) (s : Shape)
       → HasShape v x → type_of_addends checked x a ≡ Some s → OutcomeFits (λ v. HasShape v s) (evaluate_addends active store v a)
   evaluate_addends-sound typing checked active store f v x end s hv h = of_some (λ s. HasShape v s) h hv
   evaluate_addends-sound typing checked active store f v x (more (adds o t) rest) s hv h =
       let (y, ey, h₁) = then_some (type_of_term checked t) (λ y. option_and_then (λ z. type_of_addends checked z rest) (addition_type o x y)) s h in
       let (z, ez, h₂) = then_some (addition_type o x y) (λ z. type_of_addends checked z rest) s h₁ in
-      fits-then (λ w. HasShape w z) (λ v. HasShape v s) (elim (add_short_circuits o v) [ true ↦ gives v | false ↦ evaluate_term active store t >>= add o v ]) (λ w. evaluate_addends active store w rest)
+      fits-then (λ w. HasShape w z) (λ v. HasShape v s) (elim (add_short_circuits o v) [ true ↦ succeeds_with v | false ↦ evaluate_term active store t >>= add o v ]) (λ w. evaluate_addends active store w rest)
       (settled-fits (λ w. HasShape w z) (add_short_circuits o v) v (evaluate_term active store t >>= add o v) (of_some (λ s. HasShape v s) (addition_type-first o x y z ez) hv)
       (fits-then (λ w. HasShape w y) (λ w. HasShape w z) (evaluate_term active store t) (add o v) (evaluate_term-sound typing checked active store f t y ey) (λ w hw. add-fits o x y z v w ez hv hw)))
       (λ w hw. evaluate_addends-sound typing checked active store f w z rest s hw h₂)
 
-  pub evaluate_term-sound : {N : Type 0} (typing : StoreTyping) (checked : TypeMeanings N) (active : Meanings N Place (List Mode)) (store : Store) → Fitting typing checked active store → (a : Tree N term) (s : Shape)
+  pub evaluate_term-sound : {N : Type 0} (typing : StoreTyping) (checked : TypeMeanings N) (active : Meanings N Place (List Mode)) (store : Store) → TypeAgreement typing checked active store → (a : Tree N term) (s : Shape)
       → type_of_term checked a ≡ Some s → OutcomeFits (λ v. HasShape v s) (evaluate_term active store a)
   evaluate_term-sound typing checked active store f (product a rest) s h =
       let (x, ex, h₁) = then_some (type_of_factor checked a) (λ x. type_of_multipliers checked x rest) s h in
       fits-then (λ v. HasShape v x) (λ v. HasShape v s) (evaluate_factor active store a) (λ v. evaluate_multipliers active store v rest) (evaluate_factor-sound typing checked active store f a x ex)
       (λ v hv. evaluate_multipliers-sound typing checked active store f v x rest s hv h₁)
 
-  pub evaluate_multipliers-sound : {N : Type 0} (typing : StoreTyping) (checked : TypeMeanings N) (active : Meanings N Place (List Mode)) (store : Store) → Fitting typing checked active store → (v : Value) (x : Shape) (a : Tree N (items multiplier)) (s : Shape)
+  pub evaluate_multipliers-sound : {N : Type 0} (typing : StoreTyping) (checked : TypeMeanings N) (active : Meanings N Place (List Mode)) (store : Store) → TypeAgreement typing checked active store → (v : Value) (x : Shape) (a : Tree N (items multiplier)) (s : Shape)
       → HasShape v x → type_of_multipliers checked x a ≡ Some s → OutcomeFits (λ v. HasShape v s) (evaluate_multipliers active store v a)
   evaluate_multipliers-sound typing checked active store f v x end s hv h = of_some (λ s. HasShape v s) h hv
   evaluate_multipliers-sound typing checked active store f v x (more (multiplies o a) rest) s hv h =
       let (y, ey, h₁) = then_some (type_of_factor checked a) (λ y. option_and_then (λ z. type_of_multipliers checked z rest) (multiplication_type o x y)) s h in
       let (z, ez, h₂) = then_some (multiplication_type o x y) (λ z. type_of_multipliers checked z rest) s h₁ in
-      fits-then (λ w. HasShape w z) (λ v. HasShape v s) (elim (multiply_short_circuits o v) [ true ↦ gives v | false ↦ evaluate_factor active store a >>= multiply o v ]) (λ w. evaluate_multipliers active store w rest)
+      fits-then (λ w. HasShape w z) (λ v. HasShape v s) (elim (multiply_short_circuits o v) [ true ↦ succeeds_with v | false ↦ evaluate_factor active store a >>= multiply o v ]) (λ w. evaluate_multipliers active store w rest)
       (settled-fits (λ w. HasShape w z) (multiply_short_circuits o v) v (evaluate_factor active store a >>= multiply o v) (of_some (λ s. HasShape v s) (multiplication_type-first o x y z ez) hv)
       (fits-then (λ w. HasShape w y) (λ w. HasShape w z) (evaluate_factor active store a) (multiply o v) (evaluate_factor-sound typing checked active store f a y ey) (λ w hw. multiply-fits o x y z v w ez hv hw)))
       (λ w hw. evaluate_multipliers-sound typing checked active store f w z rest s hw h₂)
 
-  pub evaluate_factor-sound : {N : Type 0} (typing : StoreTyping) (checked : TypeMeanings N) (active : Meanings N Place (List Mode)) (store : Store) → Fitting typing checked active store → (a : Tree N factor) (s : Shape)
+  pub evaluate_factor-sound : {N : Type 0} (typing : StoreTyping) (checked : TypeMeanings N) (active : Meanings N Place (List Mode)) (store : Store) → TypeAgreement typing checked active store → (a : Tree N factor) (s : Shape)
       → type_of_factor checked a ≡ Some s → OutcomeFits (λ v. HasShape v s) (evaluate_factor active store a)
   evaluate_factor-sound typing checked active store f (designator x path) s h =
-      let (t, et, h₁) = then_some (object_type (checked.object_for x)) (λ t. type_at checked t path) s h in
-      fits-then (λ v. HasShape v t) (λ v. HasShape v s) (object_value store (active.object_for x)) (λ v. follow active store v path >>= (λ steps. or_stuck (value_at_path steps v)))
+      let (t, et, h₁) = then_some (object_type (checked.object_for x)) (λ t. type_after_selectors checked t path) s h in
+      fits-then (λ v. HasShape v t) (λ v. HasShape v s) (object_value store (active.object_for x)) (λ v. evaluate_selectors active store v path >>= (λ steps. or_stuck (value_at_path steps v)))
       (object-fits typing store (checked.object_for x) (active.object_for x) t f.store_fits (f.names_fit.0 x) et)
-      (λ v hv. fits-then (λ steps. shape_at_path steps t ≡ Some s) (λ v. HasShape v s) (follow active store v path) (λ steps. or_stuck (value_at_path steps v)) (follow-sound typing checked active store f v t path s hv h₁)
+      (λ v hv. fits-then (λ steps. shape_at_path steps t ≡ Some s) (λ v. HasShape v s) (evaluate_selectors active store v path) (λ steps. or_stuck (value_at_path steps v)) (follow-sound typing checked active store f v t path s hv h₁)
       (λ steps e. let (w, ew, hw) = path-fits steps v t s hv e in or_stuck-fits (λ v. HasShape v s) (value_at_path steps v) w ew hw))
   evaluate_factor-sound typing checked active store f (integer n) s h = of_some (λ s. HasShape (number (pos n)) s) h tt
   evaluate_factor-sound typing checked active store f (parenthesised e) s h = evaluate-sound typing checked active store f e s h
@@ -263,23 +263,23 @@ mutual
       let (x, ex, h₁) = then_some (type_of_factor checked a) negation_type s h in
       fits-then (λ v. HasShape v x) (λ v. HasShape v s) (evaluate_factor active store a) negate (evaluate_factor-sound typing checked active store f a x ex) (λ v hv. negate-fits x s v h₁ hv)
 
-  pub follow-sound : {N : Type 0} (typing : StoreTyping) (checked : TypeMeanings N) (active : Meanings N Place (List Mode)) (store : Store) → Fitting typing checked active store → (v : Value) (t : Shape) (path : Tree N (items selector)) (s : Shape)
-      → HasShape v t → type_at checked t path ≡ Some s → OutcomeFits (λ steps. shape_at_path steps t ≡ Some s) (follow active store v path)
+  pub follow-sound : {N : Type 0} (typing : StoreTyping) (checked : TypeMeanings N) (active : Meanings N Place (List Mode)) (store : Store) → TypeAgreement typing checked active store → (v : Value) (t : Shape) (path : Tree N (items selector)) (s : Shape)
+      → HasShape v t → type_after_selectors checked t path ≡ Some s → OutcomeFits (λ steps. shape_at_path steps t ≡ Some s) (evaluate_selectors active store v path)
   follow-sound typing checked active store f v t end s hv h = h
   follow-sound typing checked active store f v t (more (field x) rest) s hv h =
-      let (u, eu, h₁) = then_some (field_type t (checked.written x)) (λ u. type_at checked u rest) s h in
+      let (u, eu, h₁) = then_some (field_type t (checked.written x)) (λ u. type_after_selectors checked u rest) s h in
       let eu' : part_shape t (at_field (checked.written x)) ≡ Some u = field_part t (checked.written x) u eu in
       let (w, ew, hw) = part-fits v t (at_field (checked.written x)) u hv eu' in
-      subst (λ y. OutcomeFits (λ steps. shape_at_path steps t ≡ Some s) (or_stuck (part v (at_field y)) >>= (λ w. follow active store w rest >>= (λ steps. gives (at_field y ∷ steps))))) (f.names_fit.1 x)
-      (fits-then (λ w. HasShape w u) (λ steps. shape_at_path steps t ≡ Some s) (or_stuck (part v (at_field (checked.written x)))) (λ w. follow active store w rest >>= (λ steps. gives (at_field (checked.written x) ∷ steps))) (or_stuck-fits (λ w. HasShape w u) (part v (at_field (checked.written x))) w ew hw)
-      (λ w hw. fits-then (λ steps. shape_at_path steps u ≡ Some s) (λ steps. shape_at_path steps t ≡ Some s) (follow active store w rest) (λ steps. gives (at_field (checked.written x) ∷ steps)) (follow-sound typing checked active store f w u rest s hw h₁)
+      subst (λ y. OutcomeFits (λ steps. shape_at_path steps t ≡ Some s) (or_stuck (part v (at_field y)) >>= (λ w. evaluate_selectors active store w rest >>= (λ steps. succeeds_with (at_field y ∷ steps))))) (f.names_fit.1 x)
+      (fits-then (λ w. HasShape w u) (λ steps. shape_at_path steps t ≡ Some s) (or_stuck (part v (at_field (checked.written x)))) (λ w. evaluate_selectors active store w rest >>= (λ steps. succeeds_with (at_field (checked.written x) ∷ steps))) (or_stuck-fits (λ w. HasShape w u) (part v (at_field (checked.written x))) w ew hw)
+      (λ w hw. fits-then (λ steps. shape_at_path steps u ≡ Some s) (λ steps. shape_at_path steps t ≡ Some s) (evaluate_selectors active store w rest) (λ steps. succeeds_with (at_field (checked.written x) ∷ steps)) (follow-sound typing checked active store f w u rest s hw h₁)
       (λ steps e. ap (option_and_then (shape_at_path steps)) eu' ∙ e)))
   follow-sound typing checked active store f v t (more (index e) rest) s hv h =
-      let (i, ei, h₁) = then_some (type_of checked e) (λ i. option_and_then (λ u. type_at checked u rest) (element_type t i)) s h in
-      let (u, eu, h₂) = then_some (element_type t i) (λ u. type_at checked u rest) s h₁ in
-      fits-then (λ j. HasShape j i) (λ steps. shape_at_path steps t ≡ Some s) (evaluate active store e) (λ j. element_step v j >>= (λ step. or_stuck (part v step) >>= (λ w. follow active store w rest >>= (λ steps. gives (step ∷ steps))))) (evaluate-sound typing checked active store f e i ei)
-      (λ j hj. fits-then (λ step. part_shape t step ≡ Some u) (λ steps. shape_at_path steps t ≡ Some s) (element_step v j) (λ step. or_stuck (part v step) >>= (λ w. follow active store w rest >>= (λ steps. gives (step ∷ steps)))) (element_step-fits v t j i u hv hj eu)
+      let (i, ei, h₁) = then_some (type_of checked e) (λ i. option_and_then (λ u. type_after_selectors checked u rest) (element_type t i)) s h in
+      let (u, eu, h₂) = then_some (element_type t i) (λ u. type_after_selectors checked u rest) s h₁ in
+      fits-then (λ j. HasShape j i) (λ steps. shape_at_path steps t ≡ Some s) (evaluate active store e) (λ j. element_step v j >>= (λ step. or_stuck (part v step) >>= (λ w. evaluate_selectors active store w rest >>= (λ steps. succeeds_with (step ∷ steps))))) (evaluate-sound typing checked active store f e i ei)
+      (λ j hj. fits-then (λ step. part_shape t step ≡ Some u) (λ steps. shape_at_path steps t ≡ Some s) (element_step v j) (λ step. or_stuck (part v step) >>= (λ w. evaluate_selectors active store w rest >>= (λ steps. succeeds_with (step ∷ steps)))) (element_step-fits v t j i u hv hj eu)
       (λ step es. let (w, ew, hw) = part-fits v t step u hv es in
-      fits-then (λ w. HasShape w u) (λ steps. shape_at_path steps t ≡ Some s) (or_stuck (part v step)) (λ w. follow active store w rest >>= (λ steps. gives (step ∷ steps))) (or_stuck-fits (λ w. HasShape w u) (part v step) w ew hw)
-      (λ w hw. fits-then (λ steps. shape_at_path steps u ≡ Some s) (λ steps. shape_at_path steps t ≡ Some s) (follow active store w rest) (λ steps. gives (step ∷ steps)) (follow-sound typing checked active store f w u rest s hw h₂)
+      fits-then (λ w. HasShape w u) (λ steps. shape_at_path steps t ≡ Some s) (or_stuck (part v step)) (λ w. evaluate_selectors active store w rest >>= (λ steps. succeeds_with (step ∷ steps))) (or_stuck-fits (λ w. HasShape w u) (part v step) w ew hw)
+      (λ w hw. fits-then (λ steps. shape_at_path steps u ≡ Some s) (λ steps. shape_at_path steps t ≡ Some s) (evaluate_selectors active store w rest) (λ steps. succeeds_with (step ∷ steps)) (follow-sound typing checked active store f w u rest s hw h₂)
       (λ steps e. ap (option_and_then (shape_at_path steps)) es ∙ e))))

@@ -1,25 +1,25 @@
 -- Calls and whole modules preserve the typing of the store. So no run of a well-typed module gets stuck.
 use Rattle.std.proofs.Common.{◌≡◌, ℕ, zero, suc, ◌+◌, Bool, true, false, ◌&&◌, ◌≢◌, List, [], ◌∷◌, ◌++◌, map, length, ℤ, slice_get, Some, None, Option, option_map, option_and_then, unwrap_or, sym, refl, ap, ◌∙◌, subst, append_assoc, append-nil}
-use Rattle.ob0_tree.specs.Tree.{Tree, begins, block, body, constant, declares, declares_constant, declares_procedure, declares_type, declares_variable, end, expression, further_section, has_body, is_module, item, items, maybe, module_text, more, none, one, procedure, then_section, type_name, variable, written_type}
+use Rattle.ob0_tree.specs.Tree.{Tree, begins, block, body, constant, declares, declares_constant, declares_procedure, declares_type, declares_variable, end, expression, further_section, forms_block, is_module, item, items, maybe, module_text, more, none, one, procedure, then_section, type_definition, variable, written_type}
 use Rattle.ob0_language_names.specs.Names.{Naming, naming_by_spelling}
 use Rattle.ob0_language_names.specs.Parts.{block_statements, formal_sections, names_in_list, procedure_formals, procedure_name, section_constants, section_names, section_type, section_types, section_variables}
 use Rattle.ob0_language_names.proofs.SameNames.{map_names-id}
-use Rattle.ob0_language_types.specs.Declarations.{constructors_before_variables, constructor_after_variables, declare_constants, declare_first, declare_types, formals_constructor_count, procedure_constructor_count}
-use Rattle.ob0_language_types.specs.Environments.{environment_from_binding, meanings, newest_object, outermost}
+use Rattle.ob0_language_types.specs.Declarations.{constructors_before_variables, constructors_before_procedures, declare_constants, declare_constants_and_types, declare_types, formals_constructor_count, procedure_constructor_count}
+use Rattle.ob0_language_types.specs.Environments.{environment_from_binding, meanings, newest_object, outermost_environment}
 use Rattle.ob0_language_types.specs.Expressions.{Object, a_constant, a_procedure, a_standard, a_type, a_variable}
-use Rattle.ob0_language_types.specs.Typing.{constant_of, constant_value, constructor_count, denoted, type_of_name}
-use Rattle.ob0_language_values.specs.Values.{FieldShapes, Place, Shape, Store, Stuck, Value, array_shape, copies, count_values, fits, initial, initial_members, next_field_shape, no_field_shape, record_shape}
-use Rattle.ob0_language_types.specs.WellTyped.{FormalParameter, Mode, Signature, TypeEnvironment, TypedParameter, WellTyped, bind_names, bind_typed_parameters, block_fits, body_fits, declare_typed, passes_type_check, bind_procedure, procedure_fits, procedures_fit, section_mode, signature_of, typed_parameters}
+use Rattle.ob0_language_types.specs.Typing.{constant_of, constant_value, constructor_count, denoted_type, type_of_name}
+use Rattle.ob0_language_values.specs.Values.{FieldShapes, Place, Shape, Store, Stuck, Value, array_shape, copies, count_values, fits_in_32_bits, initial_value, initial_members, next_field_shape, no_field_shape, record_shape}
+use Rattle.ob0_language_types.specs.WellTyped.{FormalParameter, Mode, Signature, TypeEnvironment, TypedParameter, WellTyped, bind_names, bind_typed_parameters, block_is_well_typed, body_is_well_typed, declare_typed_variables, passes_type_check, bind_procedure, procedure_is_well_typed, procedures_are_well_typed, section_mode, signature_of, typed_parameters}
 use Rattle.ob0_language_types.proofs.Literals.{some_inverse}
-use Rattle.ob0_language_types.proofs.TypeNaturality.{constant_value-map, denoted-map}
+use Rattle.ob0_language_types.proofs.TypeNaturality.{constant_value-map, denoted_type-map}
 use Rattle.ob0_language_types.proofs.TypesByOrdinal.{typed_parameter}
 use Rattle.ob0_language_types.proofs.Conditions.{both_true, hold-true}
 use Rattle.ob0_language_types.proofs.TypedElsewhere.{then_some}
 use Rattle.ob0_language_runs.specs.Laws.{NeverStuck}
-use Rattle.ob0_language_runs.specs.Runs.{Activation, Argument, CallFunction, ProcedureText, Frame, Parameter, Progress, State, activate, allocate, bind_parameter, bind_parameters, call, declare_block, declare_procedures, declare_variables, execute_all, execute_body, run_result, formal_modes, continue_in_frame, parameters, statement_object, place_argument, run, run_over, running, statement_meanings, stopped, value_argument, declare_procedures_in_frame}
+use Rattle.ob0_language_runs.specs.Runs.{Activation, Argument, CallFunction, ProcedureText, Frame, Parameter, Progress, State, activate, allocate, bind_parameter, bind_parameters, call, declare_block, declare_procedures, declare_variables, execute_all, execute_body, run_result, formal_modes, continue_in_frame, parameters, statement_object, place_argument, run, run_with_naming, running, statement_meanings, stopped, value_argument, declare_procedures_in_frame}
 use Rattle.ob0_language_runs.proofs.ByOrdinal.{with_mode}
-use Rattle.ob0_language_runs.proofs.SoundStatements.{ObjectFits-grows, PlaceFits-grows, ProgressFits-grown, execute_all-keeps, keeps-here, same_store-fits}
-use Rattle.ob0_language_runs.specs.Fitting.{ArgumentsFit, BindingFits, EnvironmentsFit, EachHasShape, HasShape, HaveShapes, ObjectFits, StoreFits, StoreTyping, signature_modes, shape_at_path}
+use Rattle.ob0_language_runs.proofs.SoundStatements.{RunObjectAgrees-grows, PlaceHasType-grows, ProgressFits-grown, execute_all-keeps, keeps-here, same_store-fits}
+use Rattle.ob0_language_runs.specs.TypeAgreement.{ArgumentsMatchSignature, RunBindingAgrees, RunEnvironmentAgrees, EachHasShape, HasShape, HaveShapes, RunObjectAgrees, StoreHasTypes, StoreTyping, signature_modes, shape_at_path}
 use Rattle.ob0_language_runs.proofs.Soundness.{CallsFit, ProgressFits}
 
 -- ---- environments that fit
@@ -33,12 +33,12 @@ pub modes-typed : {N : Type 0} (naming : Naming N) (env : TypeEnvironment N) (k 
 unfolding typed_parameters
 modes-typed naming env k end ps e = ap (λ ps. signature_modes (map (λ p. p.formal) ps)) (some_inverse e)
 modes-typed naming env k (more (then_section f) fs) ps e =
-    let (s, es, e₁) = then_some (denoted (meanings naming env) k (section_type f)) (λ s. option_and_then (λ rest. Some (map (typed_parameter record { mode = (section_mode f); shape = s }) (section_names f) ++ rest)) (typed_parameters naming (bind_names (section_names f) (a_variable s) env) (k + constructor_count (section_type f)) fs)) ps e in
+    let (s, es, e₁) = then_some (denoted_type (meanings naming env) k (section_type f)) (λ s. option_and_then (λ rest. Some (map (typed_parameter record { mode = (section_mode f); shape = s }) (section_names f) ++ rest)) (typed_parameters naming (bind_names (section_names f) (a_variable s) env) (k + constructor_count (section_type f)) fs)) ps e in
     let (rest, er, e₂) = then_some (typed_parameters naming (bind_names (section_names f) (a_variable s) env) (k + constructor_count (section_type f)) fs) (λ rest. Some (map (typed_parameter record { mode = (section_mode f); shape = s }) (section_names f) ++ rest)) ps e₁ in
     ap (λ ms. map (λ x. (section_mode f)) (section_names f) ++ ms) (modes-typed naming (bind_names (section_names f) (a_variable s) env) (k + constructor_count (section_type f)) fs rest er)
     ∙ (sym (modes-of_parameters record { mode = (section_mode f); shape = s } (section_names f) rest) ∙ ap (λ ps. signature_modes (map (λ p. p.formal) ps)) (some_inverse e₂))
 
-pub binding-object : {N : Type 0} (naming : Naming N) (typing : StoreTyping) (checked : TypeEnvironment N) (x : N) (o : Object Shape Signature) (r : Object Place (ProcedureText N)) → BindingFits naming typing checked x o r → ObjectFits typing (Some o) (statement_object (Some r))
+pub binding-object : {N : Type 0} (naming : Naming N) (typing : StoreTyping) (checked : TypeEnvironment N) (x : N) (o : Object Shape Signature) (r : Object Place (ProcedureText N)) → RunBindingAgrees naming typing checked x o r → RunObjectAgrees typing (Some o) (statement_object (Some r))
 binding-object naming typing checked x (a_procedure signature) (a_procedure code) h =
     modes-typed naming checked code.first_constructor (procedure_formals code.text) h.0 h.1 ∙ ap signature_modes (sym h.2)
 binding-object naming typing checked x (a_type s) r h = h
@@ -47,34 +47,34 @@ binding-object naming typing checked x (a_variable s) r h = h
 binding-object naming typing checked x (a_standard s) r h = h
 binding-object naming typing checked x (a_procedure signature) _ h = h
 
-pub names-fit : {N : Type 0} (naming : Naming N) (typing : StoreTyping) (checked : TypeEnvironment N) (active : Activation N) → EnvironmentsFit naming typing checked active → (z : N) → ObjectFits typing (newest_object (environment_from_binding naming checked z)) (statement_object (newest_object (environment_from_binding naming active z)))
+pub names-fit : {N : Type 0} (naming : Naming N) (typing : StoreTyping) (checked : TypeEnvironment N) (active : Activation N) → RunEnvironmentAgrees naming typing checked active → (z : N) → RunObjectAgrees typing (newest_object (environment_from_binding naming checked z)) (statement_object (newest_object (environment_from_binding naming active z)))
 names-fit naming typing [] [] h z = tt
 names-fit {N} naming typing (b ∷ checked) (d ∷ active) h z =
-    subst (λ y. ObjectFits typing (newest_object (elim (naming.same z b.0) [ true ↦ b ∷ checked | false ↦ environment_from_binding naming checked z ])) (statement_object (newest_object (elim (naming.same z y) [ true ↦ d ∷ active | false ↦ environment_from_binding naming active z ])))) h.0
+    subst (λ y. RunObjectAgrees typing (newest_object (elim (naming.same z b.0) [ true ↦ b ∷ checked | false ↦ environment_from_binding naming checked z ])) (statement_object (newest_object (elim (naming.same z y) [ true ↦ d ∷ active | false ↦ environment_from_binding naming active z ])))) h.0
     (go (names-fit naming typing checked active h.2 z) (naming.same z b.0))
   where
-    go : ObjectFits typing (newest_object (environment_from_binding naming checked z)) (statement_object (newest_object (environment_from_binding naming active z))) → (v : Bool) → ObjectFits typing (newest_object {N = N} {V = Shape} {P = Signature} (elim v [ true ↦ b ∷ checked | false ↦ environment_from_binding naming checked z ])) (statement_object (newest_object {N = N} {V = Place} {P = ProcedureText N} (elim v [ true ↦ d ∷ active | false ↦ environment_from_binding naming active z ])))
+    go : RunObjectAgrees typing (newest_object (environment_from_binding naming checked z)) (statement_object (newest_object (environment_from_binding naming active z))) → (v : Bool) → RunObjectAgrees typing (newest_object {N = N} {V = Shape} {P = Signature} (elim v [ true ↦ b ∷ checked | false ↦ environment_from_binding naming checked z ])) (statement_object (newest_object {N = N} {V = Place} {P = ProcedureText N} (elim v [ true ↦ d ∷ active | false ↦ environment_from_binding naming active z ])))
     go older true = binding-object naming typing checked b.0 b.1 d.1 h.1
     go older false = older
 names-fit naming typing _ _ h z = absurd h
 
-pub from-fit : {N : Type 0} (naming : Naming N) (typing : StoreTyping) (checked : TypeEnvironment N) (active : Activation N) (z : N) → EnvironmentsFit naming typing checked active → EnvironmentsFit naming typing (environment_from_binding naming checked z) (environment_from_binding naming active z)
+pub from-fit : {N : Type 0} (naming : Naming N) (typing : StoreTyping) (checked : TypeEnvironment N) (active : Activation N) (z : N) → RunEnvironmentAgrees naming typing checked active → RunEnvironmentAgrees naming typing (environment_from_binding naming checked z) (environment_from_binding naming active z)
 from-fit naming typing [] [] z h = tt
 from-fit naming typing (b ∷ checked) (d ∷ active) z h =
-    subst (λ y. EnvironmentsFit naming typing (elim (naming.same z b.0) [ true ↦ b ∷ checked | false ↦ environment_from_binding naming checked z ]) (elim (naming.same z y) [ true ↦ d ∷ active | false ↦ environment_from_binding naming active z ])) h.0
-    (elim (naming.same z b.0) as (λ v. EnvironmentsFit naming typing (elim v [ true ↦ b ∷ checked | false ↦ environment_from_binding naming checked z ]) (elim v [ true ↦ d ∷ active | false ↦ environment_from_binding naming active z ]))
+    subst (λ y. RunEnvironmentAgrees naming typing (elim (naming.same z b.0) [ true ↦ b ∷ checked | false ↦ environment_from_binding naming checked z ]) (elim (naming.same z y) [ true ↦ d ∷ active | false ↦ environment_from_binding naming active z ])) h.0
+    (elim (naming.same z b.0) as (λ v. RunEnvironmentAgrees naming typing (elim v [ true ↦ b ∷ checked | false ↦ environment_from_binding naming checked z ]) (elim v [ true ↦ d ∷ active | false ↦ environment_from_binding naming active z ]))
     [ true ↦ h | false ↦ from-fit naming typing checked active z h.2 ])
 from-fit naming typing _ _ z h = absurd h
 
-pub binding-grows : {N : Type 0} (naming : Naming N) (typing others : StoreTyping) (checked : TypeEnvironment N) (x : N) (o : Object Shape Signature) (r : Object Place (ProcedureText N)) → BindingFits naming typing checked x o r → BindingFits naming (typing ++ others) checked x o r
+pub binding-grows : {N : Type 0} (naming : Naming N) (typing others : StoreTyping) (checked : TypeEnvironment N) (x : N) (o : Object Shape Signature) (r : Object Place (ProcedureText N)) → RunBindingAgrees naming typing checked x o r → RunBindingAgrees naming (typing ++ others) checked x o r
 binding-grows naming typing others checked x (a_procedure signature) (a_procedure code) h = h
-binding-grows naming typing others checked x (a_type s) r h = ObjectFits-grows typing others (Some (a_type s)) (statement_object (Some r)) h
-binding-grows naming typing others checked x (a_constant s) r h = ObjectFits-grows typing others (Some (a_constant s)) (statement_object (Some r)) h
-binding-grows naming typing others checked x (a_variable s) r h = ObjectFits-grows typing others (Some (a_variable s)) (statement_object (Some r)) h
-binding-grows naming typing others checked x (a_standard s) r h = ObjectFits-grows typing others (Some (a_standard s)) (statement_object (Some r)) h
+binding-grows naming typing others checked x (a_type s) r h = RunObjectAgrees-grows typing others (Some (a_type s)) (statement_object (Some r)) h
+binding-grows naming typing others checked x (a_constant s) r h = RunObjectAgrees-grows typing others (Some (a_constant s)) (statement_object (Some r)) h
+binding-grows naming typing others checked x (a_variable s) r h = RunObjectAgrees-grows typing others (Some (a_variable s)) (statement_object (Some r)) h
+binding-grows naming typing others checked x (a_standard s) r h = RunObjectAgrees-grows typing others (Some (a_standard s)) (statement_object (Some r)) h
 binding-grows naming typing others checked x _ _ h = h
 
-pub environments-grow : {N : Type 0} (naming : Naming N) (typing others : StoreTyping) (checked : TypeEnvironment N) (active : Activation N) → EnvironmentsFit naming typing checked active → EnvironmentsFit naming (typing ++ others) checked active
+pub environments-grow : {N : Type 0} (naming : Naming N) (typing others : StoreTyping) (checked : TypeEnvironment N) (active : Activation N) → RunEnvironmentAgrees naming typing checked active → RunEnvironmentAgrees naming (typing ++ others) checked active
 environments-grow naming typing others [] [] h = tt
 environments-grow naming typing others (b ∷ checked) (d ∷ active) h = (h.0, binding-grows naming typing others checked b.0 b.1 d.1 h.1, environments-grow naming typing others checked active h.2)
 environments-grow naming typing others _ _ h = h
@@ -86,8 +86,8 @@ copies-fit zero v s h = (refl, tt)
 copies-fit (suc n) v s h = let g = copies-fit n v s h in (ap suc g.0, (h, g.1))
 
 mutual
-  pub initial-fits : (s : Shape) → HasShape (initial s) s
-  initial-fits (array_shape k n s) = copies-fit n (initial s) s (initial-fits s)
+  pub initial-fits : (s : Shape) → HasShape (initial_value s) s
+  initial-fits (array_shape k n s) = copies-fit n (initial_value s) s (initial-fits s)
   initial-fits (record_shape k fs) = (refl, initial_members-fit fs)
   initial-fits _ = tt
 
@@ -97,12 +97,12 @@ mutual
 
 -- A store with a new variable at its end fits the typing with the variable's type at its end.
 
-pub store-appends : (typing : StoreTyping) (store : Store) (s : Shape) (v : Value) → StoreFits typing store → HasShape v s → StoreFits (typing ++ s ∷ []) (store ++ v ∷ [])
+pub store-appends : (typing : StoreTyping) (store : Store) (s : Shape) (v : Value) → StoreHasTypes typing store → HasShape v s → StoreHasTypes (typing ++ s ∷ []) (store ++ v ∷ [])
 store-appends [] [] s v h hv = (hv, tt)
 store-appends (t ∷ typing) (w ∷ store) s v h hv = (h.0, store-appends typing store s v h.1 hv)
 store-appends _ _ s v h hv = absurd h
 
-pub last-shape : (typing : StoreTyping) (store : Store) (s : Shape) → StoreFits typing store → slice_get (typing ++ s ∷ []) (length store) ≡ Some s
+pub last-shape : (typing : StoreTyping) (store : Store) (s : Shape) → StoreHasTypes typing store → slice_get (typing ++ s ∷ []) (length store) ≡ Some s
 last-shape [] [] s h = refl
 last-shape (t ∷ typing) (w ∷ store) s h = last-shape typing store s h.1
 last-shape _ _ s h = absurd h
@@ -117,7 +117,7 @@ pub statement_object-type : {N : Type 0} (o : Option (Object Place (ProcedureTex
 statement_object-type (Some (a_type s)) = refl
 statement_object-type _ = refl
 
-pub fit-constant : (typing : StoreTyping) (checked : Option (Object Shape Signature)) (active : Option (Object Place (List Mode))) → ObjectFits typing checked active → constant_of active ≡ constant_of checked
+pub fit-constant : (typing : StoreTyping) (checked : Option (Object Shape Signature)) (active : Option (Object Place (List Mode))) → RunObjectAgrees typing checked active → constant_of active ≡ constant_of checked
 fit-constant typing None None h = refl
 fit-constant typing (Some (a_constant v)) (Some (a_constant w)) h = ap Some (sym h)
 fit-constant typing (Some (a_type s)) (Some (a_type t)) h = refl
@@ -126,7 +126,7 @@ fit-constant typing (Some (a_procedure s)) (Some (a_procedure t)) h = refl
 fit-constant typing (Some (a_standard s)) (Some (a_standard t)) h = refl
 fit-constant typing _ _ h = absurd h
 
-pub fit-type : (typing : StoreTyping) (checked : Option (Object Shape Signature)) (active : Option (Object Place (List Mode))) → ObjectFits typing checked active → type_of_name active ≡ type_of_name checked
+pub fit-type : (typing : StoreTyping) (checked : Option (Object Shape Signature)) (active : Option (Object Place (List Mode))) → RunObjectAgrees typing checked active → type_of_name active ≡ type_of_name checked
 fit-type typing None None h = refl
 fit-type typing (Some (a_type s)) (Some (a_type t)) h = ap Some (sym h)
 fit-type typing (Some (a_constant v)) (Some (a_constant w)) h = refl
@@ -135,53 +135,53 @@ fit-type typing (Some (a_procedure s)) (Some (a_procedure t)) h = refl
 fit-type typing (Some (a_standard s)) (Some (a_standard t)) h = refl
 fit-type typing _ _ h = absurd h
 
-pub constants-same : {N : Type 0} (naming : Naming N) (typing : StoreTyping) (checked : TypeEnvironment N) (active : Activation N) → EnvironmentsFit naming typing checked active → (x : N) → constant_of ((meanings naming active).object_for x) ≡ constant_of ((meanings naming checked).object_for x)
+pub constants-same : {N : Type 0} (naming : Naming N) (typing : StoreTyping) (checked : TypeEnvironment N) (active : Activation N) → RunEnvironmentAgrees naming typing checked active → (x : N) → constant_of ((meanings naming active).object_for x) ≡ constant_of ((meanings naming checked).object_for x)
 constants-same naming typing checked active h x =
     sym (statement_object-constant (newest_object (environment_from_binding naming active x))) ∙ fit-constant typing (newest_object (environment_from_binding naming checked x)) (statement_object (newest_object (environment_from_binding naming active x))) (names-fit naming typing checked active h x)
 
-pub types-same : {N : Type 0} (naming : Naming N) (typing : StoreTyping) (checked : TypeEnvironment N) (active : Activation N) → EnvironmentsFit naming typing checked active → (x : N) → type_of_name ((meanings naming active).object_for x) ≡ type_of_name ((meanings naming checked).object_for x)
+pub types-same : {N : Type 0} (naming : Naming N) (typing : StoreTyping) (checked : TypeEnvironment N) (active : Activation N) → RunEnvironmentAgrees naming typing checked active → (x : N) → type_of_name ((meanings naming active).object_for x) ≡ type_of_name ((meanings naming checked).object_for x)
 types-same naming typing checked active h x =
     sym (statement_object-type (newest_object (environment_from_binding naming active x))) ∙ fit-type typing (newest_object (environment_from_binding naming checked x)) (statement_object (newest_object (environment_from_binding naming active x))) (names-fit naming typing checked active h x)
 
-pub value-same : {N : Type 0} (naming : Naming N) (typing : StoreTyping) (checked : TypeEnvironment N) (active : Activation N) → EnvironmentsFit naming typing checked active → (e : Tree N expression) → constant_value (meanings naming active) e ≡ constant_value (meanings naming checked) e
+pub value-same : {N : Type 0} (naming : Naming N) (typing : StoreTyping) (checked : TypeEnvironment N) (active : Activation N) → RunEnvironmentAgrees naming typing checked active → (e : Tree N expression) → constant_value (meanings naming active) e ≡ constant_value (meanings naming checked) e
 value-same naming typing checked active h e =
     ap (constant_value (meanings naming active)) (sym (map_names-id e)) ∙ constant_value-map (λ x. x) (λ x. x) (meanings naming active) (meanings naming checked) e (constants-same naming typing checked active h) (λ x. refl)
 
-pub denoted-same : {N : Type 0} (naming : Naming N) (typing : StoreTyping) (checked : TypeEnvironment N) (active : Activation N) → EnvironmentsFit naming typing checked active → (k : ℕ) (t : Tree N written_type) → denoted (meanings naming active) k t ≡ denoted (meanings naming checked) k t
-denoted-same naming typing checked active h k t =
-    ap (denoted (meanings naming active) k) (sym (map_names-id t)) ∙ denoted-map (λ x. x) (λ x. x) (meanings naming active) (meanings naming checked) (constants-same naming typing checked active h) (types-same naming typing checked active h) (λ x. refl) k t
+pub denoted_type-same : {N : Type 0} (naming : Naming N) (typing : StoreTyping) (checked : TypeEnvironment N) (active : Activation N) → RunEnvironmentAgrees naming typing checked active → (k : ℕ) (t : Tree N written_type) → denoted_type (meanings naming active) k t ≡ denoted_type (meanings naming checked) k t
+denoted_type-same naming typing checked active h k t =
+    ap (denoted_type (meanings naming active) k) (sym (map_names-id t)) ∙ denoted_type-map (λ x. x) (λ x. x) (meanings naming active) (meanings naming checked) (constants-same naming typing checked active h) (types-same naming typing checked active h) (λ x. refl) k t
 
 pub constants-run : {N : Type 0} (naming : Naming N) (typing : StoreTyping) (checked : TypeEnvironment N) (active : Activation N) (cs : Tree N (items constant)) (after : TypeEnvironment N)
-    → EnvironmentsFit naming typing checked active → declare_constants naming checked cs ≡ Some after → (d : Activation N) × (declare_constants naming active cs ≡ Some d) × EnvironmentsFit naming typing after d
+    → RunEnvironmentAgrees naming typing checked active → declare_constants naming checked cs ≡ Some after → (d : Activation N) × (declare_constants naming active cs ≡ Some d) × RunEnvironmentAgrees naming typing after d
 unfolding declare_constants
-constants-run naming typing checked active end after h e = (active, refl, subst (λ c. EnvironmentsFit naming typing c active) (some_inverse {a = checked} {b = after} e) h)
+constants-run naming typing checked active end after h e = (active, refl, subst (λ c. RunEnvironmentAgrees naming typing c active) (some_inverse {a = checked} {b = after} e) h)
 constants-run {N} naming typing checked active (more (declares_constant x v₀) cs) after h e =
     let (v, ev, e₁) = then_some (constant_value (meanings naming checked) v₀) (λ v. declare_constants naming ((x, a_constant v) ∷ checked) cs) after e in
     let (d, ed, fit) = constants-run naming typing ((x, a_constant v) ∷ checked) ((x, a_constant v) ∷ active) cs after (refl, refl, h) e₁ in
     (d, ap (option_and_then (λ v. declare_constants naming ((x, a_constant v) ∷ active) cs)) (value-same naming typing checked active h v₀ ∙ ev) ∙ ed, fit)
 
-pub types-run : {N : Type 0} (naming : Naming N) (typing : StoreTyping) (checked : TypeEnvironment N) (active : Activation N) (k : ℕ) (ds : Tree N (items type_name)) (after : TypeEnvironment N)
-    → EnvironmentsFit naming typing checked active → declare_types naming checked k ds ≡ Some after → (d : Activation N) × (declare_types naming active k ds ≡ Some d) × EnvironmentsFit naming typing after d
+pub types-run : {N : Type 0} (naming : Naming N) (typing : StoreTyping) (checked : TypeEnvironment N) (active : Activation N) (k : ℕ) (ds : Tree N (items type_definition)) (after : TypeEnvironment N)
+    → RunEnvironmentAgrees naming typing checked active → declare_types naming checked k ds ≡ Some after → (d : Activation N) × (declare_types naming active k ds ≡ Some d) × RunEnvironmentAgrees naming typing after d
 unfolding declare_types
-types-run naming typing checked active k end after h e = (active, refl, subst (λ c. EnvironmentsFit naming typing c active) (some_inverse {a = checked} {b = after} e) h)
+types-run naming typing checked active k end after h e = (active, refl, subst (λ c. RunEnvironmentAgrees naming typing c active) (some_inverse {a = checked} {b = after} e) h)
 types-run {N} naming typing checked active k (more (declares_type x u) cs) after h e =
-    let (s, es, e₁) = then_some (denoted (meanings naming checked) k u) (λ s. declare_types naming ((x, a_type s) ∷ checked) (k + constructor_count u) cs) after e in
+    let (s, es, e₁) = then_some (denoted_type (meanings naming checked) k u) (λ s. declare_types naming ((x, a_type s) ∷ checked) (k + constructor_count u) cs) after e in
     let (d, ed, fit) = types-run naming typing ((x, a_type s) ∷ checked) ((x, a_type s) ∷ active) (k + constructor_count u) cs after (refl, refl, h) e₁ in
-    (d, ap (option_and_then (λ s. declare_types naming ((x, a_type s) ∷ active) (k + constructor_count u) cs)) (denoted-same naming typing checked active h k u ∙ es) ∙ ed, fit)
+    (d, ap (option_and_then (λ s. declare_types naming ((x, a_type s) ∷ active) (k + constructor_count u) cs)) (denoted_type-same naming typing checked active h k u ∙ es) ∙ ed, fit)
 
 -- holds if a frame fits a checked environment in a store that has at most grown
 abbrev pub FrameFits : {N : Type 0} → Naming N → StoreTyping → TypeEnvironment N → Frame N → Type 0
-FrameFits naming typing checked f = (others : StoreTyping) × StoreFits (typing ++ others) f.store × EnvironmentsFit naming (typing ++ others) checked f.env
+FrameFits naming typing checked f = (others : StoreTyping) × StoreHasTypes (typing ++ others) f.store × RunEnvironmentAgrees naming (typing ++ others) checked f.env
 
 pub frame-grown : {N : Type 0} (naming : Naming N) (typing others : StoreTyping) (checked : TypeEnvironment N) (f : Frame N) → FrameFits naming (typing ++ others) checked f → FrameFits naming typing checked f
 frame-grown naming typing others checked f h =
-    (others ++ h.0, subst (λ all. StoreFits all f.store) (append_assoc typing others h.0) h.1, subst (λ all. EnvironmentsFit naming all checked f.env) (append_assoc typing others h.0) h.2)
+    (others ++ h.0, subst (λ all. StoreHasTypes all f.store) (append_assoc typing others h.0) h.1, subst (λ all. RunEnvironmentAgrees naming all checked f.env) (append_assoc typing others h.0) h.2)
 
-pub frame-here : {N : Type 0} (naming : Naming N) (typing : StoreTyping) (checked : TypeEnvironment N) (f : Frame N) → StoreFits typing f.store → EnvironmentsFit naming typing checked f.env → FrameFits naming typing checked f
+pub frame-here : {N : Type 0} (naming : Naming N) (typing : StoreTyping) (checked : TypeEnvironment N) (f : Frame N) → StoreHasTypes typing f.store → RunEnvironmentAgrees naming typing checked f.env → FrameFits naming typing checked f
 frame-here naming typing checked f h k =
-    ([], subst (λ all. StoreFits all f.store) (sym (append-nil typing)) h, subst (λ all. EnvironmentsFit naming all checked f.env) (sym (append-nil typing)) k)
+    ([], subst (λ all. StoreHasTypes all f.store) (sym (append-nil typing)) h, subst (λ all. RunEnvironmentAgrees naming all checked f.env) (sym (append-nil typing)) k)
 
-pub allocate-fits : {N : Type 0} (naming : Naming N) (typing : StoreTyping) (checked : TypeEnvironment N) (xs : List N) (s : Shape) (v : Value) (f : Frame N) → HasShape v s → StoreFits typing f.store → EnvironmentsFit naming typing checked f.env
+pub allocate-fits : {N : Type 0} (naming : Naming N) (typing : StoreTyping) (checked : TypeEnvironment N) (xs : List N) (s : Shape) (v : Value) (f : Frame N) → HasShape v s → StoreHasTypes typing f.store → RunEnvironmentAgrees naming typing checked f.env
     → FrameFits naming typing (bind_names xs (a_variable s) checked) (allocate xs v f)
 allocate-fits naming typing checked [] s v f hv store env = frame-here naming typing checked f store env
 allocate-fits {N} naming typing checked (x ∷ xs) s v f hv store env =
@@ -191,40 +191,40 @@ allocate-fits {N} naming typing checked (x ∷ xs) s v f hv store env =
     (refl, ap (option_and_then (shape_at_path [])) (last-shape typing f.store s store), environments-grow naming typing (s ∷ []) checked f.env env))
 
 pub variables-run : {N : Type 0} (naming : Naming N) (typing : StoreTyping) (checked : TypeEnvironment N) (k : ℕ) (gs : Tree N (items variable)) (after : TypeEnvironment N) (f : Frame N)
-    → StoreFits typing f.store → EnvironmentsFit naming typing checked f.env → declare_typed naming k gs checked ≡ Some after → (g : Frame N) × (declare_variables naming k gs f ≡ Some g) × FrameFits naming typing after g
-unfolding declare_typed declare_variables
-variables-run naming typing checked k end after f store env e = (f, refl, frame-here naming typing after f store (subst (λ c. EnvironmentsFit naming typing c f.env) (some_inverse {a = checked} {b = after} e) env))
+    → StoreHasTypes typing f.store → RunEnvironmentAgrees naming typing checked f.env → declare_typed_variables naming k gs checked ≡ Some after → (g : Frame N) × (declare_variables naming k gs f ≡ Some g) × FrameFits naming typing after g
+unfolding declare_typed_variables declare_variables
+variables-run naming typing checked k end after f store env e = (f, refl, frame-here naming typing after f store (subst (λ c. RunEnvironmentAgrees naming typing c f.env) (some_inverse {a = checked} {b = after} e) env))
 variables-run {N} naming typing checked k (more (declares_variable ns u) ds) after f store env e =
-    let (s, es, e₁) = then_some (denoted (meanings naming checked) k u) (λ s. declare_typed naming (k + constructor_count u) ds (bind_names (names_in_list ns) (a_variable s) checked)) after e in
-    let inner = allocate-fits naming typing checked (names_in_list ns) s (initial s) f (initial-fits s) store env in
-    let (g, eg, fit) = variables-run naming (typing ++ inner.0) (bind_names (names_in_list ns) (a_variable s) checked) (k + constructor_count u) ds after (allocate (names_in_list ns) (initial s) f) inner.1 inner.2 e₁ in
-    (g, ap (option_and_then (λ s. declare_variables naming (k + constructor_count u) ds (allocate (names_in_list ns) (initial s) f))) (denoted-same naming typing checked f.env env k u ∙ es) ∙ eg, frame-grown naming typing inner.0 after g fit)
+    let (s, es, e₁) = then_some (denoted_type (meanings naming checked) k u) (λ s. declare_typed_variables naming (k + constructor_count u) ds (bind_names (names_in_list ns) (a_variable s) checked)) after e in
+    let inner = allocate-fits naming typing checked (names_in_list ns) s (initial_value s) f (initial-fits s) store env in
+    let (g, eg, fit) = variables-run naming (typing ++ inner.0) (bind_names (names_in_list ns) (a_variable s) checked) (k + constructor_count u) ds after (allocate (names_in_list ns) (initial_value s) f) inner.1 inner.2 e₁ in
+    (g, ap (option_and_then (λ s. declare_variables naming (k + constructor_count u) ds (allocate (names_in_list ns) (initial_value s) f))) (denoted_type-same naming typing checked f.env env k u ∙ es) ∙ eg, frame-grown naming typing inner.0 after g fit)
 
-pub procedures-run : {N : Type 0} (naming : Naming N) (typing : StoreTyping) (checked : TypeEnvironment N) (active : Activation N) (k : ℕ) (statements : Tree N (maybe body)) (ps : Tree N (items procedure)) → EnvironmentsFit naming typing checked active
-    → procedures_fit naming checked k statements ps ≡ true → (after : TypeEnvironment N) × EnvironmentsFit naming typing after (declare_procedures k ps active) × (body_fits naming after statements ≡ true)
-unfolding block_fits
+pub procedures-run : {N : Type 0} (naming : Naming N) (typing : StoreTyping) (checked : TypeEnvironment N) (active : Activation N) (k : ℕ) (statements : Tree N (maybe body)) (ps : Tree N (items procedure)) → RunEnvironmentAgrees naming typing checked active
+    → procedures_are_well_typed naming checked k statements ps ≡ true → (after : TypeEnvironment N) × RunEnvironmentAgrees naming typing after (declare_procedures k ps active) × (body_is_well_typed naming after statements ≡ true)
+unfolding block_is_well_typed
 procedures-run naming typing checked active k statements end h e = (checked, h, e)
 procedures-run {N} naming typing checked active k statements (more p rest) h e =
-    let (ps, eps, e₁) = hold-true (typed_parameters naming checked k (procedure_formals p)) (λ ps. procedure_fits naming (bind_typed_parameters ps (bind_procedure (procedure_name p) ps checked)) k p && procedures_fit naming (bind_procedure (procedure_name p) ps checked) (k + procedure_constructor_count p) statements rest) e in
-    let both = both_true (procedure_fits naming (bind_typed_parameters ps (bind_procedure (procedure_name p) ps checked)) k p) (procedures_fit naming (bind_procedure (procedure_name p) ps checked) (k + procedure_constructor_count p) statements rest) e₁ in
+    let (ps, eps, e₁) = hold-true (typed_parameters naming checked k (procedure_formals p)) (λ ps. procedure_is_well_typed naming (bind_typed_parameters ps (bind_procedure (procedure_name p) ps checked)) k p && procedures_are_well_typed naming (bind_procedure (procedure_name p) ps checked) (k + procedure_constructor_count p) statements rest) e in
+    let both = both_true (procedure_is_well_typed naming (bind_typed_parameters ps (bind_procedure (procedure_name p) ps checked)) k p) (procedures_are_well_typed naming (bind_procedure (procedure_name p) ps checked) (k + procedure_constructor_count p) statements rest) e₁ in
     procedures-run naming typing (bind_procedure (procedure_name p) ps checked) ((procedure_name p, a_procedure record { first_constructor = k; text = p }) ∷ active) (k + procedure_constructor_count p) statements rest
     (refl, (ps, eps, refl, both.0), h) both.1
 
-pub block-run : {N : Type 0} (naming : Naming N) (typing : StoreTyping) (checked : TypeEnvironment N) (k : ℕ) (b : Tree N block) (f : Frame N) → StoreFits typing f.store → EnvironmentsFit naming typing checked f.env → block_fits naming checked k b ≡ true
-    → (g : Frame N) × (after : TypeEnvironment N) × (declare_block naming k b f ≡ Some g) × FrameFits naming typing after g × (body_fits naming after (block_statements b) ≡ true)
-unfolding block_fits declare_block
-block-run {N} naming typing checked k (has_body (declares cs ts vs ps) statements) f store env e =
-    let b : Tree N block = has_body (declares cs ts vs ps) statements in
-    let (inner, e₁, e₂) = hold-true (option_and_then (declare_typed naming (constructors_before_variables k b) (section_variables vs)) (declare_first naming checked k b)) (λ inner. procedures_fit naming inner (constructor_after_variables k b) statements ps) e in
-    let (first, ef, e₃) = then_some (declare_first naming checked k b) (declare_typed naming (constructors_before_variables k b) (section_variables vs)) inner e₁ in
+pub block-run : {N : Type 0} (naming : Naming N) (typing : StoreTyping) (checked : TypeEnvironment N) (k : ℕ) (b : Tree N block) (f : Frame N) → StoreHasTypes typing f.store → RunEnvironmentAgrees naming typing checked f.env → block_is_well_typed naming checked k b ≡ true
+    → (g : Frame N) × (after : TypeEnvironment N) × (declare_block naming k b f ≡ Some g) × FrameFits naming typing after g × (body_is_well_typed naming after (block_statements b) ≡ true)
+unfolding block_is_well_typed declare_block
+block-run {N} naming typing checked k (forms_block (declares cs ts vs ps) statements) f store env e =
+    let b : Tree N block = forms_block (declares cs ts vs ps) statements in
+    let (inner, e₁, e₂) = hold-true (option_and_then (declare_typed_variables naming (constructors_before_variables k b) (section_variables vs)) (declare_constants_and_types naming checked k b)) (λ inner. procedures_are_well_typed naming inner (constructors_before_procedures k b) statements ps) e in
+    let (first, ef, e₃) = then_some (declare_constants_and_types naming checked k b) (declare_typed_variables naming (constructors_before_variables k b) (section_variables vs)) inner e₁ in
     let (consts, ec, e₄) = then_some (declare_constants naming checked (section_constants cs)) (λ env. declare_types naming env k (section_types ts)) first ef in
     let (d₁, ed₁, fit₁) = constants-run naming typing checked f.env (section_constants cs) consts env ec in
     let (d₂, ed₂, fit₂) = types-run naming typing consts d₁ k (section_types ts) first fit₁ e₄ in
     let (g, eg, fit₃) = variables-run naming typing first (constructors_before_variables k b) (section_variables vs) inner record { env = d₂; store = f.store } store fit₂ e₃ in
-    let (after, fit₄, fits) = procedures-run naming (typing ++ fit₃.0) inner g.env (constructor_after_variables k b) statements ps fit₃.2 e₂ in (
-      declare_procedures_in_frame (constructor_after_variables k b) ps g,
+    let (after, fit₄, fits) = procedures-run naming (typing ++ fit₃.0) inner g.env (constructors_before_procedures k b) statements ps fit₃.2 e₂ in (
+      declare_procedures_in_frame (constructors_before_procedures k b) ps g,
       after,
-      ap (option_and_then (λ env. option_map (declare_procedures_in_frame (constructor_after_variables k b) ps) (declare_variables naming (constructors_before_variables k b) (section_variables vs) record { env = env; store = f.store }))) (ap (option_and_then (λ env. declare_types naming env k (section_types ts))) ed₁ ∙ ed₂) ∙ ap (option_map (declare_procedures_in_frame (constructor_after_variables k b) ps)) eg,
+      ap (option_and_then (λ env. option_map (declare_procedures_in_frame (constructors_before_procedures k b) ps) (declare_variables naming (constructors_before_variables k b) (section_variables vs) record { env = env; store = f.store }))) (ap (option_and_then (λ env. declare_types naming env k (section_types ts))) ed₁ ∙ ed₂) ∙ ap (option_map (declare_procedures_in_frame (constructors_before_procedures k b) ps)) eg,
       (fit₃.0, fit₃.1, fit₄),
       fits,
     )
@@ -242,19 +242,19 @@ pub parameters-of_typed : {N : Type 0} (naming : Naming N) (env : TypeEnvironmen
 unfolding typed_parameters
 parameters-of_typed naming env k end ps e = ap (map as_parameter) (some_inverse {a = []} {b = ps} e)
 parameters-of_typed naming env k (more (then_section f) fs) ps e =
-    let (s, es, e₁) = then_some (denoted (meanings naming env) k (section_type f)) (λ s. option_and_then (λ rest. Some (map (typed_parameter record { mode = (section_mode f); shape = s }) (section_names f) ++ rest)) (typed_parameters naming (bind_names (section_names f) (a_variable s) env) (k + constructor_count (section_type f)) fs)) ps e in
+    let (s, es, e₁) = then_some (denoted_type (meanings naming env) k (section_type f)) (λ s. option_and_then (λ rest. Some (map (typed_parameter record { mode = (section_mode f); shape = s }) (section_names f) ++ rest)) (typed_parameters naming (bind_names (section_names f) (a_variable s) env) (k + constructor_count (section_type f)) fs)) ps e in
     let (rest, er, e₂) = then_some (typed_parameters naming (bind_names (section_names f) (a_variable s) env) (k + constructor_count (section_type f)) fs) (λ rest. Some (map (typed_parameter record { mode = (section_mode f); shape = s }) (section_names f) ++ rest)) ps e₁ in
     ap (λ l. map (with_mode (section_mode f)) (section_names f) ++ l) (parameters-of_typed naming (bind_names (section_names f) (a_variable s) env) (k + constructor_count (section_type f)) fs rest er)
     ∙ (sym (parameters-append record { mode = (section_mode f); shape = s } (section_names f) rest) ∙ ap (map as_parameter) (some_inverse e₂))
 
-pub ArgumentsFit-grows : (typing others : StoreTyping) (fs : Signature) (args : List Argument) → ArgumentsFit typing fs args → ArgumentsFit (typing ++ others) fs args
-ArgumentsFit-grows typing others [] [] h = tt
-ArgumentsFit-grows typing others (f ∷ fs) (place_argument p ∷ args) h = (h.0, PlaceFits-grows typing others p f.shape h.1, ArgumentsFit-grows typing others fs args h.2)
-ArgumentsFit-grows typing others (f ∷ fs) (value_argument v ∷ args) h = (h.0, h.1, ArgumentsFit-grows typing others fs args h.2)
-ArgumentsFit-grows typing others _ _ h = h
+pub ArgumentsMatchSignature-grows : (typing others : StoreTyping) (fs : Signature) (args : List Argument) → ArgumentsMatchSignature typing fs args → ArgumentsMatchSignature (typing ++ others) fs args
+ArgumentsMatchSignature-grows typing others [] [] h = tt
+ArgumentsMatchSignature-grows typing others (f ∷ fs) (place_argument p ∷ args) h = (h.0, PlaceHasType-grows typing others p f.shape h.1, ArgumentsMatchSignature-grows typing others fs args h.2)
+ArgumentsMatchSignature-grows typing others (f ∷ fs) (value_argument v ∷ args) h = (h.0, h.1, ArgumentsMatchSignature-grows typing others fs args h.2)
+ArgumentsMatchSignature-grows typing others _ _ h = h
 
-pub parameters-run : {N : Type 0} (naming : Naming N) (typing : StoreTyping) (checked : TypeEnvironment N) (ps : List (TypedParameter N)) (args : List Argument) (f : Frame N) → StoreFits typing f.store → EnvironmentsFit naming typing checked f.env
-    → ArgumentsFit typing (map (λ p. p.formal) ps) args → (g : Frame N) × (bind_parameters (map as_parameter ps) args f ≡ Some g) × FrameFits naming typing (bind_typed_parameters ps checked) g
+pub parameters-run : {N : Type 0} (naming : Naming N) (typing : StoreTyping) (checked : TypeEnvironment N) (ps : List (TypedParameter N)) (args : List Argument) (f : Frame N) → StoreHasTypes typing f.store → RunEnvironmentAgrees naming typing checked f.env
+    → ArgumentsMatchSignature typing (map (λ p. p.formal) ps) args → (g : Frame N) × (bind_parameters (map as_parameter ps) args f ≡ Some g) × FrameFits naming typing (bind_typed_parameters ps checked) g
 parameters-run naming typing checked [] [] f store env h = (f, refl, frame-here naming typing checked f store env)
 parameters-run {N} naming typing checked (p ∷ ps) (place_argument place ∷ args) f store env h =
     let f₁ : Frame N = record { env = (p.name, a_variable place) ∷ f.env; store = f.store } in
@@ -263,15 +263,15 @@ parameters-run {N} naming typing checked (p ∷ ps) (place_argument place ∷ ar
 parameters-run {N} naming typing checked (p ∷ ps) (value_argument v ∷ args) f store env h =
     let f₁ : Frame N = record { env = (p.name, a_variable record { variable = length f.store; path = [] }) ∷ f.env; store = f.store ++ v ∷ [] } in
     let (g, eg, fit) = parameters-run naming (typing ++ p.formal.shape ∷ []) ((p.name, a_variable p.formal.shape) ∷ checked) ps args f₁ (store-appends typing f.store p.formal.shape v store h.1)
-    (refl, ap (option_and_then (shape_at_path [])) (last-shape typing f.store p.formal.shape store), environments-grow naming typing (p.formal.shape ∷ []) checked f.env env) (ArgumentsFit-grows typing (p.formal.shape ∷ []) (map (λ p. p.formal) ps) args h.2) in
+    (refl, ap (option_and_then (shape_at_path [])) (last-shape typing f.store p.formal.shape store), environments-grow naming typing (p.formal.shape ∷ []) checked f.env env) (ArgumentsMatchSignature-grows typing (p.formal.shape ∷ []) (map (λ p. p.formal) ps) args h.2) in
     (g, ap (λ m. option_and_then (bind_parameters (map as_parameter ps) args) (bind_parameter m p.name (value_argument v) f)) h.0 ∙ eg, frame-grown naming typing (p.formal.shape ∷ []) (bind_typed_parameters ps ((p.name, a_variable p.formal.shape) ∷ checked)) g fit)
 parameters-run naming typing checked _ _ f store env h = absurd h
 
 -- Bodies and calls preserve the typing of the store.
 
-pub body-run : {N : Type 0} (naming : Naming N) (typing : StoreTyping) (checked : TypeEnvironment N) (active : Activation N) (enter : CallFunction N) (t : ℕ) (statements : Tree N (maybe body)) (s : State) → EnvironmentsFit naming typing checked active → CallsFit typing (meanings naming checked) enter
-    → StoreFits typing s.store → body_fits naming checked statements ≡ true → ProgressFits typing (execute_body naming active enter t statements s)
-unfolding execute_body body_fits
+pub body-run : {N : Type 0} (naming : Naming N) (typing : StoreTyping) (checked : TypeEnvironment N) (active : Activation N) (enter : CallFunction N) (t : ℕ) (statements : Tree N (maybe body)) (s : State) → RunEnvironmentAgrees naming typing checked active → CallsFit typing (meanings naming checked) enter
+    → StoreHasTypes typing s.store → body_is_well_typed naming checked statements ≡ true → ProgressFits typing (execute_body naming active enter t statements s)
+unfolding execute_body body_is_well_typed
 body-run naming typing checked active enter t none s env calls_fit store h = same_store-fits typing s store
 body-run naming typing checked active enter t (one (begins statements)) s env calls_fit store h =
     keeps-here typing (execute_all (statement_meanings naming active) enter t statements)
@@ -280,20 +280,20 @@ body-run naming typing checked active enter t (one (begins statements)) s env ca
 -- holds if calls preserve the typing; this is the induction hypothesis for a smaller bound
 abbrev pub CallsRun : {N : Type 0} → Naming N → (Activation N → CallFunction N) → Type 0
 CallsRun {N} naming enter =
-    (typing : StoreTyping) (checked : TypeEnvironment N) (active : Activation N) → EnvironmentsFit naming typing checked active → CallsFit typing (meanings naming checked) (enter active)
+    (typing : StoreTyping) (checked : TypeEnvironment N) (active : Activation N) → RunEnvironmentAgrees naming typing checked active → CallsFit typing (meanings naming checked) (enter active)
 
 pub activate-run : {N : Type 0} (naming : Naming N) (enter : Activation N → CallFunction N) → CallsRun naming enter → (t : ℕ) (typing : StoreTyping) (checked : TypeEnvironment N) (active : Activation N) (signature : Signature) (args : List Argument) (s : State)
-    → EnvironmentsFit naming typing checked active → newest_object checked ≡ Some (a_procedure signature) → ArgumentsFit typing signature args → StoreFits typing s.store → ProgressFits typing (activate naming enter t active args s)
-unfolding activate block_fits
+    → RunEnvironmentAgrees naming typing checked active → newest_object checked ≡ Some (a_procedure signature) → ArgumentsMatchSignature typing signature args → StoreHasTypes typing s.store → ProgressFits typing (activate naming enter t active args s)
+unfolding activate block_is_well_typed
 activate-run naming enter known t typing [] active signature args s env e fit store = absurd (cc)
 activate-run naming enter known t typing (b ∷ checked) [] signature args s env e fit store = absurd env
 activate-run {N} naming enter known t typing ((x, o) ∷ checked) ((y, r) ∷ active) signature args s env e fit store = of_objects o r env.1 (some_inverse {a = o} {b = a_procedure signature} e)
   where
-    of_text : (j : ℕ) (p : Tree N (item procedure)) (ps : List (TypedParameter N)) → typed_parameters naming checked j (procedure_formals p) ≡ Some ps → signature ≡ map (λ p. p.formal) ps → procedure_fits naming (bind_typed_parameters ps (bind_procedure x ps checked)) j p ≡ true
+    of_text : (j : ℕ) (p : Tree N (item procedure)) (ps : List (TypedParameter N)) → typed_parameters naming checked j (procedure_formals p) ≡ Some ps → signature ≡ map (λ p. p.formal) ps → procedure_is_well_typed naming (bind_typed_parameters ps (bind_procedure x ps checked)) j p ≡ true
         → ProgressFits typing (activate naming enter t ((y, a_procedure record { first_constructor = j; text = p }) ∷ active) args s)
     of_text j (declares_procedure z fs b closing) ps eps sig fits =
         let f : Frame N = record { env = (y, a_procedure record { first_constructor = j; text = declares_procedure z fs b closing }) ∷ active; store = s.store } in
-        let (g, eg, fit₁) = parameters-run naming typing (bind_procedure x ps checked) ps args f store (env.0, (ps, eps, refl, fits), env.2) (subst (λ fs. ArgumentsFit typing fs args) sig fit) in
+        let (g, eg, fit₁) = parameters-run naming typing (bind_procedure x ps checked) ps args f store (env.0, (ps, eps, refl, fits), env.2) (subst (λ fs. ArgumentsMatchSignature typing fs args) sig fit) in
         let (h, after, eh, fit₂, statements) = block-run naming (typing ++ fit₁.0) (bind_typed_parameters ps (bind_procedure x ps checked)) (j + formals_constructor_count (formal_sections fs)) b g fit₁.1 fit₁.2 fits in
         subst (λ frame. ProgressFits typing (continue_in_frame s frame (λ f. execute_body naming f.env (enter f.env) t (block_statements b))))
         (sym (ap (λ l. option_and_then (declare_block naming (j + formals_constructor_count (formal_sections fs)) b) (bind_parameters l args f)) (parameters-of_typed naming checked j (formal_sections fs) ps eps) ∙ (ap (option_and_then (declare_block naming (j + formals_constructor_count (formal_sections fs)) b)) eg ∙ eh)))
@@ -301,7 +301,7 @@ activate-run {N} naming enter known t typing ((x, o) ∷ checked) ((y, r) ∷ ac
         (ProgressFits-grown (typing ++ fit₁.0) fit₂.0 (execute_body naming h.env (enter h.env) t (block_statements b) record s { store = h.store })
         (body-run naming ((typing ++ fit₁.0) ++ fit₂.0) after h.env (enter h.env) t (block_statements b) record s { store = h.store } fit₂.2 (known ((typing ++ fit₁.0) ++ fit₂.0) after h.env fit₂.2) fit₂.1 statements)))
 
-    of_objects : (o : Object Shape Signature) (r : Object Place (ProcedureText N)) → BindingFits naming typing checked x o r → o ≡ a_procedure signature → ProgressFits typing (activate naming enter t ((y, r) ∷ active) args s)
+    of_objects : (o : Object Shape Signature) (r : Object Place (ProcedureText N)) → RunBindingAgrees naming typing checked x o r → o ≡ a_procedure signature → ProgressFits typing (activate naming enter t ((y, r) ∷ active) args s)
     of_objects (a_procedure sig) (a_procedure code) h e = of_text code.first_constructor code.text h.0 h.1 (sym (ap (λ o. unwrap_or (signature_of (Some o)) []) e) ∙ h.2) h.3
     of_objects (a_procedure q) _ h e = absurd h
     of_objects _ r h e = absurd (cc)
@@ -319,11 +319,11 @@ not-stuck typing (running s) h = λ e. cc
 not-stuck typing (stopped e out) h = h
 
 -- No run of a well-typed module gets stuck.
-pub fitting-run : {N : Type 0} (naming : Naming N) (m : Tree N module_text) (input : List ℤ) (c t : ℕ) → passes_type_check naming m ≡ true → (run_over naming m input c t).ending ≢ Stuck
-unfolding run_over passes_type_check
+pub fitting-run : {N : Type 0} (naming : Naming N) (m : Tree N module_text) (input : List ℤ) (c t : ℕ) → passes_type_check naming m ≡ true → (run_with_naming naming m input c t).ending ≢ Stuck
+unfolding run_with_naming passes_type_check
 fitting-run {N} naming (is_module x b closing) input c t h =
     let start : State = record { store = []; input = input; output = [] } in
-    let (g, after, eg, fit, fits) = block-run naming [] (outermost naming) 0 b record { env = outermost naming; store = [] } tt (refl, refl, (refl, refl, (refl, refl, (refl, refl, (refl, refl, (refl, refl, (refl, refl, tt))))))) h in
+    let (g, after, eg, fit, fits) = block-run naming [] (outermost_environment naming) 0 b record { env = outermost_environment naming; store = [] } tt (refl, refl, (refl, refl, (refl, refl, (refl, refl, (refl, refl, (refl, refl, (refl, refl, tt))))))) h in
     subst (λ frame. (run_result (continue_in_frame start frame (λ f. execute_body naming f.env (call naming c t f.env) t (block_statements b)))).ending ≢ Stuck) (sym eg)
     (not-stuck ([] ++ fit.0) (execute_body naming g.env (call naming c t g.env) t (block_statements b) record start { store = g.store })
     (body-run naming ([] ++ fit.0) after g.env (call naming c t g.env) t (block_statements b) record start { store = g.store } fit.2 (calls-run naming c t ([] ++ fit.0) after g.env fit.2) fit.1 fits))

@@ -7,7 +7,7 @@ use Rattle.ob0_language_names.specs.Names.{Name}
 use Rattle.ob0_language_names.specs.Occurrences.{Free, binds}
 use Rattle.ob0_language_names.specs.Scopes.{renamed}
 use Rattle.ob0_language_values.specs.Values.{Value}
-use Rattle.ob0_language_types.specs.EditLaws.{AreUsesOf, IsConstantWritten, MeansPredeclaredTruth}
+use Rattle.ob0_language_types.specs.EditLaws.{AreInlinableUses, IsConstantWithLiteral, MeansPredeclaredTruth}
 use Rattle.ob0_language_types.specs.WellTyped.{WellTyped}
 use Rattle.ob0_language_runs.specs.Runs.{run}
 
@@ -30,8 +30,8 @@ FreeRenamingKeepsTypingAndRuns =
 abbrev pub InliningKeepsTypingAndRuns : Type 0
 InliningKeepsTypingAndRuns =
     (m : Tree Name module_text) (d : ℕ) (w : Value) (v : Tree Name factor) (uses : OccurrenceSet)
-    → IsConstantWritten m d w v
-    → AreUsesOf m d w uses
+    → IsConstantWithLiteral m d w v
+    → AreInlinableUses m d w uses
     → WellTyped m
     → WellTyped (inlined m uses v) × HaveSameRuns (inlined m uses v) m
 
@@ -40,7 +40,7 @@ InliningKeepsTypingAndRuns =
 abbrev pub RemovingUnusedKeepsTypingAndRuns : Type 0
 RemovingUnusedKeepsTypingAndRuns =
     (m : Tree Name module_text) (d : ℕ) (w : Value) (v : Tree Name factor)
-    → IsConstantWritten m d w v
+    → IsConstantWithLiteral m d w v
     → ((k : ℕ) → binds m k ≢ Some d)
     → WellTyped m
     → WellTyped (module_without d m) × HaveSameRuns (module_without d m) m
@@ -51,7 +51,7 @@ RemovingUnusedKeepsTypingAndRuns =
 abbrev pub InliningEverywhereKeepsTypingAndRuns : Type 0
 InliningEverywhereKeepsTypingAndRuns =
     (m : Tree Name module_text) (d : ℕ) (w : Value) (v : Tree Name factor)
-    → IsConstantWritten m d w v
+    → IsConstantWithLiteral m d w v
     → ((k : ℕ) → binds m k ≡ Some d → MeansPredeclaredTruth m k w)
     → WellTyped m
     → WellTyped (inlined_everywhere m d v) × HaveSameRuns (inlined_everywhere m d v) m

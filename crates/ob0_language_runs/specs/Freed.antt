@@ -6,7 +6,7 @@ use Rattle.ob0_tree.specs.Tree.{Tree, module_text}
 use Rattle.ob0_language_names.specs.Names.{Naming}
 use Rattle.ob0_language_types.specs.Environments.{environment_from_binding}
 use Rattle.ob0_language_values.specs.Values.{CallBound}
-use Rattle.ob0_language_runs.specs.Runs.{Activation, CallFunction, Progress, Run, activate, run_by, running, stopped}
+use Rattle.ob0_language_runs.specs.Runs.{Activation, CallFunction, Progress, Run, activate, run_with_calls, running, stopped}
 
 -- returns the run with only the first `n` variables in its store; a run that has ended is left
 -- unchanged
@@ -28,5 +28,5 @@ call_freeing naming (suc c) t env x args s =
 -- returns the result of running a module if each call drops its variables when it returns; `c`
 -- bounds the number of open calls, and `t` bounds the iterations of each loop
 unfoldable pub run_freeing : {N : Type 0} → Naming N → Tree N module_text → List ℤ → ℕ → ℕ → Run
-unfolding run_by call_freeing
-run_freeing naming m input c t = run_by naming (call_freeing naming c t) t m input
+unfolding run_with_calls call_freeing
+run_freeing naming m input c t = run_with_calls naming (call_freeing naming c t) t m input

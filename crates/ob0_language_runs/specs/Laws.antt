@@ -9,10 +9,10 @@ use Rattle.ob0_language_names.specs.Occurrences.{Free}
 use Rattle.ob0_language_names.specs.Scopes.{numbered, renamed}
 use Rattle.ob0_language_types.specs.Expressions.{Meanings, a_constant, evaluate_factor}
 use Rattle.ob0_language_types.specs.Laws.{EachUseHas}
-use Rattle.ob0_language_values.specs.Values.{Place, Store, Stuck, Value, gives}
+use Rattle.ob0_language_values.specs.Values.{Place, Store, Stuck, Value, succeeds_with}
 use Rattle.ob0_language_types.specs.WellTyped.{Mode, WellTyped}
 use Rattle.ob0_language_runs.specs.Freed.{run_freeing}
-use Rattle.ob0_language_runs.specs.Runs.{CallFunction, State, execute, run, run_numbered, run_over}
+use Rattle.ob0_language_runs.specs.Runs.{CallFunction, State, execute, run, run_numbered, run_with_naming}
 
 -- States that a module and its numbered tree have the same run for every input and all bounds on calls and loop
 -- iterations.
@@ -41,12 +41,12 @@ FreeRenamingKeepsRuns =
 
 -- States that dropping each call's variables from the store when the call returns doesn't change the result of a run.
 -- The names of the tree may be spellings or labels.
-abbrev pub FreeingKeepsRuns : Type 0
-FreeingKeepsRuns =
+abbrev pub FreeingVariablesKeepsRuns : Type 0
+FreeingVariablesKeepsRuns =
     ((naming : Naming Name) (m : Tree Name module_text) (input : List ℤ) (c t : ℕ)
-    → run_freeing naming m input c t ≡ run_over naming m input c t)
+    → run_freeing naming m input c t ≡ run_with_naming naming m input c t)
     × ((naming : Naming Label) (m : Tree Label module_text) (input : List ℤ) (c t : ℕ)
-    → run_freeing naming m input c t ≡ run_over naming m input c t)
+    → run_freeing naming m input c t ≡ run_with_naming naming m input c t)
 
 -- States that no run of a well-typed module gets stuck: each step of the run has a meaning.
 abbrev pub NeverStuck : Type 0
@@ -62,6 +62,6 @@ abbrev pub InliningKeepsExecution : Type 0
 InliningKeepsExecution =
     (meaning : Meanings Name Place (List Mode)) (enter : CallFunction Name) (t : ℕ) (uses : OccurrenceSet)
     (v : Tree Name factor) (w : Value) (k : ℕ) (a : Tree Name statement) (s : State)
-    → ((store : Store) → evaluate_factor meaning store v ≡ gives w)
+    → ((store : Store) → evaluate_factor meaning store v ≡ succeeds_with w)
     → EachUseHas uses (λ x. meaning.object_for x ≡ Some (a_constant w)) k (occurrences a)
     → execute meaning enter t (inline_in uses v k a) s ≡ execute meaning enter t a s

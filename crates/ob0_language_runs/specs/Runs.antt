@@ -7,11 +7,11 @@ use Rattle.ob0_tree.specs.Tree.{Tree, assigns, begins, block, body, branches, ca
 use Rattle.ob0_language_names.specs.Names.{Label, Name, Naming, naming_by_label, naming_by_spelling}
 use Rattle.ob0_language_names.specs.Parts.{block_procedures, block_statements, block_variables, module_block, names_in_list, procedure_block, procedure_formals, procedure_name, section_names}
 use Rattle.ob0_language_types.specs.Arguments.{arguments_listed}
-use Rattle.ob0_language_types.specs.Declarations.{constructor_after_formals, constructors_before_variables, constructor_after_variables, declare_first, procedure_constructor_count}
-use Rattle.ob0_language_types.specs.Environments.{Environment, environment_from_binding, meanings, outermost}
-use Rattle.ob0_language_types.specs.Expressions.{Meanings, Object, a_constant, a_procedure, a_standard, a_type, a_variable, designate, evaluate, reads, writes, writes_line}
-use Rattle.ob0_language_types.specs.Typing.{constructor_count, denoted, lone_designator}
-use Rattle.ob0_language_values.specs.Values.{CallBound, Done, End, InputEnd, Outcome, Place, Store, Stuck, TurnBound, Value, ends, gives, initial, number, or_stuck, truth, write_place, ◌>>=◌}
+use Rattle.ob0_language_types.specs.Declarations.{constructors_before_procedure_block, constructors_before_variables, constructors_before_procedures, declare_constants_and_types, procedure_constructor_count}
+use Rattle.ob0_language_types.specs.Environments.{Environment, environment_from_binding, meanings, outermost_environment}
+use Rattle.ob0_language_types.specs.Expressions.{Meanings, Object, a_constant, a_procedure, a_standard, a_type, a_variable, designate, evaluate, read_procedure, write_procedure, write_line_procedure}
+use Rattle.ob0_language_types.specs.Typing.{constructor_count, denoted_type, lone_designator}
+use Rattle.ob0_language_values.specs.Values.{CallBound, Done, End, InputEnd, Outcome, Place, Store, Stuck, TurnBound, Value, ends_run_with, succeeds_with, initial_value, number, or_stuck, truth, write_place, ◌>>=◌}
 use Rattle.ob0_language_types.specs.WellTyped.{Mode, by_place, by_value, section_mode}
 
 -- an item of output: a number or an end of line
@@ -38,8 +38,8 @@ pub data Argument : Type 0 where
 -- continues a run by applying `next` to the result of an evaluation; if the evaluation ends the run, returns this end
 -- with the output of the state `s`
 abbrev pub use_result : {A : Type 0} → State → Outcome A → (A → Progress) → Progress
-use_result s (gives a) next = next a
-use_result s (ends e) next = stopped e s.output
+use_result s (succeeds_with a) next = next a
+use_result s (ends_run_with e) next = stopped e s.output
 
 -- continues a run with the function `next`; a run that has ended is left unchanged
 abbrev pub continue_with : Progress → (State → Progress) → Progress
@@ -70,11 +70,11 @@ read_number s p (n ∷ rest) = store_at record s { input = rest } p (number n)
 
 -- returns the modes in which the arguments of a call are passed; Stuck if the called object isn't a procedure
 abbrev pub modes_of : Option (Object Place (List Mode)) → Outcome (List Mode)
-modes_of (Some (a_procedure modes)) = gives modes
-modes_of (Some (a_standard reads)) = gives (by_place ∷ [])
-modes_of (Some (a_standard writes)) = gives (by_value ∷ [])
-modes_of (Some (a_standard writes_line)) = gives []
-modes_of _ = ends Stuck
+modes_of (Some (a_procedure modes)) = succeeds_with modes
+modes_of (Some (a_standard read_procedure)) = succeeds_with (by_place ∷ [])
+modes_of (Some (a_standard write_procedure)) = succeeds_with (by_value ∷ [])
+modes_of (Some (a_standard write_line_procedure)) = succeeds_with []
+modes_of _ = ends_run_with Stuck
 
 -- evaluates an argument: to its place for a VAR parameter, otherwise to a copy of its value (rule 6)
 unfoldable pub evaluate_argument : {N P : Type 0}
@@ -86,11 +86,11 @@ unfoldable pub evaluate_argument : {N P : Type 0}
 unfolding designate evaluate
 evaluate_argument meaning store by_value e = do
   v ← evaluate meaning store e
-  gives (value_argument v)
+  succeeds_with (value_argument v)
 evaluate_argument meaning store by_place e = do
   d ← or_stuck (lone_designator e)
   p ← designate meaning store d.0 d.1
-  gives (place_argument p)
+  succeeds_with (place_argument p)
 
 -- evaluates the arguments of a call from left to right; Stuck if there are more or fewer arguments than modes
 unfoldable pub evaluate_arguments : {N P : Type 0}
@@ -100,12 +100,12 @@ unfoldable pub evaluate_arguments : {N P : Type 0}
     → List (Tree N expression)
     → Outcome (List Argument)
 unfolding evaluate_argument
-evaluate_arguments meaning store [] [] = gives []
+evaluate_arguments meaning store [] [] = succeeds_with []
 evaluate_arguments meaning store (m ∷ ms) (e ∷ es) = do
   a ← evaluate_argument meaning store m e
   rest ← evaluate_arguments meaning store ms es
-  gives (a ∷ rest)
-evaluate_arguments meaning store _ _ = ends Stuck
+  succeeds_with (a ∷ rest)
+evaluate_arguments meaning store _ _ = ends_run_with Stuck
 
 -- Performs a call with evaluated arguments. `enter` performs the call of a declared procedure. A standard procedure is
 -- performed here, so it doesn't count towards the bound on calls. Ends the run with Stuck if the object isn't a
@@ -116,10 +116,10 @@ abbrev pub perform_call : Option (Object Place (List Mode))
     → State
     → Progress
 perform_call (Some (a_procedure modes)) enter args s = enter args s
-perform_call (Some (a_standard reads)) enter (place_argument p ∷ []) s = read_number s p s.input
-perform_call (Some (a_standard writes)) enter (value_argument (number n) ∷ []) s =
+perform_call (Some (a_standard read_procedure)) enter (place_argument p ∷ []) s = read_number s p s.input
+perform_call (Some (a_standard write_procedure)) enter (value_argument (number n) ∷ []) s =
     running (append_output s (number_out n))
-perform_call (Some (a_standard writes_line)) enter [] s = running (append_output s line_out)
+perform_call (Some (a_standard write_line_procedure)) enter [] s = running (append_output s line_out)
 perform_call _ enter args s = stopped Stuck s.output
 
 -- Executes a WHILE statement. The first argument is how many iterations may still be made. If the condition is FALSE,
@@ -262,12 +262,12 @@ unfoldable pub declare_variables : {N : Type 0}
     → Tree N (items variable)
     → Frame N
     → Option (Frame N)
-unfolding denoted
+unfolding denoted_type
 declare_variables naming k end f = Some f
 declare_variables naming k (more (declares_variable ns u) gs) f =
     option_and_then (λ s. declare_variables naming (k + constructor_count u) gs
-    (allocate (names_in_list ns) (initial s) f))
-    (denoted (meanings naming f.env) k u)
+    (allocate (names_in_list ns) (initial_value s) f))
+    (denoted_type (meanings naming f.env) k u)
 
 -- returns the environment with procedures added, each with the number of words ARRAY and RECORD before it; `k` is this
 -- number for the first procedure
@@ -294,12 +294,12 @@ unfoldable pub declare_block : {N : Type 0}
     → Tree N block
     → Frame N
     → Option (Frame N)
-unfolding declare_first declare_variables
+unfolding declare_constants_and_types declare_variables
 declare_block naming k b f =
-    option_and_then (λ env. option_map (declare_procedures_in_frame (constructor_after_variables k b) (block_procedures b))
+    option_and_then (λ env. option_map (declare_procedures_in_frame (constructors_before_procedures k b) (block_procedures b))
     (declare_variables naming (constructors_before_variables k b) (block_variables b)
     record { env = env; store = f.store }))
-    (declare_first naming f.env k b)
+    (declare_constants_and_types naming f.env k b)
 
 -- Returns the frame with a parameter bound to its argument. A VAR parameter is bound to the argument's place. Any other
 -- parameter is bound to a separate variable with the argument's value. Returns None if the argument has the wrong form.
@@ -396,7 +396,7 @@ unfoldable pub activate : {N : Type 0}
 unfolding declare_block execute_body
 activate naming enter t ((x, a_procedure code) ∷ rest) args s =
     continue_in_frame s (option_and_then
-    (declare_block naming (constructor_after_formals code.first_constructor code.text)
+    (declare_block naming (constructors_before_procedure_block code.first_constructor code.text)
     (procedure_block code.text))
     (bind_parameters (parameters (procedure_formals code.text)) args
     record { env = (x, a_procedure code) ∷ rest; store = s.store }))
@@ -425,7 +425,7 @@ run_result (stopped e out) = record { output = out; ending = e }
 
 -- returns the result of running a module's tree with this input; `enter` performs calls in an environment, and `t`
 -- bounds the iterations of each loop
-unfoldable pub run_by : {N : Type 0}
+unfoldable pub run_with_calls : {N : Type 0}
     → Naming N
     → (Activation N → CallFunction N)
     → ℕ
@@ -433,26 +433,26 @@ unfoldable pub run_by : {N : Type 0}
     → List ℤ
     → Run
 unfolding declare_block execute_body
-run_by naming enter t m input =
+run_with_calls naming enter t m input =
     let start : State = record { store = []; input = input; output = [] } in
     run_result (continue_in_frame start
-    (declare_block naming 0 (module_block m) record { env = outermost naming; store = [] })
+    (declare_block naming 0 (module_block m) record { env = outermost_environment naming; store = [] })
     (λ f. execute_body naming f.env (enter f.env) t (block_statements (module_block m))))
 
 -- returns the result of running a module's tree whose names are interpreted by `naming`; `c` bounds the number of open
 -- calls, and `t` bounds the iterations of each loop
-unfoldable pub run_over : {N : Type 0} → Naming N → Tree N module_text → List ℤ → ℕ → ℕ → Run
-unfolding run_by call
-run_over naming m input c t = run_by naming (call naming c t) t m input
+unfoldable pub run_with_naming : {N : Type 0} → Naming N → Tree N module_text → List ℤ → ℕ → ℕ → Run
+unfolding run_with_calls call
+run_with_naming naming m input c t = run_with_calls naming (call naming c t) t m input
 
 -- returns the result of running a module with this input; the first number bounds the open calls, and the second number
 -- bounds the iterations of each loop
 unfoldable pub run : Tree Name module_text → List ℤ → ℕ → ℕ → Run
-unfolding run_over
-run = run_over naming_by_spelling
+unfolding run_with_naming
+run = run_with_naming naming_by_spelling
 
 -- returns the result of running a numbered tree with this input; the first number bounds the open calls, and the second
 -- number bounds the iterations of each loop
 unfoldable pub run_numbered : Tree Label module_text → List ℤ → ℕ → ℕ → Run
-unfolding run_over
-run_numbered = run_over naming_by_label
+unfolding run_with_naming
+run_numbered = run_with_naming naming_by_label

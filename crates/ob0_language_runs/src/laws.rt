@@ -3,11 +3,11 @@
 //!
 //! In the definition `run`, the store keeps every variable until the run ends. In
 //! `run_freeing` (`specs/Freed`), a call's variables are dropped when the call returns.
-//! `freeing_keeps_runs` states that both runs have the same result. `specs/Fitting`
+//! `freeing_variables_keeps_runs` states that both runs have the same result. `specs/TypeAgreement`
 //! defines when a value, a store, a place or an environment agrees with the types of a checked
 //! module. Throughout a run of a well-typed module all of them agree, so the run doesn't get stuck.
 
-ghost use Rattle.ob0_language_runs.specs.Laws.{NumberingKeepsRuns, NumberedTreeDecidesRuns, FreeRenamingKeepsRuns, FreeingKeepsRuns, NeverStuck, InliningKeepsExecution};
+ghost use Rattle.ob0_language_runs.specs.Laws.{NumberingKeepsRuns, NumberedTreeDecidesRuns, FreeRenamingKeepsRuns, FreeingVariablesKeepsRuns, NeverStuck, InliningKeepsExecution};
 ghost use Rattle.ob0_language_runs.specs.EditLaws.{FreeRenamingKeepsTypingAndRuns, InliningKeepsTypingAndRuns, RemovingUnusedKeepsTypingAndRuns, InliningEverywhereKeepsTypingAndRuns};
 
 /// Proves that a module and its numbered tree have the same run for every input and all bounds on
@@ -30,8 +30,8 @@ pub fn free_renaming_keeps_runs()
 
 /// Proves that dropping each call's variables from the store when the call returns doesn't change
 /// the result of a run.
-pub fn freeing_keeps_runs()
-    ensures { FreeingKeepsRuns }
+pub fn freeing_variables_keeps_runs()
+    ensures { FreeingVariablesKeepsRuns }
 {}
 
 /// Proves that no run of a well-typed module gets stuck: each step of the run has a meaning.

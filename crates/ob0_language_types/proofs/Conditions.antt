@@ -4,14 +4,14 @@ use Rattle.std.proofs.lemmas.Bool.{eqb-true}
 use Rattle.ob0_tree.specs.Tree.{Tree, expression, items, selector}
 use Rattle.ob0_language_names.specs.Names.{Name, same_name}
 use Rattle.ob0_language_types.specs.Expressions.{Object, a_constant, a_procedure, a_standard, a_type, a_variable}
-use Rattle.ob0_language_types.specs.Typing.{type_at}
-use Rattle.ob0_language_types.specs.WellTyped.{Signature, TypeMeanings, same_known_shape, arguments_fit, call_fits, same_fields, same_shape, some_satisfies, variable_type}
+use Rattle.ob0_language_types.specs.Typing.{type_after_selectors}
+use Rattle.ob0_language_types.specs.WellTyped.{Signature, TypeMeanings, same_known_shape, arguments_match, call_is_well_typed, same_fields, same_shape, option_satisfies, variable_type}
 use Rattle.ob0_language_values.specs.Values.{FieldShapes, Shape, array_shape, boolean_shape, integer_shape, next_field_shape, no_field_shape, record_shape}
 
 pub of_some : {s t : Shape} (P : Shape → Type 0) → Some s ≡ Some t → P s → P t
 of_some {s} {t} P e h = let e' : s ≡ t = search in subst P e' h
 
-pub hold-true : {A : Type 0} (o : Option A) (test : A → Bool) → some_satisfies o test ≡ true → (a : A) × (o ≡ Some a) × (test a ≡ true)
+pub hold-true : {A : Type 0} (o : Option A) (test : A → Bool) → option_satisfies o test ≡ true → (a : A) × (o ≡ Some a) × (test a ≡ true)
 hold-true None test e = absurd (cc)
 hold-true (Some a) test e = (a, refl, e)
 
@@ -54,11 +54,11 @@ same_known_shape-true None b e = absurd (cc)
 same_known_shape-true (Some s) None e = absurd (cc)
 
 -- A variable's type is the type that its selectors select from the type of its name.
-pub variable-typed : {N : Type 0} (checked : TypeMeanings N) (x : N) (path : Tree N (items selector)) (s : Shape) → variable_type checked (Some (x, path)) ≡ Some s → (t : Shape) × (checked.object_for x ≡ Some (a_variable t)) × (type_at checked t path ≡ Some s)
+pub variable-typed : {N : Type 0} (checked : TypeMeanings N) (x : N) (path : Tree N (items selector)) (s : Shape) → variable_type checked (Some (x, path)) ≡ Some s → (t : Shape) × (checked.object_for x ≡ Some (a_variable t)) × (type_after_selectors checked t path ≡ Some s)
 unfolding variable_type
 variable-typed checked x path s h = go (checked.object_for x) h
   where
-    go : (o : Option (Object Shape Signature)) → (elim o [ Some (a_variable t) ↦ type_at checked t path | _ ↦ None ]) ≡ Some s → (t : Shape) × (o ≡ Some (a_variable t)) × (type_at checked t path ≡ Some s)
+    go : (o : Option (Object Shape Signature)) → (elim o [ Some (a_variable t) ↦ type_after_selectors checked t path | _ ↦ None ]) ≡ Some s → (t : Shape) × (o ≡ Some (a_variable t)) × (type_after_selectors checked t path ≡ Some s)
     go (Some (a_variable t)) e = (t, refl, e)
     go None e = absurd (cc)
     go (Some (a_type t)) e = absurd (cc)
@@ -67,7 +67,7 @@ variable-typed checked x path s h = go (checked.object_for x) h
     go (Some (a_standard t)) e = absurd (cc)
 
 -- A well-typed call calls a procedure.
-pub call-typed : {N : Type 0} (checked : TypeMeanings N) (o : Option Signature) (es : List (Tree N expression)) → call_fits checked o es ≡ true → (signature : Signature) × (o ≡ Some signature) × (arguments_fit checked signature es ≡ true)
-unfolding call_fits
+pub call-typed : {N : Type 0} (checked : TypeMeanings N) (o : Option Signature) (es : List (Tree N expression)) → call_is_well_typed checked o es ≡ true → (signature : Signature) × (o ≡ Some signature) × (arguments_match checked signature es ≡ true)
+unfolding call_is_well_typed
 call-typed checked None es h = absurd (cc)
 call-typed checked (Some signature) es h = (signature, refl, h)

@@ -1,6 +1,6 @@
 -- In a well-typed module each use of a constant is a whole factor. The proof is about the numbered tree.
 use Rattle.std.proofs.Common.{All, List, None, [], ap, length, map, subst, suc, sym, ℕ, ◌+◌, ◌∙◌, ◌∷◌, ◌≡◌, ◌≢◌}
-use Rattle.ob0_tree.specs.Tree.{Sort, Tree, block, constant, constants, declares, declares_constant, declares_constants, declares_procedure, declares_type, declares_types, declares_variable, declares_variables, end, formals, further_section, has_body, is_module, item, items, maybe, module_text, more, no_formals, none, occurrences, one, procedure, section, some_formals, then_section, type_name, type_names, value_section, variable, variable_section, variables, written_type}
+use Rattle.ob0_tree.specs.Tree.{Sort, Tree, block, constant, constants, declares, declares_constant, declares_constants, declares_procedure, declares_type, declares_types, declares_variable, declares_variables, end, formals, further_section, forms_block, is_module, item, items, maybe, module_text, more, no_formals, none, occurrences, one, procedure, section, some_formals, then_section, type_definition, type_definitions, value_section, variable, variable_section, variables, written_type}
 use Rattle.ob0_language_names.specs.NonFactorNames.{names_beside_factors}
 use Rattle.ob0_language_names.specs.Occurrences.{label_ordinal}
 use Rattle.ob0_language_names.specs.Parts.{formal_names, formal_sections, names_in_list, procedure_name, section_constants, section_names, section_type, section_types, section_variables}
@@ -32,7 +32,7 @@ label-constants d j scope k end h = tt
 label-constants d j scope k (more (declares_constant x e) cs) h =
     none-of-join (IsLabelOf d) _ _ (alone-leaf d j scope e h.0) (label-constants d (j + length (occurrences e)) ((x, k) ∷ scope) (suc k) cs h.1)
 
-label-types : (d j : ℕ) (scope : Scope Name) (k : ℕ) (ds : Tree Name (items type_name)) → EachType (UsesAreFactors d) j scope k ds → NoneOf (IsLabelOf d) (names_beside_factors (relabel_types naming_by_spelling (label_from_ordinal naming_by_spelling) scope k ds))
+label-types : (d j : ℕ) (scope : Scope Name) (k : ℕ) (ds : Tree Name (items type_definition)) → EachType (UsesAreFactors d) j scope k ds → NoneOf (IsLabelOf d) (names_beside_factors (relabel_types naming_by_spelling (label_from_ordinal naming_by_spelling) scope k ds))
 label-types d j scope k end h = tt
 label-types d j scope k (more (declares_type x t) ds) h =
     none-of-join (IsLabelOf d) _ _ (alone-leaf d j scope t h.0) (label-types d (j + length (occurrences t)) ((x, k) ∷ scope) (suc k) ds h.1)
@@ -60,7 +60,7 @@ label-constant_section : (d j : ℕ) (scope : Scope Name) (k : ℕ) (cs : Tree N
 label-constant_section d j scope k none h = tt
 label-constant_section d j scope k (one (declares_constants cs)) h = label-constants d j scope k cs h
 
-label-type_section : (d j : ℕ) (scope : Scope Name) (k : ℕ) (ts : Tree Name (maybe type_names)) → EachType (UsesAreFactors d) j scope k (section_types ts) → NoneOf (IsLabelOf d) (names_beside_factors (relabel_type_section naming_by_spelling (label_from_ordinal naming_by_spelling) scope k ts))
+label-type_section : (d j : ℕ) (scope : Scope Name) (k : ℕ) (ts : Tree Name (maybe type_definitions)) → EachType (UsesAreFactors d) j scope k (section_types ts) → NoneOf (IsLabelOf d) (names_beside_factors (relabel_type_section naming_by_spelling (label_from_ordinal naming_by_spelling) scope k ts))
 label-type_section d j scope k none h = tt
 label-type_section d j scope k (one (declares_types ts)) h = label-types d j scope k ts h
 
@@ -70,8 +70,8 @@ label-variable_section d j scope k (one (declares_variables vs)) h = label-varia
 
 mutual
   label-block : (d j : ℕ) (scope : Scope Name) (k : ℕ) (b : Tree Name block) → EachBlock (UsesAreFactors d) j scope k b → NoneOf (IsLabelOf d) (names_beside_factors (relabel_block naming_by_spelling (label_from_ordinal naming_by_spelling) scope k b))
-  label-block d j scope k (has_body (declares cs ts vs ps) statements) h =
-      let b : Tree Name block = has_body (declares cs ts vs ps) statements in
+  label-block d j scope k (forms_block (declares cs ts vs ps) statements) h =
+      let b : Tree Name block = forms_block (declares cs ts vs ps) statements in
       none-of-join (IsLabelOf d) _ _
       (none-of-join (IsLabelOf d) _ _ (label-constant_section d j scope k cs h.0)
       (none-of-join (IsLabelOf d) _ _ (label-type_section d (j + length (occurrences cs)) (types_scope k b scope) (first_type_ordinal k b) ts h.1)

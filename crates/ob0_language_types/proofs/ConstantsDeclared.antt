@@ -5,7 +5,7 @@
 use Rattle.std.proofs.Common.{◌≡◌, ℕ, suc, ◌+◌, ◌<◌, ◌≤◌, ◌==◌, Bool, true, false, cond, if◌then◌else◌, nat_lt, ◌&&◌, List, [], ◌∷◌, ◌++◌, map, Some, None, Option, option_map, option_and_then, refl, sym, ap, ◌∙◌, subst, subst₂, append_assoc, arith, le_refl, le_of_lt, lit<, eq-eqb, eqb-true, true≢false}
 use Rattle.std.proofs.lemmas.Bool.{and_parts, le-ltb, lt-ltb, ltb-false, ltb-true, ne_eqb}
 use Rattle.std.proofs.lemmas.List.{append-nil}
-use Rattle.ob0_tree.specs.Tree.{Tree, block, body, constant, declares, declares_constant, declares_procedure, declares_type, declares_variable, end, expression, formals, has_body, is_module, item, items, maybe, module_text, more, procedure, type_name, variable}
+use Rattle.ob0_tree.specs.Tree.{Tree, block, body, constant, declares, declares_constant, declares_procedure, declares_type, declares_variable, end, expression, formals, forms_block, is_module, item, items, maybe, module_text, more, procedure, type_definition, variable}
 use Rattle.ob0_language_names.specs.Names.{Label, Name, naming_by_label, naming_by_spelling, declared, same_label, same_name}
 use Rattle.ob0_language_names.specs.Parts.{block_constants, block_procedures, block_statements, block_types, block_variables, constant_names, formal_names, formal_sections, module_block, declared_type_names, names_in_list, section_constants, section_types, section_variables, variable_names}
 use Rattle.ob0_language_names.specs.Scopes.{Scope, ordinal_after_block, ordinal_after_names, ordinal_after_procedure, ordinal_after_procedures, label_from_ordinal, declare_names, first_procedure_ordinal, first_type_ordinal, first_variable_ordinal, numbered, procedures_scope, relabel_block, relabel_constants, relabel_formals, relabel_names, relabel_procedures, relabel_sections, relabel_types, relabel_uses, relabel_variables, types_scope, variables_scope}
@@ -13,12 +13,12 @@ use Rattle.ob0_language_names.proofs.Ordinals.{ordinal_after_names-append, decla
 use Rattle.ob0_language_names.proofs.Relabelled.{constants-section, formals-section, names-relabel, types-section, variables-section}
 use Rattle.ob0_language_types.specs.Bindings.{block_bindings, declared_object, list_if_some, object_of_ordinal, procedure_bindings, procedures_bindings, bindings_since}
 use Rattle.ob0_language_types.specs.Declaring.{declare_block, declare_procedure}
-use Rattle.ob0_language_types.specs.ConstantValues.{ConstantEnvironment, keep_constant, non_constant, predeclared_constants, value_among, value_in_block, value_in_procedure, value_in_procedures, value_of_constant}
-use Rattle.ob0_language_types.specs.Declarations.{constructors_before_variables, constructor_after_variables, declare_constants, declare_first, declare_types, formals_constructor_count, procedure_constructor_count}
-use Rattle.ob0_language_types.specs.Environments.{environment_from_binding, meanings, newest_object, outermost}
+use Rattle.ob0_language_types.specs.ConstantValues.{ConstantEnvironment, keep_constant, non_constant, predeclared_constants, value_in_constants, value_in_block, value_in_procedure, value_in_procedures, value_of_constant}
+use Rattle.ob0_language_types.specs.Declarations.{constructors_before_variables, constructors_before_procedures, declare_constants, declare_constants_and_types, declare_types, formals_constructor_count, procedure_constructor_count}
+use Rattle.ob0_language_types.specs.Environments.{environment_from_binding, meanings, newest_object, outermost_environment}
 use Rattle.ob0_language_types.specs.Expressions.{Object, a_constant, a_procedure, a_standard, a_type, a_variable}
-use Rattle.ob0_language_types.specs.Typing.{constant_of, constant_value, constructor_count, denoted}
-use Rattle.ob0_language_types.specs.WellTyped.{Signature, TypeEnvironment, TypedParameter, WellTyped, bind_names, bind_typed_parameters, block_fits, declare_typed, passes_type_check, bind_procedure, procedure_fits, procedures_fit, typed_parameters}
+use Rattle.ob0_language_types.specs.Typing.{constant_of, constant_value, constructor_count, denoted_type}
+use Rattle.ob0_language_types.specs.WellTyped.{Signature, TypeEnvironment, TypedParameter, WellTyped, bind_names, bind_typed_parameters, block_is_well_typed, declare_typed_variables, passes_type_check, bind_procedure, procedure_is_well_typed, procedures_are_well_typed, typed_parameters}
 use Rattle.ob0_language_values.specs.Values.{Shape, Value}
 use Rattle.ob0_language_types.proofs.Agreeing.{Agree, HoldsOf}
 use Rattle.ob0_language_types.proofs.Bound.{headed_bindings, newest_object-append, newest_object-if, or_else, bindings_since-append}
@@ -104,11 +104,11 @@ pub record Constants (known : ConstantEnvironment) (noted : TypeNoted Name) (k :
   pub known_after : ConstantEnvironment
   pub known_is : declare_constants naming_by_spelling known cs ≡ Some known_after
   pub knows : Knows known_after after
-  pub has_value_is : (d : ℕ) → k ≤ d → d < ordinal_after_names k (constant_names cs) → value_among known d k cs ≡ has_value bound d
+  pub has_value_is : (d : ℕ) → k ≤ d → d < ordinal_after_names k (constant_names cs) → value_in_constants known d k cs ≡ has_value bound d
 
 constants-bound : (known : ConstantEnvironment) (noted : TypeNoted Name) (k : ℕ) → Knows known noted → TypedBelow k noted → (cs : Tree Name (items constant)) (env : TypeEnvironment Label)
     → declare_constants naming_by_label (typed_by_ordinal noted) (relabel_constants naming_by_spelling (label_from_ordinal naming_by_spelling) (typed_scope noted) k cs) ≡ Some env → Constants known noted k cs env
-unfolding declare_constants value_among
+unfolding declare_constants value_in_constants
 constants-bound known noted k knows below end env h =
     record {
       bound = [];
@@ -132,7 +132,7 @@ constants-bound known noted k knows below (more (declares_constant x e) cs) env 
     let known' : ConstantEnvironment = (x, a_constant v) ∷ known in
     let r = constants-bound known' (record { name = x; ordinal = k; object = a_constant v } ∷ noted) (suc k) (knows-more known noted x k (a_constant v) (a_constant v) refl knows) (le_refl (suc k), below) cs env found.2 in
     let value : constant_value (meanings naming_by_spelling known) e ≡ Some v = sym (known-has_value known noted k knows below e) ∙ found.1 in
-    let choice : ℕ → Bool → Option Value = λ d t. if t then Some v else value_among known' d (suc k) cs in
+    let choice : ℕ → Bool → Option Value = λ d t. if t then Some v else value_in_constants known' d (suc k) cs in
     let own : Binds k (suc k) last = ((k, refl, le_refl k, le_refl (suc k)), tt) in
     let chosen : (d : ℕ) → k ≤ d → d < n → (t : Bool) → (k == d) ≡ t → choice d t ≡ has_value (r.bound ++ last) d =
     λ d l m t. elim t as (λ t. (k == d) ≡ t → choice d t ≡ has_value (r.bound ++ last) d) [
@@ -151,7 +151,7 @@ constants-bound known noted k knows below (more (declares_constant x e) cs) env 
       known_after = r.known_after;
       known_is = ap (option_and_then (λ w. declare_constants naming_by_spelling ((x, a_constant w) ∷ known) cs)) value ∙ r.known_is;
       knows = r.knows;
-      has_value_is = λ d l m. ap (option_and_then (λ w. if k == d then Some w else value_among ((x, a_constant w) ∷ known) d (suc k) cs)) value ∙ chosen d l m (k == d) refl;
+      has_value_is = λ d l m. ap (option_and_then (λ w. if k == d then Some w else value_in_constants ((x, a_constant w) ∷ known) d (suc k) cs)) value ∙ chosen d l m (k == d) refl;
     }
 
 -- the bindings that declarations of names other than constants make, with facts about them
@@ -212,33 +212,33 @@ plain-parameters noted k (p ∷ ps) below =
 abbrev pub LeavesPlain : TypeNoted Name → ℕ → List Name → TypeEnvironment Label → Type 0
 LeavesPlain noted k names env = (after : TypeNoted Name) × (env ≡ typed_by_ordinal after) × Plain noted k names after
 
-types-bound : (noted : TypeNoted Name) (j k : ℕ) → TypedBelow k noted → (ds : Tree Name (items type_name)) (env : TypeEnvironment Label)
+types-bound : (noted : TypeNoted Name) (j k : ℕ) → TypedBelow k noted → (ds : Tree Name (items type_definition)) (env : TypeEnvironment Label)
     → declare_types naming_by_label (typed_by_ordinal noted) j (relabel_types naming_by_spelling (label_from_ordinal naming_by_spelling) (typed_scope noted) k ds) ≡ Some env → LeavesPlain noted k (declared_type_names ds) env
 unfolding declare_types
 types-bound noted j k below end env h = (noted, sym (some_inverse h), plain-nothing noted k below)
 types-bound noted j k below (more (declares_type x u) ds) env h =
     let t = relabel_uses naming_by_spelling (label_from_ordinal naming_by_spelling) (typed_scope noted) u in
-    let found = then_some (denoted (meanings naming_by_label (typed_by_ordinal noted)) j t)
+    let found = then_some (denoted_type (meanings naming_by_label (typed_by_ordinal noted)) j t)
     (λ s. declare_types naming_by_label ((declared k, a_type s) ∷ typed_by_ordinal noted) (j + constructor_count t) (relabel_types naming_by_spelling (label_from_ordinal naming_by_spelling) ((x, k) ∷ typed_scope noted) (suc k) ds)) env h in
     let own : TypeNoted Name = record { name = x; ordinal = k; object = a_type found.0 } ∷ noted in
     let r = types-bound own (j + constructor_count t) (suc k) (le_refl (suc k), below) ds env found.2 in
     (r.0, r.1, plain-then noted own r.0 k (x ∷ []) (declared_type_names ds) (plain-one noted k x (a_type found.0) refl below) r.2)
 
 variables-bound : (noted : TypeNoted Name) (j k : ℕ) → TypedBelow k noted → (gs : Tree Name (items variable)) (env : TypeEnvironment Label)
-    → declare_typed naming_by_label j (relabel_variables naming_by_spelling (label_from_ordinal naming_by_spelling) (typed_scope noted) k gs) (typed_by_ordinal noted) ≡ Some env → LeavesPlain noted k (variable_names gs) env
-unfolding declare_typed
+    → declare_typed_variables naming_by_label j (relabel_variables naming_by_spelling (label_from_ordinal naming_by_spelling) (typed_scope noted) k gs) (typed_by_ordinal noted) ≡ Some env → LeavesPlain noted k (variable_names gs) env
+unfolding declare_typed_variables
 variables-bound noted j k below end env h = (noted, sym (some_inverse h), plain-nothing noted k below)
 variables-bound noted j k below (more (declares_variable ns u) gs) env h =
     let t = relabel_uses naming_by_spelling (label_from_ordinal naming_by_spelling) (typed_scope noted) u in
     let xs : List Name = names_in_list ns in
-    let found = then_some (denoted (meanings naming_by_label (typed_by_ordinal noted)) j t)
-    (λ s. declare_typed naming_by_label (j + constructor_count t) (relabel_variables naming_by_spelling (label_from_ordinal naming_by_spelling) (declare_names k xs (typed_scope noted)) (ordinal_after_names k xs) gs) (bind_names (names_in_list (relabel_names (label_from_ordinal naming_by_spelling) k ns)) (a_variable s) (typed_by_ordinal noted))) env h in
+    let found = then_some (denoted_type (meanings naming_by_label (typed_by_ordinal noted)) j t)
+    (λ s. declare_typed_variables naming_by_label (j + constructor_count t) (relabel_variables naming_by_spelling (label_from_ordinal naming_by_spelling) (declare_names k xs (typed_scope noted)) (ordinal_after_names k xs) gs) (bind_names (names_in_list (relabel_names (label_from_ordinal naming_by_spelling) k ns)) (a_variable s) (typed_by_ordinal noted))) env h in
     let mid : TypeNoted Name = noted_names k xs (a_variable found.0) noted in
     let a : Plain noted k xs mid = plain-names noted k xs found.0 below in
     let bound : typed_by_ordinal mid ≡ bind_names (names_in_list (relabel_names (label_from_ordinal naming_by_spelling) k ns)) (a_variable found.0) (typed_by_ordinal noted) =
     sym (ap (λ ys. bind_names ys (a_variable found.0) (typed_by_ordinal noted)) (names-relabel (label_from_ordinal naming_by_spelling) k ns) ∙ bind_names-by_ordinal naming_by_spelling k xs (a_variable found.0) noted) in
     let r = variables-bound mid (j + constructor_count t) (ordinal_after_names k xs) a.within.1 gs env
-    ((λ i. declare_typed naming_by_label (j + constructor_count t) (relabel_variables naming_by_spelling (label_from_ordinal naming_by_spelling) (a.within.0 i) (ordinal_after_names k xs) gs) (bound i)) ∙ found.2) in
+    ((λ i. declare_typed_variables naming_by_label (j + constructor_count t) (relabel_variables naming_by_spelling (label_from_ordinal naming_by_spelling) (a.within.0 i) (ordinal_after_names k xs) gs) (bound i)) ∙ found.2) in
     (r.0, r.1, plain-then noted mid r.0 k xs (variable_names gs) a r.2)
 
 -- The bindings of a heading have the ordinals of the procedure and its parameters.
@@ -272,46 +272,46 @@ below-or d n x y z h g = by (nat_lt d n) refl
     by false e = g (ltb-false d n e)
 
 -- A well-typed block or procedure was declared part by part.
-firsts : (env : TypeEnvironment Label) (j : ℕ) (b : Tree Label block) (after : TypeEnvironment Label) → declare_first naming_by_label env j b ≡ Some after
+firsts : (env : TypeEnvironment Label) (j : ℕ) (b : Tree Label block) (after : TypeEnvironment Label) → declare_constants_and_types naming_by_label env j b ≡ Some after
     → (mid : TypeEnvironment Label) × (declare_constants naming_by_label env (block_constants b) ≡ Some mid) × (declare_types naming_by_label mid j (block_types b) ≡ Some after)
-unfolding declare_first
+unfolding declare_constants_and_types
 firsts env j b after h = then_some (declare_constants naming_by_label env (block_constants b)) (λ e. declare_types naming_by_label e j (block_types b)) after h
 
-pub block-parts : (env : TypeEnvironment Label) (j : ℕ) (b : Tree Label block) → block_fits naming_by_label env j b ≡ true
-    → (inner : TypeEnvironment Label) × (declare_block naming_by_label env j b ≡ Some inner) × (procedures_fit naming_by_label inner (constructor_after_variables j b) (block_statements b) (block_procedures b) ≡ true)
-unfolding block_fits
-block-parts env j (has_body (declares cs ts vs ps) statements) h =
-    hold-true (declare_block naming_by_label env j (has_body (declares cs ts vs ps) statements)) (λ inner. procedures_fit naming_by_label inner (constructor_after_variables j (has_body (declares cs ts vs ps) statements)) statements ps) h
+pub block-parts : (env : TypeEnvironment Label) (j : ℕ) (b : Tree Label block) → block_is_well_typed naming_by_label env j b ≡ true
+    → (inner : TypeEnvironment Label) × (declare_block naming_by_label env j b ≡ Some inner) × (procedures_are_well_typed naming_by_label inner (constructors_before_procedures j b) (block_statements b) (block_procedures b) ≡ true)
+unfolding block_is_well_typed
+block-parts env j (forms_block (declares cs ts vs ps) statements) h =
+    hold-true (declare_block naming_by_label env j (forms_block (declares cs ts vs ps) statements)) (λ inner. procedures_are_well_typed naming_by_label inner (constructors_before_procedures j (forms_block (declares cs ts vs ps) statements)) statements ps) h
 
 pub block-listed : (env : TypeEnvironment Label) (j : ℕ) (b : Tree Label block) (inner : TypeEnvironment Label) → declare_block naming_by_label env j b ≡ Some inner
-    → block_bindings naming_by_label env j b ≡ procedures_bindings naming_by_label inner (constructor_after_variables j b) (block_procedures b) ++ bindings_since env inner
+    → block_bindings naming_by_label env j b ≡ procedures_bindings naming_by_label inner (constructors_before_procedures j b) (block_procedures b) ++ bindings_since env inner
 unfolding block_bindings
-block-listed env j (has_body (declares cs ts vs ps) statements) inner e =
-    ap (λ o. list_if_some o (λ z. procedures_bindings naming_by_label z (constructor_after_variables j (has_body (declares cs ts vs ps) statements)) ps ++ bindings_since env z)) e
+block-listed env j (forms_block (declares cs ts vs ps) statements) inner e =
+    ap (λ o. list_if_some o (λ z. procedures_bindings naming_by_label z (constructors_before_procedures j (forms_block (declares cs ts vs ps) statements)) ps ++ bindings_since env z)) e
 
 pub record FitParts (env : TypeEnvironment Label) (j : ℕ) (statements : Tree Label (maybe body)) (x : Label) (fs : Tree Label (maybe formals)) (b : Tree Label block) (closing : Label) (rest : Tree Label (items procedure)) : Type 0 where
   pub listed : List (TypedParameter Label)
   pub typed : typed_parameters naming_by_label env j (formal_sections fs) ≡ Some listed
-  pub block_right : block_fits naming_by_label (bind_typed_parameters listed (bind_procedure x listed env)) (j + formals_constructor_count (formal_sections fs)) b ≡ true
-  pub rest_right : procedures_fit naming_by_label (bind_procedure x listed env) (j + procedure_constructor_count (declares_procedure x fs b closing)) statements rest ≡ true
+  pub block_right : block_is_well_typed naming_by_label (bind_typed_parameters listed (bind_procedure x listed env)) (j + formals_constructor_count (formal_sections fs)) b ≡ true
+  pub rest_right : procedures_are_well_typed naming_by_label (bind_procedure x listed env) (j + procedure_constructor_count (declares_procedure x fs b closing)) statements rest ≡ true
 
 pub procedure-parts : (env : TypeEnvironment Label) (j : ℕ) (statements : Tree Label (maybe body)) (x : Label) (fs : Tree Label (maybe formals)) (b : Tree Label block) (closing : Label) (rest : Tree Label (items procedure))
-    → procedures_fit naming_by_label env j statements (more (declares_procedure x fs b closing) rest) ≡ true → FitParts env j statements x fs b closing rest
-unfolding block_fits
+    → procedures_are_well_typed naming_by_label env j statements (more (declares_procedure x fs b closing) rest) ≡ true → FitParts env j statements x fs b closing rest
+unfolding block_is_well_typed
 procedure-parts env j statements x fs b closing rest h =
     let p : Tree Label (item procedure) = declares_procedure x fs b closing in
-    let all = hold-true (typed_parameters naming_by_label env j (formal_sections fs)) (λ ps. procedure_fits naming_by_label (bind_typed_parameters ps (bind_procedure x ps env)) j p && procedures_fit naming_by_label (bind_procedure x ps env) (j + procedure_constructor_count p) statements rest) h in
-    let both = and_parts (procedure_fits naming_by_label (bind_typed_parameters all.0 (bind_procedure x all.0 env)) j p) (procedures_fit naming_by_label (bind_procedure x all.0 env) (j + procedure_constructor_count p) statements rest) all.2 in
+    let all = hold-true (typed_parameters naming_by_label env j (formal_sections fs)) (λ ps. procedure_is_well_typed naming_by_label (bind_typed_parameters ps (bind_procedure x ps env)) j p && procedures_are_well_typed naming_by_label (bind_procedure x ps env) (j + procedure_constructor_count p) statements rest) h in
+    let both = and_parts (procedure_is_well_typed naming_by_label (bind_typed_parameters all.0 (bind_procedure x all.0 env)) j p) (procedures_are_well_typed naming_by_label (bind_procedure x all.0 env) (j + procedure_constructor_count p) statements rest) all.2 in
     record { listed = all.0; typed = all.1; block_right = both.0; rest_right = both.1 }
 
 pub procedures-listed : (env : TypeEnvironment Label) (j : ℕ) (statements : Tree Label (maybe body)) (x : Label) (fs : Tree Label (maybe formals)) (b : Tree Label block) (closing : Label) (rest : Tree Label (items procedure)) (f : FitParts env j statements x fs b closing rest)
     → procedures_bindings naming_by_label env j (more (declares_procedure x fs b closing) rest)
     ≡ procedures_bindings naming_by_label (bind_procedure x f.listed env) (j + procedure_constructor_count (declares_procedure x fs b closing)) rest ++ (block_bindings naming_by_label (bind_typed_parameters f.listed (bind_procedure x f.listed env)) (j + formals_constructor_count (formal_sections fs)) b ++ bind_typed_parameters f.listed (bind_procedure x f.listed []))
-unfolding block_bindings declare_procedure block_fits
+unfolding block_bindings declare_procedure block_is_well_typed
 procedures-listed env j statements x fs b closing rest f =
     let p : Tree Label (item procedure) = declares_procedure x fs b closing in
     let given : declare_procedure naming_by_label env j p ≡ Some (bind_procedure x f.listed env) =
-    ap (option_and_then (λ ps. if procedure_fits naming_by_label (bind_typed_parameters ps (bind_procedure x ps env)) j p then Some (bind_procedure x ps env) else None)) f.typed
+    ap (option_and_then (λ ps. if procedure_is_well_typed naming_by_label (bind_typed_parameters ps (bind_procedure x ps env)) j p then Some (bind_procedure x ps env) else None)) f.typed
     ∙ ap (λ t. if t then Some (bind_procedure x f.listed env) else None) f.block_right in
     ap (λ o. list_if_some o (λ later. procedures_bindings naming_by_label later (j + procedure_constructor_count p) rest ++ procedure_bindings naming_by_label env j p)) given
     ∙ ap (λ e. procedures_bindings naming_by_label (bind_procedure x f.listed env) (j + procedure_constructor_count p) rest ++ e) (headed_bindings env j x closing fs b f.listed f.typed)
@@ -328,14 +328,14 @@ pub record Opened (known : ConstantEnvironment) (noted : TypeNoted Name) (k : �
 
 pub block-opened : (known : ConstantEnvironment) (noted : TypeNoted Name) (j k : ℕ) → Knows known noted → TypedBelow k noted → (b : Tree Name block) (inner : TypeEnvironment Label)
     → declare_block naming_by_label (typed_by_ordinal noted) j (relabel_block naming_by_spelling (label_from_ordinal naming_by_spelling) (typed_scope noted) k b) ≡ Some inner → Opened known noted k b inner
-block-opened known noted j k knows below (has_body (declares cs ts vs ps) statements) inner h =
-    let b : Tree Name block = has_body (declares cs ts vs ps) statements in
+block-opened known noted j k knows below (forms_block (declares cs ts vs ps) statements) inner h =
+    let b : Tree Name block = forms_block (declares cs ts vs ps) statements in
     let scope : Scope Name = typed_scope noted in
     let env : TypeEnvironment Label = typed_by_ordinal noted in
     let b' : Tree Label block = relabel_block naming_by_spelling (label_from_ordinal naming_by_spelling) scope k b in
     let kt : ℕ = first_type_ordinal k b in
     let kv : ℕ = first_variable_ordinal k b in
-    let two = then_some (declare_first naming_by_label env j b') (declare_typed naming_by_label (constructors_before_variables j b') (block_variables b')) inner h in
+    let two = then_some (declare_constants_and_types naming_by_label env j b') (declare_typed_variables naming_by_label (constructors_before_variables j b') (block_variables b')) inner h in
     let one = firsts env j b' two.0 two.1 in
     let c : Constants known noted k (section_constants cs) one.0 =
     constants-bound known noted k knows below (section_constants cs) one.0 (ap (declare_constants naming_by_label env) (sym (constants-section naming_by_spelling (label_from_ordinal naming_by_spelling) scope k cs)) ∙ one.1) in
@@ -343,7 +343,7 @@ block-opened known noted j k knows below (has_body (declares cs ts vs ps) statem
     ((λ i. declare_types naming_by_label (sym c.reads i) j ((ap (λ s. relabel_types naming_by_spelling (label_from_ordinal naming_by_spelling) s kt (section_types ts)) c.within.0 ∙ sym (types-section naming_by_spelling (label_from_ordinal naming_by_spelling) (types_scope k b scope) kt ts)) i)) ∙ one.2) in
     let at_types : typed_scope t.0 ≡ variables_scope k b scope = t.2.within.0 ∙ ap (declare_names kt (declared_type_names (section_types ts))) c.within.0 in
     let v : LeavesPlain t.0 kv (variable_names (section_variables vs)) inner = variables-bound t.0 (constructors_before_variables j b') kv t.2.within.1 (section_variables vs) inner
-    ((λ i. declare_typed naming_by_label (constructors_before_variables j b') ((ap (λ s. relabel_variables naming_by_spelling (label_from_ordinal naming_by_spelling) s kv (section_variables vs)) at_types ∙ sym (variables-section naming_by_spelling (label_from_ordinal naming_by_spelling) (variables_scope k b scope) kv vs)) i) (sym t.1 i)) ∙ two.2) in
+    ((λ i. declare_typed_variables naming_by_label (constructors_before_variables j b') ((ap (λ s. relabel_variables naming_by_spelling (label_from_ordinal naming_by_spelling) s kv (section_variables vs)) at_types ∙ sym (variables-section naming_by_spelling (label_from_ordinal naming_by_spelling) (variables_scope k b scope) kv vs)) i) (sym t.1 i)) ∙ two.2) in
     record {
       mid = one.0;
       constants = c;
@@ -390,8 +390,8 @@ block-values : (known : ConstantEnvironment) (noted : TypeNoted Name) (k : ℕ) 
     → AreValuesBetween (first_procedure_ordinal k b) (ordinal_after_block k b) (λ d. value_in_procedures (bind_names (declared_type_names (block_types b) ++ variable_names (block_variables b)) non_constant o.constants.known_after) d (first_procedure_ordinal k b) (block_procedures b)) P
     → AreValuesBetween k (ordinal_after_block k b) (λ d. value_in_block known d k b) (P ++ (o.others.bound ++ o.constants.bound))
 unfolding value_in_block
-block-values known noted k (has_body (declares cs ts vs ps) statements) inner P o p =
-    let b : Tree Name block = has_body (declares cs ts vs ps) statements in
+block-values known noted k (forms_block (declares cs ts vs ps) statements) inner P o p =
+    let b : Tree Name block = forms_block (declares cs ts vs ps) statements in
     let kt : ℕ = first_type_ordinal k b in
     let kp : ℕ = first_procedure_ordinal k b in
     let n : ℕ = ordinal_after_block k b in
@@ -407,7 +407,7 @@ block-values known noted k (has_body (declares cs ts vs ps) statements) inner P 
     record {
       binds = binds-append k n P own (binds-wider kp n k n P (omega (arith, first, second)) (le_refl n) p.binds) (binds-wider k kp k n own (le_refl k) third own_binds);
       has_value_is = λ d l.
-          below-or d kt (value_among known d k (section_constants cs))
+          below-or d kt (value_in_constants known d k (section_constants cs))
           (if nat_lt d kp then None else option_and_then (λ inner. value_in_procedures (bind_names names non_constant inner) d kp ps) (declare_constants naming_by_spelling known (section_constants cs)))
           (has_value (P ++ own) d)
           (λ m. o.constants.has_value_is d l m ∙ sym (ap constant_of (bound-elsewhere kp n d P own p.binds (λ a z. omega (arith, a, m, second)) ∙ bound-elsewhere kt kp d w c plain_binds (λ a z. omega (arith, a, m)))))
@@ -502,24 +502,24 @@ no-procedures known noted j k = record { binds = tt; has_value_is = λ d l. refl
 
 mutual
   pub block-evaluates : (known : ConstantEnvironment) (noted : TypeNoted Name) (j k : ℕ) → Knows known noted → TypedBelow k noted → (b : Tree Name block)
-      → block_fits naming_by_label (typed_by_ordinal noted) j (relabel_block naming_by_spelling (label_from_ordinal naming_by_spelling) (typed_scope noted) k b) ≡ true
+      → block_is_well_typed naming_by_label (typed_by_ordinal noted) j (relabel_block naming_by_spelling (label_from_ordinal naming_by_spelling) (typed_scope noted) k b) ≡ true
       → AreValuesBetween k (ordinal_after_block k b) (λ d. value_in_block known d k b) (block_bindings naming_by_label (typed_by_ordinal noted) j (relabel_block naming_by_spelling (label_from_ordinal naming_by_spelling) (typed_scope noted) k b))
-  block-evaluates known noted j k knows below (has_body (declares cs ts vs ps) statements) h =
-      let b : Tree Name block = has_body (declares cs ts vs ps) statements in
+  block-evaluates known noted j k knows below (forms_block (declares cs ts vs ps) statements) h =
+      let b : Tree Name block = forms_block (declares cs ts vs ps) statements in
       let b' : Tree Label block = relabel_block naming_by_spelling (label_from_ordinal naming_by_spelling) (typed_scope noted) k b in
       let parts = block-parts (typed_by_ordinal noted) j b' h in
       let o : Opened known noted k b parts.0 = block-opened known noted j k knows below b parts.0 parts.1 in
       let names : List Name = declared_type_names (section_types ts) ++ variable_names (section_variables vs) in
-      let p = procedures-evaluate (bind_names names non_constant o.constants.known_after) o.last (constructor_after_variables j b') (first_procedure_ordinal k b) (o.others.knows o.constants.known_after o.constants.knows) o.below (block_statements b') ps
-      ((λ i. procedures_fit naming_by_label (sym o.reads i) (constructor_after_variables j b') (block_statements b') (relabel_procedures naming_by_spelling (label_from_ordinal naming_by_spelling) (o.scoped i) (first_procedure_ordinal k b) ps)) ∙ parts.2) in
-      let P : TypeEnvironment Label = procedures_bindings naming_by_label (typed_by_ordinal o.last) (constructor_after_variables j b') (relabel_procedures naming_by_spelling (label_from_ordinal naming_by_spelling) (typed_scope o.last) (first_procedure_ordinal k b) ps) in
+      let p = procedures-evaluate (bind_names names non_constant o.constants.known_after) o.last (constructors_before_procedures j b') (first_procedure_ordinal k b) (o.others.knows o.constants.known_after o.constants.knows) o.below (block_statements b') ps
+      ((λ i. procedures_are_well_typed naming_by_label (sym o.reads i) (constructors_before_procedures j b') (block_statements b') (relabel_procedures naming_by_spelling (label_from_ordinal naming_by_spelling) (o.scoped i) (first_procedure_ordinal k b) ps)) ∙ parts.2) in
+      let P : TypeEnvironment Label = procedures_bindings naming_by_label (typed_by_ordinal o.last) (constructors_before_procedures j b') (relabel_procedures naming_by_spelling (label_from_ordinal naming_by_spelling) (typed_scope o.last) (first_procedure_ordinal k b) ps) in
       subst (AreValuesBetween k (ordinal_after_block k b) (λ d. value_in_block known d k b))
-      ((λ i. procedures_bindings naming_by_label (sym o.reads i) (constructor_after_variables j b') (relabel_procedures naming_by_spelling (label_from_ordinal naming_by_spelling) (o.scoped i) (first_procedure_ordinal k b) ps) ++ sym (opened-bindings_since known noted k b parts.0 o) i)
+      ((λ i. procedures_bindings naming_by_label (sym o.reads i) (constructors_before_procedures j b') (relabel_procedures naming_by_spelling (label_from_ordinal naming_by_spelling) (o.scoped i) (first_procedure_ordinal k b) ps) ++ sym (opened-bindings_since known noted k b parts.0 o) i)
       ∙ sym (block-listed (typed_by_ordinal noted) j b' parts.0 parts.1))
       (block-values known noted k b parts.0 P o p)
 
   pub procedures-evaluate : (known : ConstantEnvironment) (noted : TypeNoted Name) (j k : ℕ) → Knows known noted → TypedBelow k noted → (statements : Tree Label (maybe body)) (ps : Tree Name (items procedure))
-      → procedures_fit naming_by_label (typed_by_ordinal noted) j statements (relabel_procedures naming_by_spelling (label_from_ordinal naming_by_spelling) (typed_scope noted) k ps) ≡ true
+      → procedures_are_well_typed naming_by_label (typed_by_ordinal noted) j statements (relabel_procedures naming_by_spelling (label_from_ordinal naming_by_spelling) (typed_scope noted) k ps) ≡ true
       → AreValuesBetween k (ordinal_after_procedures k ps) (λ d. value_in_procedures known d k ps) (procedures_bindings naming_by_label (typed_by_ordinal noted) j (relabel_procedures naming_by_spelling (label_from_ordinal naming_by_spelling) (typed_scope noted) k ps))
   procedures-evaluate known noted j k knows below statements end h = no-procedures known noted j k
   procedures-evaluate known noted j k knows below statements (more (declares_procedure x fs b closing) rest) h =
@@ -535,9 +535,9 @@ mutual
       let jr : ℕ = j + procedure_constructor_count (declares_procedure (declared k) fs' b' (declared k)) in
       let f : FitParts env j statements (declared k) fs' b' (declared k) rest' = procedure-parts env j statements (declared k) fs' b' (declared k) rest' h in
       let e : Entered known noted k x xs f.listed = procedure-entered known noted j k knows below x fs f.listed f.typed in
-      let inside_block = block-evaluates (bind_names xs non_constant ((x, non_constant) ∷ known)) e.inner jb m e.knows e.below b ((λ i. block_fits naming_by_label (e.opened i) jb (relabel_block naming_by_spelling (label_from_ordinal naming_by_spelling) (e.scoped i) m b)) ∙ f.block_right) in
+      let inside_block = block-evaluates (bind_names xs non_constant ((x, non_constant) ∷ known)) e.inner jb m e.knows e.below b ((λ i. block_is_well_typed naming_by_label (e.opened i) jb (relabel_block naming_by_spelling (label_from_ordinal naming_by_spelling) (e.scoped i) m b)) ∙ f.block_right) in
       let later = procedures-evaluate ((x, non_constant) ∷ known) e.own jr q e.own_knows (TypedBelow-weaken (suc k) q e.own (le-ordinal_after_procedure (suc k) (declares_procedure x fs b closing)) e.own_below) statements rest
-      ((λ i. procedures_fit naming_by_label (e.headed i) jr statements (relabel_procedures naming_by_spelling (label_from_ordinal naming_by_spelling) (e.own_scope i) q rest)) ∙ f.rest_right) in
+      ((λ i. procedures_are_well_typed naming_by_label (e.headed i) jr statements (relabel_procedures naming_by_spelling (label_from_ordinal naming_by_spelling) (e.own_scope i) q rest)) ∙ f.rest_right) in
       subst (AreValuesBetween k (ordinal_after_procedures q rest) (λ d. value_in_procedures known d k (more (declares_procedure x fs b closing) rest)))
       ((λ i. procedures_bindings naming_by_label (e.headed i) jr (relabel_procedures naming_by_spelling (label_from_ordinal naming_by_spelling) (e.own_scope i) q rest) ++ (block_bindings naming_by_label (e.opened i) jb (relabel_block naming_by_spelling (label_from_ordinal naming_by_spelling) (e.scoped i) m b) ++ bind_typed_parameters f.listed (bind_procedure (declared k) f.listed [])))
       ∙ sym (procedures-listed env j statements (declared k) fs' b' (declared k) rest' f))
@@ -564,14 +564,14 @@ knows-all (b ∷ noted) = knows-more (all_known noted) noted b.name b.ordinal (k
 pub predeclared-below : TypedBelow 7 (typed_outermost naming_by_spelling)
 predeclared-below = (lit< tt, (lit< tt, (lit< tt, (lit< tt, (lit< tt, (lit< tt, (lit< tt, tt)))))))
 
-pub outermost-binds : Binds 0 7 (outermost naming_by_label)
+pub outermost-binds : Binds 0 7 (outermost_environment naming_by_label)
 outermost-binds = ((6, refl, omega arith, omega arith), ((5, refl, omega arith, omega arith), ((4, refl, omega arith, omega arith), ((3, refl, omega arith, omega arith), ((2, refl, omega arith, omega arith), ((1, refl, omega arith, omega arith), ((0, refl, omega arith, omega arith), tt)))))))
 
 module-evaluates : (m : Tree Name module_text) → passes_type_check naming_by_label (numbered m) ≡ true → (d : ℕ) → 7 ≤ d → value_in_block predeclared_constants d 7 (module_block m) ≡ constant_of (declared_object m d)
 unfolding passes_type_check all_known
 module-evaluates (is_module x b closing) h d l =
     let w = block-evaluates predeclared_constants (typed_outermost naming_by_spelling) 0 7 (knows-all (typed_outermost naming_by_spelling)) predeclared-below b h in
-    w.has_value_is d l ∙ sym (ap constant_of (bound-first 0 7 d (block_bindings naming_by_label (outermost naming_by_label) 0 (relabel_block naming_by_spelling (label_from_ordinal naming_by_spelling) (typed_scope (typed_outermost naming_by_spelling)) 7 b)) (outermost naming_by_label) outermost-binds (λ a z. omega (arith, l, z))))
+    w.has_value_is d l ∙ sym (ap constant_of (bound-first 0 7 d (block_bindings naming_by_label (outermost_environment naming_by_label) 0 (relabel_block naming_by_spelling (label_from_ordinal naming_by_spelling) (typed_scope (typed_outermost naming_by_spelling)) 7 b)) (outermost_environment naming_by_label) outermost-binds (λ a z. omega (arith, l, z))))
 
 -- In a well-typed module a constant's value is the value in the binding of its declaration.
 pub predeclared-none : (m : Tree Name module_text) (d : ℕ) → d < 7 → None ≡ value_of_constant m d

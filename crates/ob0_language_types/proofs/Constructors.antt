@@ -1,6 +1,6 @@
 -- A relabelled tree has the same number of words ARRAY and RECORD.
 use Rattle.std.proofs.Common.{◌≡◌, ℕ, suc, ◌+◌, ◌∷◌, None, refl, ap, ◌∙◌}
-use Rattle.ob0_tree.specs.Tree.{Tree, block, declares, declares_procedure, declares_type, declares_variable, end, further_section, has_body, item, items, more, procedure, then_section, type_name, variable}
+use Rattle.ob0_tree.specs.Tree.{Tree, block, declares, declares_procedure, declares_type, declares_variable, end, further_section, forms_block, item, items, more, procedure, then_section, type_definition, variable}
 use Rattle.ob0_language_names.specs.Names.{Naming}
 use Rattle.ob0_language_names.specs.Parts.{formal_names, formal_sections, names_in_list, procedure_name, section_names, section_type, section_types, section_variables}
 use Rattle.ob0_language_names.specs.Scopes.{Labelling, Scope, ordinal_after_names, ordinal_after_procedure, declare_names, first_procedure_ordinal, first_type_ordinal, first_variable_ordinal, label_of, procedures_scope, relabel_block, relabel_procedure, relabel_procedures, relabel_sections, relabel_types, relabel_variables, types_scope, variables_scope}
@@ -9,7 +9,7 @@ use Rattle.ob0_language_types.specs.Declarations.{block_constructor_count, forma
 use Rattle.ob0_language_types.specs.Typing.{constructor_count}
 use Rattle.ob0_language_types.proofs.TypeNaturality.{constructor_count-map}
 
-pub types_constructor_count-relabel : {N M : Type 0} (naming : Naming N) (label : Labelling N M) (scope : Scope N) (k : ℕ) (ds : Tree N (items type_name)) → types_constructor_count (relabel_types naming label scope k ds) ≡ types_constructor_count ds
+pub types_constructor_count-relabel : {N M : Type 0} (naming : Naming N) (label : Labelling N M) (scope : Scope N) (k : ℕ) (ds : Tree N (items type_definition)) → types_constructor_count (relabel_types naming label scope k ds) ≡ types_constructor_count ds
 types_constructor_count-relabel naming label scope k end = refl
 types_constructor_count-relabel naming label scope k (more (declares_type x u) ds) = λ i.
     constructor_count-map (label_of naming label scope) (label None) u i + types_constructor_count-relabel naming label ((x, k) ∷ scope) (suc k) ds i
@@ -26,10 +26,10 @@ formals_constructor_count-relabel naming label scope k (more (then_section f) fs
 
 mutual
   pub block_constructor_count-relabel : {N M : Type 0} (naming : Naming N) (label : Labelling N M) (scope : Scope N) (k : ℕ) (b : Tree N block) → block_constructor_count (relabel_block naming label scope k b) ≡ block_constructor_count b
-  block_constructor_count-relabel naming label scope k (has_body (declares cs ts vs ps) statements) = λ i.
-      (ap types_constructor_count (types-section naming label (types_scope k (has_body (declares cs ts vs ps) statements) scope) (first_type_ordinal k (has_body (declares cs ts vs ps) statements)) ts) ∙ types_constructor_count-relabel naming label (types_scope k (has_body (declares cs ts vs ps) statements) scope) (first_type_ordinal k (has_body (declares cs ts vs ps) statements)) (section_types ts)) i
-      + ((ap variables_constructor_count (variables-section naming label (variables_scope k (has_body (declares cs ts vs ps) statements) scope) (first_variable_ordinal k (has_body (declares cs ts vs ps) statements)) vs) ∙ variables_constructor_count-relabel naming label (variables_scope k (has_body (declares cs ts vs ps) statements) scope) (first_variable_ordinal k (has_body (declares cs ts vs ps) statements)) (section_variables vs)) i
-      + procedures_constructor_count-relabel naming label (procedures_scope k (has_body (declares cs ts vs ps) statements) scope) (first_procedure_ordinal k (has_body (declares cs ts vs ps) statements)) ps i)
+  block_constructor_count-relabel naming label scope k (forms_block (declares cs ts vs ps) statements) = λ i.
+      (ap types_constructor_count (types-section naming label (types_scope k (forms_block (declares cs ts vs ps) statements) scope) (first_type_ordinal k (forms_block (declares cs ts vs ps) statements)) ts) ∙ types_constructor_count-relabel naming label (types_scope k (forms_block (declares cs ts vs ps) statements) scope) (first_type_ordinal k (forms_block (declares cs ts vs ps) statements)) (section_types ts)) i
+      + ((ap variables_constructor_count (variables-section naming label (variables_scope k (forms_block (declares cs ts vs ps) statements) scope) (first_variable_ordinal k (forms_block (declares cs ts vs ps) statements)) vs) ∙ variables_constructor_count-relabel naming label (variables_scope k (forms_block (declares cs ts vs ps) statements) scope) (first_variable_ordinal k (forms_block (declares cs ts vs ps) statements)) (section_variables vs)) i
+      + procedures_constructor_count-relabel naming label (procedures_scope k (forms_block (declares cs ts vs ps) statements) scope) (first_procedure_ordinal k (forms_block (declares cs ts vs ps) statements)) ps i)
 
   pub procedures_constructor_count-relabel : {N M : Type 0} (naming : Naming N) (label : Labelling N M) (scope : Scope N) (k : ℕ) (ps : Tree N (items procedure)) → procedures_constructor_count (relabel_procedures naming label scope k ps) ≡ procedures_constructor_count ps
   procedures_constructor_count-relabel naming label scope k end = refl

@@ -6,19 +6,19 @@ use Rattle.std.proofs.Common.{◌≡◌, ℕ, suc, ◌+◌, ◌<◌, ◌≤◌, 
 use Rattle.std.proofs.lemmas.Bool.{ltb-false, ltb-true}
 use Rattle.std.proofs.lemmas.List.{append-nil}
 use Rattle.std.proofs.lemmas.List.Elements.{All-append, All-cons, All-nil}
-use Rattle.ob0_tree.specs.Tree.{Tree, block, body, declares, declares_procedure, end, formals, has_body, is_module, items, maybe, module_text, more, procedure, item}
+use Rattle.ob0_tree.specs.Tree.{Tree, block, body, declares, declares_procedure, end, formals, forms_block, is_module, items, maybe, module_text, more, procedure, item}
 use Rattle.ob0_language_names.specs.Names.{Label, Name, naming_by_label, naming_by_spelling, declared}
 use Rattle.ob0_language_names.specs.Parts.{block_procedures, block_statements, formal_names, formal_sections, declared_type_names, section_types, section_variables, variable_names, module_block, procedure_formals, procedure_name}
 use Rattle.ob0_language_names.specs.Scopes.{Scope, ordinal_after_block, ordinal_after_names, ordinal_after_procedure, ordinal_after_procedures, label_from_ordinal, declare_names, first_procedure_ordinal, numbered, relabel_block, relabel_formals, relabel_procedures}
 use Rattle.ob0_language_names.proofs.Ordinals.{le-ordinal_after_names, le-ordinal_after_block, le-ordinal_after_procedure, le-ordinal_after_procedures}
 use Rattle.ob0_language_types.specs.Bindings.{block_bindings, list_if_some, module_bindings, object_of_ordinal, procedures_bindings}
-use Rattle.ob0_language_types.specs.Bodies.{BlockHas, BodyAt, BindingsMatchDeclarations, ProcedureHas, ProceduresHave, block_bodies, procedure_bodies, procedures_bodies}
+use Rattle.ob0_language_types.specs.Bodies.{HoldsInBlock, BodyAt, BindingsMatchDeclarations, HoldsInProcedure, HoldsInProcedures, block_bodies, procedure_bodies, procedures_bodies}
 use Rattle.ob0_language_types.specs.Declaring.{declare_block}
 use Rattle.ob0_language_types.specs.ConstantValues.{ConstantEnvironment, non_constant}
-use Rattle.ob0_language_types.specs.Declarations.{constructor_after_variables, formals_constructor_count, procedure_constructor_count}
-use Rattle.ob0_language_types.specs.Environments.{outermost}
+use Rattle.ob0_language_types.specs.Declarations.{constructors_before_procedures, formals_constructor_count, procedure_constructor_count}
+use Rattle.ob0_language_types.specs.Environments.{outermost_environment}
 use Rattle.ob0_language_types.specs.Expressions.{Object}
-use Rattle.ob0_language_types.specs.WellTyped.{Signature, TypeEnvironment, TypedParameter, WellTyped, bind_names, bind_typed_parameters, block_fits, passes_type_check, bind_procedure, procedures_fit, typed_parameters}
+use Rattle.ob0_language_types.specs.WellTyped.{Signature, TypeEnvironment, TypedParameter, WellTyped, bind_names, bind_typed_parameters, block_is_well_typed, passes_type_check, bind_procedure, procedures_are_well_typed, typed_parameters}
 use Rattle.ob0_language_values.specs.Values.{Shape}
 use Rattle.ob0_language_types.proofs.ConstantsDeclared.{Binds, Entered, FitParts, Knows, Opened, binds-append, binds-wider, block-listed, block-opened, block-parts, block-evaluates, bound-elsewhere, bound-first, knows-all, all_known, opened-above, opened-binds, opened-grown, opened-bindings_since, outermost-binds, predeclared-below, procedure-entered, procedure-parts, procedures-listed, procedures-evaluate}
 use Rattle.ob0_language_types.proofs.Bound.{bind_typed_parameters-append}
@@ -57,21 +57,21 @@ holds-grown all env own k n le st envb ownb has = λ d o h. by d o h (nat_lt d k
 module _ (all : TypeEnvironment Label) (Q : TypeEnvironment Label → Type 0) (so : (n : ℕ) (noted : TypeNoted Name) → TypedBelow n noted → Includes all (typed_by_ordinal noted) → Q (typed_by_ordinal noted)) where
   mutual
     block-has : (known : ConstantEnvironment) (noted : TypeNoted Name) (j k : ℕ) → Knows known noted → TypedBelow k noted → Includes all (typed_by_ordinal noted) → (b : Tree Name block)
-        → block_fits naming_by_label (typed_by_ordinal noted) j (relabel_block naming_by_spelling (label_from_ordinal naming_by_spelling) (typed_scope noted) k b) ≡ true
+        → block_is_well_typed naming_by_label (typed_by_ordinal noted) j (relabel_block naming_by_spelling (label_from_ordinal naming_by_spelling) (typed_scope noted) k b) ≡ true
         → Has k (ordinal_after_block k b) all (block_bindings naming_by_label (typed_by_ordinal noted) j (relabel_block naming_by_spelling (label_from_ordinal naming_by_spelling) (typed_scope noted) k b))
-        → BlockHas Q (typed_by_ordinal noted) j (relabel_block naming_by_spelling (label_from_ordinal naming_by_spelling) (typed_scope noted) k b)
-    block-has known noted j k knows below st (has_body (declares cs ts vs ps) statements) h has = λ inner' given.
-        let b : Tree Name block = has_body (declares cs ts vs ps) statements in
+        → HoldsInBlock Q (typed_by_ordinal noted) j (relabel_block naming_by_spelling (label_from_ordinal naming_by_spelling) (typed_scope noted) k b)
+    block-has known noted j k knows below st (forms_block (declares cs ts vs ps) statements) h has = λ inner' given.
+        let b : Tree Name block = forms_block (declares cs ts vs ps) statements in
         let env : TypeEnvironment Label = typed_by_ordinal noted in
         let b' : Tree Label block = relabel_block naming_by_spelling (label_from_ordinal naming_by_spelling) (typed_scope noted) k b in
         let kp : ℕ = first_procedure_ordinal k b in
-        let jv : ℕ = constructor_after_variables j b' in
+        let jv : ℕ = constructors_before_procedures j b' in
         let n : ℕ = ordinal_after_block k b in
         let parts = block-parts env j b' h in
         let o : Opened known noted k b parts.0 = block-opened known noted j k knows below b parts.0 parts.1 in
         let names : List Name = declared_type_names (section_types ts) ++ variable_names (section_variables vs) in
         let known' : ConstantEnvironment = bind_names names non_constant o.constants.known_after in
-        let fits = (λ i. procedures_fit naming_by_label (sym o.reads i) jv (block_statements b') (relabel_procedures naming_by_spelling (label_from_ordinal naming_by_spelling) (o.scoped i) kp ps)) ∙ parts.2 in
+        let fits = (λ i. procedures_are_well_typed naming_by_label (sym o.reads i) jv (block_statements b') (relabel_procedures naming_by_spelling (label_from_ordinal naming_by_spelling) (o.scoped i) kp ps)) ∙ parts.2 in
         let p = procedures-evaluate known' o.last jv kp (o.others.knows o.constants.known_after o.constants.knows) o.below (block_statements b') ps fits in
         let P : TypeEnvironment Label = procedures_bindings naming_by_label (typed_by_ordinal o.last) jv (relabel_procedures naming_by_spelling (label_from_ordinal naming_by_spelling) (typed_scope o.last) kp ps) in
         let own : TypeEnvironment Label = o.others.bound ++ o.constants.bound in
@@ -86,16 +86,16 @@ module _ (all : TypeEnvironment Label) (Q : TypeEnvironment Label → Type 0) (s
         (holds-grown all env own k kp first st (noted-binds k noted below) own_binds (λ d l m. each d l (omega (arith, m, last)) ∙ bound-elsewhere kp n d P own p.binds (λ a z. omega (arith, a, m)))) in
         let same : parts.0 ≡ inner' = some_inverse (sym parts.1 ∙ given) in (
           subst Q (sym o.reads ∙ same) (so kp o.last o.below inner),
-          subst (λ e. ProceduresHave Q e jv (block_procedures b')) same
-              (subst (λ e. e) (λ i. ProceduresHave Q (sym o.reads i) jv (relabel_procedures naming_by_spelling (label_from_ordinal naming_by_spelling) (o.scoped i) kp ps))
+          subst (λ e. HoldsInProcedures Q e jv (block_procedures b')) same
+              (subst (λ e. e) (λ i. HoldsInProcedures Q (sym o.reads i) jv (relabel_procedures naming_by_spelling (label_from_ordinal naming_by_spelling) (o.scoped i) kp ps))
               (procedures-have known' o.last jv kp (o.others.knows o.constants.known_after o.constants.knows) o.below inner (block_statements b') ps fits
               (λ d l m. each d (omega (arith, l, first)) m ∙ bound-first k kp d P own own_binds (λ a z. omega (arith, l, z))))),
         )
 
     procedures-have : (known : ConstantEnvironment) (noted : TypeNoted Name) (j k : ℕ) → Knows known noted → TypedBelow k noted → Includes all (typed_by_ordinal noted) → (statements : Tree Label (maybe body)) (ps : Tree Name (items procedure))
-        → procedures_fit naming_by_label (typed_by_ordinal noted) j statements (relabel_procedures naming_by_spelling (label_from_ordinal naming_by_spelling) (typed_scope noted) k ps) ≡ true
+        → procedures_are_well_typed naming_by_label (typed_by_ordinal noted) j statements (relabel_procedures naming_by_spelling (label_from_ordinal naming_by_spelling) (typed_scope noted) k ps) ≡ true
         → Has k (ordinal_after_procedures k ps) all (procedures_bindings naming_by_label (typed_by_ordinal noted) j (relabel_procedures naming_by_spelling (label_from_ordinal naming_by_spelling) (typed_scope noted) k ps))
-        → ProceduresHave Q (typed_by_ordinal noted) j (relabel_procedures naming_by_spelling (label_from_ordinal naming_by_spelling) (typed_scope noted) k ps)
+        → HoldsInProcedures Q (typed_by_ordinal noted) j (relabel_procedures naming_by_spelling (label_from_ordinal naming_by_spelling) (typed_scope noted) k ps)
     procedures-have known noted j k knows below st statements end h has = so k noted below st
     procedures-have known noted j k knows below st statements (more (declares_procedure x fs b closing) rest) h has = λ qs' typed.
         let scope : Scope Name = typed_scope noted in
@@ -112,10 +112,10 @@ module _ (all : TypeEnvironment Label) (Q : TypeEnvironment Label → Type 0) (s
         let f : FitParts env j statements (declared k) fs' b' (declared k) rest' = procedure-parts env j statements (declared k) fs' b' (declared k) rest' h in
         let qs : List (TypedParameter Label) = f.listed in
         let e : Entered known noted k x xs qs = procedure-entered known noted j k knows below x fs qs f.typed in
-        let inside_fits = (λ i. block_fits naming_by_label (e.opened i) jb (relabel_block naming_by_spelling (label_from_ordinal naming_by_spelling) (e.scoped i) m b)) ∙ f.block_right in
+        let inside_fits = (λ i. block_is_well_typed naming_by_label (e.opened i) jb (relabel_block naming_by_spelling (label_from_ordinal naming_by_spelling) (e.scoped i) m b)) ∙ f.block_right in
         let inside_block = block-evaluates (bind_names xs non_constant ((x, non_constant) ∷ known)) e.inner jb m e.knows e.below b inside_fits in
         let later_below : TypedBelow q e.own = TypedBelow-weaken (suc k) q e.own (le-ordinal_after_procedure (suc k) (declares_procedure x fs b closing)) e.own_below in
-        let later_fits = (λ i. procedures_fit naming_by_label (e.headed i) jr statements (relabel_procedures naming_by_spelling (label_from_ordinal naming_by_spelling) (e.own_scope i) q rest)) ∙ f.rest_right in
+        let later_fits = (λ i. procedures_are_well_typed naming_by_label (e.headed i) jr statements (relabel_procedures naming_by_spelling (label_from_ordinal naming_by_spelling) (e.own_scope i) q rest)) ∙ f.rest_right in
         let later = procedures-evaluate ((x, non_constant) ∷ known) e.own jr q e.own_knows later_below statements rest later_fits in
         let B : TypeEnvironment Label = block_bindings naming_by_label (typed_by_ordinal e.inner) jb (relabel_block naming_by_spelling (label_from_ordinal naming_by_spelling) (typed_scope e.inner) m b) in
         let top : TypeEnvironment Label = bind_procedure (declared k) qs [] in
@@ -138,35 +138,35 @@ module _ (all : TypeEnvironment Label) (Q : TypeEnvironment Label → Type 0) (s
         let following : Includes all (typed_by_ordinal e.own) = subst (Includes all) (sym e.headed)
         (holds-grown all env top k (suc k) (omega arith) st (noted-binds k noted below) ((k, refl, le_refl k, le_refl (suc k)), tt) each_top) in
         let same : qs ≡ qs' = some_inverse (sym f.typed ∙ typed) in
-        subst (λ ps. Q (bind_typed_parameters ps (bind_procedure (declared k) ps env)) × BlockHas Q (bind_typed_parameters ps (bind_procedure (declared k) ps env)) jb b' × ProceduresHave Q (bind_procedure (declared k) ps env) jr rest') same (
+        subst (λ ps. Q (bind_typed_parameters ps (bind_procedure (declared k) ps env)) × HoldsInBlock Q (bind_typed_parameters ps (bind_procedure (declared k) ps env)) jb b' × HoldsInProcedures Q (bind_procedure (declared k) ps env) jr rest') same (
           subst Q e.opened (so m e.inner e.below inner),
-          subst (λ z. z) (λ i. BlockHas Q (e.opened i) jb (relabel_block naming_by_spelling (label_from_ordinal naming_by_spelling) (e.scoped i) m b))
+          subst (λ z. z) (λ i. HoldsInBlock Q (e.opened i) jb (relabel_block naming_by_spelling (label_from_ordinal naming_by_spelling) (e.scoped i) m b))
               (block-has (bind_names xs non_constant ((x, non_constant) ∷ known)) e.inner jb m e.knows e.below inner b inside_fits
               (λ d l u. each d (omega (arith, l, above)) (omega (arith, u, last)) ∙ bound-elsewhere q n d R (B ++ H) later.binds (λ a z. omega (arith, a, u)) ∙ bound-first k m d B H e.binds (λ a z. omega (arith, l, z)))),
-          subst (λ z. z) (λ i. ProceduresHave Q (e.headed i) jr (relabel_procedures naming_by_spelling (label_from_ordinal naming_by_spelling) (e.own_scope i) q rest))
+          subst (λ z. z) (λ i. HoldsInProcedures Q (e.headed i) jr (relabel_procedures naming_by_spelling (label_from_ordinal naming_by_spelling) (e.own_scope i) q rest))
               (procedures-have ((x, non_constant) ∷ known) e.own jr q e.own_knows later_below following statements rest later_fits
               (λ d l u. each d (omega (arith, l, inside, above)) u ∙ bound-first k q d R (B ++ H) one_binds (λ a z. omega (arith, l, z)))),
         )
 
 pub module-has : (Q : TypeEnvironment Label → Type 0) (m : Tree Name module_text)
     → ((n : ℕ) (noted : TypeNoted Name) → TypedBelow n noted → Includes (module_bindings naming_by_label (numbered m)) (typed_by_ordinal noted) → Q (typed_by_ordinal noted))
-    → WellTyped m → BlockHas Q (outermost naming_by_label) 0 (module_block (numbered m))
+    → WellTyped m → HoldsInBlock Q (outermost_environment naming_by_label) 0 (module_block (numbered m))
 unfolding WellTyped passes_type_check all_known
 module-has Q (is_module x b closing) so well =
     let h : passes_type_check naming_by_label (numbered (is_module x b closing)) ≡ true = sym (numbering_keeps_type_check-holds (is_module x b closing)) ∙ well.1 in
     let noted : TypeNoted Name = typed_outermost naming_by_spelling in
     let b' : Tree Label block = relabel_block naming_by_spelling (label_from_ordinal naming_by_spelling) (typed_scope noted) 7 b in
-    let B : TypeEnvironment Label = block_bindings naming_by_label (outermost naming_by_label) 0 b' in
+    let B : TypeEnvironment Label = block_bindings naming_by_label (outermost_environment naming_by_label) 0 b' in
     let w = block-evaluates (all_known noted) noted 0 7 (knows-all noted) predeclared-below b h in
-    block-has (B ++ outermost naming_by_label) Q so (all_known noted) noted 0 7 (knows-all noted) predeclared-below
+    block-has (B ++ outermost_environment naming_by_label) Q so (all_known noted) noted 0 7 (knows-all noted) predeclared-below
     (λ d o e. first d o e (nat_lt d 7) refl w.binds) b h
-    (λ d l m. bound-first 0 7 d B (outermost naming_by_label) outermost-binds (λ a z. omega (arith, l, z)))
+    (λ d l m. bound-first 0 7 d B (outermost_environment naming_by_label) outermost-binds (λ a z. omega (arith, l, z)))
   where
-    first : (d : ℕ) (o : Object Shape Signature) → object_of_ordinal (outermost naming_by_label) d ≡ Some o → (t : Bool) → nat_lt d 7 ≡ t
-        → Binds 7 (ordinal_after_block 7 b) (block_bindings naming_by_label (outermost naming_by_label) 0 (relabel_block naming_by_spelling (label_from_ordinal naming_by_spelling) (typed_scope (typed_outermost naming_by_spelling)) 7 b))
-        → object_of_ordinal (block_bindings naming_by_label (outermost naming_by_label) 0 (relabel_block naming_by_spelling (label_from_ordinal naming_by_spelling) (typed_scope (typed_outermost naming_by_spelling)) 7 b) ++ outermost naming_by_label) d ≡ Some o
-    first d o e true t binds = bound-elsewhere 7 (ordinal_after_block 7 b) d (block_bindings naming_by_label (outermost naming_by_label) 0 (relabel_block naming_by_spelling (label_from_ordinal naming_by_spelling) (typed_scope (typed_outermost naming_by_spelling)) 7 b)) (outermost naming_by_label) binds (λ a z. omega (arith, a, ltb-true d 7 t)) ∙ e
-    first d o e false t binds = absurd (nothing o (sym (bound-none 0 7 d (outermost naming_by_label) outermost-binds (λ a z. omega (arith, z, ltb-false d 7 t))) ∙ e))
+    first : (d : ℕ) (o : Object Shape Signature) → object_of_ordinal (outermost_environment naming_by_label) d ≡ Some o → (t : Bool) → nat_lt d 7 ≡ t
+        → Binds 7 (ordinal_after_block 7 b) (block_bindings naming_by_label (outermost_environment naming_by_label) 0 (relabel_block naming_by_spelling (label_from_ordinal naming_by_spelling) (typed_scope (typed_outermost naming_by_spelling)) 7 b))
+        → object_of_ordinal (block_bindings naming_by_label (outermost_environment naming_by_label) 0 (relabel_block naming_by_spelling (label_from_ordinal naming_by_spelling) (typed_scope (typed_outermost naming_by_spelling)) 7 b) ++ outermost_environment naming_by_label) d ≡ Some o
+    first d o e true t binds = bound-elsewhere 7 (ordinal_after_block 7 b) d (block_bindings naming_by_label (outermost_environment naming_by_label) 0 (relabel_block naming_by_spelling (label_from_ordinal naming_by_spelling) (typed_scope (typed_outermost naming_by_spelling)) 7 b)) (outermost_environment naming_by_label) binds (λ a z. omega (arith, a, ltb-true d 7 t)) ∙ e
+    first d o e false t binds = absurd (nothing o (sym (bound-none 0 7 d (outermost_environment naming_by_label) outermost-binds (λ a z. omega (arith, z, ltb-false d 7 t))) ∙ e))
 
 -- If `Q` holds wherever a block is checked, it holds for the environment of each body.
 
@@ -181,13 +181,13 @@ module _ (Q : TypeEnvironment Label → Type 0) where
   mutual
     unfolding block_bodies
 
-    block_bodies-have : (env : TypeEnvironment Label) (j : ℕ) (b : Tree Label block) → BlockHas Q env j b → All At (block_bodies naming_by_label env j b)
-    block_bodies-have env j (has_body (declares cs ts vs ps) statements) h =
-        let b : Tree Label block = has_body (declares cs ts vs ps) statements in
-        list_if_some-all At (declare_block naming_by_label env j b) (λ inner. procedures_bodies naming_by_label inner (constructor_after_variables j b) statements ps)
-        (λ inner e. procedures_bodies-have inner (constructor_after_variables j b) statements ps (h inner e).1)
+    block_bodies-have : (env : TypeEnvironment Label) (j : ℕ) (b : Tree Label block) → HoldsInBlock Q env j b → All At (block_bodies naming_by_label env j b)
+    block_bodies-have env j (forms_block (declares cs ts vs ps) statements) h =
+        let b : Tree Label block = forms_block (declares cs ts vs ps) statements in
+        list_if_some-all At (declare_block naming_by_label env j b) (λ inner. procedures_bodies naming_by_label inner (constructors_before_procedures j b) statements ps)
+        (λ inner e. procedures_bodies-have inner (constructors_before_procedures j b) statements ps (h inner e).1)
 
-    procedures_bodies-have : (env : TypeEnvironment Label) (j : ℕ) (statements : Tree Label (maybe body)) (ps : Tree Label (items procedure)) → ProceduresHave Q env j ps → All At (procedures_bodies naming_by_label env j statements ps)
+    procedures_bodies-have : (env : TypeEnvironment Label) (j : ℕ) (statements : Tree Label (maybe body)) (ps : Tree Label (items procedure)) → HoldsInProcedures Q env j ps → All At (procedures_bodies naming_by_label env j statements ps)
     procedures_bodies-have env j statements end h = All-cons At (record { environment = env; statements = statements }) [] h (All-nil At)
     procedures_bodies-have env j statements (more p rest) h =
         list_if_some-all At (typed_parameters naming_by_label env j (procedure_formals p))
@@ -196,10 +196,10 @@ module _ (Q : TypeEnvironment Label → Type 0) where
         (procedure_bodies-have (bind_typed_parameters ps (bind_procedure (procedure_name p) ps env)) j p (h ps e).1)
         (procedures_bodies-have (bind_procedure (procedure_name p) ps env) (j + procedure_constructor_count p) statements rest (h ps e).2))
 
-    procedure_bodies-have : (env : TypeEnvironment Label) (j : ℕ) (p : Tree Label (item procedure)) → ProcedureHas Q env j p → All At (procedure_bodies naming_by_label env j p)
+    procedure_bodies-have : (env : TypeEnvironment Label) (j : ℕ) (p : Tree Label (item procedure)) → HoldsInProcedure Q env j p → All At (procedure_bodies naming_by_label env j p)
     procedure_bodies-have env j (declares_procedure x fs b closing) h = block_bodies-have env (j + formals_constructor_count (formal_sections fs)) b h
 
 pub bindings_match_declarations-holds : BindingsMatchDeclarations
 bindings_match_declarations-holds m well =
-    block_bodies-have (Includes (module_bindings naming_by_label (numbered m))) (outermost naming_by_label) 0 (module_block (numbered m))
+    block_bodies-have (Includes (module_bindings naming_by_label (numbered m))) (outermost_environment naming_by_label) 0 (module_block (numbered m))
     (module-has (Includes (module_bindings naming_by_label (numbered m))) m (λ n noted below st. st) well)

@@ -5,10 +5,10 @@ use Rattle.ob0_tree.specs.Tree.{Tree, array_type, end, expression, factor, field
 use Rattle.ob0_language_names.specs.Inlining.{OccurrenceSet, inline_in}
 use Rattle.ob0_language_names.specs.Names.{Name}
 use Rattle.ob0_language_names.specs.Parts.{names_in_list}
-use Rattle.ob0_language_values.specs.Values.{FieldShapes, Place, Shape, Value, array_shape, gives, record_shape}
+use Rattle.ob0_language_values.specs.Values.{FieldShapes, Place, Shape, Value, array_shape, succeeds_with, record_shape}
 use Rattle.ob0_language_types.specs.Expressions.{Meanings, a_constant, evaluate_factor}
 use Rattle.ob0_language_types.specs.Laws.{EachUseHas}
-use Rattle.ob0_language_types.specs.Typing.{array_length, constant_of, constant_value, constant_meanings, constructor_count, denoted, denoted_group, denoted_groups, outcome_value, group_constructor_count, groups_constructor_count, type_of_factor, value_type, prepend_fields, check_limits, ◌>>=◌}
+use Rattle.ob0_language_types.specs.Typing.{array_length, constant_of, constant_value, constant_meanings, constructor_count, denoted_type, denoted_group_fields, denoted_further_fields, outcome_value, group_constructor_count, groups_constructor_count, type_of_factor, value_type, prepend_fields, check_limits, ◌>>=◌}
 use Rattle.ob0_language_types.proofs.Inlined.{evaluate-inlined, uses-split}
 use Rattle.ob0_language_types.proofs.InlinedTypes.{type_of-inlined}
 
@@ -19,7 +19,7 @@ uses-map uses P Q f k (x ∷ xs) u = (λ e. f x (u.0 e), uses-map uses P Q f (su
 -- holds if a literal has the constant's type and value in constant expressions
 pub record ConstantWritten {V P : Type 0} (meaning : Meanings Name V P) (v : Tree Name factor) (w : Value) : Type 0 where
   pub typed : type_of_factor {P = Unit {0}} (constant_meanings meaning) v ≡ value_type w
-  pub has_value : evaluate_factor {P = Unit {0}} (constant_meanings meaning) [] v ≡ gives w
+  pub has_value : evaluate_factor {P = Unit {0}} (constant_meanings meaning) [] v ≡ succeeds_with w
 
 abbrev pub NamesConstant : {V P : Type 0} → Meanings Name V P → Value → Name → Type 0
 NamesConstant meaning w x = meaning.object_for x ≡ Some (a_constant w)
@@ -48,29 +48,29 @@ mutual
   groups_constructor_count-inlined uses v k (more (then_fields g) rest) = λ i. group_constructor_count-inlined uses v k g i + groups_constructor_count-inlined uses v (k + length (occurrences g)) rest i
 
 mutual
-  unfolding denoted
+  unfolding denoted_type
 
-  pub denoted-written : {V P : Type 0} (meaning : Meanings Name V P) (uses : OccurrenceSet) (v : Tree Name factor) (w : Value) → ConstantWritten meaning v w → (k j : ℕ) (t : Tree Name written_type) → EachUseHas uses (NamesConstant meaning w) k (occurrences t)
-      → denoted meaning j (inline_in uses v k t) ≡ denoted meaning j t
-  denoted-written meaning uses v w h k j (named_type x) u = refl
-  denoted-written meaning uses v w h k j (array_type e t) u =
+  pub denoted_type-written : {V P : Type 0} (meaning : Meanings Name V P) (uses : OccurrenceSet) (v : Tree Name factor) (w : Value) → ConstantWritten meaning v w → (k j : ℕ) (t : Tree Name written_type) → EachUseHas uses (NamesConstant meaning w) k (occurrences t)
+      → denoted_type meaning j (inline_in uses v k t) ≡ denoted_type meaning j t
+  denoted_type-written meaning uses v w h k j (named_type x) u = refl
+  denoted_type-written meaning uses v w h k j (array_type e t) u =
       let s = uses-split uses (NamesConstant meaning w) k (occurrences e) (occurrences t) u in
-      λ i. constant_value-written meaning uses v w h k e s.0 i >>= (λ z. array_length z >>= (λ n. denoted-written meaning uses v w h (k + length (occurrences e)) (suc j) t s.1 i >>= (λ s. check_limits (array_shape j n s))))
-  denoted-written meaning uses v w h k j (record_type g rest) u =
+      λ i. constant_value-written meaning uses v w h k e s.0 i >>= (λ z. array_length z >>= (λ n. denoted_type-written meaning uses v w h (k + length (occurrences e)) (suc j) t s.1 i >>= (λ s. check_limits (array_shape j n s))))
+  denoted_type-written meaning uses v w h k j (record_type g rest) u =
       let s = uses-split uses (NamesConstant meaning w) k (occurrences g) (occurrences rest) u in
-      λ i. ((λ m. denoted_groups meaning (suc j + group_constructor_count-inlined uses v k g m) (inline_in uses v (k + length (occurrences g)) rest)) ∙ denoted_groups-written meaning uses v w h (k + length (occurrences g)) (suc j + group_constructor_count g) rest s.1) i
-      >>= (λ later. denoted_group-written meaning uses v w h k (suc j) later g s.0 i >>= (λ fs. check_limits (record_shape j fs)))
+      λ i. ((λ m. denoted_further_fields meaning (suc j + group_constructor_count-inlined uses v k g m) (inline_in uses v (k + length (occurrences g)) rest)) ∙ denoted_further_fields-written meaning uses v w h (k + length (occurrences g)) (suc j + group_constructor_count g) rest s.1) i
+      >>= (λ later. denoted_group_fields-written meaning uses v w h k (suc j) later g s.0 i >>= (λ fs. check_limits (record_shape j fs)))
 
-  pub denoted_group-written : {V P : Type 0} (meaning : Meanings Name V P) (uses : OccurrenceSet) (v : Tree Name factor) (w : Value) → ConstantWritten meaning v w → (k j : ℕ) (later : FieldShapes) (g : Tree Name fields) → EachUseHas uses (NamesConstant meaning w) k (occurrences g)
-      → denoted_group meaning j later (inline_in uses v k g) ≡ denoted_group meaning j later g
-  denoted_group-written meaning uses v w h k j later no_fields u = refl
-  denoted_group-written meaning uses v w h k j later (some_fields ns t) u = λ i.
-      denoted-written meaning uses v w h k j t u i >>= (λ s. Some (prepend_fields (map meaning.written (names_in_list ns)) s later))
+  pub denoted_group_fields-written : {V P : Type 0} (meaning : Meanings Name V P) (uses : OccurrenceSet) (v : Tree Name factor) (w : Value) → ConstantWritten meaning v w → (k j : ℕ) (later : FieldShapes) (g : Tree Name fields) → EachUseHas uses (NamesConstant meaning w) k (occurrences g)
+      → denoted_group_fields meaning j later (inline_in uses v k g) ≡ denoted_group_fields meaning j later g
+  denoted_group_fields-written meaning uses v w h k j later no_fields u = refl
+  denoted_group_fields-written meaning uses v w h k j later (some_fields ns t) u = λ i.
+      denoted_type-written meaning uses v w h k j t u i >>= (λ s. Some (prepend_fields (map meaning.written (names_in_list ns)) s later))
 
-  pub denoted_groups-written : {V P : Type 0} (meaning : Meanings Name V P) (uses : OccurrenceSet) (v : Tree Name factor) (w : Value) → ConstantWritten meaning v w → (k j : ℕ) (gs : Tree Name (items further_fields)) → EachUseHas uses (NamesConstant meaning w) k (occurrences gs)
-      → denoted_groups meaning j (inline_in uses v k gs) ≡ denoted_groups meaning j gs
-  denoted_groups-written meaning uses v w h k j end u = refl
-  denoted_groups-written meaning uses v w h k j (more (then_fields g) rest) u =
+  pub denoted_further_fields-written : {V P : Type 0} (meaning : Meanings Name V P) (uses : OccurrenceSet) (v : Tree Name factor) (w : Value) → ConstantWritten meaning v w → (k j : ℕ) (gs : Tree Name (items further_fields)) → EachUseHas uses (NamesConstant meaning w) k (occurrences gs)
+      → denoted_further_fields meaning j (inline_in uses v k gs) ≡ denoted_further_fields meaning j gs
+  denoted_further_fields-written meaning uses v w h k j end u = refl
+  denoted_further_fields-written meaning uses v w h k j (more (then_fields g) rest) u =
       let s = uses-split uses (NamesConstant meaning w) k (occurrences g) (occurrences rest) u in
-      λ i. ((λ m. denoted_groups meaning (j + group_constructor_count-inlined uses v k g m) (inline_in uses v (k + length (occurrences g)) rest)) ∙ denoted_groups-written meaning uses v w h (k + length (occurrences g)) (j + group_constructor_count g) rest s.1) i
-      >>= (λ later. denoted_group-written meaning uses v w h k j later g s.0 i)
+      λ i. ((λ m. denoted_further_fields meaning (j + group_constructor_count-inlined uses v k g m) (inline_in uses v (k + length (occurrences g)) rest)) ∙ denoted_further_fields-written meaning uses v w h (k + length (occurrences g)) (j + group_constructor_count g) rest s.1) i
+      >>= (λ later. denoted_group_fields-written meaning uses v w h k j later g s.0 i)

@@ -9,22 +9,22 @@ use Rattle.ob0_language_names.proofs.EditedTrees.{Edit, edited, edited_block, le
 use Rattle.ob0_language_names.proofs.Peeling.{both}
 use Rattle.ob0_language_names.proofs.Places.{AllAt, Both, Each, EachBlock, each-block}
 use Rattle.ob0_language_values.specs.Values.{Value, boolean_shape, elements, integer_shape, members, number, truth}
-use Rattle.ob0_language_types.specs.EditLaws.{AreUsesOf, InliningKeepsWellTyped, IsConstantWritten, MeansPredeclaredTruth, RemovingUnusedKeepsWellTyped}
-use Rattle.ob0_language_types.specs.Expressions.{Object, a_constant, a_standard, a_type, reads, writes, writes_line}
-use Rattle.ob0_language_types.specs.WellTyped.{WellTyped, block_fits, passes_type_check}
-use Rattle.ob0_language_types.proofs.EditedTypes.{Checked, anything, as_signed, block_fits-edited}
+use Rattle.ob0_language_types.specs.EditLaws.{AreInlinableUses, InliningKeepsWellTyped, IsConstantWithLiteral, MeansPredeclaredTruth, RemovingUnusedKeepsWellTyped}
+use Rattle.ob0_language_types.specs.Expressions.{Object, a_constant, a_standard, a_type, read_procedure, write_procedure, write_line_procedure}
+use Rattle.ob0_language_types.specs.WellTyped.{WellTyped, block_is_well_typed, passes_type_check}
+use Rattle.ob0_language_types.proofs.EditedTypes.{Checked, anything, as_signed, block_is_well_typed-edited}
 use Rattle.ob0_language_types.proofs.Leaves.{AllStay, Here, Literal, Writes, shown}
 use Rattle.ob0_language_types.proofs.Literals.{some_inverse}
 use Rattle.ob0_language_types.proofs.Marks.{IsRight, Marks, Sound, not-left, object_as, read, read_edited}
 use Rattle.ob0_language_names.specs.Names.{Label, Name, Naming, naming_by_spelling, predeclared_name, same_name}
 use Rattle.ob0_language_names.specs.Scopes.{Scope, label_from_ordinal, label_of, ordinal_of, predeclared_scope, relabel_module, same_ordinal}
-use Rattle.ob0_language_names.proofs.EditedOnce.{declared_once-edited}
+use Rattle.ob0_language_names.proofs.EditedOnce.{has_consistent_names-edited}
 use Rattle.ob0_language_types.specs.ConstantValues.{predeclared_constants, value_in_block, value_of_constant}
 
 -- the marks of the outermost block, which has the predeclared names
 abbrev pub marked_outermost : {V P : Type 0} → Marks V P
 marked_outermost =
-    record { name = predeclared_name 6; ordinal = 6; object = a_standard writes_line } ∷ record { name = predeclared_name 5; ordinal = 5; object = a_standard writes } ∷ record { name = predeclared_name 4; ordinal = 4; object = a_standard reads }
+    record { name = predeclared_name 6; ordinal = 6; object = a_standard write_line_procedure } ∷ record { name = predeclared_name 5; ordinal = 5; object = a_standard write_procedure } ∷ record { name = predeclared_name 4; ordinal = 4; object = a_standard read_procedure }
     ∷ record { name = predeclared_name 3; ordinal = 3; object = a_constant (truth false) } ∷ record { name = predeclared_name 2; ordinal = 2; object = a_constant (truth true) }
     ∷ record { name = predeclared_name 1; ordinal = 1; object = a_type boolean_shape } ∷ record { name = predeclared_name 0; ordinal = 0; object = a_type integer_shape } ∷ []
 
@@ -34,15 +34,15 @@ predeclared-right edit w x k o seven low yes_holds no_holds = record { has_value
 pub outermost-sound : {V P : Type 0} (edit : Edit) (w : Value) (X : Marks V P → Name → ℕ → P → Type 0) → 7 ≤ edit.constant → Sound edit w X 7 (marked_outermost {V = V} {P = P})
 outermost-sound edit w X seven = (
   lit< tt,
-  predeclared-right edit w (predeclared_name 6) 6 (a_standard writes_line) seven (lit< tt) (λ e. absurd (omega (arith, e))) (λ e. absurd (omega (arith, e))),
+  predeclared-right edit w (predeclared_name 6) 6 (a_standard write_line_procedure) seven (lit< tt) (λ e. absurd (omega (arith, e))) (λ e. absurd (omega (arith, e))),
   tt,
   (
     lit< tt,
-    predeclared-right edit w (predeclared_name 5) 5 (a_standard writes) seven (lit< tt) (λ e. absurd (omega (arith, e))) (λ e. absurd (omega (arith, e))),
+    predeclared-right edit w (predeclared_name 5) 5 (a_standard write_procedure) seven (lit< tt) (λ e. absurd (omega (arith, e))) (λ e. absurd (omega (arith, e))),
     tt,
     (
       lit< tt,
-      predeclared-right edit w (predeclared_name 4) 4 (a_standard reads) seven (lit< tt) (λ e. absurd (omega (arith, e))) (λ e. absurd (omega (arith, e))),
+      predeclared-right edit w (predeclared_name 4) 4 (a_standard read_procedure) seven (lit< tt) (λ e. absurd (omega (arith, e))) (λ e. absurd (omega (arith, e))),
       tt,
       (
         lit< tt,
@@ -82,12 +82,12 @@ pub fits-edited : (edit : Edit) (w : Value) (m : Tree Name module_text) → IsFi
 unfolding passes_type_check
 fits-edited edit w (is_module x b closing) h =
     let sound : Checked edit w 7 marked_outermost = outermost-sound edit w anything h.literal.ordinal in
-    ap (λ env. block_fits naming_by_spelling env 0 (edited_block edit 0 7 b)) (sym (read_edited-below edit w anything as_signed 7 marked_outermost sound h.literal.ordinal))
-    ∙ block_fits-edited edit w h.literal 0 0 7 marked_outermost sound (le_refl 7) b h.here (λ l m. h.has_value)
+    ap (λ env. block_is_well_typed naming_by_spelling env 0 (edited_block edit 0 7 b)) (sym (read_edited-below edit w anything as_signed 7 marked_outermost sound h.literal.ordinal))
+    ∙ block_is_well_typed-edited edit w h.literal 0 0 7 marked_outermost sound (le_refl 7) b h.here (λ l m. h.has_value)
 
 pub well_typed-edited : (edit : Edit) (w : Value) (m : Tree Name module_text) → IsFitted edit w m → WellTyped m → WellTyped (edited edit m)
 unfolding WellTyped
-well_typed-edited edit w m h well = (declared_once-edited edit m well.0, subst (λ v. IsTrue v) (sym (fits-edited edit w m h)) well.1)
+well_typed-edited edit w m h well = (has_consistent_names-edited edit m well.0, subst (λ v. IsTrue v) (sym (fits-edited edit w m h)) well.1)
 
 -- If `R` holds for the label at each index, it holds for all labels of a list.
 
@@ -149,7 +149,7 @@ all-shown m (number n) uses h = all-at (IsShownAs uses (number n)) 0 (occurrence
 all-shown m (elements vs) uses h = all-at (IsShownAs uses (elements vs)) 0 (occurrences (relabel_module (lookup_naming (codes "FALSE")) (label_from_ordinal (lookup_naming (codes "FALSE"))) m)) (λ i l e. tt)
 all-shown m (members n ms) uses h = all-at (IsShownAs uses (members n ms)) 0 (occurrences (relabel_module (lookup_naming (codes "FALSE")) (label_from_ordinal (lookup_naming (codes "FALSE"))) m)) (λ i l e. tt)
 
-pub written-fitted : (m : Tree Name module_text) (d : ℕ) (w : Value) (v : Tree Name factor) (uses : OccurrenceSet) → IsConstantWritten m d w v → AreUsesOf m d w uses → IsFitted (writing uses v d) w m
+pub written-fitted : (m : Tree Name module_text) (d : ℕ) (w : Value) (v : Tree Name factor) (uses : OccurrenceSet) → IsConstantWithLiteral m d w v → AreInlinableUses m d w uses → IsFitted (writing uses v d) w m
 written-fitted (is_module x b closing) d w v uses c u =
     let m : Tree Name module_text = is_module x b closing in
     let seven = seven-or-less m d w c.value in
@@ -180,7 +180,7 @@ inlining_keeps_well_typed-holds m d w v uses c u well = subst WellTyped (written
 abbrev pub IsOther : ℕ → ℕ → Label → Type 0
 IsOther d j l = label_ordinal l ≡ Some d → ⊥
 
-pub left-fitted : (m : Tree Name module_text) (d : ℕ) (w : Value) (v : Tree Name factor) → IsConstantWritten m d w v → ((k : ℕ) → binds m k ≢ Some d) → IsFitted (leaving_out v d) w m
+pub left-fitted : (m : Tree Name module_text) (d : ℕ) (w : Value) (v : Tree Name factor) → IsConstantWithLiteral m d w v → ((k : ℕ) → binds m k ≢ Some d) → IsFitted (leaving_out v d) w m
 left-fitted (is_module x b closing) d w v c u =
     let m : Tree Name module_text = is_module x b closing in
     let seven = seven-or-less m d w c.value in

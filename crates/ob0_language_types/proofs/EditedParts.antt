@@ -1,7 +1,7 @@
 -- The parts of an edited block: the bindings of its names, the value of its constant, and its number of words ARRAY and
 -- RECORD.
 use Rattle.std.proofs.Common.{List, None, Option, Some, [], ap, arith, if◌then◌else◌, le-ltb, le_refl, le_trans, length, lt-ltb, nat_lt, option_and_then, option_map, refl, subst, subst₂, suc, sym, ℕ, ◌++◌, ◌+◌, ◌∙◌, ◌∷◌, ◌≡◌, ◌≤◌}
-use Rattle.ob0_tree.specs.Tree.{Tree, block, constants, declares, declares_constants, declares_procedure, declares_type, declares_types, declares_variable, declares_variables, end, formals, further_section, has_body, item, items, maybe, more, no_formals, none, occurrences, one, procedure, section, some_formals, then_section, type_name, type_names, value_section, variable, variable_section, variables}
+use Rattle.ob0_tree.specs.Tree.{Tree, block, constants, declares, declares_constants, declares_procedure, declares_type, declares_types, declares_variable, declares_variables, end, formals, further_section, forms_block, item, items, maybe, more, no_formals, none, occurrences, one, procedure, section, some_formals, then_section, type_definition, type_definitions, value_section, variable, variable_section, variables}
 use Rattle.ob0_language_names.specs.Names.{Name, naming_by_spelling}
 use Rattle.ob0_language_names.specs.Parts.{block_constants, block_procedures, block_types, block_variables, constant_names, formal_names, formal_sections, declared_type_names, procedure_name, section_constants, section_names, section_type, section_types, section_variables, variable_names}
 use Rattle.ob0_language_names.specs.Scopes.{Scope, ordinal_after_block, ordinal_after_names, ordinal_after_procedure, ordinal_after_procedures, declare_names, first_procedure_ordinal, first_type_ordinal, first_variable_ordinal, types_scope, variables_scope}
@@ -9,8 +9,8 @@ use Rattle.ob0_language_names.proofs.EditedTrees.{Edit, edited_block, edited_con
 use Rattle.ob0_language_names.proofs.Ordinals.{ordinal_after_names-append, declare_names-append, le-ordinal_after_block, le-ordinal_after_names, le-ordinal_after_procedure, le-ordinal_after_procedures}
 use Rattle.ob0_language_names.proofs.Places.{EachBlock, EachType}
 use Rattle.ob0_language_values.specs.Values.{Value}
-use Rattle.ob0_language_types.specs.ConstantValues.{ConstantEnvironment, non_constant, value_among, value_in_block, value_in_procedure, value_in_procedures}
-use Rattle.ob0_language_types.specs.Declarations.{block_constructor_count, declare_constants, declare_first, declare_types, formals_constructor_count, procedure_constructor_count, procedures_constructor_count, types_constructor_count, variables_constructor_count}
+use Rattle.ob0_language_types.specs.ConstantValues.{ConstantEnvironment, non_constant, value_in_constants, value_in_block, value_in_procedure, value_in_procedures}
+use Rattle.ob0_language_types.specs.Declarations.{block_constructor_count, declare_constants, declare_constants_and_types, declare_types, formals_constructor_count, procedure_constructor_count, procedures_constructor_count, types_constructor_count, variables_constructor_count}
 use Rattle.ob0_language_types.specs.Environments.{Environment}
 use Rattle.ob0_language_types.specs.Expressions.{Object, a_variable}
 use Rattle.ob0_language_types.specs.Typing.{constructor_count}
@@ -98,7 +98,7 @@ pub constants-of : (edit : Edit) (j k : ℕ) (cs : Tree Name (maybe constants)) 
 constants-of edit j k none = refl
 constants-of edit j k (one (declares_constants cs)) = refl
 
-pub types-of : (edit : Edit) (j : ℕ) (ts : Tree Name (maybe type_names)) → section_types (leaf edit j ts) ≡ leaf edit j (section_types ts)
+pub types-of : (edit : Edit) (j : ℕ) (ts : Tree Name (maybe type_definitions)) → section_types (leaf edit j ts) ≡ leaf edit j (section_types ts)
 types-of edit j none = refl
 types-of edit j (one (declares_types ts)) = refl
 
@@ -125,7 +125,7 @@ section_mode-leaf edit j (variable_section ns t) = refl
 
 -- An edit leaves the number of words ARRAY and RECORD unchanged.
 
-pub types_constructor_count-leaf : (edit : Edit) (j : ℕ) (ds : Tree Name (items type_name)) → types_constructor_count (leaf edit j ds) ≡ types_constructor_count ds
+pub types_constructor_count-leaf : (edit : Edit) (j : ℕ) (ds : Tree Name (items type_definition)) → types_constructor_count (leaf edit j ds) ≡ types_constructor_count ds
 types_constructor_count-leaf edit j end = refl
 types_constructor_count-leaf edit j (more (declares_type x t) ds) = λ i. constructor_count-inlined edit.uses edit.literal j t i + types_constructor_count-leaf edit (j + length (occurrences t)) ds i
 
@@ -140,10 +140,10 @@ formals_constructor_count-leaf edit j (more (then_section s) fs) = λ i.
 
 mutual
   pub block_constructor_count-edited : (edit : Edit) (j k : ℕ) (b : Tree Name block) → block_constructor_count (edited_block edit j k b) ≡ block_constructor_count b
-  block_constructor_count-edited edit j k (has_body (declares cs ts vs ps) statements) = λ i.
+  block_constructor_count-edited edit j k (forms_block (declares cs ts vs ps) statements) = λ i.
       (ap types_constructor_count (types-of edit (j + length (occurrences cs)) ts) ∙ types_constructor_count-leaf edit (j + length (occurrences cs)) (section_types ts)) i
       + ((ap variables_constructor_count (variables-of edit (j + length (occurrences cs) + length (occurrences ts)) vs) ∙ variables_constructor_count-leaf edit (j + length (occurrences cs) + length (occurrences ts)) (section_variables vs)) i
-      + procedures_constructor_count-edited edit (j + length (occurrences cs) + length (occurrences ts) + length (occurrences vs)) (first_procedure_ordinal k (has_body (declares cs ts vs ps) statements)) ps i)
+      + procedures_constructor_count-edited edit (j + length (occurrences cs) + length (occurrences ts) + length (occurrences vs)) (first_procedure_ordinal k (forms_block (declares cs ts vs ps) statements)) ps i)
 
   pub procedures_constructor_count-edited : (edit : Edit) (j k : ℕ) (ps : Tree Name (items procedure)) → procedures_constructor_count (edited_procedures edit j k ps) ≡ procedures_constructor_count ps
   procedures_constructor_count-edited edit j k end = refl
@@ -158,34 +158,34 @@ mutual
 -- The constant's value is its value in the part of a block that declares it.
 
 pub first_type_ordinal-below : (k : ℕ) (b : Tree Name block) → first_type_ordinal k b ≤ ordinal_after_block k b
-first_type_ordinal-below k (has_body (declares cs ts vs ps) statements) =
-    le_trans (le-ordinal_after_names (first_type_ordinal k (has_body (declares cs ts vs ps) statements)) (declared_type_names (section_types ts)))
-    (le_trans (le-ordinal_after_names (first_variable_ordinal k (has_body (declares cs ts vs ps) statements)) (variable_names (section_variables vs))) (le-ordinal_after_procedures (first_procedure_ordinal k (has_body (declares cs ts vs ps) statements)) ps))
+first_type_ordinal-below k (forms_block (declares cs ts vs ps) statements) =
+    le_trans (le-ordinal_after_names (first_type_ordinal k (forms_block (declares cs ts vs ps) statements)) (declared_type_names (section_types ts)))
+    (le_trans (le-ordinal_after_names (first_variable_ordinal k (forms_block (declares cs ts vs ps) statements)) (variable_names (section_variables vs))) (le-ordinal_after_procedures (first_procedure_ordinal k (forms_block (declares cs ts vs ps) statements)) ps))
 
 pub first_procedure_ordinal-below : (k : ℕ) (b : Tree Name block) → first_procedure_ordinal k b ≤ ordinal_after_block k b
-first_procedure_ordinal-below k (has_body (declares cs ts vs ps) statements) = le-ordinal_after_procedures (first_procedure_ordinal k (has_body (declares cs ts vs ps) statements)) ps
+first_procedure_ordinal-below k (forms_block (declares cs ts vs ps) statements) = le-ordinal_after_procedures (first_procedure_ordinal k (forms_block (declares cs ts vs ps) statements)) ps
 
 pub types-below : (k : ℕ) (b : Tree Name block) → first_type_ordinal k b ≤ first_procedure_ordinal k b
 types-below k b = le_trans (le-ordinal_after_names (first_type_ordinal k b) (declared_type_names (block_types b))) (le-ordinal_after_names (first_variable_ordinal k b) (variable_names (block_variables b)))
 
 pub constants-has_value : (edit : Edit) (w : Value) (known : ConstantEnvironment) (k : ℕ) (b : Tree Name block) → HasValueBetween edit w k (ordinal_after_block k b) (value_in_block known edit.constant k b)
-    → HasValueBetween edit w k (first_type_ordinal k b) (value_among known edit.constant k (block_constants b))
+    → HasValueBetween edit w k (first_type_ordinal k b) (value_in_constants known edit.constant k (block_constants b))
 unfolding value_in_block
-constants-has_value edit w known k (has_body (declares cs ts vs ps) statements) has_value l m =
-    let b : Tree Name block = has_body (declares cs ts vs ps) statements in
+constants-has_value edit w known k (forms_block (declares cs ts vs ps) statements) has_value l m =
+    let b : Tree Name block = forms_block (declares cs ts vs ps) statements in
     let below : first_type_ordinal k b ≤ ordinal_after_block k b = first_type_ordinal-below k b in
-    sym (ap (λ t. if t then value_among known edit.constant k (section_constants cs) else if nat_lt edit.constant (first_procedure_ordinal k b) then None else option_and_then (λ inner. value_in_procedures (bind_names (declared_type_names (section_types ts) ++ variable_names (section_variables vs)) non_constant inner) edit.constant (first_procedure_ordinal k b) ps) (declare_constants naming_by_spelling known (section_constants cs)))
+    sym (ap (λ t. if t then value_in_constants known edit.constant k (section_constants cs) else if nat_lt edit.constant (first_procedure_ordinal k b) then None else option_and_then (λ inner. value_in_procedures (bind_names (declared_type_names (section_types ts) ++ variable_names (section_variables vs)) non_constant inner) edit.constant (first_procedure_ordinal k b) ps) (declare_constants naming_by_spelling known (section_constants cs)))
     (lt-ltb edit.constant (first_type_ordinal k b) m)) ∙ has_value l (omega (arith, m, below))
 
 pub types-outside : (edit : Edit) (w : Value) (known : ConstantEnvironment) (k : ℕ) (b : Tree Name block) → HasValueBetween edit w k (ordinal_after_block k b) (value_in_block known edit.constant k b) → Outside edit (first_type_ordinal k b) (first_procedure_ordinal k b)
 unfolding value_in_block
-types-outside edit w known k (has_body (declares cs ts vs ps) statements) has_value l m =
-    let b : Tree Name block = has_body (declares cs ts vs ps) statements in
+types-outside edit w known k (forms_block (declares cs ts vs ps) statements) has_value l m =
+    let b : Tree Name block = forms_block (declares cs ts vs ps) statements in
     let below : first_procedure_ordinal k b ≤ ordinal_after_block k b = first_procedure_ordinal-below k b in
     let above : k ≤ first_type_ordinal k b = le-ordinal_after_names k (constant_names (section_constants cs)) in
     let last : Option Value = option_and_then (λ inner. value_in_procedures (bind_names (declared_type_names (section_types ts) ++ variable_names (section_variables vs)) non_constant inner) edit.constant (first_procedure_ordinal k b) ps) (declare_constants naming_by_spelling known (section_constants cs)) in
     let e : None ≡ Some w =
-    sym (ap (λ t. if t then value_among known edit.constant k (section_constants cs) else if nat_lt edit.constant (first_procedure_ordinal k b) then None else last) (le-ltb edit.constant (first_type_ordinal k b) l)
+    sym (ap (λ t. if t then value_in_constants known edit.constant k (section_constants cs) else if nat_lt edit.constant (first_procedure_ordinal k b) then None else last) (le-ltb edit.constant (first_type_ordinal k b) l)
     ∙ ap (λ t. if t then None else last) (lt-ltb edit.constant (first_procedure_ordinal k b) m)) ∙ has_value (omega (arith, l, above)) (omega (arith, m, below)) in
     absurd (cc)
 
@@ -193,21 +193,21 @@ pub procedures-has_value : (edit : Edit) (w : Value) (known inner : ConstantEnvi
     → option_map (bind_names (variable_names (block_variables b)) non_constant) (option_map (bind_names (declared_type_names (block_types b)) non_constant) (declare_constants naming_by_spelling known (block_constants b))) ≡ Some inner
     → HasValueBetween edit w (first_procedure_ordinal k b) (ordinal_after_block k b) (value_in_procedures inner edit.constant (first_procedure_ordinal k b) (block_procedures b))
 unfolding value_in_block
-procedures-has_value edit w known inner k (has_body (declares cs ts vs ps) statements) has_value e l m =
-    let b : Tree Name block = has_body (declares cs ts vs ps) statements in
+procedures-has_value edit w known inner k (forms_block (declares cs ts vs ps) statements) has_value e l m =
+    let b : Tree Name block = forms_block (declares cs ts vs ps) statements in
     let above : k ≤ first_type_ordinal k b = le-ordinal_after_names k (constant_names (section_constants cs)) in
     let types : first_type_ordinal k b ≤ first_procedure_ordinal k b = types-below k b in
     let last : Option ConstantEnvironment → Option Value = option_and_then (λ inner. value_in_procedures (bind_names (declared_type_names (section_types ts) ++ variable_names (section_variables vs)) non_constant inner) edit.constant (first_procedure_ordinal k b) ps) in
     go (declare_constants naming_by_spelling known (section_constants cs)) e
-    (sym (ap (λ t. if t then value_among known edit.constant k (section_constants cs) else if nat_lt edit.constant (first_procedure_ordinal k b) then None else last (declare_constants naming_by_spelling known (section_constants cs))) (le-ltb edit.constant (first_type_ordinal k b) (omega (arith, l, types)))
+    (sym (ap (λ t. if t then value_in_constants known edit.constant k (section_constants cs) else if nat_lt edit.constant (first_procedure_ordinal k b) then None else last (declare_constants naming_by_spelling known (section_constants cs))) (le-ltb edit.constant (first_type_ordinal k b) (omega (arith, l, types)))
     ∙ ap (λ t. if t then None else last (declare_constants naming_by_spelling known (section_constants cs))) (le-ltb edit.constant (first_procedure_ordinal k b) l)) ∙ has_value (omega (arith, l, above, types)) m)
   where
     go : (o : Option ConstantEnvironment) → option_map (bind_names (variable_names (section_variables vs)) non_constant) (option_map (bind_names (declared_type_names (section_types ts)) non_constant) o) ≡ Some inner
-        → option_and_then (λ inner. value_in_procedures (bind_names (declared_type_names (section_types ts) ++ variable_names (section_variables vs)) non_constant inner) edit.constant (first_procedure_ordinal k (has_body (declares cs ts vs ps) statements)) ps) o ≡ Some w
-        → value_in_procedures inner edit.constant (first_procedure_ordinal k (has_body (declares cs ts vs ps) statements)) ps ≡ Some w
+        → option_and_then (λ inner. value_in_procedures (bind_names (declared_type_names (section_types ts) ++ variable_names (section_variables vs)) non_constant inner) edit.constant (first_procedure_ordinal k (forms_block (declares cs ts vs ps) statements)) ps) o ≡ Some w
+        → value_in_procedures inner edit.constant (first_procedure_ordinal k (forms_block (declares cs ts vs ps) statements)) ps ≡ Some w
     go None e h = absurd (cc)
     go (Some known) e h =
-        ap (λ env. value_in_procedures env edit.constant (first_procedure_ordinal k (has_body (declares cs ts vs ps) statements)) ps)
+        ap (λ env. value_in_procedures env edit.constant (first_procedure_ordinal k (forms_block (declares cs ts vs ps) statements)) ps)
         (sym (bind_names-append (declared_type_names (section_types ts)) (variable_names (section_variables vs)) non_constant known ∙ some_inverse e)) ∙ h
 
 pub own-has_value : (edit : Edit) (w : Value) (known : ConstantEnvironment) (k : ℕ) (p : Tree Name (item procedure)) (rest : Tree Name (items procedure)) → HasValueBetween edit w k (ordinal_after_procedures k (more p rest)) (value_in_procedures known edit.constant k (more p rest))
@@ -252,10 +252,10 @@ body-has_value edit w known k x closing fs b has_value l m =
 pub first-edited : {V P Q : Type 0} (edit : Edit) (w : Value) → Literal edit w → (X : Marks V P → Name → ℕ → P → Type 0) (p q : ℕ → P → Q) (i j k : ℕ) (marks : Marks V P) → Sound edit w X k marks → 7 ≤ k → (b : Tree Name block)
     → EachBlock (Here edit w) j (scope_marked marks) k b → HasValueBetween edit w k (ordinal_after_block k b) (value_in_block (knowns marks) edit.constant k b)
     → Agree (read p) (read_edited edit q) (Left edit w X (first_variable_ordinal k b) (variables_scope k b (scope_marked marks)) (option_map (bind_names (declared_type_names (block_types b)) non_constant) (declare_constants naming_by_spelling (knowns marks) (block_constants b))))
-    (declare_first naming_by_spelling (read p marks) i b) (declare_first naming_by_spelling (read_edited edit q marks) i (edited_block edit j k b))
-unfolding declare_first
-first-edited {V} {P} {Q} edit w lit X p q i j k marks s seven (has_body (declares cs ts vs ps) statements) here has_value =
-    let b : Tree Name block = has_body (declares cs ts vs ps) statements in
+    (declare_constants_and_types naming_by_spelling (read p marks) i b) (declare_constants_and_types naming_by_spelling (read_edited edit q marks) i (edited_block edit j k b))
+unfolding declare_constants_and_types
+first-edited {V} {P} {Q} edit w lit X p q i j k marks s seven (forms_block (declares cs ts vs ps) statements) here has_value =
+    let b : Tree Name block = forms_block (declares cs ts vs ps) statements in
     let known : Option ConstantEnvironment = declare_constants naming_by_spelling (knowns marks) (section_constants cs) in
     let above : k ≤ first_type_ordinal k b = le-ordinal_after_names k (constant_names (section_constants cs)) in
     let variables : first_variable_ordinal k b ≤ first_procedure_ordinal k b = le-ordinal_after_names (first_variable_ordinal k b) (variable_names (section_variables vs)) in

@@ -1,6 +1,6 @@
 -- An edited module passes the type check exactly if the original module does.
 use Rattle.std.proofs.Common.{List, None, Option, Some, [], ap, arith, false, if◌then◌else◌, le_of_lt, le_refl, le_trans, length, map, nat_lt, negsuc, option_and_then, option_map, pos, refl, subst, subst₂, suc, sym, true, ℕ, ⊎_elim, ◌&&◌, ◌++◌, ◌+◌, ◌<◌, ◌∙◌, ◌∷◌, ◌≡◌, ◌≤◌}
-use Rattle.ob0_tree.specs.Tree.{Tree, adds, begins, block, body, compares, declares, declares_procedure, declares_variable, end, factor, further_section, has_body, integer, item, items, maybe, more, none, occurrences, one, parenthesised, procedure, product, sequence, sum, then_section, variable, written_type}
+use Rattle.ob0_tree.specs.Tree.{Tree, adds, begins, block, body, compares, declares, declares_procedure, declares_variable, end, factor, further_section, forms_block, integer, item, items, maybe, more, none, occurrences, one, parenthesised, procedure, product, sequence, sum, then_section, variable, written_type}
 use Rattle.ob0_language_names.specs.Names.{Name, naming_by_spelling}
 use Rattle.ob0_language_names.specs.Parts.{block_constants, block_types, block_variables, constant_names, formal_names, formal_sections, declared_type_names, names_in_list, section_constants, section_names, section_type, section_types, section_variables, variable_names}
 use Rattle.ob0_language_names.specs.Scopes.{Scope, ordinal_after_block, ordinal_after_names, ordinal_after_procedure, ordinal_after_procedures, declare_names, declare_procedure_names, first_procedure_ordinal, first_type_ordinal, first_variable_ordinal, procedures_scope, variables_scope}
@@ -9,20 +9,20 @@ use Rattle.ob0_language_names.proofs.Ordinals.{ordinal_after_names-append, le-or
 use Rattle.ob0_language_names.proofs.Places.{EachBlock, EachProcedure, EachSection, EachVariable}
 use Rattle.ob0_language_values.specs.Values.{Shape, Value, elements, members, number, truth}
 use Rattle.ob0_language_types.specs.ConstantValues.{ConstantEnvironment, non_constant, value_in_block, value_in_procedure, value_in_procedures}
-use Rattle.ob0_language_types.specs.Declarations.{constructors_before_variables, constructor_after_variables, declare_constants, declare_first, formals_constructor_count, procedure_constructor_count, types_constructor_count, variables_constructor_count}
+use Rattle.ob0_language_types.specs.Declarations.{constructors_before_variables, constructors_before_procedures, declare_constants, declare_constants_and_types, formals_constructor_count, procedure_constructor_count, types_constructor_count, variables_constructor_count}
 use Rattle.ob0_language_types.specs.EditLaws.{IsScalar}
 use Rattle.ob0_language_types.specs.Environments.{meanings}
 use Rattle.ob0_language_types.specs.Expressions.{Meanings, a_procedure, a_variable}
-use Rattle.ob0_language_types.specs.Typing.{constructor_count, denoted, lone_designator, type_at}
-use Rattle.ob0_language_types.specs.WellTyped.{Mode, Signature, TypeEnvironment, TypeMeanings, TypedParameter, bind_names, bind_typed_parameters, block_fits, body_fits, declare_typed, bind_procedure, some_satisfies, procedure_fits, procedures_fit, section_mode, sequence_fits, typed_parameters, variable_type}
+use Rattle.ob0_language_types.specs.Typing.{constructor_count, denoted_type, lone_designator, type_after_selectors}
+use Rattle.ob0_language_types.specs.WellTyped.{Mode, Signature, TypeEnvironment, TypeMeanings, TypedParameter, bind_names, bind_typed_parameters, block_is_well_typed, body_is_well_typed, declare_typed_variables, bind_procedure, option_satisfies, procedure_is_well_typed, procedures_are_well_typed, section_mode, sequence_is_well_typed, typed_parameters, variable_type}
 use Rattle.ob0_language_types.specs.Written.{value_literal}
 use Rattle.ob0_language_types.proofs.Agreeing.{Agree, agree-then}
 use Rattle.ob0_language_types.proofs.DenotedInlined.{constructor_count-inlined}
 use Rattle.ob0_language_types.proofs.EditedDeclarations.{Left, Outside, HasValueBetween, agree-known, not-constant, outside-right}
 use Rattle.ob0_language_types.proofs.EditedParts.{agree-weaken, all-left, bind_all, bind_all-names, body-has_value, edited-all, first-edited, formals-of, formals_constructor_count-leaf, bind_procedure-outside, left-join, left-then, mark_all, names_of, names_of-with_value, own-has_value, procedure_constructor_count-edited, procedures-has_value, read-all, rest-has_value, section_mode-leaf, section_names-leaf, section_type-leaf, types-below, types-of, types-outside, types_constructor_count-leaf, variables-of, variables_constructor_count-leaf, with_value}
-use Rattle.ob0_language_types.proofs.FitInlined.{alone, sequence_fits-written}
-use Rattle.ob0_language_types.proofs.FitNaturality.{sequence_fits-map}
-use Rattle.ob0_language_types.proofs.Leaves.{AllStay, Here, Literal, Tag, as_field, denoted-leaf, edited-object_for, edited_meanings, none-used, read-object_for, read_meanings, seen-read, shown, tagged, uses-read}
+use Rattle.ob0_language_types.proofs.FitInlined.{alone, sequence_is_well_typed-written}
+use Rattle.ob0_language_types.proofs.FitNaturality.{sequence_is_well_typed-map}
+use Rattle.ob0_language_types.proofs.Leaves.{AllStay, Here, Literal, Tag, as_field, denoted_type-leaf, edited-object_for, edited_meanings, none-used, read-object_for, read_meanings, seen-read, shown, tagged, uses-read}
 use Rattle.ob0_language_types.proofs.Literals.{IsSeen, literal-typed, some_inverse}
 use Rattle.ob0_language_types.proofs.Marks.{Mark, Marks, Sound, Sound-weaken, knowns, read, read_edited, scope_marked}
 use Rattle.ob0_language_types.proofs.TypesByOrdinal.{hold-agrees, typed_names, typed_names-append, typed_parameter}
@@ -51,9 +51,9 @@ literal-no_variable meaning v (number (negsuc n)) e h seen =
     (elim (nat_lt n 2147483647) as (λ b. variable_type meaning (lone_designator (alone (if b then parenthesised (compares (sum (Some sign.Minus) (product (integer (suc n)) end) end) none) else parenthesised (compares (sum (Some sign.Minus) (product (integer 2147483647) end) (more (adds add_operator.Subtract (product (integer 1) end)) end)) none)))) ≡ None)
     [ true ↦ refl | false ↦ refl ])
 literal-no_variable meaning v (truth true) e h seen =
-    subst (λ v. variable_type meaning (lone_designator (alone v)) ≡ None) (some_inverse e) (ap (λ o. elim o [ Some (a_variable s) ↦ type_at meaning s end | _ ↦ None ]) seen)
+    subst (λ v. variable_type meaning (lone_designator (alone v)) ≡ None) (some_inverse e) (ap (λ o. elim o [ Some (a_variable s) ↦ type_after_selectors meaning s end | _ ↦ None ]) seen)
 literal-no_variable meaning v (truth false) e h seen =
-    subst (λ v. variable_type meaning (lone_designator (alone v)) ≡ None) (some_inverse e) (ap (λ o. elim o [ Some (a_variable s) ↦ type_at meaning s end | _ ↦ None ]) seen)
+    subst (λ v. variable_type meaning (lone_designator (alone v)) ≡ None) (some_inverse e) (ap (λ o. elim o [ Some (a_variable s) ↦ type_after_selectors meaning s end | _ ↦ None ]) seen)
 literal-no_variable meaning v (elements vs) e h seen = absurd h
 literal-no_variable meaning v (members k ms) e h seen = absurd h
 
@@ -65,30 +65,30 @@ typed-same edit marks [] stay = tt
 typed-same edit marks (x ∷ xs) stay =
     (λ i. record { object = (edited-object_for edit as_signed marks x stay.0 ∙ sym (read-object_for as_signed marks x)) i; text = [] }, typed-same edit marks xs stay.1)
 
-pub sequence_fits-alike : (there here : TypeEnvironment Name) (a : Tree Name sequence) → SameAt (tag (meanings naming_by_spelling there)) (tag (meanings naming_by_spelling here)) (occurrences a) → sequence_fits (meanings naming_by_spelling there) a ≡ sequence_fits (meanings naming_by_spelling here) a
-sequence_fits-alike there here a e =
-    sym (sequence_fits-map (tag (meanings naming_by_spelling there)) as_field tagged a)
-    ∙ (ap (sequence_fits tagged) (map_names-same (tag (meanings naming_by_spelling there)) (tag (meanings naming_by_spelling here)) as_field a e) ∙ sequence_fits-map (tag (meanings naming_by_spelling here)) as_field tagged a)
+pub sequence_is_well_typed-alike : (there here : TypeEnvironment Name) (a : Tree Name sequence) → SameAt (tag (meanings naming_by_spelling there)) (tag (meanings naming_by_spelling here)) (occurrences a) → sequence_is_well_typed (meanings naming_by_spelling there) a ≡ sequence_is_well_typed (meanings naming_by_spelling here) a
+sequence_is_well_typed-alike there here a e =
+    sym (sequence_is_well_typed-map (tag (meanings naming_by_spelling there)) as_field tagged a)
+    ∙ (ap (sequence_is_well_typed tagged) (map_names-same (tag (meanings naming_by_spelling there)) (tag (meanings naming_by_spelling here)) as_field a e) ∙ sequence_is_well_typed-map (tag (meanings naming_by_spelling here)) as_field tagged a)
 
 pub sequence-leaf : (edit : Edit) (w : Value) → Literal edit w → (n : ℕ) (marks : Marks Shape Signature) → Checked edit w n marks → (j : ℕ) (a : Tree Name sequence)
-    → Here edit w sequence j (scope_marked marks) a → sequence_fits (edited_meanings edit as_signed marks) (leaf edit j a) ≡ sequence_fits (read_meanings as_signed marks) a
+    → Here edit w sequence j (scope_marked marks) a → sequence_is_well_typed (edited_meanings edit as_signed marks) (leaf edit j a) ≡ sequence_is_well_typed (read_meanings as_signed marks) a
 sequence-leaf edit w lit n marks s j a here =
     let known : TypeMeanings Name = read_meanings as_signed marks in
-    sequence_fits-alike (read_edited edit as_signed marks) (read as_signed marks) (leaf edit j a) (typed-same edit marks (occurrences (leaf edit j a)) here.1)
+    sequence_is_well_typed-alike (read_edited edit as_signed marks) (read as_signed marks) (leaf edit j a) (typed-same edit marks (occurrences (leaf edit j a)) here.1)
     ∙ ⊎_elim
     (λ yes_shown. let seen : IsSeen known w = seen-read edit w anything as_signed n marks s yes_shown in
-    sequence_fits-written known edit.uses edit.literal w record {
+    sequence_is_well_typed-written known edit.uses edit.literal w record {
       typed = literal-typed known edit.literal w lit.written lit.scalar seen;
       no_variable = literal-no_variable known edit.literal w lit.written lit.scalar seen;
     } j a (uses-read edit w anything as_signed n marks s j (occurrences a) here.0))
-    (λ not_shown. ap (sequence_fits known) (inline-nothing edit.uses edit.literal j a (none-used edit w j (scope_marked marks) (occurrences a) not_shown here.0)))
+    (λ not_shown. ap (sequence_is_well_typed known) (inline-nothing edit.uses edit.literal j a (none-used edit w j (scope_marked marks) (occurrences a) not_shown here.0)))
     (cases_Bool (shown w (scope_marked marks)))
 
-pub body_fits-edited : (edit : Edit) (w : Value) → Literal edit w → (n : ℕ) (marks : Marks Shape Signature) → Checked edit w n marks → (j : ℕ) (statements : Tree Name (maybe body))
-    → Here edit w (maybe body) j (scope_marked marks) statements → body_fits naming_by_spelling (read_edited edit as_signed marks) (leaf edit j statements) ≡ body_fits naming_by_spelling (read as_signed marks) statements
-unfolding body_fits
-body_fits-edited edit w lit n marks s j none here = refl
-body_fits-edited edit w lit n marks s j (one (begins statements)) here = sequence-leaf edit w lit n marks s j statements here
+pub body_is_well_typed-edited : (edit : Edit) (w : Value) → Literal edit w → (n : ℕ) (marks : Marks Shape Signature) → Checked edit w n marks → (j : ℕ) (statements : Tree Name (maybe body))
+    → Here edit w (maybe body) j (scope_marked marks) statements → body_is_well_typed naming_by_spelling (read_edited edit as_signed marks) (leaf edit j statements) ≡ body_is_well_typed naming_by_spelling (read as_signed marks) statements
+unfolding body_is_well_typed
+body_is_well_typed-edited edit w lit n marks s j none here = refl
+body_is_well_typed-edited edit w lit n marks s j (one (begins statements)) here = sequence-leaf edit w lit n marks s j statements here
 
 -- Binding variables of one type to names gives marks, before and after the edit.
 pub typed-names : (edit : Edit) (w : Value) (k : ℕ) (xs : List Name) (shape : Shape) (marks : Marks Shape Signature) → Checked edit w k marks → 7 ≤ k → Outside edit k (ordinal_after_names k xs)
@@ -107,8 +107,8 @@ typed-names edit w k xs shape marks s seven outside =
 pub variables-edited : (edit : Edit) (w : Value) → Literal edit w → (i j k : ℕ) (marks : Marks Shape Signature) → Checked edit w k marks → 7 ≤ k → (gs : Tree Name (items variable))
     → EachVariable (Here edit w) j (scope_marked marks) k gs → Outside edit k (ordinal_after_names k (variable_names gs))
     → Agree (read as_signed) (read_edited edit as_signed) (LeftTyped edit w (ordinal_after_names k (variable_names gs)) (declare_names k (variable_names gs) (scope_marked marks)) (Some (bind_names (variable_names gs) non_constant (knowns marks))))
-    (declare_typed naming_by_spelling i gs (read as_signed marks)) (declare_typed naming_by_spelling i (leaf edit j gs) (read_edited edit as_signed marks))
-unfolding declare_typed
+    (declare_typed_variables naming_by_spelling i gs (read as_signed marks)) (declare_typed_variables naming_by_spelling i (leaf edit j gs) (read_edited edit as_signed marks))
+unfolding declare_typed_variables
 variables-edited edit w lit i j k marks s seven end here outside = (Some marks, refl, refl, record { scoped = refl; sound = s; value = refl })
 variables-edited edit w lit i j k marks s seven (more (declares_variable ns t) gs) here outside =
     let xs : List Name = names_in_list ns in
@@ -119,17 +119,17 @@ variables-edited edit w lit i j k marks s seven (more (declares_variable ns t) g
     let joined : ordinal_after_names k (xs ++ ys) ≡ ordinal_after_names n ys = ordinal_after_names-append k xs ys in
     let last : n ≤ ordinal_after_names n ys = le-ordinal_after_names n ys in
     let Result : Marks Shape Signature → Type 0 = LeftTyped edit w (ordinal_after_names k (xs ++ ys)) (declare_names k (xs ++ ys) (scope_marked marks)) (Some (bind_names (xs ++ ys) non_constant (knowns marks))) in
-    subst (λ m. Agree (read as_signed) (read_edited edit as_signed) Result (option_and_then (λ shape. declare_typed naming_by_spelling (i + constructor_count t) gs (bind_names xs (a_variable shape) (read as_signed marks))) (denoted (read_meanings as_signed marks) i t))
-    (option_and_then (λ shape. declare_typed naming_by_spelling (i + m) gs' (bind_names xs (a_variable shape) (read_edited edit as_signed marks))) (denoted (edited_meanings edit as_signed marks) i (leaf edit j t))))
+    subst (λ m. Agree (read as_signed) (read_edited edit as_signed) Result (option_and_then (λ shape. declare_typed_variables naming_by_spelling (i + constructor_count t) gs (bind_names xs (a_variable shape) (read as_signed marks))) (denoted_type (read_meanings as_signed marks) i t))
+    (option_and_then (λ shape. declare_typed_variables naming_by_spelling (i + m) gs' (bind_names xs (a_variable shape) (read_edited edit as_signed marks))) (denoted_type (edited_meanings edit as_signed marks) i (leaf edit j t))))
     (sym (constructor_count-inlined edit.uses edit.literal j t))
-    (agree-known (read as_signed) (read_edited edit as_signed) Result (λ shape. declare_typed naming_by_spelling (i + constructor_count t) gs (bind_names xs (a_variable shape) (read as_signed marks))) (λ shape. declare_typed naming_by_spelling (i + constructor_count t) gs' (bind_names xs (a_variable shape) (read_edited edit as_signed marks)))
-    (denoted (read_meanings as_signed marks) i t) (denoted (edited_meanings edit as_signed marks) i (leaf edit j t)) (denoted-leaf edit w lit anything as_signed as_signed k marks s j i t here.0)
+    (agree-known (read as_signed) (read_edited edit as_signed) Result (λ shape. declare_typed_variables naming_by_spelling (i + constructor_count t) gs (bind_names xs (a_variable shape) (read as_signed marks))) (λ shape. declare_typed_variables naming_by_spelling (i + constructor_count t) gs' (bind_names xs (a_variable shape) (read_edited edit as_signed marks)))
+    (denoted_type (read_meanings as_signed marks) i t) (denoted_type (edited_meanings edit as_signed marks) i (leaf edit j t)) (denoted_type-leaf edit w lit anything as_signed as_signed k marks s j i t here.0)
     (λ shape known.
     let inner : Marks Shape Signature = mark_all k (with_value shape xs) marks in
     let bound = typed-names edit w k xs shape marks s seven (λ l m. outside l (omega (arith, m, joined, last))) in
-    subst₂ (λ a b. Agree (read as_signed) (read_edited edit as_signed) Result (declare_typed naming_by_spelling (i + constructor_count t) gs a) (declare_typed naming_by_spelling (i + constructor_count t) gs' b)) (sym bound.1) (sym bound.2)
+    subst₂ (λ a b. Agree (read as_signed) (read_edited edit as_signed) Result (declare_typed_variables naming_by_spelling (i + constructor_count t) gs a) (declare_typed_variables naming_by_spelling (i + constructor_count t) gs' b)) (sym bound.1) (sym bound.2)
     (agree-weaken (read as_signed) (read_edited edit as_signed) (LeftTyped edit w (ordinal_after_names n ys) (declare_names n ys (scope_marked inner)) (Some (bind_names ys non_constant (knowns inner)))) Result
-    (declare_typed naming_by_spelling (i + constructor_count t) gs (read as_signed inner)) (declare_typed naming_by_spelling (i + constructor_count t) gs' (read_edited edit as_signed inner))
+    (declare_typed_variables naming_by_spelling (i + constructor_count t) gs (read as_signed inner)) (declare_typed_variables naming_by_spelling (i + constructor_count t) gs' (read_edited edit as_signed inner))
     (λ m left. left-join edit w anything k xs ys (scope_marked marks) (scope_marked inner) (knowns marks) (knowns inner) m bound.0.scoped bound.0.value left)
     (variables-edited edit w lit (i + constructor_count t) (j + length (occurrences t)) n inner bound.0.sound (omega (arith, seven, above)) gs
     (subst (λ scope. EachVariable (Here edit w) (j + length (occurrences t)) scope n gs) (sym bound.0.scoped) here.1) (λ l m. outside (omega (arith, l, above)) (omega (arith, m, joined)))))))
@@ -152,11 +152,11 @@ parameters-edited edit w lit i j k marks s seven (more (then_section f) fs) here
     let whole : Mode → List Name → Shape → Option (List (TypedParameter Name)) → Option (List (TypedParameter Name)) = λ m xs shape. option_and_then (λ rest. Some (map (typed_parameter record { mode = m; shape = shape }) xs ++ rest)) in
     let before : Shape → Option (List (TypedParameter Name)) = λ shape. whole (section_mode f) xs shape (typed_parameters naming_by_spelling (bind_names xs (a_variable shape) (read as_signed marks)) (i + constructor_count t) fs) in
     let after : Shape → Option (List (TypedParameter Name)) = λ shape. whole (section_mode f) xs shape (typed_parameters naming_by_spelling (bind_names xs (a_variable shape) (read_edited edit as_signed marks)) (i + constructor_count t) fs') in
-    subst (λ z. Agree (λ ps. ps) (λ ps. ps) (λ ps. typed_names ps ≡ xs ++ ys) (option_and_then before (denoted (read_meanings as_signed marks) i t)) z)
+    subst (λ z. Agree (λ ps. ps) (λ ps. ps) (λ ps. typed_names ps ≡ xs ++ ys) (option_and_then before (denoted_type (read_meanings as_signed marks) i t)) z)
     (sym (λ m. option_and_then (λ shape. whole (section_mode-leaf edit j f m) (section_names-leaf edit j f m) shape (typed_parameters naming_by_spelling (bind_names (section_names-leaf edit j f m) (a_variable shape) (read_edited edit as_signed marks)) (i + (ap constructor_count (section_type-leaf edit j f) ∙ constructor_count-inlined edit.uses edit.literal j t) m) fs'))
-    (denoted (edited_meanings edit as_signed marks) i (section_type-leaf edit j f m))))
+    (denoted_type (edited_meanings edit as_signed marks) i (section_type-leaf edit j f m))))
     (agree-known (λ ps. ps) (λ ps. ps) (λ ps. typed_names ps ≡ xs ++ ys) before after
-    (denoted (read_meanings as_signed marks) i t) (denoted (edited_meanings edit as_signed marks) i (leaf edit j t)) (denoted-leaf edit w lit anything as_signed as_signed k marks s j i t here.0)
+    (denoted_type (read_meanings as_signed marks) i t) (denoted_type (edited_meanings edit as_signed marks) i (leaf edit j t)) (denoted_type-leaf edit w lit anything as_signed as_signed k marks s j i t here.0)
     (λ shape known.
     let inner : Marks Shape Signature = mark_all k (with_value shape xs) marks in
     let bound = typed-names edit w k xs shape marks s seven (λ l m. outside l (omega (arith, m, joined, last))) in
@@ -173,10 +173,10 @@ pub declarations-edited : (edit : Edit) (w : Value) → Literal edit w → (i j 
     → EachBlock (Here edit w) j (scope_marked marks) k b → HasValueBetween edit w k (ordinal_after_block k b) (value_in_block (knowns marks) edit.constant k b)
     → Agree (read as_signed) (read_edited edit as_signed)
     (LeftTyped edit w (first_procedure_ordinal k b) (procedures_scope k b (scope_marked marks)) (option_map (bind_names (variable_names (block_variables b)) non_constant) (option_map (bind_names (declared_type_names (block_types b)) non_constant) (declare_constants naming_by_spelling (knowns marks) (block_constants b)))))
-    (option_and_then (declare_typed naming_by_spelling (constructors_before_variables i b) (block_variables b)) (declare_first naming_by_spelling (read as_signed marks) i b))
-    (option_and_then (declare_typed naming_by_spelling (constructors_before_variables i (edited_block edit j k b)) (block_variables (edited_block edit j k b))) (declare_first naming_by_spelling (read_edited edit as_signed marks) i (edited_block edit j k b)))
-declarations-edited edit w lit i j k marks s seven (has_body (declares cs ts vs ps) statements) here has_value =
-    let b : Tree Name block = has_body (declares cs ts vs ps) statements in
+    (option_and_then (declare_typed_variables naming_by_spelling (constructors_before_variables i b) (block_variables b)) (declare_constants_and_types naming_by_spelling (read as_signed marks) i b))
+    (option_and_then (declare_typed_variables naming_by_spelling (constructors_before_variables i (edited_block edit j k b)) (block_variables (edited_block edit j k b))) (declare_constants_and_types naming_by_spelling (read_edited edit as_signed marks) i (edited_block edit j k b)))
+declarations-edited edit w lit i j k marks s seven (forms_block (declares cs ts vs ps) statements) here has_value =
+    let b : Tree Name block = forms_block (declares cs ts vs ps) statements in
     let jt : ℕ = j + length (occurrences cs) in
     let jv : ℕ = j + length (occurrences cs) + length (occurrences ts) in
     let known : Option ConstantEnvironment = option_map (bind_names (declared_type_names (section_types ts)) non_constant) (declare_constants naming_by_spelling (knowns marks) (section_constants cs)) in
@@ -184,16 +184,16 @@ declarations-edited edit w lit i j k marks s seven (has_body (declares cs ts vs 
     let above : k ≤ first_type_ordinal k b = le-ordinal_after_names k (constant_names (section_constants cs)) in
     let Middle : Marks Shape Signature → Type 0 = LeftTyped edit w (first_variable_ordinal k b) (variables_scope k b (scope_marked marks)) known in
     let Result : Marks Shape Signature → Type 0 = LeftTyped edit w (first_procedure_ordinal k b) (procedures_scope k b (scope_marked marks)) (option_map (bind_names (variable_names (section_variables vs)) non_constant) known) in
-    subst₂ (λ n gs. Agree (read as_signed) (read_edited edit as_signed) Result (option_and_then (declare_typed naming_by_spelling (constructors_before_variables i b) (section_variables vs)) (declare_first naming_by_spelling (read as_signed marks) i b))
-    (option_and_then (declare_typed naming_by_spelling (i + n) gs) (declare_first naming_by_spelling (read_edited edit as_signed marks) i (edited_block edit j k b))))
+    subst₂ (λ n gs. Agree (read as_signed) (read_edited edit as_signed) Result (option_and_then (declare_typed_variables naming_by_spelling (constructors_before_variables i b) (section_variables vs)) (declare_constants_and_types naming_by_spelling (read as_signed marks) i b))
+    (option_and_then (declare_typed_variables naming_by_spelling (i + n) gs) (declare_constants_and_types naming_by_spelling (read_edited edit as_signed marks) i (edited_block edit j k b))))
     (sym (ap types_constructor_count (types-of edit jt ts) ∙ types_constructor_count-leaf edit jt (section_types ts))) (sym (variables-of edit jv vs))
     (agree-then (read as_signed) (read_edited edit as_signed) Middle (read as_signed) (read_edited edit as_signed) Result
-    (declare_typed naming_by_spelling (constructors_before_variables i b) (section_variables vs)) (declare_typed naming_by_spelling (constructors_before_variables i b) (leaf edit jv (section_variables vs)))
-    (declare_first naming_by_spelling (read as_signed marks) i b) (declare_first naming_by_spelling (read_edited edit as_signed marks) i (edited_block edit j k b))
+    (declare_typed_variables naming_by_spelling (constructors_before_variables i b) (section_variables vs)) (declare_typed_variables naming_by_spelling (constructors_before_variables i b) (leaf edit jv (section_variables vs)))
+    (declare_constants_and_types naming_by_spelling (read as_signed marks) i b) (declare_constants_and_types naming_by_spelling (read_edited edit as_signed marks) i (edited_block edit j k b))
     (first-edited edit w lit anything as_signed as_signed i j k marks s seven b here has_value)
     (λ inner left. agree-weaken (read as_signed) (read_edited edit as_signed)
     (LeftTyped edit w (first_procedure_ordinal k b) (declare_names (first_variable_ordinal k b) (variable_names (section_variables vs)) (scope_marked inner)) (Some (bind_names (variable_names (section_variables vs)) non_constant (knowns inner)))) Result
-    (declare_typed naming_by_spelling (constructors_before_variables i b) (section_variables vs) (read as_signed inner)) (declare_typed naming_by_spelling (constructors_before_variables i b) (leaf edit jv (section_variables vs)) (read_edited edit as_signed inner))
+    (declare_typed_variables naming_by_spelling (constructors_before_variables i b) (section_variables vs) (read as_signed inner)) (declare_typed_variables naming_by_spelling (constructors_before_variables i b) (leaf edit jv (section_variables vs)) (read_edited edit as_signed inner))
     (λ m last. left-then edit w anything (first_procedure_ordinal k b) (declare_names (first_variable_ordinal k b) (variable_names (section_variables vs)) (scope_marked inner)) (scope_marked inner) (procedures_scope k b (scope_marked marks)) (bind_names (variable_names (section_variables vs)) non_constant) known (knowns inner) m
     (ap (declare_names (first_variable_ordinal k b) (variable_names (section_variables vs))) left.scoped) left.value last)
     (variables-edited edit w lit (constructors_before_variables i b) jv (first_variable_ordinal k b) inner left.sound (omega (arith, seven, above, types)) (section_variables vs)
@@ -217,39 +217,39 @@ pub procedures-below : (k : ℕ) (b : Tree Name block) → k ≤ first_procedure
 procedures-below k b = le_trans (le-ordinal_after_names k (constant_names (block_constants b))) (types-below k b)
 
 mutual
-  unfolding block_fits
+  unfolding block_is_well_typed
 
-  pub block_fits-edited : (edit : Edit) (w : Value) → Literal edit w → (i j k : ℕ) (marks : Marks Shape Signature) → Checked edit w k marks → 7 ≤ k → (b : Tree Name block)
+  pub block_is_well_typed-edited : (edit : Edit) (w : Value) → Literal edit w → (i j k : ℕ) (marks : Marks Shape Signature) → Checked edit w k marks → 7 ≤ k → (b : Tree Name block)
       → EachBlock (Here edit w) j (scope_marked marks) k b → HasValueBetween edit w k (ordinal_after_block k b) (value_in_block (knowns marks) edit.constant k b)
-      → block_fits naming_by_spelling (read_edited edit as_signed marks) i (edited_block edit j k b) ≡ block_fits naming_by_spelling (read as_signed marks) i b
-  block_fits-edited edit w lit i j k marks s seven (has_body (declares cs ts vs ps) statements) here has_value =
-      let b : Tree Name block = has_body (declares cs ts vs ps) statements in
+      → block_is_well_typed naming_by_spelling (read_edited edit as_signed marks) i (edited_block edit j k b) ≡ block_is_well_typed naming_by_spelling (read as_signed marks) i b
+  block_is_well_typed-edited edit w lit i j k marks s seven (forms_block (declares cs ts vs ps) statements) here has_value =
+      let b : Tree Name block = forms_block (declares cs ts vs ps) statements in
       let b' : Tree Name block = edited_block edit j k b in
       let jp : ℕ = j + length (occurrences cs) + length (occurrences ts) + length (occurrences vs) in
       let js : ℕ = j + length (occurrences (declares cs ts vs ps)) in
       let above : k ≤ first_procedure_ordinal k b = procedures-below k b in
       hold-agrees (read as_signed) (read_edited edit as_signed)
       (LeftTyped edit w (first_procedure_ordinal k b) (procedures_scope k b (scope_marked marks)) (option_map (bind_names (variable_names (section_variables vs)) non_constant) (option_map (bind_names (declared_type_names (section_types ts)) non_constant) (declare_constants naming_by_spelling (knowns marks) (section_constants cs)))))
-      (option_and_then (declare_typed naming_by_spelling (constructors_before_variables i b) (section_variables vs)) (declare_first naming_by_spelling (read as_signed marks) i b))
-      (option_and_then (declare_typed naming_by_spelling (constructors_before_variables i b') (block_variables b')) (declare_first naming_by_spelling (read_edited edit as_signed marks) i b'))
-      (λ inner. procedures_fit naming_by_spelling inner (constructor_after_variables i b) statements ps)
-      (λ inner. procedures_fit naming_by_spelling inner (constructor_after_variables i b') (leaf edit js statements) (edited_procedures edit jp (first_procedure_ordinal k b) ps))
+      (option_and_then (declare_typed_variables naming_by_spelling (constructors_before_variables i b) (section_variables vs)) (declare_constants_and_types naming_by_spelling (read as_signed marks) i b))
+      (option_and_then (declare_typed_variables naming_by_spelling (constructors_before_variables i b') (block_variables b')) (declare_constants_and_types naming_by_spelling (read_edited edit as_signed marks) i b'))
+      (λ inner. procedures_are_well_typed naming_by_spelling inner (constructors_before_procedures i b) statements ps)
+      (λ inner. procedures_are_well_typed naming_by_spelling inner (constructors_before_procedures i b') (leaf edit js statements) (edited_procedures edit jp (first_procedure_ordinal k b) ps))
       (declarations-edited edit w lit i j k marks s seven b here has_value)
       (λ inner left.
-      (λ m. procedures_fit naming_by_spelling (read_edited edit as_signed inner)
+      (λ m. procedures_are_well_typed naming_by_spelling (read_edited edit as_signed inner)
       (i + (ap types_constructor_count (types-of edit (j + length (occurrences cs)) ts) ∙ types_constructor_count-leaf edit (j + length (occurrences cs)) (section_types ts)) m
       + (ap variables_constructor_count (variables-of edit (j + length (occurrences cs) + length (occurrences ts)) vs) ∙ variables_constructor_count-leaf edit (j + length (occurrences cs) + length (occurrences ts)) (section_variables vs)) m)
       (leaf edit js statements) (edited_procedures edit jp (first_procedure_ordinal k b) ps))
-      ∙ procedures_fit-edited edit w lit (constructor_after_variables i b) jp js (first_procedure_ordinal k b) inner left.sound (omega (arith, seven, above)) statements ps
+      ∙ procedures_are_well_typed-edited edit w lit (constructors_before_procedures i b) jp js (first_procedure_ordinal k b) inner left.sound (omega (arith, seven, above)) statements ps
       (subst (λ scope. EachProcedure (Here edit w) jp scope (first_procedure_ordinal k b) ps) (sym left.scoped) here.3)
       (subst (λ scope. Here edit w (maybe body) js (declare_procedure_names (first_procedure_ordinal k b) ps scope) statements) (sym left.scoped) here.4)
       (procedures-has_value edit w (knowns marks) (knowns inner) k b has_value left.value))
 
-  pub procedures_fit-edited : (edit : Edit) (w : Value) → Literal edit w → (i j js k : ℕ) (marks : Marks Shape Signature) → Checked edit w k marks → 7 ≤ k → (statements : Tree Name (maybe body)) (ps : Tree Name (items procedure))
+  pub procedures_are_well_typed-edited : (edit : Edit) (w : Value) → Literal edit w → (i j js k : ℕ) (marks : Marks Shape Signature) → Checked edit w k marks → 7 ≤ k → (statements : Tree Name (maybe body)) (ps : Tree Name (items procedure))
       → EachProcedure (Here edit w) j (scope_marked marks) k ps → Here edit w (maybe body) js (declare_procedure_names k ps (scope_marked marks)) statements → HasValueBetween edit w k (ordinal_after_procedures k ps) (value_in_procedures (knowns marks) edit.constant k ps)
-      → procedures_fit naming_by_spelling (read_edited edit as_signed marks) i (leaf edit js statements) (edited_procedures edit j k ps) ≡ procedures_fit naming_by_spelling (read as_signed marks) i statements ps
-  procedures_fit-edited edit w lit i j js k marks s seven statements end here below has_value = body_fits-edited edit w lit k marks s js statements below
-  procedures_fit-edited edit w lit i j js k marks s seven statements (more (declares_procedure x fs b closing) rest) here below has_value =
+      → procedures_are_well_typed naming_by_spelling (read_edited edit as_signed marks) i (leaf edit js statements) (edited_procedures edit j k ps) ≡ procedures_are_well_typed naming_by_spelling (read as_signed marks) i statements ps
+  procedures_are_well_typed-edited edit w lit i j js k marks s seven statements end here below has_value = body_is_well_typed-edited edit w lit k marks s js statements below
+  procedures_are_well_typed-edited edit w lit i j js k marks s seven statements (more (declares_procedure x fs b closing) rest) here below has_value =
       let p : Tree Name (item procedure) = declares_procedure x fs b closing in
       let p' : Tree Name (item procedure) = edited_procedure edit j (suc k) p in
       let jb : ℕ = j + length (occurrences fs) in
@@ -262,12 +262,12 @@ mutual
       let above : suc k ≤ n = le-ordinal_after_names (suc k) (formal_names (formal_sections fs)) in
       let following : suc k ≤ ordinal_after_procedure (suc k) p = le-ordinal_after_procedure (suc k) p in
       let own : Outside edit k (suc k) = λ l m. outside l (omega (arith, m, above)) in
-      ap (λ gs. some_satisfies (typed_parameters naming_by_spelling (read_edited edit as_signed marks) i gs) (λ ps. procedure_fits naming_by_spelling (bind_typed_parameters ps (bind_procedure x ps (read_edited edit as_signed marks))) i p'
-      && procedures_fit naming_by_spelling (bind_procedure x ps (read_edited edit as_signed marks)) (i + procedure_constructor_count p') statements' rest')) (formals-of edit j fs)
+      ap (λ gs. option_satisfies (typed_parameters naming_by_spelling (read_edited edit as_signed marks) i gs) (λ ps. procedure_is_well_typed naming_by_spelling (bind_typed_parameters ps (bind_procedure x ps (read_edited edit as_signed marks))) i p'
+      && procedures_are_well_typed naming_by_spelling (bind_procedure x ps (read_edited edit as_signed marks)) (i + procedure_constructor_count p') statements' rest')) (formals-of edit j fs)
       ∙ hold-agrees (λ ps. ps) (λ ps. ps) (λ ps. typed_names ps ≡ formal_names (formal_sections fs))
       (typed_parameters naming_by_spelling (read as_signed marks) i (formal_sections fs)) (typed_parameters naming_by_spelling (read_edited edit as_signed marks) i (leaf edit j (formal_sections fs)))
-      (λ ps. procedure_fits naming_by_spelling (bind_typed_parameters ps (bind_procedure x ps (read as_signed marks))) i p && procedures_fit naming_by_spelling (bind_procedure x ps (read as_signed marks)) (i + procedure_constructor_count p) statements rest)
-      (λ ps. procedure_fits naming_by_spelling (bind_typed_parameters ps (bind_procedure x ps (read_edited edit as_signed marks))) i p' && procedures_fit naming_by_spelling (bind_procedure x ps (read_edited edit as_signed marks)) (i + procedure_constructor_count p') statements' rest')
+      (λ ps. procedure_is_well_typed naming_by_spelling (bind_typed_parameters ps (bind_procedure x ps (read as_signed marks))) i p && procedures_are_well_typed naming_by_spelling (bind_procedure x ps (read as_signed marks)) (i + procedure_constructor_count p) statements rest)
+      (λ ps. procedure_is_well_typed naming_by_spelling (bind_typed_parameters ps (bind_procedure x ps (read_edited edit as_signed marks))) i p' && procedures_are_well_typed naming_by_spelling (bind_procedure x ps (read_edited edit as_signed marks)) (i + procedure_constructor_count p') statements' rest')
       (parameters-edited edit w lit i j (suc k) marks (Sound-weaken edit w anything k (suc k) marks (le_of_lt (le_refl (suc k))) s) (omega (arith, seven)) (formal_sections fs) here.0.0 (λ l m. outside (omega (arith, l)) m))
       (λ ps e.
       let mark : Mark Shape Signature = record { name = x; ordinal = k; object = a_procedure (map (λ p. p.formal) ps) } in
@@ -280,15 +280,15 @@ mutual
       let left : LeftTyped edit w n (declare_names (suc k) (formal_names (formal_sections fs)) (scope_marked inner)) (Some (bind_names (formal_names (formal_sections fs)) non_constant (knowns inner))) (mark_all (suc k) pairs inner) =
       subst (λ ys. LeftTyped edit w (ordinal_after_names (suc k) ys) (declare_names (suc k) ys (scope_marked inner)) (Some (bind_names ys non_constant (knowns inner))) (mark_all (suc k) pairs inner)) named
       (all-left edit w anything (suc k) pairs inner sound (omega (arith, seven)) outside') in
-      let first : procedure_fits naming_by_spelling (bind_typed_parameters ps (bind_procedure x ps (read_edited edit as_signed marks))) i p' ≡ procedure_fits naming_by_spelling (bind_typed_parameters ps (bind_procedure x ps (read as_signed marks))) i p =
-      (λ m. block_fits naming_by_spelling ((bind_typed_parameters-all ps (bind_procedure x ps (read_edited edit as_signed marks)) ∙ (ap (bind_all pairs) bound ∙ edited-all edit as_signed (suc k) pairs inner outside')) m)
+      let first : procedure_is_well_typed naming_by_spelling (bind_typed_parameters ps (bind_procedure x ps (read_edited edit as_signed marks))) i p' ≡ procedure_is_well_typed naming_by_spelling (bind_typed_parameters ps (bind_procedure x ps (read as_signed marks))) i p =
+      (λ m. block_is_well_typed naming_by_spelling ((bind_typed_parameters-all ps (bind_procedure x ps (read_edited edit as_signed marks)) ∙ (ap (bind_all pairs) bound ∙ edited-all edit as_signed (suc k) pairs inner outside')) m)
       (i + (ap formals_constructor_count (formals-of edit j fs) ∙ formals_constructor_count-leaf edit j (formal_sections fs)) m) (edited_block edit jb n b))
-      ∙ (block_fits-edited edit w lit (i + formals_constructor_count (formal_sections fs)) jb n (mark_all (suc k) pairs inner) left.sound (omega (arith, seven, above)) b
+      ∙ (block_is_well_typed-edited edit w lit (i + formals_constructor_count (formal_sections fs)) jb n (mark_all (suc k) pairs inner) left.sound (omega (arith, seven, above)) b
       (subst (λ scope. EachBlock (Here edit w) jb scope n b) (sym left.scoped) here.0.1)
       (subst (λ known. HasValueBetween edit w n (ordinal_after_block n b) (value_in_block known edit.constant n b)) (some_inverse left.value) (body-has_value edit w ((x, non_constant) ∷ knowns marks) k x closing fs b mine))
-      ∙ sym (ap (λ env. block_fits naming_by_spelling env (i + formals_constructor_count (formal_sections fs)) b) (bind_typed_parameters-all ps (bind_procedure x ps (read as_signed marks)) ∙ read-all as_signed (suc k) pairs inner))) in
-      let second : procedures_fit naming_by_spelling (bind_procedure x ps (read_edited edit as_signed marks)) (i + procedure_constructor_count p') statements' rest' ≡ procedures_fit naming_by_spelling (bind_procedure x ps (read as_signed marks)) (i + procedure_constructor_count p) statements rest =
-      (λ m. procedures_fit naming_by_spelling (bound m) (i + procedure_constructor_count-edited edit j (suc k) p m) statements' rest')
-      ∙ procedures_fit-edited edit w lit (i + procedure_constructor_count p) jr js (ordinal_after_procedure (suc k) p) inner (Sound-weaken edit w anything (suc k) (ordinal_after_procedure (suc k) p) inner following sound) (omega (arith, seven, following)) statements rest
+      ∙ sym (ap (λ env. block_is_well_typed naming_by_spelling env (i + formals_constructor_count (formal_sections fs)) b) (bind_typed_parameters-all ps (bind_procedure x ps (read as_signed marks)) ∙ read-all as_signed (suc k) pairs inner))) in
+      let second : procedures_are_well_typed naming_by_spelling (bind_procedure x ps (read_edited edit as_signed marks)) (i + procedure_constructor_count p') statements' rest' ≡ procedures_are_well_typed naming_by_spelling (bind_procedure x ps (read as_signed marks)) (i + procedure_constructor_count p) statements rest =
+      (λ m. procedures_are_well_typed naming_by_spelling (bound m) (i + procedure_constructor_count-edited edit j (suc k) p m) statements' rest')
+      ∙ procedures_are_well_typed-edited edit w lit (i + procedure_constructor_count p) jr js (ordinal_after_procedure (suc k) p) inner (Sound-weaken edit w anything (suc k) (ordinal_after_procedure (suc k) p) inner following sound) (omega (arith, seven, following)) statements rest
       here.1 below (rest-has_value edit w (knowns marks) k p rest has_value) in
       λ m. first m && second m)

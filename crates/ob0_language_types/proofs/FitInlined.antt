@@ -7,10 +7,10 @@ use Rattle.ob0_language_values.specs.Values.{Value, boolean_shape}
 use Rattle.ob0_language_types.specs.Arguments.{arguments_listed, further_arguments}
 use Rattle.ob0_language_types.specs.Expressions.{a_constant, a_variable}
 use Rattle.ob0_language_types.specs.Laws.{EachUseHas}
-use Rattle.ob0_language_types.specs.Typing.{lone_designator, type_at, type_of, type_of_factor, value_type}
-use Rattle.ob0_language_types.specs.WellTyped.{FormalParameter, Signature, TypeMeanings, same_known_shape, argument_fits, arguments_fit, by_place, by_value, call_fits, condition_fits, else_fits, elsifs_fit, sequence_fits, signature_of, statement_fits, statements_fit, variable_type}
+use Rattle.ob0_language_types.specs.Typing.{lone_designator, type_after_selectors, type_of, type_of_factor, value_type}
+use Rattle.ob0_language_types.specs.WellTyped.{FormalParameter, Signature, TypeMeanings, same_known_shape, argument_matches, arguments_match, by_place, by_value, call_is_well_typed, condition_is_boolean, else_is_well_typed, elsifs_are_well_typed, sequence_is_well_typed, signature_of, statement_is_well_typed, further_statements_are_well_typed, variable_type}
 use Rattle.ob0_language_types.proofs.Inlined.{uses-split}
-use Rattle.ob0_language_types.proofs.InlinedTypes.{IsConstant, type_at-inlined, type_of-inlined}
+use Rattle.ob0_language_types.proofs.InlinedTypes.{IsConstant, type_after_selectors-inlined, type_of-inlined}
 
 abbrev pub alone : Tree Name factor → Tree Name expression
 alone f = compares (sum None (product f end) end) none
@@ -49,11 +49,11 @@ pub variable-written : (checked : TypeMeanings Name) (uses : OccurrenceSet) (v :
     → variable_type checked (Some (x, inline_in uses v k path)) ≡ variable_type checked (Some (x, path))
 unfolding variable_type
 variable-written checked uses v w h k x path u = λ i.
-    elim (checked.object_for x) [ Some (a_variable s) ↦ type_at-inlined checked uses v w record { typed = h.typed } k s path u i | _ ↦ None ]
+    elim (checked.object_for x) [ Some (a_variable s) ↦ type_after_selectors-inlined checked uses v w record { typed = h.typed } k s path u i | _ ↦ None ]
 
 use-no_variable : (checked : TypeMeanings Name) (x : Name) (w : Value) → checked.object_for x ≡ Some (a_constant w) → variable_type checked (Some (x, end)) ≡ None
 unfolding variable_type
-use-no_variable checked x w e = ap (λ o. elim o [ Some (a_variable s) ↦ type_at checked s end | _ ↦ None ]) e
+use-no_variable checked x w e = ap (λ o. elim o [ Some (a_variable s) ↦ type_after_selectors checked s end | _ ↦ None ]) e
 
 pub lone_designator-written : (checked : TypeMeanings Name) (uses : OccurrenceSet) (v : Tree Name factor) (w : Value) → Written checked v w → (k : ℕ) (e : Tree Name expression) → AreUses checked w uses k (occurrences e)
     → variable_type checked (lone_designator (inline_in uses v k e)) ≡ variable_type checked (lone_designator e)
@@ -70,91 +70,91 @@ lone_designator-written checked uses v w h k (compares (sum None (product (desig
     ap (variable_type checked) (product-no_designator (if uses k then v else designator x end) _ _ _ _)
 lone_designator-written checked uses v w h k _ u = refl
 
-pub argument_fits-written : (checked : TypeMeanings Name) (uses : OccurrenceSet) (v : Tree Name factor) (w : Value) → Written checked v w → (f : FormalParameter) (k : ℕ) (e : Tree Name expression) → AreUses checked w uses k (occurrences e)
-    → argument_fits checked f (inline_in uses v k e) ≡ argument_fits checked f e
-unfolding argument_fits
-argument_fits-written checked uses v w h f k e u = λ i.
+pub argument_matches-written : (checked : TypeMeanings Name) (uses : OccurrenceSet) (v : Tree Name factor) (w : Value) → Written checked v w → (f : FormalParameter) (k : ℕ) (e : Tree Name expression) → AreUses checked w uses k (occurrences e)
+    → argument_matches checked f (inline_in uses v k e) ≡ argument_matches checked f e
+unfolding argument_matches
+argument_matches-written checked uses v w h f k e u = λ i.
     same_known_shape (Some f.shape) (elim f.mode [ by_value ↦ type-written checked uses v w h k e u i | by_place ↦ lone_designator-written checked uses v w h k e u i ])
 
 pub further_fit-written : (checked : TypeMeanings Name) (uses : OccurrenceSet) (v : Tree Name factor) (w : Value) → Written checked v w → (fs : Signature) (k : ℕ) (es : Tree Name (items further_argument)) → AreUses checked w uses k (occurrences es)
-    → arguments_fit checked fs (further_arguments (inline_in uses v k es)) ≡ arguments_fit checked fs (further_arguments es)
-unfolding arguments_fit
+    → arguments_match checked fs (further_arguments (inline_in uses v k es)) ≡ arguments_match checked fs (further_arguments es)
+unfolding arguments_match
 further_fit-written checked uses v w h [] k end u = refl
 further_fit-written checked uses v w h (f ∷ fs) k end u = refl
 further_fit-written checked uses v w h [] k (more (then_argument e) es) u = refl
 further_fit-written checked uses v w h (f ∷ fs) k (more (then_argument e) es) u =
     let s = uses-split uses (IsConstant checked w) k (occurrences e) (occurrences es) u in
-    λ i. argument_fits-written checked uses v w h f k e s.0 i && further_fit-written checked uses v w h fs (k + length (occurrences e)) es s.1 i
+    λ i. argument_matches-written checked uses v w h f k e s.0 i && further_fit-written checked uses v w h fs (k + length (occurrences e)) es s.1 i
 
-pub arguments_fit-written : (checked : TypeMeanings Name) (uses : OccurrenceSet) (v : Tree Name factor) (w : Value) → Written checked v w → (fs : Signature) (k : ℕ) (es : Tree Name (maybe arguments)) → AreUses checked w uses k (occurrences es)
-    → arguments_fit checked fs (arguments_listed (inline_in uses v k es)) ≡ arguments_fit checked fs (arguments_listed es)
-unfolding arguments_fit
-arguments_fit-written checked uses v w h fs k none u = refl
-arguments_fit-written checked uses v w h fs k (one no_arguments) u = refl
-arguments_fit-written checked uses v w h [] k (one (some_arguments e es)) u = refl
-arguments_fit-written checked uses v w h (f ∷ fs) k (one (some_arguments e es)) u =
+pub arguments_match-written : (checked : TypeMeanings Name) (uses : OccurrenceSet) (v : Tree Name factor) (w : Value) → Written checked v w → (fs : Signature) (k : ℕ) (es : Tree Name (maybe arguments)) → AreUses checked w uses k (occurrences es)
+    → arguments_match checked fs (arguments_listed (inline_in uses v k es)) ≡ arguments_match checked fs (arguments_listed es)
+unfolding arguments_match
+arguments_match-written checked uses v w h fs k none u = refl
+arguments_match-written checked uses v w h fs k (one no_arguments) u = refl
+arguments_match-written checked uses v w h [] k (one (some_arguments e es)) u = refl
+arguments_match-written checked uses v w h (f ∷ fs) k (one (some_arguments e es)) u =
     let s = uses-split uses (IsConstant checked w) k (occurrences e) (occurrences es) u in
-    λ i. argument_fits-written checked uses v w h f k e s.0 i && further_fit-written checked uses v w h fs (k + length (occurrences e)) es s.1 i
+    λ i. argument_matches-written checked uses v w h f k e s.0 i && further_fit-written checked uses v w h fs (k + length (occurrences e)) es s.1 i
 
-pub call_fits-written : (checked : TypeMeanings Name) (uses : OccurrenceSet) (v : Tree Name factor) (w : Value) → Written checked v w → (signature : Option Signature) (k : ℕ) (es : Tree Name (maybe arguments)) → AreUses checked w uses k (occurrences es)
-    → call_fits checked signature (arguments_listed (inline_in uses v k es)) ≡ call_fits checked signature (arguments_listed es)
-unfolding call_fits
-call_fits-written checked uses v w h None k es u = refl
-call_fits-written checked uses v w h (Some fs) k es u = arguments_fit-written checked uses v w h fs k es u
+pub call_is_well_typed-written : (checked : TypeMeanings Name) (uses : OccurrenceSet) (v : Tree Name factor) (w : Value) → Written checked v w → (signature : Option Signature) (k : ℕ) (es : Tree Name (maybe arguments)) → AreUses checked w uses k (occurrences es)
+    → call_is_well_typed checked signature (arguments_listed (inline_in uses v k es)) ≡ call_is_well_typed checked signature (arguments_listed es)
+unfolding call_is_well_typed
+call_is_well_typed-written checked uses v w h None k es u = refl
+call_is_well_typed-written checked uses v w h (Some fs) k es u = arguments_match-written checked uses v w h fs k es u
 
-pub condition_fits-written : (checked : TypeMeanings Name) (uses : OccurrenceSet) (v : Tree Name factor) (w : Value) → Written checked v w → (k : ℕ) (e : Tree Name expression) → AreUses checked w uses k (occurrences e)
-    → condition_fits checked (inline_in uses v k e) ≡ condition_fits checked e
-unfolding condition_fits
-condition_fits-written checked uses v w h k e u = λ i. same_known_shape (Some boolean_shape) (type-written checked uses v w h k e u i)
+pub condition_is_boolean-written : (checked : TypeMeanings Name) (uses : OccurrenceSet) (v : Tree Name factor) (w : Value) → Written checked v w → (k : ℕ) (e : Tree Name expression) → AreUses checked w uses k (occurrences e)
+    → condition_is_boolean checked (inline_in uses v k e) ≡ condition_is_boolean checked e
+unfolding condition_is_boolean
+condition_is_boolean-written checked uses v w h k e u = λ i. same_known_shape (Some boolean_shape) (type-written checked uses v w h k e u i)
 
 mutual
-  unfolding statement_fits
+  unfolding statement_is_well_typed
 
-  pub statement_fits-written : (checked : TypeMeanings Name) (uses : OccurrenceSet) (v : Tree Name factor) (w : Value) → Written checked v w → (k : ℕ) (a : Tree Name statement) → AreUses checked w uses k (occurrences a)
-      → statement_fits checked (inline_in uses v k a) ≡ statement_fits checked a
-  statement_fits-written checked uses v w h k empty u = refl
-  statement_fits-written checked uses v w h k (assigns x path e) u =
+  pub statement_is_well_typed-written : (checked : TypeMeanings Name) (uses : OccurrenceSet) (v : Tree Name factor) (w : Value) → Written checked v w → (k : ℕ) (a : Tree Name statement) → AreUses checked w uses k (occurrences a)
+      → statement_is_well_typed checked (inline_in uses v k a) ≡ statement_is_well_typed checked a
+  statement_is_well_typed-written checked uses v w h k empty u = refl
+  statement_is_well_typed-written checked uses v w h k (assigns x path e) u =
       let s = uses-split uses (IsConstant checked w) (suc k) (occurrences path) (occurrences e) u.1 in
       λ i. same_known_shape (variable-written checked uses v w h (suc k) x path s.0 i) (type-written checked uses v w h (suc k + length (occurrences path)) e s.1 i)
-  statement_fits-written checked uses v w h k (calls x es) u = call_fits-written checked uses v w h (signature_of (checked.object_for x)) (suc k) es u.1
-  statement_fits-written checked uses v w h k (branches e statements rest last) u =
+  statement_is_well_typed-written checked uses v w h k (calls x es) u = call_is_well_typed-written checked uses v w h (signature_of (checked.object_for x)) (suc k) es u.1
+  statement_is_well_typed-written checked uses v w h k (branches e statements rest last) u =
       let s = uses-split uses (IsConstant checked w) k (occurrences e) (occurrences statements ++ (occurrences rest ++ occurrences last)) u in
       let s₁ = uses-split uses (IsConstant checked w) (k + length (occurrences e)) (occurrences statements) (occurrences rest ++ occurrences last) s.1 in
       let s₂ = uses-split uses (IsConstant checked w) (k + length (occurrences e) + length (occurrences statements)) (occurrences rest) (occurrences last) s₁.1 in
-      λ i. condition_fits-written checked uses v w h k e s.0 i
-      && (sequence_fits-written checked uses v w h (k + length (occurrences e)) statements s₁.0 i
-      && (elsifs_fit-written checked uses v w h (k + length (occurrences e) + length (occurrences statements)) rest s₂.0 i
-      && else_fits-written checked uses v w h (k + length (occurrences e) + length (occurrences statements) + length (occurrences rest)) last s₂.1 i))
-  statement_fits-written checked uses v w h k (while_loop e statements) u =
+      λ i. condition_is_boolean-written checked uses v w h k e s.0 i
+      && (sequence_is_well_typed-written checked uses v w h (k + length (occurrences e)) statements s₁.0 i
+      && (elsifs_are_well_typed-written checked uses v w h (k + length (occurrences e) + length (occurrences statements)) rest s₂.0 i
+      && else_is_well_typed-written checked uses v w h (k + length (occurrences e) + length (occurrences statements) + length (occurrences rest)) last s₂.1 i))
+  statement_is_well_typed-written checked uses v w h k (while_loop e statements) u =
       let s = uses-split uses (IsConstant checked w) k (occurrences e) (occurrences statements) u in
-      λ i. condition_fits-written checked uses v w h k e s.0 i && sequence_fits-written checked uses v w h (k + length (occurrences e)) statements s.1 i
-  statement_fits-written checked uses v w h k (repeat_loop statements e) u =
+      λ i. condition_is_boolean-written checked uses v w h k e s.0 i && sequence_is_well_typed-written checked uses v w h (k + length (occurrences e)) statements s.1 i
+  statement_is_well_typed-written checked uses v w h k (repeat_loop statements e) u =
       let s = uses-split uses (IsConstant checked w) k (occurrences statements) (occurrences e) u in
-      λ i. sequence_fits-written checked uses v w h k statements s.0 i && condition_fits-written checked uses v w h (k + length (occurrences statements)) e s.1 i
+      λ i. sequence_is_well_typed-written checked uses v w h k statements s.0 i && condition_is_boolean-written checked uses v w h (k + length (occurrences statements)) e s.1 i
 
-  pub sequence_fits-written : (checked : TypeMeanings Name) (uses : OccurrenceSet) (v : Tree Name factor) (w : Value) → Written checked v w → (k : ℕ) (a : Tree Name sequence) → AreUses checked w uses k (occurrences a)
-      → sequence_fits checked (inline_in uses v k a) ≡ sequence_fits checked a
-  sequence_fits-written checked uses v w h k (runs a rest) u =
+  pub sequence_is_well_typed-written : (checked : TypeMeanings Name) (uses : OccurrenceSet) (v : Tree Name factor) (w : Value) → Written checked v w → (k : ℕ) (a : Tree Name sequence) → AreUses checked w uses k (occurrences a)
+      → sequence_is_well_typed checked (inline_in uses v k a) ≡ sequence_is_well_typed checked a
+  sequence_is_well_typed-written checked uses v w h k (runs a rest) u =
       let s = uses-split uses (IsConstant checked w) k (occurrences a) (occurrences rest) u in
-      λ i. statement_fits-written checked uses v w h k a s.0 i && statements_fit-written checked uses v w h (k + length (occurrences a)) rest s.1 i
+      λ i. statement_is_well_typed-written checked uses v w h k a s.0 i && further_statements_are_well_typed-written checked uses v w h (k + length (occurrences a)) rest s.1 i
 
-  pub statements_fit-written : (checked : TypeMeanings Name) (uses : OccurrenceSet) (v : Tree Name factor) (w : Value) → Written checked v w → (k : ℕ) (a : Tree Name (items further_statement)) → AreUses checked w uses k (occurrences a)
-      → statements_fit checked (inline_in uses v k a) ≡ statements_fit checked a
-  statements_fit-written checked uses v w h k end u = refl
-  statements_fit-written checked uses v w h k (more (then_statement a) rest) u =
+  pub further_statements_are_well_typed-written : (checked : TypeMeanings Name) (uses : OccurrenceSet) (v : Tree Name factor) (w : Value) → Written checked v w → (k : ℕ) (a : Tree Name (items further_statement)) → AreUses checked w uses k (occurrences a)
+      → further_statements_are_well_typed checked (inline_in uses v k a) ≡ further_statements_are_well_typed checked a
+  further_statements_are_well_typed-written checked uses v w h k end u = refl
+  further_statements_are_well_typed-written checked uses v w h k (more (then_statement a) rest) u =
       let s = uses-split uses (IsConstant checked w) k (occurrences a) (occurrences rest) u in
-      λ i. statement_fits-written checked uses v w h k a s.0 i && statements_fit-written checked uses v w h (k + length (occurrences a)) rest s.1 i
+      λ i. statement_is_well_typed-written checked uses v w h k a s.0 i && further_statements_are_well_typed-written checked uses v w h (k + length (occurrences a)) rest s.1 i
 
-  pub elsifs_fit-written : (checked : TypeMeanings Name) (uses : OccurrenceSet) (v : Tree Name factor) (w : Value) → Written checked v w → (k : ℕ) (a : Tree Name (items elsif_part)) → AreUses checked w uses k (occurrences a)
-      → elsifs_fit checked (inline_in uses v k a) ≡ elsifs_fit checked a
-  elsifs_fit-written checked uses v w h k end u = refl
-  elsifs_fit-written checked uses v w h k (more (elsif_branch e statements) rest) u =
+  pub elsifs_are_well_typed-written : (checked : TypeMeanings Name) (uses : OccurrenceSet) (v : Tree Name factor) (w : Value) → Written checked v w → (k : ℕ) (a : Tree Name (items elsif_part)) → AreUses checked w uses k (occurrences a)
+      → elsifs_are_well_typed checked (inline_in uses v k a) ≡ elsifs_are_well_typed checked a
+  elsifs_are_well_typed-written checked uses v w h k end u = refl
+  elsifs_are_well_typed-written checked uses v w h k (more (elsif_branch e statements) rest) u =
       let s = uses-split uses (IsConstant checked w) k (occurrences e ++ occurrences statements) (occurrences rest) u in
       let s₁ = uses-split uses (IsConstant checked w) k (occurrences e) (occurrences statements) s.0 in
-      λ i. condition_fits-written checked uses v w h k e s₁.0 i
-      && (sequence_fits-written checked uses v w h (k + length (occurrences e)) statements s₁.1 i && elsifs_fit-written checked uses v w h (k + length (occurrences e ++ occurrences statements)) rest s.1 i)
+      λ i. condition_is_boolean-written checked uses v w h k e s₁.0 i
+      && (sequence_is_well_typed-written checked uses v w h (k + length (occurrences e)) statements s₁.1 i && elsifs_are_well_typed-written checked uses v w h (k + length (occurrences e ++ occurrences statements)) rest s.1 i)
 
-  pub else_fits-written : (checked : TypeMeanings Name) (uses : OccurrenceSet) (v : Tree Name factor) (w : Value) → Written checked v w → (k : ℕ) (a : Tree Name (maybe else_part)) → AreUses checked w uses k (occurrences a)
-      → else_fits checked (inline_in uses v k a) ≡ else_fits checked a
-  else_fits-written checked uses v w h k none u = refl
-  else_fits-written checked uses v w h k (one (else_branch statements)) u = sequence_fits-written checked uses v w h k statements u
+  pub else_is_well_typed-written : (checked : TypeMeanings Name) (uses : OccurrenceSet) (v : Tree Name factor) (w : Value) → Written checked v w → (k : ℕ) (a : Tree Name (maybe else_part)) → AreUses checked w uses k (occurrences a)
+      → else_is_well_typed checked (inline_in uses v k a) ≡ else_is_well_typed checked a
+  else_is_well_typed-written checked uses v w h k none u = refl
+  else_is_well_typed-written checked uses v w h k (one (else_branch statements)) u = sequence_is_well_typed-written checked uses v w h k statements u

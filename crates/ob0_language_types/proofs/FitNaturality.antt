@@ -7,61 +7,61 @@ use Rattle.ob0_language_types.specs.Arguments.{arguments_listed}
 use Rattle.ob0_language_types.specs.Expressions.{Meanings, a_variable}
 use Rattle.ob0_language_types.specs.Typing.{lone_designator}
 use Rattle.ob0_language_values.specs.Values.{Shape, boolean_shape}
-use Rattle.ob0_language_types.specs.WellTyped.{FormalParameter, Signature, TypeMeanings, same_known_shape, argument_fits, arguments_fit, by_place, by_value, call_fits, condition_fits, else_fits, elsifs_fit, sequence_fits, signature_of, statement_fits, statements_fit, variable_type}
+use Rattle.ob0_language_types.specs.WellTyped.{FormalParameter, Signature, TypeMeanings, same_known_shape, argument_matches, arguments_match, by_place, by_value, call_is_well_typed, condition_is_boolean, else_is_well_typed, elsifs_are_well_typed, sequence_is_well_typed, signature_of, statement_is_well_typed, further_statements_are_well_typed, variable_type}
 use Rattle.ob0_language_types.proofs.Naturality.{arguments-map, lone_designator-map, map_designator, through}
-use Rattle.ob0_language_types.proofs.TypeNaturality.{type_at-map, type_of-map}
+use Rattle.ob0_language_types.proofs.TypeNaturality.{type_after_selectors-map, type_of-map}
 
 pub variable_type-map : {N M P : Type 0} (f h : N → M) (meaning : Meanings M Shape P) (d : Option (N × Tree N (items selector))) → variable_type meaning (option_map (map_designator f h) d) ≡ variable_type (through f h meaning) d
 unfolding variable_type
 variable_type-map f h meaning None = refl
-variable_type-map f h meaning (Some (x, path)) = λ i. elim (meaning.object_for (f x)) [ Some (a_variable s) ↦ type_at-map f h meaning s path i | _ ↦ None ]
+variable_type-map f h meaning (Some (x, path)) = λ i. elim (meaning.object_for (f x)) [ Some (a_variable s) ↦ type_after_selectors-map f h meaning s path i | _ ↦ None ]
 
-pub argument_fits-map : {N M P : Type 0} (f h : N → M) (meaning : Meanings M Shape P) (g : FormalParameter) (e : Tree N expression) → argument_fits meaning g (map_names f h e) ≡ argument_fits (through f h meaning) g e
-unfolding argument_fits
-argument_fits-map f h meaning g e = λ i.
+pub argument_matches-map : {N M P : Type 0} (f h : N → M) (meaning : Meanings M Shape P) (g : FormalParameter) (e : Tree N expression) → argument_matches meaning g (map_names f h e) ≡ argument_matches (through f h meaning) g e
+unfolding argument_matches
+argument_matches-map f h meaning g e = λ i.
     same_known_shape (Some g.shape) (elim g.mode [ by_value ↦ type_of-map f h meaning e i | by_place ↦ (ap (variable_type meaning) (lone_designator-map f h e) ∙ variable_type-map f h meaning (lone_designator e)) i ])
 
-pub arguments_fit-map : {N M P : Type 0} (f h : N → M) (meaning : Meanings M Shape P) (gs : Signature) (es : List (Tree N expression)) → arguments_fit meaning gs (map (map_names f h) es) ≡ arguments_fit (through f h meaning) gs es
-unfolding arguments_fit
-arguments_fit-map f h meaning [] [] = refl
-arguments_fit-map f h meaning [] (e ∷ es) = refl
-arguments_fit-map f h meaning (g ∷ gs) [] = refl
-arguments_fit-map f h meaning (g ∷ gs) (e ∷ es) = λ i. argument_fits-map f h meaning g e i && arguments_fit-map f h meaning gs es i
+pub arguments_match-map : {N M P : Type 0} (f h : N → M) (meaning : Meanings M Shape P) (gs : Signature) (es : List (Tree N expression)) → arguments_match meaning gs (map (map_names f h) es) ≡ arguments_match (through f h meaning) gs es
+unfolding arguments_match
+arguments_match-map f h meaning [] [] = refl
+arguments_match-map f h meaning [] (e ∷ es) = refl
+arguments_match-map f h meaning (g ∷ gs) [] = refl
+arguments_match-map f h meaning (g ∷ gs) (e ∷ es) = λ i. argument_matches-map f h meaning g e i && arguments_match-map f h meaning gs es i
 
-pub call_fits-map : {N M P : Type 0} (f h : N → M) (meaning : Meanings M Shape P) (signature : Option Signature) (es : Tree N (maybe arguments)) → call_fits meaning signature (arguments_listed (map_names f h es)) ≡ call_fits (through f h meaning) signature (arguments_listed es)
-unfolding call_fits
-call_fits-map f h meaning None es = refl
-call_fits-map f h meaning (Some gs) es = ap (arguments_fit meaning gs) (arguments-map f h es) ∙ arguments_fit-map f h meaning gs (arguments_listed es)
+pub call_is_well_typed-map : {N M P : Type 0} (f h : N → M) (meaning : Meanings M Shape P) (signature : Option Signature) (es : Tree N (maybe arguments)) → call_is_well_typed meaning signature (arguments_listed (map_names f h es)) ≡ call_is_well_typed (through f h meaning) signature (arguments_listed es)
+unfolding call_is_well_typed
+call_is_well_typed-map f h meaning None es = refl
+call_is_well_typed-map f h meaning (Some gs) es = ap (arguments_match meaning gs) (arguments-map f h es) ∙ arguments_match-map f h meaning gs (arguments_listed es)
 
-pub condition_fits-map : {N M P : Type 0} (f h : N → M) (meaning : Meanings M Shape P) (e : Tree N expression) → condition_fits meaning (map_names f h e) ≡ condition_fits (through f h meaning) e
-unfolding condition_fits
-condition_fits-map f h meaning e = λ i. same_known_shape (Some boolean_shape) (type_of-map f h meaning e i)
+pub condition_is_boolean-map : {N M P : Type 0} (f h : N → M) (meaning : Meanings M Shape P) (e : Tree N expression) → condition_is_boolean meaning (map_names f h e) ≡ condition_is_boolean (through f h meaning) e
+unfolding condition_is_boolean
+condition_is_boolean-map f h meaning e = λ i. same_known_shape (Some boolean_shape) (type_of-map f h meaning e i)
 
 mutual
-  unfolding statement_fits
+  unfolding statement_is_well_typed
 
-  pub statement_fits-map : {N M : Type 0} (f h : N → M) (meaning : TypeMeanings M) (a : Tree N statement) → statement_fits meaning (map_names f h a) ≡ statement_fits (through f h meaning) a
-  statement_fits-map f h meaning empty = refl
-  statement_fits-map f h meaning (assigns x path e) = λ i.
+  pub statement_is_well_typed-map : {N M : Type 0} (f h : N → M) (meaning : TypeMeanings M) (a : Tree N statement) → statement_is_well_typed meaning (map_names f h a) ≡ statement_is_well_typed (through f h meaning) a
+  statement_is_well_typed-map f h meaning empty = refl
+  statement_is_well_typed-map f h meaning (assigns x path e) = λ i.
       same_known_shape (variable_type-map f h meaning (Some (x, path)) i) (type_of-map f h meaning e i)
-  statement_fits-map f h meaning (calls x es) = call_fits-map f h meaning (signature_of (meaning.object_for (f x))) es
-  statement_fits-map f h meaning (branches e statements rest last) = λ i.
-      condition_fits-map f h meaning e i && (sequence_fits-map f h meaning statements i && (elsifs_fit-map f h meaning rest i && else_fits-map f h meaning last i))
-  statement_fits-map f h meaning (while_loop e statements) = λ i. condition_fits-map f h meaning e i && sequence_fits-map f h meaning statements i
-  statement_fits-map f h meaning (repeat_loop statements e) = λ i. sequence_fits-map f h meaning statements i && condition_fits-map f h meaning e i
+  statement_is_well_typed-map f h meaning (calls x es) = call_is_well_typed-map f h meaning (signature_of (meaning.object_for (f x))) es
+  statement_is_well_typed-map f h meaning (branches e statements rest last) = λ i.
+      condition_is_boolean-map f h meaning e i && (sequence_is_well_typed-map f h meaning statements i && (elsifs_are_well_typed-map f h meaning rest i && else_is_well_typed-map f h meaning last i))
+  statement_is_well_typed-map f h meaning (while_loop e statements) = λ i. condition_is_boolean-map f h meaning e i && sequence_is_well_typed-map f h meaning statements i
+  statement_is_well_typed-map f h meaning (repeat_loop statements e) = λ i. sequence_is_well_typed-map f h meaning statements i && condition_is_boolean-map f h meaning e i
 
-  pub sequence_fits-map : {N M : Type 0} (f h : N → M) (meaning : TypeMeanings M) (a : Tree N sequence) → sequence_fits meaning (map_names f h a) ≡ sequence_fits (through f h meaning) a
-  sequence_fits-map f h meaning (runs a rest) = λ i. statement_fits-map f h meaning a i && statements_fit-map f h meaning rest i
+  pub sequence_is_well_typed-map : {N M : Type 0} (f h : N → M) (meaning : TypeMeanings M) (a : Tree N sequence) → sequence_is_well_typed meaning (map_names f h a) ≡ sequence_is_well_typed (through f h meaning) a
+  sequence_is_well_typed-map f h meaning (runs a rest) = λ i. statement_is_well_typed-map f h meaning a i && further_statements_are_well_typed-map f h meaning rest i
 
-  pub statements_fit-map : {N M : Type 0} (f h : N → M) (meaning : TypeMeanings M) (a : Tree N (items further_statement)) → statements_fit meaning (map_names f h a) ≡ statements_fit (through f h meaning) a
-  statements_fit-map f h meaning end = refl
-  statements_fit-map f h meaning (more (then_statement a) rest) = λ i. statement_fits-map f h meaning a i && statements_fit-map f h meaning rest i
+  pub further_statements_are_well_typed-map : {N M : Type 0} (f h : N → M) (meaning : TypeMeanings M) (a : Tree N (items further_statement)) → further_statements_are_well_typed meaning (map_names f h a) ≡ further_statements_are_well_typed (through f h meaning) a
+  further_statements_are_well_typed-map f h meaning end = refl
+  further_statements_are_well_typed-map f h meaning (more (then_statement a) rest) = λ i. statement_is_well_typed-map f h meaning a i && further_statements_are_well_typed-map f h meaning rest i
 
-  pub elsifs_fit-map : {N M : Type 0} (f h : N → M) (meaning : TypeMeanings M) (a : Tree N (items elsif_part)) → elsifs_fit meaning (map_names f h a) ≡ elsifs_fit (through f h meaning) a
-  elsifs_fit-map f h meaning end = refl
-  elsifs_fit-map f h meaning (more (elsif_branch e statements) rest) = λ i.
-      condition_fits-map f h meaning e i && (sequence_fits-map f h meaning statements i && elsifs_fit-map f h meaning rest i)
+  pub elsifs_are_well_typed-map : {N M : Type 0} (f h : N → M) (meaning : TypeMeanings M) (a : Tree N (items elsif_part)) → elsifs_are_well_typed meaning (map_names f h a) ≡ elsifs_are_well_typed (through f h meaning) a
+  elsifs_are_well_typed-map f h meaning end = refl
+  elsifs_are_well_typed-map f h meaning (more (elsif_branch e statements) rest) = λ i.
+      condition_is_boolean-map f h meaning e i && (sequence_is_well_typed-map f h meaning statements i && elsifs_are_well_typed-map f h meaning rest i)
 
-  pub else_fits-map : {N M : Type 0} (f h : N → M) (meaning : TypeMeanings M) (a : Tree N (maybe else_part)) → else_fits meaning (map_names f h a) ≡ else_fits (through f h meaning) a
-  else_fits-map f h meaning none = refl
-  else_fits-map f h meaning (one (else_branch statements)) = sequence_fits-map f h meaning statements
+  pub else_is_well_typed-map : {N M : Type 0} (f h : N → M) (meaning : TypeMeanings M) (a : Tree N (maybe else_part)) → else_is_well_typed meaning (map_names f h a) ≡ else_is_well_typed (through f h meaning) a
+  else_is_well_typed-map f h meaning none = refl
+  else_is_well_typed-map f h meaning (one (else_branch statements)) = sequence_is_well_typed-map f h meaning statements

@@ -12,7 +12,7 @@ use Rattle.ob0_language_names.proofs.NoneLeft.{AllGiveWay, NoneOf, none-left}
 use Rattle.ob0_language_names.proofs.Peeling.{both}
 use Rattle.ob0_language_names.proofs.Places.{AllAt, Both, Each, EachBlock, Placed, both-block, each-block}
 use Rattle.ob0_language_values.specs.Values.{Value, elements, members, number, truth}
-use Rattle.ob0_language_types.specs.EditLaws.{InliningEverywhereKeepsWellTyped, IsConstantWritten, MeansPredeclaredTruth}
+use Rattle.ob0_language_types.specs.EditLaws.{InliningEverywhereKeepsWellTyped, IsConstantWithLiteral, MeansPredeclaredTruth}
 use Rattle.ob0_language_types.specs.WellTyped.{WellTyped, passes_type_check}
 use Rattle.ob0_language_types.specs.Written.{value_literal}
 use Rattle.ob0_language_types.proofs.AloneInBlocks.{IsOf, UsesAreFactors, alone-block}
@@ -97,7 +97,7 @@ bound-exactly m d i l e =
     (λ u. sym bound ∙ same_ordinal-true (binds m i) d u, λ k. ap (λ o. same_ordinal o d) (bound ∙ k) ∙ eq-eqb d d refl)
 
 -- In a well-typed module each use of the constant is a whole factor.
-pub alone-module : (m : Tree Name module_text) (d : ℕ) (w : Value) (v : Tree Name factor) → IsConstantWritten m d w v → WellTyped m → EachBlock (UsesAreFactors d) 0 (predeclared_scope naming_by_spelling) 7 (module_block m)
+pub alone-module : (m : Tree Name module_text) (d : ℕ) (w : Value) (v : Tree Name factor) → IsConstantWithLiteral m d w v → WellTyped m → EachBlock (UsesAreFactors d) 0 (predeclared_scope naming_by_spelling) 7 (module_block m)
 unfolding WellTyped passes_type_check
 alone-module (is_module x b closing) d w v c well =
     let m : Tree Name module_text = is_module x b closing in
@@ -110,7 +110,7 @@ alone-module (is_module x b closing) d w v c well =
     each-block naming_by_spelling naming_by_spelling Nothing Nothing (Here plain w) (λ s j scope t both. (no_writes v d w j scope (occurrences t), all_kept v d scope (occurrences (leaf plain j t)))) 0 scope 7 b all_plain all_plain in
     alone-block plain w plain_lit 0 0 7 marked_outermost (outermost-sound plain w anything low.0) (le_refl 7) b plain_here (λ l n. low.1) well.1
 
-pub everywhere-fitted : (m : Tree Name module_text) (d : ℕ) (w : Value) (v : Tree Name factor) → IsConstantWritten m d w v → ((k : ℕ) → binds m k ≡ Some d → MeansPredeclaredTruth m k w) → WellTyped m → IsFitted (everywhere (occurrences_bound_to m d) v d) w m
+pub everywhere-fitted : (m : Tree Name module_text) (d : ℕ) (w : Value) (v : Tree Name factor) → IsConstantWithLiteral m d w v → ((k : ℕ) → binds m k ≡ Some d → MeansPredeclaredTruth m k w) → WellTyped m → IsFitted (everywhere (occurrences_bound_to m d) v d) w m
 everywhere-fitted (is_module x b closing) d w v c seen well =
     let m : Tree Name module_text = is_module x b closing in
     let uses : OccurrenceSet = occurrences_bound_to m d in

@@ -6,7 +6,7 @@ use Rattle.ob0_language_names.specs.Names.{Name}
 use Rattle.ob0_language_values.specs.Values.{Shape, Value}
 use Rattle.ob0_language_types.specs.Expressions.{Meanings, a_constant}
 use Rattle.ob0_language_types.specs.Laws.{InliningKeepsTypes, EachUseHas}
-use Rattle.ob0_language_types.specs.Typing.{addition_type, negation_type, element_type, field_type, multiplication_type, object_type, relation_type, sign_type, type_at, type_of, type_of_addends, type_of_factor, type_of_multipliers, type_of_simple, type_of_term, value_type, ◌>>=◌}
+use Rattle.ob0_language_types.specs.Typing.{addition_type, negation_type, element_type, field_type, multiplication_type, object_type, relation_type, sign_type, type_after_selectors, type_of, type_of_addends, type_of_factor, type_of_multipliers, type_of_simple, type_of_term, value_type, ◌>>=◌}
 use Rattle.ob0_language_types.proofs.Inlined.{uses-split}
 
 pub record Typing {P : Type 0} (checked : Meanings Name Shape P) (v : Tree Name factor) (w : Value) : Type 0 where
@@ -55,18 +55,18 @@ mutual
       (elim (uses k) as (λ b. uses k ≡ b → type_of_factor checked (if b then v else designator x end) ≡ type_of_factor checked (designator x end))
       [ true ↦ λ e. h.typed ∙ (sym (then-some (value_type w)) ∙ sym (ap (λ o. object_type o >>= (λ s. Some s)) (u.0 e))) | false ↦ λ e. refl ]) refl
   type_of_factor-inlined checked uses v w h k (designator x (more step rest)) u = λ i.
-      object_type (checked.object_for x) >>= (λ s. type_at-inlined checked uses v w h (suc k) s (more step rest) u.1 i)
+      object_type (checked.object_for x) >>= (λ s. type_after_selectors-inlined checked uses v w h (suc k) s (more step rest) u.1 i)
   type_of_factor-inlined checked uses v w h k (integer n) u = refl
   type_of_factor-inlined checked uses v w h k (parenthesised e) u = type_of-inlined checked uses v w h k e u
   type_of_factor-inlined checked uses v w h k (negation f) u = λ i. type_of_factor-inlined checked uses v w h k f u i >>= negation_type
 
-  pub type_at-inlined : {P : Type 0} (checked : Meanings Name Shape P) (uses : OccurrenceSet) (v : Tree Name factor) (w : Value) → Typing checked v w → (k : ℕ) (t : Shape) (a : Tree Name (items selector)) → EachUseHas uses (IsConstant checked w) k (occurrences a) → type_at checked t (inline_in uses v k a) ≡ type_at checked t a
-  type_at-inlined checked uses v w h k t end u = refl
-  type_at-inlined checked uses v w h k t (more (field x) rest) u = λ i.
-      field_type t (checked.written x) >>= (λ y. type_at-inlined checked uses v w h (k + 0) y rest (subst (λ n. EachUseHas uses (IsConstant checked w) n (occurrences rest)) (sym (add-zero k)) u) i)
-  type_at-inlined checked uses v w h k t (more (index e) rest) u =
+  pub type_after_selectors-inlined : {P : Type 0} (checked : Meanings Name Shape P) (uses : OccurrenceSet) (v : Tree Name factor) (w : Value) → Typing checked v w → (k : ℕ) (t : Shape) (a : Tree Name (items selector)) → EachUseHas uses (IsConstant checked w) k (occurrences a) → type_after_selectors checked t (inline_in uses v k a) ≡ type_after_selectors checked t a
+  type_after_selectors-inlined checked uses v w h k t end u = refl
+  type_after_selectors-inlined checked uses v w h k t (more (field x) rest) u = λ i.
+      field_type t (checked.written x) >>= (λ y. type_after_selectors-inlined checked uses v w h (k + 0) y rest (subst (λ n. EachUseHas uses (IsConstant checked w) n (occurrences rest)) (sym (add-zero k)) u) i)
+  type_after_selectors-inlined checked uses v w h k t (more (index e) rest) u =
       let s = uses-split uses (IsConstant checked w) k (occurrences e) (occurrences rest) u in
-      λ i. type_of-inlined checked uses v w h k e s.0 i >>= (λ j. element_type t j >>= (λ y. type_at-inlined checked uses v w h (k + length (occurrences e)) y rest s.1 i))
+      λ i. type_of-inlined checked uses v w h k e s.0 i >>= (λ j. element_type t j >>= (λ y. type_after_selectors-inlined checked uses v w h (k + length (occurrences e)) y rest s.1 i))
 
 pub inlining_keeps_types-holds : InliningKeepsTypes
 inlining_keeps_types-holds checked uses v w k e typed u = type_of-inlined checked uses v w record { typed = typed } k e u

@@ -15,12 +15,12 @@ use Rattle.ob0_language_types.specs.EditLaws.{IsScalar}
 use Rattle.ob0_language_types.specs.Environments.{Environment, meanings, newest_object}
 use Rattle.ob0_language_types.specs.Expressions.{Meanings, Object, a_constant, a_procedure, a_standard, a_type, a_variable}
 use Rattle.ob0_language_types.specs.Laws.{EachUseHas}
-use Rattle.ob0_language_types.specs.Typing.{constant_of, constant_value, constant_meanings, denoted, type_of_name}
+use Rattle.ob0_language_types.specs.Typing.{constant_of, constant_value, constant_meanings, denoted_type, type_of_name}
 use Rattle.ob0_language_types.specs.Written.{value_literal}
-use Rattle.ob0_language_types.proofs.DenotedInlined.{ConstantWritten, NamesConstant, constant_value-written, denoted-written}
+use Rattle.ob0_language_types.proofs.DenotedInlined.{ConstantWritten, NamesConstant, constant_value-written, denoted_type-written}
 use Rattle.ob0_language_types.proofs.Literals.{IsSeen, literal-typed, literal-has_value}
 use Rattle.ob0_language_types.proofs.Marks.{Mark, Marks, Sound, Stays, edited-holds, found, found-right, known-found, knowns, no-found, object_as, object_of, ordinal-found, read, read-from, read-holds, read_edited, read_edited-from, scope_marked, has_value-found, yes-found}
-use Rattle.ob0_language_types.proofs.TypeNaturality.{constant_value-map, denoted-map}
+use Rattle.ob0_language_types.proofs.TypeNaturality.{constant_value-map, denoted_type-map}
 use Rattle.std.proofs.lemmas.Bool.{cases_Bool, false_from_ne_true}
 
 -- returns true if the literal's name is bound to the predeclared TRUE or FALSE, or if the literal has no name
@@ -146,17 +146,17 @@ constant_value-tagged : {V P : Type 0} (env : Environment Name V P) (e : Tree Na
 constant_value-tagged env e =
     constant_value-map (plain_tag env) as_field tagged (meanings naming_by_spelling env) e (λ x. constant_of-plain ((meanings naming_by_spelling env).object_for x)) (λ x. refl)
 
-denoted-tagged : {V P : Type 0} (env : Environment Name V P) (k : ℕ) (t : Tree Name written_type) → denoted tagged k (map_names (plain_tag env) as_field t) ≡ denoted (meanings naming_by_spelling env) k t
-denoted-tagged env k t =
-    denoted-map (plain_tag env) as_field tagged (meanings naming_by_spelling env) (λ x. constant_of-plain ((meanings naming_by_spelling env).object_for x)) (λ x. type_of_name-plain ((meanings naming_by_spelling env).object_for x)) (λ x. refl) k t
+denoted_type-tagged : {V P : Type 0} (env : Environment Name V P) (k : ℕ) (t : Tree Name written_type) → denoted_type tagged k (map_names (plain_tag env) as_field t) ≡ denoted_type (meanings naming_by_spelling env) k t
+denoted_type-tagged env k t =
+    denoted_type-map (plain_tag env) as_field tagged (meanings naming_by_spelling env) (λ x. constant_of-plain ((meanings naming_by_spelling env).object_for x)) (λ x. type_of_name-plain ((meanings naming_by_spelling env).object_for x)) (λ x. refl) k t
 
 pub constant_value-alike : {V P W Q : Type 0} (there : Environment Name V P) (here : Environment Name W Q) (e : Tree Name expression) → SameAt (plain_tag there) (plain_tag here) (occurrences e) → constant_value (meanings naming_by_spelling there) e ≡ constant_value (meanings naming_by_spelling here) e
 constant_value-alike there here e same =
     sym (constant_value-tagged there e) ∙ (ap (constant_value tagged) (map_names-same (plain_tag there) (plain_tag here) as_field e same) ∙ constant_value-tagged here e)
 
-pub denoted-alike : {V P W Q : Type 0} (there : Environment Name V P) (here : Environment Name W Q) (k : ℕ) (t : Tree Name written_type) → SameAt (plain_tag there) (plain_tag here) (occurrences t) → denoted (meanings naming_by_spelling there) k t ≡ denoted (meanings naming_by_spelling here) k t
-denoted-alike there here k t same =
-    sym (denoted-tagged there k t) ∙ (ap (denoted tagged k) (map_names-same (plain_tag there) (plain_tag here) as_field t same) ∙ denoted-tagged here k t)
+pub denoted_type-alike : {V P W Q : Type 0} (there : Environment Name V P) (here : Environment Name W Q) (k : ℕ) (t : Tree Name written_type) → SameAt (plain_tag there) (plain_tag here) (occurrences t) → denoted_type (meanings naming_by_spelling there) k t ≡ denoted_type (meanings naming_by_spelling here) k t
+denoted_type-alike there here k t same =
+    sym (denoted_type-tagged there k t) ∙ (ap (denoted_type tagged k) (map_names-same (plain_tag there) (plain_tag here) as_field t same) ∙ denoted_type-tagged here k t)
 
 plain-same : {V P Q : Type 0} (p q : ℕ → P → Q) (o : Option (Mark V P)) → option_map plain_object (option_map (object_of p) o) ≡ option_map plain_object (option_map (object_of q) o)
 plain-same p q None = refl
@@ -188,14 +188,14 @@ constant-leaf edit w lit X p q n marks s j e here =
     (λ not_shown. ap (constant_value (read_meanings p marks)) (inline-nothing edit.uses edit.literal j e (none-used edit w j (scope_marked marks) (occurrences e) not_shown here.0)))
     (cases_Bool (shown w (scope_marked marks)))
 
-pub denoted-leaf : {V P Q : Type 0} (edit : Edit) (w : Value) → Literal edit w → (X : Marks V P → Name → ℕ → P → Type 0) (p q : ℕ → P → Q) (n : ℕ) (marks : Marks V P) → Sound edit w X n marks → (j k : ℕ) (t : Tree Name written_type)
-    → Here edit w written_type j (scope_marked marks) t → denoted (edited_meanings edit q marks) k (leaf edit j t) ≡ denoted (read_meanings p marks) k t
-denoted-leaf edit w lit X p q n marks s j k t here =
-    denoted-alike (read_edited edit q marks) (read p marks) k (leaf edit j t) (edited-same edit p q marks (occurrences (leaf edit j t)) here.1)
+pub denoted_type-leaf : {V P Q : Type 0} (edit : Edit) (w : Value) → Literal edit w → (X : Marks V P → Name → ℕ → P → Type 0) (p q : ℕ → P → Q) (n : ℕ) (marks : Marks V P) → Sound edit w X n marks → (j k : ℕ) (t : Tree Name written_type)
+    → Here edit w written_type j (scope_marked marks) t → denoted_type (edited_meanings edit q marks) k (leaf edit j t) ≡ denoted_type (read_meanings p marks) k t
+denoted_type-leaf edit w lit X p q n marks s j k t here =
+    denoted_type-alike (read_edited edit q marks) (read p marks) k (leaf edit j t) (edited-same edit p q marks (occurrences (leaf edit j t)) here.1)
     ∙ ⊎_elim
-    (λ yes_shown. denoted-written (read_meanings p marks) edit.uses edit.literal w (literal-constant edit w lit (read_meanings p marks) (seen-read edit w X p n marks s yes_shown)) j k t
+    (λ yes_shown. denoted_type-written (read_meanings p marks) edit.uses edit.literal w (literal-constant edit w lit (read_meanings p marks) (seen-read edit w X p n marks s yes_shown)) j k t
     (uses-read edit w X p n marks s j (occurrences t) here.0))
-    (λ not_shown. ap (denoted (read_meanings p marks) k) (inline-nothing edit.uses edit.literal j t (none-used edit w j (scope_marked marks) (occurrences t) not_shown here.0)))
+    (λ not_shown. ap (denoted_type (read_meanings p marks) k) (inline-nothing edit.uses edit.literal j t (none-used edit w j (scope_marked marks) (occurrences t) not_shown here.0)))
     (cases_Bool (shown w (scope_marked marks)))
 
 -- A constant expression has the same value if only the constants are known.

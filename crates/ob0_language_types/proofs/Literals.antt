@@ -3,7 +3,7 @@
 use Rattle.std.proofs.Common.{Some, [], ap, arith, codes, false, if◌then◌else◌, ltb-false, ltb-true, nat_lt, negsuc, option_and_then, pos, refl, subst, suc, sym, true, unwrap_or, ℕ, ◌∙◌, ◌≡◌}
 use Rattle.ob0_tree.specs.Tree.{Tree, adds, compares, end, factor, integer, more, none, parenthesised, product, sum}
 use Rattle.ob0_language_names.specs.Names.{Name}
-use Rattle.ob0_language_values.specs.Values.{Overflow, Place, Shape, Store, Value, value_at_path, elements, ends, fits, gives, integer_shape, members, number, or_stuck, truth, ◌>>=◌}
+use Rattle.ob0_language_values.specs.Values.{Overflow, Place, Shape, Store, Value, value_at_path, elements, ends_run_with, fits_in_32_bits, succeeds_with, integer_shape, members, number, or_stuck, truth, ◌>>=◌}
 use Rattle.ob0_language_types.specs.EditLaws.{IsScalar}
 use Rattle.ob0_language_types.specs.Expressions.{Meanings, a_constant, evaluate, evaluate_factor, object_value}
 use Rattle.ob0_language_types.specs.Typing.{object_type, type_of, type_of_factor, value_type}
@@ -20,28 +20,28 @@ IsSeen meaning (truth true) = meaning.object_for (codes "TRUE") ≡ Some (a_cons
 IsSeen meaning (truth false) = meaning.object_for (codes "FALSE") ≡ Some (a_constant (truth false))
 IsSeen meaning _ = Unit {0}
 
-pub least-has_value : {P : Type 0} (meaning : Meanings Name Place P) (store : Store) (n : ℕ) → nat_lt n 2147483647 ≡ false → fits (negsuc n) ≡ true → evaluate_factor meaning store (number_literal (negsuc n)) ≡ gives (number (negsuc n))
+pub least-has_value : {P : Type 0} (meaning : Meanings Name Place P) (store : Store) (n : ℕ) → nat_lt n 2147483647 ≡ false → fits_in_32_bits (negsuc n) ≡ true → evaluate_factor meaning store (number_literal (negsuc n)) ≡ succeeds_with (number (negsuc n))
 unfolding evaluate
 least-has_value meaning store n e h =
     let at : n ≡ 2147483647 = omega (arith, ltb-false n 2147483647 e, ltb-true n 2147483648 h) in
-    subst (λ n. evaluate_factor meaning store (number_literal (negsuc n)) ≡ gives (number (negsuc n))) (sym at) refl
+    subst (λ n. evaluate_factor meaning store (number_literal (negsuc n)) ≡ succeeds_with (number (negsuc n))) (sym at) refl
 
-pub literal-has_value : {P : Type 0} (meaning : Meanings Name Place P) (store : Store) (v : Tree Name factor) (w : Value) → value_literal w ≡ Some v → IsScalar w → IsSeen meaning w → evaluate_factor meaning store v ≡ gives w
+pub literal-has_value : {P : Type 0} (meaning : Meanings Name Place P) (store : Store) (v : Tree Name factor) (w : Value) → value_literal w ≡ Some v → IsScalar w → IsSeen meaning w → evaluate_factor meaning store v ≡ succeeds_with w
 unfolding evaluate
-literal-has_value meaning store v (number (pos n)) e h seen = subst (λ v. evaluate_factor meaning store v ≡ gives (number (pos n))) (some_inverse e) refl
+literal-has_value meaning store v (number (pos n)) e h seen = subst (λ v. evaluate_factor meaning store v ≡ succeeds_with (number (pos n))) (some_inverse e) refl
 literal-has_value meaning store v (number (negsuc n)) e h seen =
-    subst (λ v. evaluate_factor meaning store v ≡ gives (number (negsuc n))) (some_inverse e)
-    ((elim (nat_lt n 2147483647) as (λ b. nat_lt n 2147483647 ≡ b → evaluate_factor meaning store (number_literal (negsuc n)) ≡ gives (number (negsuc n))) [
+    subst (λ v. evaluate_factor meaning store v ≡ succeeds_with (number (negsuc n))) (some_inverse e)
+    ((elim (nat_lt n 2147483647) as (λ b. nat_lt n 2147483647 ≡ b → evaluate_factor meaning store (number_literal (negsuc n)) ≡ succeeds_with (number (negsuc n))) [
       | true ↦ λ l. ap (λ b. evaluate_factor meaning store (if b then parenthesised (compares (sum (Some sign.Minus) (product (integer (suc n)) end) end) none) else parenthesised (compares (sum (Some sign.Minus) (product (integer 2147483647) end) (more (adds add_operator.Subtract (product (integer 1) end)) end)) none))) l
-          ∙ ap (λ b. (if b then gives (number (negsuc n)) else ends Overflow) >>= (λ v. gives v)) h
+          ∙ ap (λ b. (if b then succeeds_with (number (negsuc n)) else ends_run_with Overflow) >>= (λ v. succeeds_with v)) h
       | false ↦ λ l. least-has_value meaning store n l h
     ]) refl)
 literal-has_value {P} meaning store v (truth true) e h seen =
-    subst (λ v. evaluate_factor meaning store v ≡ gives (truth true)) (some_inverse e)
-    (ap (λ o. object_value {P = P} store o >>= (λ v. gives [] >>= (λ steps. or_stuck (value_at_path steps v)))) seen)
+    subst (λ v. evaluate_factor meaning store v ≡ succeeds_with (truth true)) (some_inverse e)
+    (ap (λ o. object_value {P = P} store o >>= (λ v. succeeds_with [] >>= (λ steps. or_stuck (value_at_path steps v)))) seen)
 literal-has_value {P} meaning store v (truth false) e h seen =
-    subst (λ v. evaluate_factor meaning store v ≡ gives (truth false)) (some_inverse e)
-    (ap (λ o. object_value {P = P} store o >>= (λ v. gives [] >>= (λ steps. or_stuck (value_at_path steps v)))) seen)
+    subst (λ v. evaluate_factor meaning store v ≡ succeeds_with (truth false)) (some_inverse e)
+    (ap (λ o. object_value {P = P} store o >>= (λ v. succeeds_with [] >>= (λ steps. or_stuck (value_at_path steps v)))) seen)
 literal-has_value meaning store v (elements vs) e h seen = absurd h
 literal-has_value meaning store v (members k ms) e h seen = absurd h
 

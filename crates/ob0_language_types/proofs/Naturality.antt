@@ -3,9 +3,9 @@ use Rattle.std.proofs.Common.{◌≡◌, true, false, ◌∷◌, ◌++◌, map, 
 use Rattle.ob0_tree.specs.Tree.{Tree, addend, adds, arguments, compares, designator, end, expression, factor, field, further_argument, index, integer, items, maybe, more, multiplier, multiplies, negation, no_arguments, none, one, parenthesised, product, relates, selector, simple, some_arguments, sum, term, then_argument}
 use Rattle.ob0_language_names.specs.Mapping.{map_names}
 use Rattle.ob0_language_types.specs.Arguments.{arguments_listed, further_arguments}
-use Rattle.ob0_language_types.specs.Expressions.{Meanings, designate, element_step, evaluate, evaluate_addends, evaluate_factor, evaluate_multipliers, evaluate_simple, evaluate_term, follow, object_place, object_value}
+use Rattle.ob0_language_types.specs.Expressions.{Meanings, designate, element_step, evaluate, evaluate_addends, evaluate_factor, evaluate_multipliers, evaluate_simple, evaluate_term, evaluate_selectors, object_place, object_value}
 use Rattle.ob0_language_types.specs.Typing.{lone_designator}
-use Rattle.ob0_language_values.specs.Values.{Place, Store, Value, add, add_short_circuits, at_field, value_at_path, gives, multiply, multiply_short_circuits, negate, or_stuck, part, read_place, relate, apply_sign, ◌>>=◌}
+use Rattle.ob0_language_values.specs.Values.{Place, Store, Value, add, add_short_circuits, at_field, value_at_path, succeeds_with, multiply, multiply_short_circuits, negate, or_stuck, part, read_place, apply_relation, apply_sign, ◌>>=◌}
 
 -- returns the meanings of names, each looked up under its new name
 abbrev pub through : {N M V P : Type 0} → (N → M) → (N → M) → Meanings M V P → Meanings N V P
@@ -17,7 +17,7 @@ mutual
   pub evaluate-map : {N M P : Type 0} (f h : N → M) (meaning : Meanings M Place P) (store : Store) (e : Tree N expression) → evaluate meaning store (map_names f h e) ≡ evaluate (through f h meaning) store e
   evaluate-map f h meaning store (compares a none) = evaluate_simple-map f h meaning store a
   evaluate-map f h meaning store (compares a (one (relates r b))) = λ i.
-      evaluate_simple-map f h meaning store a i >>= (λ x. evaluate_simple-map f h meaning store b i >>= (λ y. relate r x y))
+      evaluate_simple-map f h meaning store a i >>= (λ x. evaluate_simple-map f h meaning store b i >>= (λ y. apply_relation r x y))
 
   pub evaluate_simple-map : {N M P : Type 0} (f h : N → M) (meaning : Meanings M Place P) (store : Store) (a : Tree N simple) → evaluate_simple meaning store (map_names f h a) ≡ evaluate_simple (through f h meaning) store a
   evaluate_simple-map f h meaning store (sum s t rest) = λ i.
@@ -26,7 +26,7 @@ mutual
   pub evaluate_addends-map : {N M P : Type 0} (f h : N → M) (meaning : Meanings M Place P) (store : Store) (x : Value) (rest : Tree N (items addend)) → evaluate_addends meaning store x (map_names f h rest) ≡ evaluate_addends (through f h meaning) store x rest
   evaluate_addends-map f h meaning store x end = refl
   evaluate_addends-map f h meaning store x (more (adds o t) rest) = λ i.
-      (elim (add_short_circuits o x) [ true ↦ gives x | false ↦ evaluate_term-map f h meaning store t i >>= add o x ])
+      (elim (add_short_circuits o x) [ true ↦ succeeds_with x | false ↦ evaluate_term-map f h meaning store t i >>= add o x ])
       >>= (λ y. evaluate_addends-map f h meaning store y rest i)
 
   pub evaluate_term-map : {N M P : Type 0} (f h : N → M) (meaning : Meanings M Place P) (store : Store) (t : Tree N term) → evaluate_term meaning store (map_names f h t) ≡ evaluate_term (through f h meaning) store t
@@ -36,7 +36,7 @@ mutual
   pub evaluate_multipliers-map : {N M P : Type 0} (f h : N → M) (meaning : Meanings M Place P) (store : Store) (x : Value) (rest : Tree N (items multiplier)) → evaluate_multipliers meaning store x (map_names f h rest) ≡ evaluate_multipliers (through f h meaning) store x rest
   evaluate_multipliers-map f h meaning store x end = refl
   evaluate_multipliers-map f h meaning store x (more (multiplies o a) rest) = λ i.
-      (elim (multiply_short_circuits o x) [ true ↦ gives x | false ↦ evaluate_factor-map f h meaning store a i >>= multiply o x ])
+      (elim (multiply_short_circuits o x) [ true ↦ succeeds_with x | false ↦ evaluate_factor-map f h meaning store a i >>= multiply o x ])
       >>= (λ y. evaluate_multipliers-map f h meaning store y rest i)
 
   pub evaluate_factor-map : {N M P : Type 0} (f h : N → M) (meaning : Meanings M Place P) (store : Store) (a : Tree N factor) → evaluate_factor meaning store (map_names f h a) ≡ evaluate_factor (through f h meaning) store a
@@ -46,17 +46,17 @@ mutual
   evaluate_factor-map f h meaning store (parenthesised e) = evaluate-map f h meaning store e
   evaluate_factor-map f h meaning store (negation a) = λ i. evaluate_factor-map f h meaning store a i >>= negate
 
-  pub follow-map : {N M P : Type 0} (f h : N → M) (meaning : Meanings M Place P) (store : Store) (v : Value) (path : Tree N (items selector)) → follow meaning store v (map_names f h path) ≡ follow (through f h meaning) store v path
+  pub follow-map : {N M P : Type 0} (f h : N → M) (meaning : Meanings M Place P) (store : Store) (v : Value) (path : Tree N (items selector)) → evaluate_selectors meaning store v (map_names f h path) ≡ evaluate_selectors (through f h meaning) store v path
   follow-map f h meaning store v end = refl
   follow-map f h meaning store v (more (field x) rest) = λ i.
-      or_stuck (part v (at_field (meaning.written (h x)))) >>= (λ w. follow-map f h meaning store w rest i >>= (λ steps. gives (at_field (meaning.written (h x)) ∷ steps)))
+      or_stuck (part v (at_field (meaning.written (h x)))) >>= (λ w. follow-map f h meaning store w rest i >>= (λ steps. succeeds_with (at_field (meaning.written (h x)) ∷ steps)))
   follow-map f h meaning store v (more (index e) rest) = λ i.
-      evaluate-map f h meaning store e i >>= (λ j. element_step v j >>= (λ s. or_stuck (part v s) >>= (λ w. follow-map f h meaning store w rest i >>= (λ steps. gives (s ∷ steps)))))
+      evaluate-map f h meaning store e i >>= (λ j. element_step v j >>= (λ s. or_stuck (part v s) >>= (λ w. follow-map f h meaning store w rest i >>= (λ steps. succeeds_with (s ∷ steps)))))
 
 pub designate-map : {N M P : Type 0} (f h : N → M) (meaning : Meanings M Place P) (store : Store) (x : N) (path : Tree N (items selector)) → designate meaning store (f x) (map_names f h path) ≡ designate (through f h meaning) store x path
 unfolding designate
 designate-map f h meaning store x path = λ i.
-    object_place (meaning.object_for (f x)) >>= (λ p. or_stuck (read_place store p) >>= (λ v. follow-map f h meaning store v path i >>= (λ steps. gives record { variable = p.variable; path = p.path ++ steps })))
+    object_place (meaning.object_for (f x)) >>= (λ p. or_stuck (read_place store p) >>= (λ v. follow-map f h meaning store v path i >>= (λ steps. succeeds_with record { variable = p.variable; path = p.path ++ steps })))
 
 abbrev pub map_designator : {N M : Type 0} → (N → M) → (N → M) → N × Tree N (items selector) → M × Tree M (items selector)
 map_designator f h d = (f d.0, map_names f h d.1)

@@ -4,7 +4,7 @@ use Rattle.ob0_tree.specs.declared.tree.CompoundExpression.{CompoundExpression, 
 use Rattle.ob0_tree.specs.declared.tree.Comparison.{Comparison, out-Comparison, roll-out-Comparison}
 use Rattle.ob0_tree.specs.declared.tree.Addend.{Addend, out-Addend, roll-out-Addend}
 use Rattle.ob0_tree.specs.Tree.{adds, compares, none, one, relates}
-use Rattle.ob0_tree.specs.View.{addend_of, compared_of, comparison_of, compound_of, simple_of, term_of}
+use Rattle.ob0_tree.specs.View.{addend_of, maybe_comparison_of, comparison_of, compound_of, simple_of, term_of}
 use Rattle.ob0_tree.proofs.Viewed.{addend_made, comparison_made, compound_made}
 
 pub addend_parts : (a : Addend) → addend_of a ≡ adds (out-Addend a).operator (term_of (out-Addend a).term)
@@ -16,10 +16,10 @@ comparison_parts c = sym (ap comparison_of (roll-out-Comparison c)) ∙ comparis
 pub compound_alone : (e : CompoundExpression) → (out-CompoundExpression e).compared ≡ None → compound_of e ≡ compares (simple_of (out-CompoundExpression e).left) none
 compound_alone e h =
     sym (ap compound_of (roll-out-CompoundExpression e)) ∙ compound_made (out-CompoundExpression e)
-    ∙ ap (λ c. compares (simple_of (out-CompoundExpression e).left) (compared_of (back-CompoundExpression-compared c))) h
+    ∙ ap (λ c. compares (simple_of (out-CompoundExpression e).left) (maybe_comparison_of (back-CompoundExpression-compared c))) h
 
 pub compound_related : (e : CompoundExpression) (c : _) → (out-CompoundExpression e).compared ≡ Some c → compound_of e ≡ compares (simple_of (out-CompoundExpression e).left) (one (relates (out-Comparison c.value).relation (simple_of (out-Comparison c.value).right)))
 compound_related e c h =
     sym (ap compound_of (roll-out-CompoundExpression e)) ∙ compound_made (out-CompoundExpression e)
-    ∙ ap (λ o. compares (simple_of (out-CompoundExpression e).left) (compared_of (back-CompoundExpression-compared o))) h
+    ∙ ap (λ o. compares (simple_of (out-CompoundExpression e).left) (maybe_comparison_of (back-CompoundExpression-compared o))) h
     ∙ ap (λ t. compares (simple_of (out-CompoundExpression e).left) (one t)) (comparison_parts c.value)

@@ -5,7 +5,7 @@ use Rattle.ob0_tree.specs.Tree.{Tree, addend, adds, array_type, compares, design
 use Rattle.ob0_language_names.specs.Mapping.{map_names}
 use Rattle.ob0_language_names.specs.Parts.{further_names, names_in_list}
 use Rattle.ob0_language_types.specs.Expressions.{Meanings, a_constant, evaluate}
-use Rattle.ob0_language_types.specs.Typing.{addition_type, array_length, negation_type, constant_of, constant_value, constant_meanings, constructor_count, denoted, denoted_group, denoted_groups, element_type, field_type, outcome_value, group_constructor_count, groups_constructor_count, multiplication_type, object_type, relation_type, sign_type, type_at, type_of, type_of_addends, type_of_factor, type_of_multipliers, type_of_name, type_of_simple, type_of_term, prepend_fields, check_limits, ◌>>=◌}
+use Rattle.ob0_language_types.specs.Typing.{addition_type, array_length, negation_type, constant_of, constant_value, constant_meanings, constructor_count, denoted_type, denoted_group_fields, denoted_further_fields, element_type, field_type, outcome_value, group_constructor_count, groups_constructor_count, multiplication_type, object_type, relation_type, sign_type, type_after_selectors, type_of, type_of_addends, type_of_factor, type_of_multipliers, type_of_name, type_of_simple, type_of_term, prepend_fields, check_limits, ◌>>=◌}
 use Rattle.ob0_language_values.specs.Values.{FieldShapes, Shape, array_shape, record_shape}
 use Rattle.ob0_language_types.proofs.Naturality.{evaluate-map, through}
 
@@ -36,16 +36,16 @@ mutual
       type_of_factor-map f h meaning a i >>= (λ y. multiplication_type o x y >>= (λ z. type_of_multipliers-map f h meaning z rest i))
 
   pub type_of_factor-map : {N M P : Type 0} (f h : N → M) (meaning : Meanings M Shape P) (a : Tree N factor) → type_of_factor meaning (map_names f h a) ≡ type_of_factor (through f h meaning) a
-  type_of_factor-map f h meaning (designator x path) = λ i. object_type (meaning.object_for (f x)) >>= (λ s. type_at-map f h meaning s path i)
+  type_of_factor-map f h meaning (designator x path) = λ i. object_type (meaning.object_for (f x)) >>= (λ s. type_after_selectors-map f h meaning s path i)
   type_of_factor-map f h meaning (integer n) = refl
   type_of_factor-map f h meaning (parenthesised e) = type_of-map f h meaning e
   type_of_factor-map f h meaning (negation a) = λ i. type_of_factor-map f h meaning a i >>= negation_type
 
-  pub type_at-map : {N M P : Type 0} (f h : N → M) (meaning : Meanings M Shape P) (s : Shape) (path : Tree N (items selector)) → type_at meaning s (map_names f h path) ≡ type_at (through f h meaning) s path
-  type_at-map f h meaning s end = refl
-  type_at-map f h meaning s (more (field x) rest) = λ i. field_type s (meaning.written (h x)) >>= (λ t. type_at-map f h meaning t rest i)
-  type_at-map f h meaning s (more (index e) rest) = λ i.
-      type_of-map f h meaning e i >>= (λ j. element_type s j >>= (λ t. type_at-map f h meaning t rest i))
+  pub type_after_selectors-map : {N M P : Type 0} (f h : N → M) (meaning : Meanings M Shape P) (s : Shape) (path : Tree N (items selector)) → type_after_selectors meaning s (map_names f h path) ≡ type_after_selectors (through f h meaning) s path
+  type_after_selectors-map f h meaning s end = refl
+  type_after_selectors-map f h meaning s (more (field x) rest) = λ i. field_type s (meaning.written (h x)) >>= (λ t. type_after_selectors-map f h meaning t rest i)
+  type_after_selectors-map f h meaning s (more (index e) rest) = λ i.
+      type_of-map f h meaning e i >>= (λ j. element_type s j >>= (λ t. type_after_selectors-map f h meaning t rest i))
 
 -- Two constant expressions have the same value if their names mean the same constants.
 pub constant_value-map : {N M V P W Q : Type 0} (f h : N → M) (there : Meanings M V P) (here : Meanings N W Q) (e : Tree N expression)
@@ -80,28 +80,28 @@ fields_written f h there here hw (listed x xs) = λ i. hw x i ∷ further_fields
 
 -- Two texts of types denote the same type if their names mean the same constants and types.
 mutual
-  unfolding denoted
+  unfolding denoted_type
 
-  pub denoted-map : {N M V P W Q : Type 0} (f h : N → M) (there : Meanings M V P) (here : Meanings N W Q)
+  pub denoted_type-map : {N M V P W Q : Type 0} (f h : N → M) (there : Meanings M V P) (here : Meanings N W Q)
       → ((x : N) → constant_of (there.object_for (f x)) ≡ constant_of (here.object_for x)) → ((x : N) → type_of_name (there.object_for (f x)) ≡ type_of_name (here.object_for x)) → ((x : N) → there.written (h x) ≡ here.written x)
-      → (k : ℕ) (t : Tree N written_type) → denoted there k (map_names f h t) ≡ denoted here k t
-  denoted-map f h there here hc ht hw k (named_type x) = ht x
-  denoted-map f h there here hc ht hw k (array_type e t) = λ i.
-      constant_value-map f h there here e hc hw i >>= (λ v. array_length v >>= (λ n. denoted-map f h there here hc ht hw (suc k) t i >>= (λ s. check_limits (array_shape k n s))))
-  denoted-map f h there here hc ht hw k (record_type g rest) = λ i.
-      ((λ j. denoted_groups there (suc k + group_constructor_count-map f h g j) (map_names f h rest)) ∙ denoted_groups-map f h there here hc ht hw (suc k + group_constructor_count g) rest) i
-      >>= (λ later. denoted_group-map f h there here hc ht hw (suc k) later g i >>= (λ fs. check_limits (record_shape k fs)))
+      → (k : ℕ) (t : Tree N written_type) → denoted_type there k (map_names f h t) ≡ denoted_type here k t
+  denoted_type-map f h there here hc ht hw k (named_type x) = ht x
+  denoted_type-map f h there here hc ht hw k (array_type e t) = λ i.
+      constant_value-map f h there here e hc hw i >>= (λ v. array_length v >>= (λ n. denoted_type-map f h there here hc ht hw (suc k) t i >>= (λ s. check_limits (array_shape k n s))))
+  denoted_type-map f h there here hc ht hw k (record_type g rest) = λ i.
+      ((λ j. denoted_further_fields there (suc k + group_constructor_count-map f h g j) (map_names f h rest)) ∙ denoted_further_fields-map f h there here hc ht hw (suc k + group_constructor_count g) rest) i
+      >>= (λ later. denoted_group_fields-map f h there here hc ht hw (suc k) later g i >>= (λ fs. check_limits (record_shape k fs)))
 
-  pub denoted_group-map : {N M V P W Q : Type 0} (f h : N → M) (there : Meanings M V P) (here : Meanings N W Q)
+  pub denoted_group_fields-map : {N M V P W Q : Type 0} (f h : N → M) (there : Meanings M V P) (here : Meanings N W Q)
       → ((x : N) → constant_of (there.object_for (f x)) ≡ constant_of (here.object_for x)) → ((x : N) → type_of_name (there.object_for (f x)) ≡ type_of_name (here.object_for x)) → ((x : N) → there.written (h x) ≡ here.written x)
-      → (k : ℕ) (later : FieldShapes) (g : Tree N fields) → denoted_group there k later (map_names f h g) ≡ denoted_group here k later g
-  denoted_group-map f h there here hc ht hw k later no_fields = refl
-  denoted_group-map f h there here hc ht hw k later (some_fields ns t) = λ i. denoted-map f h there here hc ht hw k t i >>= (λ s. Some (prepend_fields (fields_written f h there here hw ns i) s later))
+      → (k : ℕ) (later : FieldShapes) (g : Tree N fields) → denoted_group_fields there k later (map_names f h g) ≡ denoted_group_fields here k later g
+  denoted_group_fields-map f h there here hc ht hw k later no_fields = refl
+  denoted_group_fields-map f h there here hc ht hw k later (some_fields ns t) = λ i. denoted_type-map f h there here hc ht hw k t i >>= (λ s. Some (prepend_fields (fields_written f h there here hw ns i) s later))
 
-  pub denoted_groups-map : {N M V P W Q : Type 0} (f h : N → M) (there : Meanings M V P) (here : Meanings N W Q)
+  pub denoted_further_fields-map : {N M V P W Q : Type 0} (f h : N → M) (there : Meanings M V P) (here : Meanings N W Q)
       → ((x : N) → constant_of (there.object_for (f x)) ≡ constant_of (here.object_for x)) → ((x : N) → type_of_name (there.object_for (f x)) ≡ type_of_name (here.object_for x)) → ((x : N) → there.written (h x) ≡ here.written x)
-      → (k : ℕ) (gs : Tree N (items further_fields)) → denoted_groups there k (map_names f h gs) ≡ denoted_groups here k gs
-  denoted_groups-map f h there here hc ht hw k end = refl
-  denoted_groups-map f h there here hc ht hw k (more (then_fields g) rest) = λ i.
-      ((λ j. denoted_groups there (k + group_constructor_count-map f h g j) (map_names f h rest)) ∙ denoted_groups-map f h there here hc ht hw (k + group_constructor_count g) rest) i
-      >>= (λ later. denoted_group-map f h there here hc ht hw k later g i)
+      → (k : ℕ) (gs : Tree N (items further_fields)) → denoted_further_fields there k (map_names f h gs) ≡ denoted_further_fields here k gs
+  denoted_further_fields-map f h there here hc ht hw k end = refl
+  denoted_further_fields-map f h there here hc ht hw k (more (then_fields g) rest) = λ i.
+      ((λ j. denoted_further_fields there (k + group_constructor_count-map f h g j) (map_names f h rest)) ∙ denoted_further_fields-map f h there here hc ht hw (k + group_constructor_count g) rest) i
+      >>= (λ later. denoted_group_fields-map f h there here hc ht hw k later g i)

@@ -8,8 +8,8 @@ use Rattle.ob0_language_names.proofs.NoneLeft.{NoneOf, none-of-join}
 use Rattle.ob0_language_values.specs.Values.{FieldShapes, Shape, Value, array_shape, boolean_shape, elements, integer_shape, members, number, record_shape, truth}
 use Rattle.ob0_language_types.specs.Arguments.{arguments_listed, further_arguments}
 use Rattle.ob0_language_types.specs.Expressions.{Meanings, Object, a_constant, a_procedure, a_standard, a_type, a_variable, evaluate}
-use Rattle.ob0_language_types.specs.Typing.{addition_type, array_length, negation_type, constant_of, constant_value, constant_meanings, denoted, denoted_group, denoted_groups, lone_designator, element_type, field_type, outcome_value, group_constructor_count, multiplication_type, object_type, relation_type, sign_type, type_at, type_of, type_of_addends, type_of_factor, type_of_multipliers, type_of_name, type_of_simple, type_of_term, value_type, prepend_fields, check_limits}
-use Rattle.ob0_language_types.specs.WellTyped.{FormalParameter, Mode, Signature, TypeMeanings, same_known_shape, argument_fits, arguments_fit, by_place, by_value, call_fits, condition_fits, else_fits, elsifs_fit, sequence_fits, signature_of, statement_fits, statements_fit, variable_type}
+use Rattle.ob0_language_types.specs.Typing.{addition_type, array_length, negation_type, constant_of, constant_value, constant_meanings, denoted_type, denoted_group_fields, denoted_further_fields, lone_designator, element_type, field_type, outcome_value, group_constructor_count, multiplication_type, object_type, relation_type, sign_type, type_after_selectors, type_of, type_of_addends, type_of_factor, type_of_multipliers, type_of_name, type_of_simple, type_of_term, value_type, prepend_fields, check_limits}
+use Rattle.ob0_language_types.specs.WellTyped.{FormalParameter, Mode, Signature, TypeMeanings, same_known_shape, argument_matches, arguments_match, by_place, by_value, call_is_well_typed, condition_is_boolean, else_is_well_typed, elsifs_are_well_typed, sequence_is_well_typed, signature_of, statement_is_well_typed, further_statements_are_well_typed, variable_type}
 use Rattle.std.proofs.lemmas.Bool.{and_parts}
 
 pub then_some : {A B : Type 0} (o : Option A) (next : A → Option B) (b : B) → option_and_then next o ≡ Some b → (a : A) × (o ≡ Some a) × (next a ≡ Some b)
@@ -22,17 +22,17 @@ AreConstant K meaning w = (x : Name) → K x → meaning.object_for x ≡ Some (
 
 -- A constant with selectors has no type.
 
-integer-alone : {P : Type 0} (meaning : Meanings Name Shape P) (s : Tree Name (item selector)) (rest : Tree Name (items selector)) → type_at meaning integer_shape (more s rest) ≡ None
+integer-alone : {P : Type 0} (meaning : Meanings Name Shape P) (s : Tree Name (item selector)) (rest : Tree Name (items selector)) → type_after_selectors meaning integer_shape (more s rest) ≡ None
 unfolding type_of
 integer-alone meaning (field x) rest = refl
-integer-alone meaning (index e) rest = elim (type_of meaning e) as (λ o. option_and_then (λ i. option_and_then (λ t. type_at meaning t rest) (element_type integer_shape i)) o ≡ None) [ None ↦ refl | Some i ↦ refl ]
+integer-alone meaning (index e) rest = elim (type_of meaning e) as (λ o. option_and_then (λ i. option_and_then (λ t. type_after_selectors meaning t rest) (element_type integer_shape i)) o ≡ None) [ None ↦ refl | Some i ↦ refl ]
 
-boolean-alone : {P : Type 0} (meaning : Meanings Name Shape P) (s : Tree Name (item selector)) (rest : Tree Name (items selector)) → type_at meaning boolean_shape (more s rest) ≡ None
+boolean-alone : {P : Type 0} (meaning : Meanings Name Shape P) (s : Tree Name (item selector)) (rest : Tree Name (items selector)) → type_after_selectors meaning boolean_shape (more s rest) ≡ None
 unfolding type_of
 boolean-alone meaning (field x) rest = refl
-boolean-alone meaning (index e) rest = elim (type_of meaning e) as (λ o. option_and_then (λ i. option_and_then (λ t. type_at meaning t rest) (element_type boolean_shape i)) o ≡ None) [ None ↦ refl | Some i ↦ refl ]
+boolean-alone meaning (index e) rest = elim (type_of meaning e) as (λ o. option_and_then (λ i. option_and_then (λ t. type_after_selectors meaning t rest) (element_type boolean_shape i)) o ≡ None) [ None ↦ refl | Some i ↦ refl ]
 
-constant-alone : {P : Type 0} (meaning : Meanings Name Shape P) (w : Value) (s : Tree Name (item selector)) (rest : Tree Name (items selector)) (t : Shape) → option_and_then (λ shape. type_at meaning shape (more s rest)) (value_type w) ≡ Some t → ⊥
+constant-alone : {P : Type 0} (meaning : Meanings Name Shape P) (w : Value) (s : Tree Name (item selector)) (rest : Tree Name (items selector)) (t : Shape) → option_and_then (λ shape. type_after_selectors meaning shape (more s rest)) (value_type w) ≡ Some t → ⊥
 constant-alone meaning (number n) s rest t h = let e : None ≡ Some t = sym (integer-alone meaning s rest) ∙ h in absurd (cc)
 constant-alone meaning (truth b) s rest t h = let e : None ≡ Some t = sym (boolean-alone meaning s rest) ∙ h in absurd (cc)
 constant-alone meaning (elements vs) s rest t h = absurd (cc)
@@ -76,21 +76,21 @@ mutual
   pub type_of_factor-elsewhere : {P : Type 0} (K : Name → Type 0) (meaning : Meanings Name Shape P) (w : Value) → AreConstant K meaning w → (a : Tree Name factor) (t : Shape) → type_of_factor meaning a ≡ Some t → NoneOf K (names_beside_factors a)
   type_of_factor-elsewhere K meaning w c (designator x end) t h = tt
   type_of_factor-elsewhere K meaning w c (designator x (more s rest)) t h =
-      let (shape, es, h₁) = then_some (object_type (meaning.object_for x)) (λ shape. type_at meaning shape (more s rest)) t h in
-      (λ k. constant-alone meaning w s rest t (sym (ap (λ o. option_and_then (λ shape. type_at meaning shape (more s rest)) (object_type o)) (c x k)) ∙ h), type_at-elsewhere K meaning w c shape (more s rest) t h₁)
+      let (shape, es, h₁) = then_some (object_type (meaning.object_for x)) (λ shape. type_after_selectors meaning shape (more s rest)) t h in
+      (λ k. constant-alone meaning w s rest t (sym (ap (λ o. option_and_then (λ shape. type_after_selectors meaning shape (more s rest)) (object_type o)) (c x k)) ∙ h), type_after_selectors-elsewhere K meaning w c shape (more s rest) t h₁)
   type_of_factor-elsewhere K meaning w c (integer n) t h = tt
   type_of_factor-elsewhere K meaning w c (parenthesised e) t h = type_of-elsewhere K meaning w c e t h
   type_of_factor-elsewhere K meaning w c (negation f) t h =
       let (x, ex, h₁) = then_some (type_of_factor meaning f) negation_type t h in type_of_factor-elsewhere K meaning w c f x ex
 
-  pub type_at-elsewhere : {P : Type 0} (K : Name → Type 0) (meaning : Meanings Name Shape P) (w : Value) → AreConstant K meaning w → (s : Shape) (a : Tree Name (items selector)) (t : Shape) → type_at meaning s a ≡ Some t → NoneOf K (names_beside_factors a)
-  type_at-elsewhere K meaning w c s end t h = tt
-  type_at-elsewhere K meaning w c s (more (field x) rest) t h =
-      let (y, ey, h₁) = then_some (field_type s (meaning.written x)) (λ y. type_at meaning y rest) t h in type_at-elsewhere K meaning w c y rest t h₁
-  type_at-elsewhere K meaning w c s (more (index e) rest) t h =
-      let (i, ei, h₁) = then_some (type_of meaning e) (λ i. option_and_then (λ y. type_at meaning y rest) (element_type s i)) t h in
-      let (y, ey, h₂) = then_some (element_type s i) (λ y. type_at meaning y rest) t h₁ in
-      none-of-join K (names_beside_factors e) (names_beside_factors rest) (type_of-elsewhere K meaning w c e i ei) (type_at-elsewhere K meaning w c y rest t h₂)
+  pub type_after_selectors-elsewhere : {P : Type 0} (K : Name → Type 0) (meaning : Meanings Name Shape P) (w : Value) → AreConstant K meaning w → (s : Shape) (a : Tree Name (items selector)) (t : Shape) → type_after_selectors meaning s a ≡ Some t → NoneOf K (names_beside_factors a)
+  type_after_selectors-elsewhere K meaning w c s end t h = tt
+  type_after_selectors-elsewhere K meaning w c s (more (field x) rest) t h =
+      let (y, ey, h₁) = then_some (field_type s (meaning.written x)) (λ y. type_after_selectors meaning y rest) t h in type_after_selectors-elsewhere K meaning w c y rest t h₁
+  type_after_selectors-elsewhere K meaning w c s (more (index e) rest) t h =
+      let (i, ei, h₁) = then_some (type_of meaning e) (λ i. option_and_then (λ y. type_after_selectors meaning y rest) (element_type s i)) t h in
+      let (y, ey, h₂) = then_some (element_type s i) (λ y. type_after_selectors meaning y rest) t h₁ in
+      none-of-join K (names_beside_factors e) (names_beside_factors rest) (type_of-elsewhere K meaning w c e i ei) (type_after_selectors-elsewhere K meaning w c y rest t h₂)
 
 -- In constant expressions that have a value, and in types, each use of the constant is a whole factor.
 
@@ -101,30 +101,30 @@ constant_value-elsewhere K meaning w c e v h =
     type_of-elsewhere {P = Unit {0}} K (constant_meanings meaning) w (λ x k. ap (λ o. option_map a_constant (constant_of o)) (c x k)) e s es
 
 mutual
-  unfolding denoted
+  unfolding denoted_type
 
-  pub denoted-elsewhere : {V P : Type 0} (K : Name → Type 0) (meaning : Meanings Name V P) (w : Value) → AreConstant K meaning w → (j : ℕ) (t : Tree Name written_type) (s : Shape) → denoted meaning j t ≡ Some s → NoneOf K (names_beside_factors t)
-  denoted-elsewhere K meaning w c j (named_type x) s h = (λ k. let e : None ≡ Some s = sym (ap type_of_name (c x k)) ∙ h in absurd (cc), tt)
-  denoted-elsewhere K meaning w c j (array_type e t) s h =
-      let (v, ev, h₁) = then_some (constant_value meaning e) (λ v. option_and_then (λ n. option_and_then (λ s. check_limits (array_shape j n s)) (denoted meaning (suc j) t)) (array_length v)) s h in
-      let (n, en, h₂) = then_some (array_length v) (λ n. option_and_then (λ s. check_limits (array_shape j n s)) (denoted meaning (suc j) t)) s h₁ in
-      let (u, eu, h₃) = then_some (denoted meaning (suc j) t) (λ s. check_limits (array_shape j n s)) s h₂ in
-      none-of-join K (names_beside_factors e) (names_beside_factors t) (constant_value-elsewhere K meaning w c e v ev) (denoted-elsewhere K meaning w c (suc j) t u eu)
-  denoted-elsewhere K meaning w c j (record_type g rest) s h =
-      let (later, el, h₁) = then_some (denoted_groups meaning (suc j + group_constructor_count g) rest) (λ later. option_and_then (λ fs. check_limits (record_shape j fs)) (denoted_group meaning (suc j) later g)) s h in
-      let (fs, ef, h₂) = then_some (denoted_group meaning (suc j) later g) (λ fs. check_limits (record_shape j fs)) s h₁ in
-      none-of-join K (names_beside_factors g) (names_beside_factors rest) (denoted_group-elsewhere K meaning w c (suc j) later g fs ef) (denoted_groups-elsewhere K meaning w c (suc j + group_constructor_count g) rest later el)
+  pub denoted_type-elsewhere : {V P : Type 0} (K : Name → Type 0) (meaning : Meanings Name V P) (w : Value) → AreConstant K meaning w → (j : ℕ) (t : Tree Name written_type) (s : Shape) → denoted_type meaning j t ≡ Some s → NoneOf K (names_beside_factors t)
+  denoted_type-elsewhere K meaning w c j (named_type x) s h = (λ k. let e : None ≡ Some s = sym (ap type_of_name (c x k)) ∙ h in absurd (cc), tt)
+  denoted_type-elsewhere K meaning w c j (array_type e t) s h =
+      let (v, ev, h₁) = then_some (constant_value meaning e) (λ v. option_and_then (λ n. option_and_then (λ s. check_limits (array_shape j n s)) (denoted_type meaning (suc j) t)) (array_length v)) s h in
+      let (n, en, h₂) = then_some (array_length v) (λ n. option_and_then (λ s. check_limits (array_shape j n s)) (denoted_type meaning (suc j) t)) s h₁ in
+      let (u, eu, h₃) = then_some (denoted_type meaning (suc j) t) (λ s. check_limits (array_shape j n s)) s h₂ in
+      none-of-join K (names_beside_factors e) (names_beside_factors t) (constant_value-elsewhere K meaning w c e v ev) (denoted_type-elsewhere K meaning w c (suc j) t u eu)
+  denoted_type-elsewhere K meaning w c j (record_type g rest) s h =
+      let (later, el, h₁) = then_some (denoted_further_fields meaning (suc j + group_constructor_count g) rest) (λ later. option_and_then (λ fs. check_limits (record_shape j fs)) (denoted_group_fields meaning (suc j) later g)) s h in
+      let (fs, ef, h₂) = then_some (denoted_group_fields meaning (suc j) later g) (λ fs. check_limits (record_shape j fs)) s h₁ in
+      none-of-join K (names_beside_factors g) (names_beside_factors rest) (denoted_group_fields-elsewhere K meaning w c (suc j) later g fs ef) (denoted_further_fields-elsewhere K meaning w c (suc j + group_constructor_count g) rest later el)
 
-  pub denoted_group-elsewhere : {V P : Type 0} (K : Name → Type 0) (meaning : Meanings Name V P) (w : Value) → AreConstant K meaning w → (j : ℕ) (later : FieldShapes) (g : Tree Name fields) (fs : FieldShapes) → denoted_group meaning j later g ≡ Some fs → NoneOf K (names_beside_factors g)
-  denoted_group-elsewhere K meaning w c j later no_fields fs h = tt
-  denoted_group-elsewhere K meaning w c j later (some_fields ns t) fs h =
-      let (s, es, h₁) = then_some (denoted meaning j t) (λ s. Some (prepend_fields (map meaning.written (names_in_list ns)) s later)) fs h in denoted-elsewhere K meaning w c j t s es
+  pub denoted_group_fields-elsewhere : {V P : Type 0} (K : Name → Type 0) (meaning : Meanings Name V P) (w : Value) → AreConstant K meaning w → (j : ℕ) (later : FieldShapes) (g : Tree Name fields) (fs : FieldShapes) → denoted_group_fields meaning j later g ≡ Some fs → NoneOf K (names_beside_factors g)
+  denoted_group_fields-elsewhere K meaning w c j later no_fields fs h = tt
+  denoted_group_fields-elsewhere K meaning w c j later (some_fields ns t) fs h =
+      let (s, es, h₁) = then_some (denoted_type meaning j t) (λ s. Some (prepend_fields (map meaning.written (names_in_list ns)) s later)) fs h in denoted_type-elsewhere K meaning w c j t s es
 
-  pub denoted_groups-elsewhere : {V P : Type 0} (K : Name → Type 0) (meaning : Meanings Name V P) (w : Value) → AreConstant K meaning w → (j : ℕ) (gs : Tree Name (items further_fields)) (fs : FieldShapes) → denoted_groups meaning j gs ≡ Some fs → NoneOf K (names_beside_factors gs)
-  denoted_groups-elsewhere K meaning w c j end fs h = tt
-  denoted_groups-elsewhere K meaning w c j (more (then_fields g) rest) fs h =
-      let (later, el, h₁) = then_some (denoted_groups meaning (j + group_constructor_count g) rest) (λ later. denoted_group meaning j later g) fs h in
-      none-of-join K (names_beside_factors g) (names_beside_factors rest) (denoted_group-elsewhere K meaning w c j later g fs h₁) (denoted_groups-elsewhere K meaning w c (j + group_constructor_count g) rest later el)
+  pub denoted_further_fields-elsewhere : {V P : Type 0} (K : Name → Type 0) (meaning : Meanings Name V P) (w : Value) → AreConstant K meaning w → (j : ℕ) (gs : Tree Name (items further_fields)) (fs : FieldShapes) → denoted_further_fields meaning j gs ≡ Some fs → NoneOf K (names_beside_factors gs)
+  denoted_further_fields-elsewhere K meaning w c j end fs h = tt
+  denoted_further_fields-elsewhere K meaning w c j (more (then_fields g) rest) fs h =
+      let (later, el, h₁) = then_some (denoted_further_fields meaning (j + group_constructor_count g) rest) (λ later. denoted_group_fields meaning j later g) fs h in
+      none-of-join K (names_beside_factors g) (names_beside_factors rest) (denoted_group_fields-elsewhere K meaning w c j later g fs h₁) (denoted_further_fields-elsewhere K meaning w c (j + group_constructor_count g) rest later el)
 
 -- In well-typed statements each use of the constant is a whole factor.
 
@@ -134,7 +134,7 @@ same_known_shape-parts None (Some t) h = absurd (true≢false (sym h))
 same_known_shape-parts (Some s) None h = absurd (true≢false (sym h))
 same_known_shape-parts (Some s) (Some t) h = (s, t, refl, refl)
 
-variable-parts : (meaning : TypeMeanings Name) (path : Tree Name (items selector)) (o : Option (Object Shape Signature)) (t : Shape) → (elim o [ Some (a_variable s) ↦ type_at meaning s path | _ ↦ None ]) ≡ Some t → (s : Shape) × (o ≡ Some (a_variable s)) × (type_at meaning s path ≡ Some t)
+variable-parts : (meaning : TypeMeanings Name) (path : Tree Name (items selector)) (o : Option (Object Shape Signature)) (t : Shape) → (elim o [ Some (a_variable s) ↦ type_after_selectors meaning s path | _ ↦ None ]) ≡ Some t → (s : Shape) × (o ≡ Some (a_variable s)) × (type_after_selectors meaning s path ≡ Some t)
 variable-parts meaning path None t h = absurd (cc)
 variable-parts meaning path (Some (a_type s)) t h = absurd (cc)
 variable-parts meaning path (Some (a_constant v)) t h = absurd (cc)
@@ -146,7 +146,7 @@ pub variable-elsewhere : (K : Name → Type 0) (meaning : TypeMeanings Name) (w 
 unfolding variable_type
 variable-elsewhere K meaning w c x path t h =
     let (s, es, h₁) = variable-parts meaning path (meaning.object_for x) t h in
-    (λ k. let e : Some (a_variable s) ≡ Some (a_constant w) = sym es ∙ c x k in absurd (cc), type_at-elsewhere K meaning w c s path t h₁)
+    (λ k. let e : Some (a_variable s) ≡ Some (a_constant w) = sym es ∙ c x k in absurd (cc), type_after_selectors-elsewhere K meaning w c s path t h₁)
 
 pub lone_designator-elsewhere : (K : Name → Type 0) (meaning : TypeMeanings Name) (w : Value) → AreConstant K meaning w → (e : Tree Name expression) (t : Shape) → variable_type meaning (lone_designator e) ≡ Some t → NoneOf K (names_beside_factors e)
 unfolding variable_type
@@ -156,44 +156,44 @@ lone_designator-elsewhere K meaning w c (compares (sum None (product (designator
     none-of-join K ((x ∷ names_beside_factors (more s rest)) ++ [] ++ []) [] (none-of-join K ((x ∷ names_beside_factors (more s rest)) ++ []) [] (none-of-join K (x ∷ names_beside_factors (more s rest)) [] v tt) tt) tt
 lone_designator-elsewhere K meaning w c _ t h = absurd (cc)
 
-pub argument-elsewhere : (K : Name → Type 0) (meaning : TypeMeanings Name) (w : Value) → AreConstant K meaning w → (f : FormalParameter) (e : Tree Name expression) → argument_fits meaning f e ≡ true → NoneOf K (names_beside_factors e)
-unfolding argument_fits
+pub argument-elsewhere : (K : Name → Type 0) (meaning : TypeMeanings Name) (w : Value) → AreConstant K meaning w → (f : FormalParameter) (e : Tree Name expression) → argument_matches meaning f e ≡ true → NoneOf K (names_beside_factors e)
+unfolding argument_matches
 argument-elsewhere K meaning w c f e h = go f.mode h
   where
     go : (m : Mode) → same_known_shape (Some f.shape) (elim m [ by_value ↦ type_of meaning e | by_place ↦ variable_type meaning (lone_designator e) ]) ≡ true → NoneOf K (names_beside_factors e)
     go by_value h = let (s, t, a, b) = same_known_shape-parts (Some f.shape) (type_of meaning e) h in type_of-elsewhere K meaning w c e t b
     go by_place h = let (s, t, a, b) = same_known_shape-parts (Some f.shape) (variable_type meaning (lone_designator e)) h in lone_designator-elsewhere K meaning w c e t b
 
-pub further-elsewhere : (K : Name → Type 0) (meaning : TypeMeanings Name) (w : Value) → AreConstant K meaning w → (fs : Signature) (es : Tree Name (items further_argument)) → arguments_fit meaning fs (further_arguments es) ≡ true → NoneOf K (names_beside_factors es)
-unfolding arguments_fit
+pub further-elsewhere : (K : Name → Type 0) (meaning : TypeMeanings Name) (w : Value) → AreConstant K meaning w → (fs : Signature) (es : Tree Name (items further_argument)) → arguments_match meaning fs (further_arguments es) ≡ true → NoneOf K (names_beside_factors es)
+unfolding arguments_match
 further-elsewhere K meaning w c fs end h = tt
 further-elsewhere K meaning w c [] (more (then_argument e) es) h = absurd (true≢false (sym h))
 further-elsewhere K meaning w c (f ∷ fs) (more (then_argument e) es) h =
-    let p = and_parts (argument_fits meaning f e) (arguments_fit meaning fs (further_arguments es)) h in
+    let p = and_parts (argument_matches meaning f e) (arguments_match meaning fs (further_arguments es)) h in
     none-of-join K (names_beside_factors e) (names_beside_factors es) (argument-elsewhere K meaning w c f e p.0) (further-elsewhere K meaning w c fs es p.1)
 
-pub arguments-elsewhere : (K : Name → Type 0) (meaning : TypeMeanings Name) (w : Value) → AreConstant K meaning w → (fs : Signature) (es : Tree Name (maybe arguments)) → arguments_fit meaning fs (arguments_listed es) ≡ true → NoneOf K (names_beside_factors es)
-unfolding arguments_fit
+pub arguments-elsewhere : (K : Name → Type 0) (meaning : TypeMeanings Name) (w : Value) → AreConstant K meaning w → (fs : Signature) (es : Tree Name (maybe arguments)) → arguments_match meaning fs (arguments_listed es) ≡ true → NoneOf K (names_beside_factors es)
+unfolding arguments_match
 arguments-elsewhere K meaning w c fs none h = tt
 arguments-elsewhere K meaning w c fs (one no_arguments) h = tt
 arguments-elsewhere K meaning w c [] (one (some_arguments e es)) h = absurd (true≢false (sym h))
 arguments-elsewhere K meaning w c (f ∷ fs) (one (some_arguments e es)) h =
-    let p = and_parts (argument_fits meaning f e) (arguments_fit meaning fs (further_arguments es)) h in
+    let p = and_parts (argument_matches meaning f e) (arguments_match meaning fs (further_arguments es)) h in
     none-of-join K (names_beside_factors e) (names_beside_factors es) (argument-elsewhere K meaning w c f e p.0) (further-elsewhere K meaning w c fs es p.1)
 
-call-elsewhere : (K : Name → Type 0) (meaning : TypeMeanings Name) (w : Value) → AreConstant K meaning w → (x : Name) (o : Option Signature) (es : Tree Name (maybe arguments)) → signature_of (meaning.object_for x) ≡ o → call_fits meaning o (arguments_listed es) ≡ true → (K x → ⊥) × NoneOf K (names_beside_factors es)
-unfolding call_fits
+call-elsewhere : (K : Name → Type 0) (meaning : TypeMeanings Name) (w : Value) → AreConstant K meaning w → (x : Name) (o : Option Signature) (es : Tree Name (maybe arguments)) → signature_of (meaning.object_for x) ≡ o → call_is_well_typed meaning o (arguments_listed es) ≡ true → (K x → ⊥) × NoneOf K (names_beside_factors es)
+unfolding call_is_well_typed
 call-elsewhere K meaning w c x None es e h = absurd (true≢false (sym h))
 call-elsewhere K meaning w c x (Some fs) es e h = (λ k. let d : None ≡ Some fs = sym (ap signature_of (c x k)) ∙ e in absurd (cc), arguments-elsewhere K meaning w c fs es h)
 
-condition-elsewhere : (K : Name → Type 0) (meaning : TypeMeanings Name) (w : Value) → AreConstant K meaning w → (e : Tree Name expression) → condition_fits meaning e ≡ true → NoneOf K (names_beside_factors e)
-unfolding condition_fits
+condition-elsewhere : (K : Name → Type 0) (meaning : TypeMeanings Name) (w : Value) → AreConstant K meaning w → (e : Tree Name expression) → condition_is_boolean meaning e ≡ true → NoneOf K (names_beside_factors e)
+unfolding condition_is_boolean
 condition-elsewhere K meaning w c e h = let (s, t, a, b) = same_known_shape-parts (Some boolean_shape) (type_of meaning e) h in type_of-elsewhere K meaning w c e t b
 
 mutual
-  unfolding statement_fits
+  unfolding statement_is_well_typed
 
-  pub statement-elsewhere : (K : Name → Type 0) (meaning : TypeMeanings Name) (w : Value) → AreConstant K meaning w → (a : Tree Name statement) → statement_fits meaning a ≡ true → NoneOf K (names_beside_factors a)
+  pub statement-elsewhere : (K : Name → Type 0) (meaning : TypeMeanings Name) (w : Value) → AreConstant K meaning w → (a : Tree Name statement) → statement_is_well_typed meaning a ≡ true → NoneOf K (names_beside_factors a)
   statement-elsewhere K meaning w c empty h = tt
   statement-elsewhere K meaning w c (assigns x path e) h =
       let (s, t, a, b) = same_known_shape-parts (variable_type meaning (Some (x, path))) (type_of meaning e) h in
@@ -201,38 +201,38 @@ mutual
       (v.0, none-of-join K (names_beside_factors path) (names_beside_factors e) v.1 (type_of-elsewhere K meaning w c e t b))
   statement-elsewhere K meaning w c (calls x es) h = call-elsewhere K meaning w c x (signature_of (meaning.object_for x)) es refl h
   statement-elsewhere K meaning w c (branches e statements rest last) h =
-      let p = and_parts (condition_fits meaning e) (sequence_fits meaning statements && (elsifs_fit meaning rest && else_fits meaning last)) h in
-      let q = and_parts (sequence_fits meaning statements) (elsifs_fit meaning rest && else_fits meaning last) p.1 in
-      let r = and_parts (elsifs_fit meaning rest) (else_fits meaning last) q.1 in
+      let p = and_parts (condition_is_boolean meaning e) (sequence_is_well_typed meaning statements && (elsifs_are_well_typed meaning rest && else_is_well_typed meaning last)) h in
+      let q = and_parts (sequence_is_well_typed meaning statements) (elsifs_are_well_typed meaning rest && else_is_well_typed meaning last) p.1 in
+      let r = and_parts (elsifs_are_well_typed meaning rest) (else_is_well_typed meaning last) q.1 in
       none-of-join K (names_beside_factors e) (names_beside_factors statements ++ (names_beside_factors rest ++ names_beside_factors last)) (condition-elsewhere K meaning w c e p.0)
       (none-of-join K (names_beside_factors statements) (names_beside_factors rest ++ names_beside_factors last) (sequence-elsewhere K meaning w c statements q.0)
       (none-of-join K (names_beside_factors rest) (names_beside_factors last) (elsifs-elsewhere K meaning w c rest r.0) (else-elsewhere K meaning w c last r.1)))
   statement-elsewhere K meaning w c (while_loop e statements) h =
-      let p = and_parts (condition_fits meaning e) (sequence_fits meaning statements) h in
+      let p = and_parts (condition_is_boolean meaning e) (sequence_is_well_typed meaning statements) h in
       none-of-join K (names_beside_factors e) (names_beside_factors statements) (condition-elsewhere K meaning w c e p.0) (sequence-elsewhere K meaning w c statements p.1)
   statement-elsewhere K meaning w c (repeat_loop statements e) h =
-      let p = and_parts (sequence_fits meaning statements) (condition_fits meaning e) h in
+      let p = and_parts (sequence_is_well_typed meaning statements) (condition_is_boolean meaning e) h in
       none-of-join K (names_beside_factors statements) (names_beside_factors e) (sequence-elsewhere K meaning w c statements p.0) (condition-elsewhere K meaning w c e p.1)
 
-  pub sequence-elsewhere : (K : Name → Type 0) (meaning : TypeMeanings Name) (w : Value) → AreConstant K meaning w → (a : Tree Name sequence) → sequence_fits meaning a ≡ true → NoneOf K (names_beside_factors a)
+  pub sequence-elsewhere : (K : Name → Type 0) (meaning : TypeMeanings Name) (w : Value) → AreConstant K meaning w → (a : Tree Name sequence) → sequence_is_well_typed meaning a ≡ true → NoneOf K (names_beside_factors a)
   sequence-elsewhere K meaning w c (runs a rest) h =
-      let p = and_parts (statement_fits meaning a) (statements_fit meaning rest) h in
+      let p = and_parts (statement_is_well_typed meaning a) (further_statements_are_well_typed meaning rest) h in
       none-of-join K (names_beside_factors a) (names_beside_factors rest) (statement-elsewhere K meaning w c a p.0) (statements-elsewhere K meaning w c rest p.1)
 
-  statements-elsewhere : (K : Name → Type 0) (meaning : TypeMeanings Name) (w : Value) → AreConstant K meaning w → (a : Tree Name (items further_statement)) → statements_fit meaning a ≡ true → NoneOf K (names_beside_factors a)
+  statements-elsewhere : (K : Name → Type 0) (meaning : TypeMeanings Name) (w : Value) → AreConstant K meaning w → (a : Tree Name (items further_statement)) → further_statements_are_well_typed meaning a ≡ true → NoneOf K (names_beside_factors a)
   statements-elsewhere K meaning w c end h = tt
   statements-elsewhere K meaning w c (more (then_statement a) rest) h =
-      let p = and_parts (statement_fits meaning a) (statements_fit meaning rest) h in
+      let p = and_parts (statement_is_well_typed meaning a) (further_statements_are_well_typed meaning rest) h in
       none-of-join K (names_beside_factors a) (names_beside_factors rest) (statement-elsewhere K meaning w c a p.0) (statements-elsewhere K meaning w c rest p.1)
 
-  elsifs-elsewhere : (K : Name → Type 0) (meaning : TypeMeanings Name) (w : Value) → AreConstant K meaning w → (a : Tree Name (items elsif_part)) → elsifs_fit meaning a ≡ true → NoneOf K (names_beside_factors a)
+  elsifs-elsewhere : (K : Name → Type 0) (meaning : TypeMeanings Name) (w : Value) → AreConstant K meaning w → (a : Tree Name (items elsif_part)) → elsifs_are_well_typed meaning a ≡ true → NoneOf K (names_beside_factors a)
   elsifs-elsewhere K meaning w c end h = tt
   elsifs-elsewhere K meaning w c (more (elsif_branch e statements) rest) h =
-      let p = and_parts (condition_fits meaning e) (sequence_fits meaning statements && elsifs_fit meaning rest) h in
-      let q = and_parts (sequence_fits meaning statements) (elsifs_fit meaning rest) p.1 in
+      let p = and_parts (condition_is_boolean meaning e) (sequence_is_well_typed meaning statements && elsifs_are_well_typed meaning rest) h in
+      let q = and_parts (sequence_is_well_typed meaning statements) (elsifs_are_well_typed meaning rest) p.1 in
       none-of-join K (names_beside_factors e ++ names_beside_factors statements) (names_beside_factors rest)
       (none-of-join K (names_beside_factors e) (names_beside_factors statements) (condition-elsewhere K meaning w c e p.0) (sequence-elsewhere K meaning w c statements q.0)) (elsifs-elsewhere K meaning w c rest q.1)
 
-  else-elsewhere : (K : Name → Type 0) (meaning : TypeMeanings Name) (w : Value) → AreConstant K meaning w → (a : Tree Name (maybe else_part)) → else_fits meaning a ≡ true → NoneOf K (names_beside_factors a)
+  else-elsewhere : (K : Name → Type 0) (meaning : TypeMeanings Name) (w : Value) → AreConstant K meaning w → (a : Tree Name (maybe else_part)) → else_is_well_typed meaning a ≡ true → NoneOf K (names_beside_factors a)
   else-elsewhere K meaning w c none h = tt
   else-elsewhere K meaning w c (one (else_branch statements)) h = sequence-elsewhere K meaning w c statements h

@@ -1,22 +1,22 @@
 -- The type check by names accepts a module exactly if the check by ordinals accepts its numbered tree.
 use Rattle.std.proofs.Common.{◌≡◌, ℕ, suc, ◌+◌, ◌<◌, ◌≤◌, Bool, true, false, ◌&&◌, List, [], ◌∷◌, ◌++◌, map, Some, None, Option, option_map, option_and_then, sym, refl, ap, ◌∙◌, subst, subst₂, le_refl, le_of_lt, arith, lit<}
-use Rattle.ob0_tree.specs.Tree.{Tree, begins, block, body, constant, declares, declares_constant, declares_procedure, declares_type, declares_variable, end, further_section, has_body, is_module, item, items, maybe, module_text, more, none, one, procedure, section, then_section, type_name, value_section, variable, variable_section, written_type}
+use Rattle.ob0_tree.specs.Tree.{Tree, begins, block, body, constant, declares, declares_constant, declares_procedure, declares_type, declares_variable, end, further_section, forms_block, is_module, item, items, maybe, module_text, more, none, one, procedure, section, then_section, type_definition, value_section, variable, variable_section, written_type}
 use Rattle.ob0_language_names.specs.Mapping.{map_names}
 use Rattle.ob0_language_names.specs.Names.{Label, Naming, naming_by_label, declared, same_label}
 use Rattle.ob0_language_names.specs.Parts.{block_variables, constant_names, formal_names, formal_sections, declared_type_names, names_in_list, section_constants, section_names, section_type, section_types, section_variables, variable_names}
 use Rattle.ob0_language_names.specs.Scopes.{Labelling, Scope, ordinal_after_names, ordinal_after_procedure, label_from_ordinal, body_scope, declare_names, declare_procedure_names, first_procedure_ordinal, first_type_ordinal, first_variable_ordinal, label_names, label_of, ordinal_of, procedures_scope, relabel_block, relabel_constants, relabel_formals, relabel_procedure, relabel_procedures, relabel_section, relabel_sections, relabel_types, relabel_uses, relabel_variables, relabel_module, types_scope, variables_scope}
 use Rattle.ob0_language_names.proofs.Ordinals.{ordinal_after_names-append, declare_names-append, le-ordinal_after_procedure}
 use Rattle.ob0_language_names.proofs.Relabelled.{constants-section, formals-section, names-relabel, section_names-relabel, section_type-relabel, types-section, variables-section}
-use Rattle.ob0_language_types.specs.Declarations.{constructors_before_variables, constructor_after_variables, declare_constants, declare_first, declare_types, formals_constructor_count, procedure_constructor_count, types_constructor_count, variables_constructor_count}
+use Rattle.ob0_language_types.specs.Declarations.{constructors_before_variables, constructors_before_procedures, declare_constants, declare_constants_and_types, declare_types, formals_constructor_count, procedure_constructor_count, types_constructor_count, variables_constructor_count}
 use Rattle.ob0_language_types.specs.Environments.{environment_from_binding, meanings, newest_object}
-use Rattle.ob0_language_types.specs.Expressions.{Object, a_constant, a_procedure, a_standard, a_type, a_variable, reads, writes, writes_line}
-use Rattle.ob0_language_types.specs.Typing.{constant_of, constant_value, constructor_count, denoted, type_of_name}
+use Rattle.ob0_language_types.specs.Expressions.{Object, a_constant, a_procedure, a_standard, a_type, a_variable, read_procedure, write_procedure, write_line_procedure}
+use Rattle.ob0_language_types.specs.Typing.{constant_of, constant_value, constructor_count, denoted_type, type_of_name}
 use Rattle.ob0_language_values.specs.Values.{Shape, boolean_shape, integer_shape, truth}
-use Rattle.ob0_language_types.specs.WellTyped.{FormalParameter, Signature, TypeEnvironment, TypedParameter, bind_names, bind_typed_parameters, block_fits, body_fits, declare_typed, passes_type_check, bind_procedure, some_satisfies, procedure_fits, procedures_fit, section_mode, sequence_fits, typed_parameters}
+use Rattle.ob0_language_types.specs.WellTyped.{FormalParameter, Signature, TypeEnvironment, TypedParameter, bind_names, bind_typed_parameters, block_is_well_typed, body_is_well_typed, declare_typed_variables, passes_type_check, bind_procedure, option_satisfies, procedure_is_well_typed, procedures_are_well_typed, section_mode, sequence_is_well_typed, typed_parameters}
 use Rattle.ob0_language_types.proofs.Agreeing.{Agree, HoldsOf, agree-then, agree-value}
 use Rattle.ob0_language_types.proofs.Constructors.{formals_constructor_count-relabel, procedure_constructor_count-relabel, types_constructor_count-relabel, variables_constructor_count-relabel}
-use Rattle.ob0_language_types.proofs.FitNaturality.{sequence_fits-map}
-use Rattle.ob0_language_types.proofs.TypeNaturality.{constant_value-map, constructor_count-map, denoted-map}
+use Rattle.ob0_language_types.proofs.FitNaturality.{sequence_is_well_typed-map}
+use Rattle.ob0_language_types.proofs.TypeNaturality.{constant_value-map, constructor_count-map, denoted_type-map}
 use Rattle.std.proofs.lemmas.Bool.{eq-eqb, ne_eqb}
 
 -- a binding of a name, with the ordinal of its declaration
@@ -88,9 +88,9 @@ TypedWithin n scope noted = (typed_scope noted ≡ scope) × TypedBelow n noted
 
 -- Declarations and types have the same results by names and by ordinals.
 
-pub denoted-agrees : {N : Type 0} (naming : Naming N) (n : ℕ) (noted : TypeNoted N) → TypedBelow n noted → (j : ℕ) (t : Tree N written_type) → denoted (meanings naming_by_label (typed_by_ordinal noted)) j (relabel_uses naming (label_from_ordinal naming) (typed_scope noted) t) ≡ denoted (meanings naming (typed_by_name noted)) j t
-denoted-agrees naming n noted below j t =
-    denoted-map (typed_label naming noted) (label_from_ordinal naming None) (meanings naming_by_label (typed_by_ordinal noted)) (meanings naming (typed_by_name noted))
+pub denoted_type-agrees : {N : Type 0} (naming : Naming N) (n : ℕ) (noted : TypeNoted N) → TypedBelow n noted → (j : ℕ) (t : Tree N written_type) → denoted_type (meanings naming_by_label (typed_by_ordinal noted)) j (relabel_uses naming (label_from_ordinal naming) (typed_scope noted) t) ≡ denoted_type (meanings naming (typed_by_name noted)) j t
+denoted_type-agrees naming n noted below j t =
+    denoted_type-map (typed_label naming noted) (label_from_ordinal naming None) (meanings naming_by_label (typed_by_ordinal noted)) (meanings naming (typed_by_name noted))
     (λ x. ap constant_of (typed_meanings-agree naming n noted below x)) (λ x. ap type_of_name (typed_meanings-agree naming n noted below x)) (λ x. refl) j t
 
 pub constants_typed : {N : Type 0} (naming : Naming N) (k : ℕ) (noted : TypeNoted N) → TypedBelow k noted → (cs : Tree N (items constant))
@@ -106,7 +106,7 @@ constants_typed naming k noted below (more (declares_constant x e) cs) =
     (constant_value-map (typed_label naming noted) (label_from_ordinal naming None) (meanings naming_by_label (typed_by_ordinal noted)) (meanings naming (typed_by_name noted)) e (λ x. ap constant_of (typed_meanings-agree naming k noted below x)) (λ x. refl))
     (λ v. constants_typed naming (suc k) (record { name = x; ordinal = k; object = a_constant v } ∷ noted) (le_refl (suc k), below) cs)
 
-pub types_typed : {N : Type 0} (naming : Naming N) (j k : ℕ) (noted : TypeNoted N) → TypedBelow k noted → (ds : Tree N (items type_name))
+pub types_typed : {N : Type 0} (naming : Naming N) (j k : ℕ) (noted : TypeNoted N) → TypedBelow k noted → (ds : Tree N (items type_definition))
     → Agree typed_by_name typed_by_ordinal (TypedWithin (ordinal_after_names k (declared_type_names ds)) (declare_names k (declared_type_names ds) (typed_scope noted)))
     (declare_types naming (typed_by_name noted) j ds) (declare_types naming_by_label (typed_by_ordinal noted) j (relabel_types naming (label_from_ordinal naming) (typed_scope noted) k ds))
 unfolding declare_types
@@ -116,8 +116,8 @@ types_typed naming j k noted below (more (declares_type x u) ds) =
     (agree-value typed_by_name typed_by_ordinal (TypedWithin (ordinal_after_names (suc k) (declared_type_names ds)) (declare_names (suc k) (declared_type_names ds) ((x, k) ∷ typed_scope noted)))
     (λ s. declare_types naming ((x, a_type s) ∷ typed_by_name noted) (j + constructor_count u) ds)
     (λ s. declare_types naming_by_label ((declared k, a_type s) ∷ typed_by_ordinal noted) (j + constructor_count u) (relabel_types naming (label_from_ordinal naming) ((x, k) ∷ typed_scope noted) (suc k) ds))
-    (denoted (meanings naming (typed_by_name noted)) j u) (denoted (meanings naming_by_label (typed_by_ordinal noted)) j (relabel_uses naming (label_from_ordinal naming) (typed_scope noted) u))
-    (denoted-agrees naming k noted below j u)
+    (denoted_type (meanings naming (typed_by_name noted)) j u) (denoted_type (meanings naming_by_label (typed_by_ordinal noted)) j (relabel_uses naming (label_from_ordinal naming) (typed_scope noted) u))
+    (denoted_type-agrees naming k noted below j u)
     (λ s. types_typed naming (j + constructor_count u) (suc k) (record { name = x; ordinal = k; object = a_type s } ∷ noted) (le_refl (suc k), below) ds))
 
 abbrev pub noted_names : {N : Type 0} → ℕ → List N → Object Shape Signature → TypeNoted N → TypeNoted N
@@ -146,22 +146,22 @@ typed_moved naming Goal k xs o noted below h =
 
 pub variables_typed : {N : Type 0} (naming : Naming N) (j k : ℕ) (noted : TypeNoted N) → TypedBelow k noted → (gs : Tree N (items variable))
     → Agree typed_by_name typed_by_ordinal (TypedWithin (ordinal_after_names k (variable_names gs)) (declare_names k (variable_names gs) (typed_scope noted)))
-    (declare_typed naming j gs (typed_by_name noted)) (declare_typed naming_by_label j (relabel_variables naming (label_from_ordinal naming) (typed_scope noted) k gs) (typed_by_ordinal noted))
-unfolding declare_typed
+    (declare_typed_variables naming j gs (typed_by_name noted)) (declare_typed_variables naming_by_label j (relabel_variables naming (label_from_ordinal naming) (typed_scope noted) k gs) (typed_by_ordinal noted))
+unfolding declare_typed_variables
 variables_typed naming j k noted below end = (Some noted, refl, refl, (refl, below))
 variables_typed naming j k noted below (more (declares_variable ns u) gs) =
     rw (constructor_count-map (label_of naming (label_from_ordinal naming) (typed_scope noted)) (label_from_ordinal naming None) u, names-relabel (label_from_ordinal naming) k ns)
     (agree-value typed_by_name typed_by_ordinal (TypedWithin (ordinal_after_names k (names_in_list ns ++ variable_names gs)) (declare_names k (names_in_list ns ++ variable_names gs) (typed_scope noted)))
-    (λ s. declare_typed naming (j + constructor_count u) gs (bind_names (names_in_list ns) (a_variable s) (typed_by_name noted)))
-    (λ s. declare_typed naming_by_label (j + constructor_count u) (relabel_variables naming (label_from_ordinal naming) (declare_names k (names_in_list ns) (typed_scope noted)) (ordinal_after_names k (names_in_list ns)) gs) (bind_names (label_names (label_from_ordinal naming) k (names_in_list ns)) (a_variable s) (typed_by_ordinal noted)))
-    (denoted (meanings naming (typed_by_name noted)) j u) (denoted (meanings naming_by_label (typed_by_ordinal noted)) j (relabel_uses naming (label_from_ordinal naming) (typed_scope noted) u))
-    (denoted-agrees naming k noted below j u)
+    (λ s. declare_typed_variables naming (j + constructor_count u) gs (bind_names (names_in_list ns) (a_variable s) (typed_by_name noted)))
+    (λ s. declare_typed_variables naming_by_label (j + constructor_count u) (relabel_variables naming (label_from_ordinal naming) (declare_names k (names_in_list ns) (typed_scope noted)) (ordinal_after_names k (names_in_list ns)) gs) (bind_names (label_names (label_from_ordinal naming) k (names_in_list ns)) (a_variable s) (typed_by_ordinal noted)))
+    (denoted_type (meanings naming (typed_by_name noted)) j u) (denoted_type (meanings naming_by_label (typed_by_ordinal noted)) j (relabel_uses naming (label_from_ordinal naming) (typed_scope noted) u))
+    (denoted_type-agrees naming k noted below j u)
     (λ s. subst₂ (λ n scope. Agree typed_by_name typed_by_ordinal (TypedWithin n scope)
-    (declare_typed naming (j + constructor_count u) gs (bind_names (names_in_list ns) (a_variable s) (typed_by_name noted)))
-    (declare_typed naming_by_label (j + constructor_count u) (relabel_variables naming (label_from_ordinal naming) (declare_names k (names_in_list ns) (typed_scope noted)) (ordinal_after_names k (names_in_list ns)) gs) (bind_names (label_names (label_from_ordinal naming) k (names_in_list ns)) (a_variable s) (typed_by_ordinal noted))))
+    (declare_typed_variables naming (j + constructor_count u) gs (bind_names (names_in_list ns) (a_variable s) (typed_by_name noted)))
+    (declare_typed_variables naming_by_label (j + constructor_count u) (relabel_variables naming (label_from_ordinal naming) (declare_names k (names_in_list ns) (typed_scope noted)) (ordinal_after_names k (names_in_list ns)) gs) (bind_names (label_names (label_from_ordinal naming) k (names_in_list ns)) (a_variable s) (typed_by_ordinal noted))))
     (sym (ordinal_after_names-append k (names_in_list ns) (variable_names gs))) (sym (declare_names-append k (names_in_list ns) (variable_names gs) (typed_scope noted)))
     (typed_moved naming (λ scope a b. Agree typed_by_name typed_by_ordinal (TypedWithin (ordinal_after_names (ordinal_after_names k (names_in_list ns)) (variable_names gs)) (declare_names (ordinal_after_names k (names_in_list ns)) (variable_names gs) scope))
-    (declare_typed naming (j + constructor_count u) gs a) (declare_typed naming_by_label (j + constructor_count u) (relabel_variables naming (label_from_ordinal naming) scope (ordinal_after_names k (names_in_list ns)) gs) b))
+    (declare_typed_variables naming (j + constructor_count u) gs a) (declare_typed_variables naming_by_label (j + constructor_count u) (relabel_variables naming (label_from_ordinal naming) scope (ordinal_after_names k (names_in_list ns)) gs) b))
     k (names_in_list ns) (a_variable s) noted below
     (variables_typed naming (j + constructor_count u) (ordinal_after_names k (names_in_list ns)) (noted_names k (names_in_list ns) (a_variable s) noted) (noted_names-within k (names_in_list ns) (a_variable s) noted below).1 gs))))
 
@@ -200,8 +200,8 @@ parameters_typed {N} naming j k noted below (more (then_section f) fs) =
     (agree-value (λ ps. ps) (label_typed k) (λ ps. typed_names ps ≡ section_names f ++ formal_names fs)
     (λ s. option_and_then (λ rest. Some (map (typed_parameter record { mode = (section_mode f); shape = s }) (section_names f) ++ rest)) (typed_parameters naming (bind_names (section_names f) (a_variable s) (typed_by_name noted)) (j + constructor_count (section_type f)) fs))
     (λ s. option_and_then (λ rest. Some (map (typed_parameter record { mode = (section_mode f); shape = s }) (label_names (label_from_ordinal naming) k (section_names f)) ++ rest)) (typed_parameters naming_by_label (bind_names (label_names (label_from_ordinal naming) k (section_names f)) (a_variable s) (typed_by_ordinal noted)) (j + constructor_count (section_type f)) (relabel_sections naming (label_from_ordinal naming) (declare_names k (section_names f) (typed_scope noted)) (ordinal_after_names k (section_names f)) fs)))
-    (denoted (meanings naming (typed_by_name noted)) j (section_type f)) (denoted (meanings naming_by_label (typed_by_ordinal noted)) j (relabel_uses naming (label_from_ordinal naming) (typed_scope noted) (section_type f)))
-    (denoted-agrees naming k noted below j (section_type f))
+    (denoted_type (meanings naming (typed_by_name noted)) j (section_type f)) (denoted_type (meanings naming_by_label (typed_by_ordinal noted)) j (relabel_uses naming (label_from_ordinal naming) (typed_scope noted) (section_type f)))
+    (denoted_type-agrees naming k noted below j (section_type f))
     (λ s. agree-then (λ ps. ps) (label_typed (ordinal_after_names k (section_names f))) (λ ps. typed_names ps ≡ formal_names fs) (λ ps. ps) (label_typed k) (λ ps. typed_names ps ≡ section_names f ++ formal_names fs)
     (λ rest. Some (map (typed_parameter record { mode = (section_mode f); shape = s }) (section_names f) ++ rest)) (λ rest. Some (map (typed_parameter record { mode = (section_mode f); shape = s }) (label_names (label_from_ordinal naming) k (section_names f)) ++ rest))
     (typed_parameters naming (bind_names (section_names f) (a_variable s) (typed_by_name noted)) (j + constructor_count (section_type f)) fs)
@@ -240,22 +240,22 @@ label_typed-formals k (p ∷ ps) = λ i. p.formal ∷ label_typed-formals (suc k
 -- Two tests agree after optional values that agree.
 
 pub hold-agrees : {X Y Z : Type 0} (p : X → Y) (q : X → Z) (P : X → Type 0) (r : Option Y) (s : Option Z) (here : Y → Bool) (there : Z → Bool)
-    → Agree p q P r s → ((x : X) → P x → there (q x) ≡ here (p x)) → some_satisfies s there ≡ some_satisfies r here
+    → Agree p q P r s → ((x : X) → P x → there (q x) ≡ here (p x)) → option_satisfies s there ≡ option_satisfies r here
 hold-agrees p q P r s here there (a, e, e', holds) next =
-    ap (λ s. some_satisfies s there) e' ∙ (go a holds ∙ sym (ap (λ r. some_satisfies r here) e))
+    ap (λ s. option_satisfies s there) e' ∙ (go a holds ∙ sym (ap (λ r. option_satisfies r here) e))
   where
-    go : (a : Option _) → HoldsOf P a → some_satisfies (option_map q a) there ≡ some_satisfies (option_map p a) here
+    go : (a : Option _) → HoldsOf P a → option_satisfies (option_map q a) there ≡ option_satisfies (option_map p a) here
     go None holds = refl
     go (Some x) holds = next x holds
 
 pub firsts_typed : {N : Type 0} (naming : Naming N) (j k : ℕ) (noted : TypeNoted N) → TypedBelow k noted → (b : Tree N block)
     → Agree typed_by_name typed_by_ordinal (TypedWithin (first_variable_ordinal k b) (variables_scope k b (typed_scope noted)))
-    (declare_first naming (typed_by_name noted) j b) (declare_first naming_by_label (typed_by_ordinal noted) j (relabel_block naming (label_from_ordinal naming) (typed_scope noted) k b))
-unfolding declare_first
-firsts_typed {N} naming j k noted below (has_body (declares cs ts vs ps) statements) =
-    let b : Tree N block = has_body (declares cs ts vs ps) statements in
+    (declare_constants_and_types naming (typed_by_name noted) j b) (declare_constants_and_types naming_by_label (typed_by_ordinal noted) j (relabel_block naming (label_from_ordinal naming) (typed_scope noted) k b))
+unfolding declare_constants_and_types
+firsts_typed {N} naming j k noted below (forms_block (declares cs ts vs ps) statements) =
+    let b : Tree N block = forms_block (declares cs ts vs ps) statements in
     subst₂ (λ u v. Agree typed_by_name typed_by_ordinal (TypedWithin (first_variable_ordinal k b) (variables_scope k b (typed_scope noted)))
-    (declare_first naming (typed_by_name noted) j b) (option_and_then (λ env. declare_types naming_by_label env j v) (declare_constants naming_by_label (typed_by_ordinal noted) u)))
+    (declare_constants_and_types naming (typed_by_name noted) j b) (option_and_then (λ env. declare_types naming_by_label env j v) (declare_constants naming_by_label (typed_by_ordinal noted) u)))
     (sym (constants-section naming (label_from_ordinal naming) (typed_scope noted) k cs))
     (sym (types-section naming (label_from_ordinal naming) (types_scope k b (typed_scope noted)) (first_type_ordinal k b) ts))
     (agree-then typed_by_name typed_by_ordinal (TypedWithin (first_type_ordinal k b) (types_scope k b (typed_scope noted))) typed_by_name typed_by_ordinal (TypedWithin (first_variable_ordinal k b) (variables_scope k b (typed_scope noted)))
@@ -269,90 +269,90 @@ firsts_typed {N} naming j k noted below (has_body (declares cs ts vs ps) stateme
 -- A block's constants, types and variables have the same bindings by names and by ordinals.
 pub declarations_typed : {N : Type 0} (naming : Naming N) (j k : ℕ) (noted : TypeNoted N) → TypedBelow k noted → (b : Tree N block)
     → Agree typed_by_name typed_by_ordinal (TypedWithin (first_procedure_ordinal k b) (procedures_scope k b (typed_scope noted)))
-    (option_and_then (declare_typed naming (constructors_before_variables j b) (block_variables b)) (declare_first naming (typed_by_name noted) j b))
-    (option_and_then (declare_typed naming_by_label (constructors_before_variables j (relabel_block naming (label_from_ordinal naming) (typed_scope noted) k b)) (block_variables (relabel_block naming (label_from_ordinal naming) (typed_scope noted) k b)))
-    (declare_first naming_by_label (typed_by_ordinal noted) j (relabel_block naming (label_from_ordinal naming) (typed_scope noted) k b)))
-declarations_typed {N} naming j k noted below (has_body (declares cs ts vs ps) statements) =
-    let b : Tree N block = has_body (declares cs ts vs ps) statements in
+    (option_and_then (declare_typed_variables naming (constructors_before_variables j b) (block_variables b)) (declare_constants_and_types naming (typed_by_name noted) j b))
+    (option_and_then (declare_typed_variables naming_by_label (constructors_before_variables j (relabel_block naming (label_from_ordinal naming) (typed_scope noted) k b)) (block_variables (relabel_block naming (label_from_ordinal naming) (typed_scope noted) k b)))
+    (declare_constants_and_types naming_by_label (typed_by_ordinal noted) j (relabel_block naming (label_from_ordinal naming) (typed_scope noted) k b)))
+declarations_typed {N} naming j k noted below (forms_block (declares cs ts vs ps) statements) =
+    let b : Tree N block = forms_block (declares cs ts vs ps) statements in
     let scope : Scope N = typed_scope noted in
     subst₂ (λ n gs. Agree typed_by_name typed_by_ordinal (TypedWithin (first_procedure_ordinal k b) (procedures_scope k b scope))
-    (option_and_then (declare_typed naming (constructors_before_variables j b) (section_variables vs)) (declare_first naming (typed_by_name noted) j b))
-    (option_and_then (declare_typed naming_by_label (j + n) gs) (declare_first naming_by_label (typed_by_ordinal noted) j (relabel_block naming (label_from_ordinal naming) scope k b))))
+    (option_and_then (declare_typed_variables naming (constructors_before_variables j b) (section_variables vs)) (declare_constants_and_types naming (typed_by_name noted) j b))
+    (option_and_then (declare_typed_variables naming_by_label (j + n) gs) (declare_constants_and_types naming_by_label (typed_by_ordinal noted) j (relabel_block naming (label_from_ordinal naming) scope k b))))
     (sym (ap types_constructor_count (types-section naming (label_from_ordinal naming) (types_scope k b scope) (first_type_ordinal k b) ts) ∙ types_constructor_count-relabel naming (label_from_ordinal naming) (types_scope k b scope) (first_type_ordinal k b) (section_types ts)))
     (sym (variables-section naming (label_from_ordinal naming) (variables_scope k b scope) (first_variable_ordinal k b) vs))
     (agree-then typed_by_name typed_by_ordinal (TypedWithin (first_variable_ordinal k b) (variables_scope k b scope)) typed_by_name typed_by_ordinal (TypedWithin (first_procedure_ordinal k b) (procedures_scope k b scope))
-    (declare_typed naming (constructors_before_variables j b) (section_variables vs)) (declare_typed naming_by_label (constructors_before_variables j b) (relabel_variables naming (label_from_ordinal naming) (variables_scope k b scope) (first_variable_ordinal k b) (section_variables vs)))
-    (declare_first naming (typed_by_name noted) j b) (declare_first naming_by_label (typed_by_ordinal noted) j (relabel_block naming (label_from_ordinal naming) scope k b))
+    (declare_typed_variables naming (constructors_before_variables j b) (section_variables vs)) (declare_typed_variables naming_by_label (constructors_before_variables j b) (relabel_variables naming (label_from_ordinal naming) (variables_scope k b scope) (first_variable_ordinal k b) (section_variables vs)))
+    (declare_constants_and_types naming (typed_by_name noted) j b) (declare_constants_and_types naming_by_label (typed_by_ordinal noted) j (relabel_block naming (label_from_ordinal naming) scope k b))
     (firsts_typed naming j k noted below b)
     (λ inner within. subst (λ s. Agree typed_by_name typed_by_ordinal (TypedWithin (first_procedure_ordinal k b) (declare_names (first_variable_ordinal k b) (variable_names (section_variables vs)) s))
-    (declare_typed naming (constructors_before_variables j b) (section_variables vs) (typed_by_name inner)) (declare_typed naming_by_label (constructors_before_variables j b) (relabel_variables naming (label_from_ordinal naming) s (first_variable_ordinal k b) (section_variables vs)) (typed_by_ordinal inner)))
+    (declare_typed_variables naming (constructors_before_variables j b) (section_variables vs) (typed_by_name inner)) (declare_typed_variables naming_by_label (constructors_before_variables j b) (relabel_variables naming (label_from_ordinal naming) s (first_variable_ordinal k b) (section_variables vs)) (typed_by_ordinal inner)))
     within.0 (variables_typed naming (constructors_before_variables j b) (first_variable_ordinal k b) inner within.1 (section_variables vs))))
 
-pub body_fits-agrees : {N : Type 0} (naming : Naming N) (n : ℕ) (noted : TypeNoted N) → TypedBelow n noted → (statements : Tree N (maybe body)) → body_fits naming_by_label (typed_by_ordinal noted) (map_names (typed_label naming noted) (label_from_ordinal naming None) statements) ≡ body_fits naming (typed_by_name noted) statements
-unfolding body_fits
-body_fits-agrees naming n noted below none = refl
-body_fits-agrees naming n noted below (one (begins statements)) =
-    sequence_fits-map (typed_label naming noted) (label_from_ordinal naming None) (meanings naming_by_label (typed_by_ordinal noted)) statements
-    ∙ (λ i. sequence_fits (record { object_for = λ x. typed_meanings-agree naming n noted below x i; written = naming.written }) statements)
+pub body_is_well_typed-agrees : {N : Type 0} (naming : Naming N) (n : ℕ) (noted : TypeNoted N) → TypedBelow n noted → (statements : Tree N (maybe body)) → body_is_well_typed naming_by_label (typed_by_ordinal noted) (map_names (typed_label naming noted) (label_from_ordinal naming None) statements) ≡ body_is_well_typed naming (typed_by_name noted) statements
+unfolding body_is_well_typed
+body_is_well_typed-agrees naming n noted below none = refl
+body_is_well_typed-agrees naming n noted below (one (begins statements)) =
+    sequence_is_well_typed-map (typed_label naming noted) (label_from_ordinal naming None) (meanings naming_by_label (typed_by_ordinal noted)) statements
+    ∙ (λ i. sequence_is_well_typed (record { object_for = λ x. typed_meanings-agree naming n noted below x i; written = naming.written }) statements)
 
 mutual
-  unfolding block_fits
+  unfolding block_is_well_typed
 
-  pub block_fits-agrees : {N : Type 0} (naming : Naming N) (j k : ℕ) (noted : TypeNoted N) → TypedBelow k noted → (b : Tree N block) → block_fits naming_by_label (typed_by_ordinal noted) j (relabel_block naming (label_from_ordinal naming) (typed_scope noted) k b) ≡ block_fits naming (typed_by_name noted) j b
-  block_fits-agrees {N} naming j k noted below (has_body (declares cs ts vs ps) statements) =
-      let b : Tree N block = has_body (declares cs ts vs ps) statements in
+  pub block_is_well_typed-agrees : {N : Type 0} (naming : Naming N) (j k : ℕ) (noted : TypeNoted N) → TypedBelow k noted → (b : Tree N block) → block_is_well_typed naming_by_label (typed_by_ordinal noted) j (relabel_block naming (label_from_ordinal naming) (typed_scope noted) k b) ≡ block_is_well_typed naming (typed_by_name noted) j b
+  block_is_well_typed-agrees {N} naming j k noted below (forms_block (declares cs ts vs ps) statements) =
+      let b : Tree N block = forms_block (declares cs ts vs ps) statements in
       hold-agrees typed_by_name typed_by_ordinal (TypedWithin (first_procedure_ordinal k b) (procedures_scope k b (typed_scope noted)))
-      (option_and_then (declare_typed naming (constructors_before_variables j b) (section_variables vs)) (declare_first naming (typed_by_name noted) j b))
-      (option_and_then (declare_typed naming_by_label (constructors_before_variables j (relabel_block naming (label_from_ordinal naming) (typed_scope noted) k b)) (block_variables (relabel_block naming (label_from_ordinal naming) (typed_scope noted) k b)))
-      (declare_first naming_by_label (typed_by_ordinal noted) j (relabel_block naming (label_from_ordinal naming) (typed_scope noted) k b)))
-      (λ inner. procedures_fit naming inner (constructor_after_variables j b) statements ps)
-      (λ inner. procedures_fit naming_by_label inner (constructor_after_variables j (relabel_block naming (label_from_ordinal naming) (typed_scope noted) k b)) (relabel_uses naming (label_from_ordinal naming) (body_scope k b (typed_scope noted)) statements)
+      (option_and_then (declare_typed_variables naming (constructors_before_variables j b) (section_variables vs)) (declare_constants_and_types naming (typed_by_name noted) j b))
+      (option_and_then (declare_typed_variables naming_by_label (constructors_before_variables j (relabel_block naming (label_from_ordinal naming) (typed_scope noted) k b)) (block_variables (relabel_block naming (label_from_ordinal naming) (typed_scope noted) k b)))
+      (declare_constants_and_types naming_by_label (typed_by_ordinal noted) j (relabel_block naming (label_from_ordinal naming) (typed_scope noted) k b)))
+      (λ inner. procedures_are_well_typed naming inner (constructors_before_procedures j b) statements ps)
+      (λ inner. procedures_are_well_typed naming_by_label inner (constructors_before_procedures j (relabel_block naming (label_from_ordinal naming) (typed_scope noted) k b)) (relabel_uses naming (label_from_ordinal naming) (body_scope k b (typed_scope noted)) statements)
       (relabel_procedures naming (label_from_ordinal naming) (procedures_scope k b (typed_scope noted)) (first_procedure_ordinal k b) ps))
       (declarations_typed naming j k noted below b)
-      (λ inner within. (λ i. procedures_fit naming_by_label (typed_by_ordinal inner)
+      (λ inner within. (λ i. procedures_are_well_typed naming_by_label (typed_by_ordinal inner)
       (j + (ap types_constructor_count (types-section naming (label_from_ordinal naming) (types_scope k b (typed_scope noted)) (first_type_ordinal k b) ts) ∙ types_constructor_count-relabel naming (label_from_ordinal naming) (types_scope k b (typed_scope noted)) (first_type_ordinal k b) (section_types ts)) i
       + (ap variables_constructor_count (variables-section naming (label_from_ordinal naming) (variables_scope k b (typed_scope noted)) (first_variable_ordinal k b) vs) ∙ variables_constructor_count-relabel naming (label_from_ordinal naming) (variables_scope k b (typed_scope noted)) (first_variable_ordinal k b) (section_variables vs)) i)
       (relabel_uses naming (label_from_ordinal naming) (declare_procedure_names (first_procedure_ordinal k b) ps (sym within.0 i)) statements) (relabel_procedures naming (label_from_ordinal naming) (sym within.0 i) (first_procedure_ordinal k b) ps))
-      ∙ procedures_fit-agrees naming (constructor_after_variables j b) (first_procedure_ordinal k b) inner within.1 statements ps)
+      ∙ procedures_are_well_typed-agrees naming (constructors_before_procedures j b) (first_procedure_ordinal k b) inner within.1 statements ps)
 
-  pub procedures_fit-agrees : {N : Type 0} (naming : Naming N) (j k : ℕ) (noted : TypeNoted N) → TypedBelow k noted → (statements : Tree N (maybe body)) (ps : Tree N (items procedure))
-      → procedures_fit naming_by_label (typed_by_ordinal noted) j (relabel_uses naming (label_from_ordinal naming) (declare_procedure_names k ps (typed_scope noted)) statements) (relabel_procedures naming (label_from_ordinal naming) (typed_scope noted) k ps)
-      ≡ procedures_fit naming (typed_by_name noted) j statements ps
-  procedures_fit-agrees naming j k noted below statements end = body_fits-agrees naming k noted below statements
-  procedures_fit-agrees {N} naming j k noted below statements (more (declares_procedure x fs b closing) rest) =
+  pub procedures_are_well_typed-agrees : {N : Type 0} (naming : Naming N) (j k : ℕ) (noted : TypeNoted N) → TypedBelow k noted → (statements : Tree N (maybe body)) (ps : Tree N (items procedure))
+      → procedures_are_well_typed naming_by_label (typed_by_ordinal noted) j (relabel_uses naming (label_from_ordinal naming) (declare_procedure_names k ps (typed_scope noted)) statements) (relabel_procedures naming (label_from_ordinal naming) (typed_scope noted) k ps)
+      ≡ procedures_are_well_typed naming (typed_by_name noted) j statements ps
+  procedures_are_well_typed-agrees naming j k noted below statements end = body_is_well_typed-agrees naming k noted below statements
+  procedures_are_well_typed-agrees {N} naming j k noted below statements (more (declares_procedure x fs b closing) rest) =
       let p : Tree N (item procedure) = declares_procedure x fs b closing in
       let scope : Scope N = typed_scope noted in
       let labelled : formal_sections (relabel_formals naming (label_from_ordinal naming) scope (suc k) fs) ≡ relabel_sections naming (label_from_ordinal naming) scope (suc k) (formal_sections fs) = formals-section naming (label_from_ordinal naming) scope (suc k) fs in
-      ap (λ gs. some_satisfies (typed_parameters naming_by_label (typed_by_ordinal noted) j gs) (λ ps. procedure_fits naming_by_label (bind_typed_parameters ps (bind_procedure (declared k) ps (typed_by_ordinal noted))) j (relabel_procedure naming (label_from_ordinal naming) scope k p)
-      && procedures_fit naming_by_label (bind_procedure (declared k) ps (typed_by_ordinal noted)) (j + procedure_constructor_count (relabel_procedure naming (label_from_ordinal naming) scope k p)) (relabel_uses naming (label_from_ordinal naming) (declare_procedure_names (ordinal_after_procedure (suc k) p) rest ((x, k) ∷ scope)) statements) (relabel_procedures naming (label_from_ordinal naming) ((x, k) ∷ scope) (ordinal_after_procedure (suc k) p) rest))) labelled
+      ap (λ gs. option_satisfies (typed_parameters naming_by_label (typed_by_ordinal noted) j gs) (λ ps. procedure_is_well_typed naming_by_label (bind_typed_parameters ps (bind_procedure (declared k) ps (typed_by_ordinal noted))) j (relabel_procedure naming (label_from_ordinal naming) scope k p)
+      && procedures_are_well_typed naming_by_label (bind_procedure (declared k) ps (typed_by_ordinal noted)) (j + procedure_constructor_count (relabel_procedure naming (label_from_ordinal naming) scope k p)) (relabel_uses naming (label_from_ordinal naming) (declare_procedure_names (ordinal_after_procedure (suc k) p) rest ((x, k) ∷ scope)) statements) (relabel_procedures naming (label_from_ordinal naming) ((x, k) ∷ scope) (ordinal_after_procedure (suc k) p) rest))) labelled
       ∙ hold-agrees (λ ps. ps) (label_typed (suc k)) (λ ps. typed_names ps ≡ formal_names (formal_sections fs))
       (typed_parameters naming (typed_by_name noted) j (formal_sections fs)) (typed_parameters naming_by_label (typed_by_ordinal noted) j (relabel_sections naming (label_from_ordinal naming) scope (suc k) (formal_sections fs)))
-      (λ ps. procedure_fits naming (bind_typed_parameters ps (bind_procedure x ps (typed_by_name noted))) j p && procedures_fit naming (bind_procedure x ps (typed_by_name noted)) (j + procedure_constructor_count p) statements rest)
-      (λ ps. procedure_fits naming_by_label (bind_typed_parameters ps (bind_procedure (declared k) ps (typed_by_ordinal noted))) j (relabel_procedure naming (label_from_ordinal naming) scope k p)
-      && procedures_fit naming_by_label (bind_procedure (declared k) ps (typed_by_ordinal noted)) (j + procedure_constructor_count (relabel_procedure naming (label_from_ordinal naming) scope k p)) (relabel_uses naming (label_from_ordinal naming) (declare_procedure_names (ordinal_after_procedure (suc k) p) rest ((x, k) ∷ scope)) statements) (relabel_procedures naming (label_from_ordinal naming) ((x, k) ∷ scope) (ordinal_after_procedure (suc k) p) rest))
+      (λ ps. procedure_is_well_typed naming (bind_typed_parameters ps (bind_procedure x ps (typed_by_name noted))) j p && procedures_are_well_typed naming (bind_procedure x ps (typed_by_name noted)) (j + procedure_constructor_count p) statements rest)
+      (λ ps. procedure_is_well_typed naming_by_label (bind_typed_parameters ps (bind_procedure (declared k) ps (typed_by_ordinal noted))) j (relabel_procedure naming (label_from_ordinal naming) scope k p)
+      && procedures_are_well_typed naming_by_label (bind_procedure (declared k) ps (typed_by_ordinal noted)) (j + procedure_constructor_count (relabel_procedure naming (label_from_ordinal naming) scope k p)) (relabel_uses naming (label_from_ordinal naming) (declare_procedure_names (ordinal_after_procedure (suc k) p) rest ((x, k) ∷ scope)) statements) (relabel_procedures naming (label_from_ordinal naming) ((x, k) ∷ scope) (ordinal_after_procedure (suc k) p) rest))
       (parameters_typed naming j (suc k) noted (TypedBelow-weaken k (suc k) noted (le_of_lt (le_refl (suc k))) below) (formal_sections fs))
       (λ ps e.
       let own : TypeNoted N = record { name = x; ordinal = k; object = a_procedure (map (λ p. p.formal) ps) } ∷ noted in
       let within : TypedWithin (ordinal_after_names (suc k) (typed_names ps)) (declare_names (suc k) (typed_names ps) ((x, k) ∷ scope)) (noted_parameters (suc k) ps own) = noted_parameters-within (suc k) ps own (le_refl (suc k), below) in
-      let first : procedure_fits naming_by_label (bind_typed_parameters (label_typed (suc k) ps) (bind_procedure (declared k) (label_typed (suc k) ps) (typed_by_ordinal noted))) j (relabel_procedure naming (label_from_ordinal naming) scope k p) ≡ procedure_fits naming (bind_typed_parameters ps (bind_procedure x ps (typed_by_name noted))) j p =
-      (λ i. block_fits naming_by_label ((ap (λ sig. bind_typed_parameters (label_typed (suc k) ps) ((declared k, a_procedure sig) ∷ typed_by_ordinal noted)) (label_typed-formals (suc k) ps) ∙ bind_typed_parameters-by_ordinal (suc k) ps own) i)
+      let first : procedure_is_well_typed naming_by_label (bind_typed_parameters (label_typed (suc k) ps) (bind_procedure (declared k) (label_typed (suc k) ps) (typed_by_ordinal noted))) j (relabel_procedure naming (label_from_ordinal naming) scope k p) ≡ procedure_is_well_typed naming (bind_typed_parameters ps (bind_procedure x ps (typed_by_name noted))) j p =
+      (λ i. block_is_well_typed naming_by_label ((ap (λ sig. bind_typed_parameters (label_typed (suc k) ps) ((declared k, a_procedure sig) ∷ typed_by_ordinal noted)) (label_typed-formals (suc k) ps) ∙ bind_typed_parameters-by_ordinal (suc k) ps own) i)
       (j + (ap formals_constructor_count labelled ∙ formals_constructor_count-relabel naming (label_from_ordinal naming) scope (suc k) (formal_sections fs)) i)
       (relabel_block naming (label_from_ordinal naming) ((ap (λ xs. declare_names (suc k) xs ((x, k) ∷ scope)) (sym e) ∙ sym within.0) i) (ordinal_after_names (suc k) (sym e i)) b))
-      ∙ (block_fits-agrees naming (j + formals_constructor_count (formal_sections fs)) (ordinal_after_names (suc k) (typed_names ps)) (noted_parameters (suc k) ps own) within.1 b
-      ∙ sym (ap (λ env. block_fits naming env (j + formals_constructor_count (formal_sections fs)) b) (bind_typed_parameters-by_name (suc k) ps own))) in
-      let second : procedures_fit naming_by_label (bind_procedure (declared k) (label_typed (suc k) ps) (typed_by_ordinal noted)) (j + procedure_constructor_count (relabel_procedure naming (label_from_ordinal naming) scope k p)) (relabel_uses naming (label_from_ordinal naming) (declare_procedure_names (ordinal_after_procedure (suc k) p) rest ((x, k) ∷ scope)) statements) (relabel_procedures naming (label_from_ordinal naming) ((x, k) ∷ scope) (ordinal_after_procedure (suc k) p) rest)
-      ≡ procedures_fit naming (bind_procedure x ps (typed_by_name noted)) (j + procedure_constructor_count p) statements rest =
-      (λ i. procedures_fit naming_by_label ((declared k, a_procedure (label_typed-formals (suc k) ps i)) ∷ typed_by_ordinal noted) (j + procedure_constructor_count-relabel naming (label_from_ordinal naming) scope k p i) (relabel_uses naming (label_from_ordinal naming) (declare_procedure_names (ordinal_after_procedure (suc k) p) rest ((x, k) ∷ scope)) statements) (relabel_procedures naming (label_from_ordinal naming) ((x, k) ∷ scope) (ordinal_after_procedure (suc k) p) rest))
-      ∙ procedures_fit-agrees naming (j + procedure_constructor_count p) (ordinal_after_procedure (suc k) p) own (le-ordinal_after_procedure (suc k) p, below) statements rest in
+      ∙ (block_is_well_typed-agrees naming (j + formals_constructor_count (formal_sections fs)) (ordinal_after_names (suc k) (typed_names ps)) (noted_parameters (suc k) ps own) within.1 b
+      ∙ sym (ap (λ env. block_is_well_typed naming env (j + formals_constructor_count (formal_sections fs)) b) (bind_typed_parameters-by_name (suc k) ps own))) in
+      let second : procedures_are_well_typed naming_by_label (bind_procedure (declared k) (label_typed (suc k) ps) (typed_by_ordinal noted)) (j + procedure_constructor_count (relabel_procedure naming (label_from_ordinal naming) scope k p)) (relabel_uses naming (label_from_ordinal naming) (declare_procedure_names (ordinal_after_procedure (suc k) p) rest ((x, k) ∷ scope)) statements) (relabel_procedures naming (label_from_ordinal naming) ((x, k) ∷ scope) (ordinal_after_procedure (suc k) p) rest)
+      ≡ procedures_are_well_typed naming (bind_procedure x ps (typed_by_name noted)) (j + procedure_constructor_count p) statements rest =
+      (λ i. procedures_are_well_typed naming_by_label ((declared k, a_procedure (label_typed-formals (suc k) ps i)) ∷ typed_by_ordinal noted) (j + procedure_constructor_count-relabel naming (label_from_ordinal naming) scope k p i) (relabel_uses naming (label_from_ordinal naming) (declare_procedure_names (ordinal_after_procedure (suc k) p) rest ((x, k) ∷ scope)) statements) (relabel_procedures naming (label_from_ordinal naming) ((x, k) ∷ scope) (ordinal_after_procedure (suc k) p) rest))
+      ∙ procedures_are_well_typed-agrees naming (j + procedure_constructor_count p) (ordinal_after_procedure (suc k) p) own (le-ordinal_after_procedure (suc k) p, below) statements rest in
       λ i. first i && second i)
 
 abbrev pub typed_outermost : {N : Type 0} → Naming N → TypeNoted N
 typed_outermost naming =
-    record { name = naming.predeclared 6; ordinal = 6; object = a_standard writes_line } ∷ record { name = naming.predeclared 5; ordinal = 5; object = a_standard writes } ∷ record { name = naming.predeclared 4; ordinal = 4; object = a_standard reads }
+    record { name = naming.predeclared 6; ordinal = 6; object = a_standard write_line_procedure } ∷ record { name = naming.predeclared 5; ordinal = 5; object = a_standard write_procedure } ∷ record { name = naming.predeclared 4; ordinal = 4; object = a_standard read_procedure }
     ∷ record { name = naming.predeclared 3; ordinal = 3; object = a_constant (truth false) } ∷ record { name = naming.predeclared 2; ordinal = 2; object = a_constant (truth true) }
     ∷ record { name = naming.predeclared 1; ordinal = 1; object = a_type boolean_shape } ∷ record { name = naming.predeclared 0; ordinal = 0; object = a_type integer_shape } ∷ []
 
 pub fits-relabel : {N : Type 0} (naming : Naming N) (m : Tree N module_text) → passes_type_check naming_by_label (relabel_module naming (label_from_ordinal naming) m) ≡ passes_type_check naming m
 unfolding passes_type_check
 fits-relabel naming (is_module x b closing) =
-    block_fits-agrees naming 0 7 (typed_outermost naming) (lit< tt, (lit< tt, (lit< tt, (lit< tt, (lit< tt, (lit< tt, (lit< tt, tt))))))) b
+    block_is_well_typed-agrees naming 0 7 (typed_outermost naming) (lit< tt, (lit< tt, (lit< tt, (lit< tt, (lit< tt, (lit< tt, (lit< tt, tt))))))) b

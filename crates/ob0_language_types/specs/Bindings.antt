@@ -2,13 +2,13 @@
 -- its declaration is checked.
 -- Rule: docs/LANGUAGE.md, Scopes 2 to 4.
 use Rattle.std.specs.Prelude.{ℕ, ◌+◌, ◌-◌, List, [], ◌++◌, length, take, Some, None, Option}
-use Rattle.ob0_tree.specs.Tree.{Tree, block, declares, declares_procedure, end, has_body, item, items, module_text, more, procedure}
+use Rattle.ob0_tree.specs.Tree.{Tree, block, declares, declares_procedure, end, forms_block, item, items, module_text, more, procedure}
 use Rattle.ob0_language_names.specs.Names.{Label, Name, Naming, naming_by_label, declared}
 use Rattle.ob0_language_names.specs.Parts.{formal_sections, module_block}
 use Rattle.ob0_language_names.specs.Scopes.{numbered}
 use Rattle.ob0_language_types.specs.Declaring.{declare_block, declare_procedure}
-use Rattle.ob0_language_types.specs.Declarations.{constructor_after_variables, formals_constructor_count, procedure_constructor_count}
-use Rattle.ob0_language_types.specs.Environments.{environment_from_binding, newest_object, outermost}
+use Rattle.ob0_language_types.specs.Declarations.{constructors_before_procedures, formals_constructor_count, procedure_constructor_count}
+use Rattle.ob0_language_types.specs.Environments.{environment_from_binding, newest_object, outermost_environment}
 use Rattle.ob0_language_types.specs.Expressions.{Object, a_variable}
 use Rattle.ob0_language_types.specs.WellTyped.{Signature, TypeEnvironment, bind_typed_parameters, bind_procedure, typed_parameters}
 use Rattle.ob0_language_values.specs.Values.{Shape}
@@ -35,10 +35,10 @@ unfoldable mutual
       → ℕ
       → Tree N block
       → TypeEnvironment N
-  block_bindings naming env k (has_body (declares cs ts vs ps) statements) =
-      list_if_some (declare_block naming env k (has_body (declares cs ts vs ps) statements))
+  block_bindings naming env k (forms_block (declares cs ts vs ps) statements) =
+      list_if_some (declare_block naming env k (forms_block (declares cs ts vs ps) statements))
       (λ inner. procedures_bindings naming inner
-      (constructor_after_variables k (has_body (declares cs ts vs ps) statements)) ps
+      (constructors_before_procedures k (forms_block (declares cs ts vs ps) statements)) ps
       ++ bindings_since env inner)
 
   -- Returns the bindings of a list of procedures, from the last procedure to the first. Leaves out the first procedure
@@ -73,7 +73,7 @@ unfoldable mutual
 -- returns the bindings of a whole module, newest first, followed by the bindings of the predeclared names
 abbrev pub module_bindings : {N : Type 0} → Naming N → Tree N module_text → TypeEnvironment N
 module_bindings naming m =
-    block_bindings naming (outermost naming) 0 (module_block m) ++ outermost naming
+    block_bindings naming (outermost_environment naming) 0 (module_block m) ++ outermost_environment naming
 
 -- returns the object in the newest binding of the ordinal `k`; None if no binding is for `k`
 abbrev pub object_of_ordinal : TypeEnvironment Label → ℕ → Option (Object Shape Signature)

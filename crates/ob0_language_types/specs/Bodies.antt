@@ -1,14 +1,14 @@
 -- The bodies of a module, each with the environment in which its statements are checked.
 -- Rule: docs/LANGUAGE.md, Scopes 2.
 use Rattle.std.specs.Prelude.{◌≡◌, ℕ, ◌+◌, List, [], ◌∷◌, ◌++◌, Some, All}
-use Rattle.ob0_tree.specs.Tree.{Tree, block, body, declares, declares_procedure, end, has_body, item, items, maybe, module_text, more, procedure}
+use Rattle.ob0_tree.specs.Tree.{Tree, block, body, declares, declares_procedure, end, forms_block, item, items, maybe, module_text, more, procedure}
 use Rattle.ob0_language_names.specs.Names.{Label, Name, Naming, naming_by_label}
 use Rattle.ob0_language_names.specs.Parts.{formal_sections, module_block, procedure_formals, procedure_name}
 use Rattle.ob0_language_names.specs.Scopes.{numbered}
 use Rattle.ob0_language_types.specs.Bindings.{declared_object, list_if_some, object_of_ordinal}
 use Rattle.ob0_language_types.specs.Declaring.{declare_block}
-use Rattle.ob0_language_types.specs.Declarations.{constructor_after_variables, formals_constructor_count, procedure_constructor_count}
-use Rattle.ob0_language_types.specs.Environments.{outermost}
+use Rattle.ob0_language_types.specs.Declarations.{constructors_before_procedures, formals_constructor_count, procedure_constructor_count}
+use Rattle.ob0_language_types.specs.Environments.{outermost_environment}
 use Rattle.ob0_language_types.specs.Expressions.{Object}
 use Rattle.ob0_language_types.specs.WellTyped.{Signature, TypeEnvironment, TypedParameter, WellTyped, bind_typed_parameters, bind_procedure, typed_parameters}
 use Rattle.ob0_language_values.specs.Values.{Shape}
@@ -32,10 +32,10 @@ unfoldable mutual
       → ℕ
       → Tree N block
       → List (BodyAt N)
-  block_bodies naming env k (has_body (declares cs ts vs ps) statements) =
-      list_if_some (declare_block naming env k (has_body (declares cs ts vs ps) statements))
+  block_bodies naming env k (forms_block (declares cs ts vs ps) statements) =
+      list_if_some (declare_block naming env k (forms_block (declares cs ts vs ps) statements))
       (λ inner. procedures_bodies naming inner
-      (constructor_after_variables k (has_body (declares cs ts vs ps) statements)) statements ps)
+      (constructors_before_procedures k (forms_block (declares cs ts vs ps) statements)) statements ps)
 
   -- Returns the bodies of a list of procedures in text order, then the body `statements` of the
   -- block that contains them. If a parameter's type has an error, the result ends before the bodies
@@ -68,53 +68,53 @@ unfoldable mutual
 
 -- returns the bodies of a module, each with the environment in which its statements are checked
 abbrev pub module_bodies : {N : Type 0} → Naming N → Tree N module_text → List (BodyAt N)
-module_bodies naming m = block_bodies naming (outermost naming) 0 (module_block m)
+module_bodies naming m = block_bodies naming (outermost_environment naming) 0 (module_block m)
 
 -- States that the property `Q` holds for each of these environments of a block: after its
 -- variables, at the start of each procedure's block, and after its procedures. The same must hold
 -- within each procedure.
 abbrev mutual
   -- States that `Q` holds for the environment after a block's constants, types and variables, and
-  -- that `ProceduresHave` holds for the block's procedures in this environment. States nothing if a
+  -- that `HoldsInProcedures` holds for the block's procedures in this environment. States nothing if a
   -- constant, type or variable has an error. `k` is the number of words ARRAY and RECORD before the
   -- block.
-  pub BlockHas : (TypeEnvironment Label → Type 0)
+  pub HoldsInBlock : (TypeEnvironment Label → Type 0)
       → TypeEnvironment Label
       → ℕ
       → Tree Label block
       → Type 0
-  BlockHas Q env k (has_body (declares cs ts vs ps) statements) =
+  HoldsInBlock Q env k (forms_block (declares cs ts vs ps) statements) =
       (inner : TypeEnvironment Label)
-      → declare_block naming_by_label env k (has_body (declares cs ts vs ps) statements) ≡ Some inner
+      → declare_block naming_by_label env k (forms_block (declares cs ts vs ps) statements) ≡ Some inner
       → Q inner
-      × ProceduresHave Q inner (constructor_after_variables k (has_body (declares cs ts vs ps) statements)) ps
+      × HoldsInProcedures Q inner (constructors_before_procedures k (forms_block (declares cs ts vs ps) statements)) ps
 
   -- States that `Q` holds for the environment of each procedure's block, for the environments
   -- within that block, and for the environment after all procedures. If a parameter's type has an
   -- error, states nothing about this procedure and the environments after it. `k` is the number of
   -- words ARRAY and RECORD before the procedures.
-  pub ProceduresHave : (TypeEnvironment Label → Type 0)
+  pub HoldsInProcedures : (TypeEnvironment Label → Type 0)
       → TypeEnvironment Label
       → ℕ
       → Tree Label (items procedure)
       → Type 0
-  ProceduresHave Q env k end = Q env
-  ProceduresHave Q env k (more p rest) =
+  HoldsInProcedures Q env k end = Q env
+  HoldsInProcedures Q env k (more p rest) =
       (ps : List (TypedParameter Label))
       → typed_parameters naming_by_label env k (procedure_formals p) ≡ Some ps
       → Q (bind_typed_parameters ps (bind_procedure (procedure_name p) ps env))
-      × ProcedureHas Q (bind_typed_parameters ps (bind_procedure (procedure_name p) ps env)) k p
-      × ProceduresHave Q (bind_procedure (procedure_name p) ps env) (k + procedure_constructor_count p) rest
+      × HoldsInProcedure Q (bind_typed_parameters ps (bind_procedure (procedure_name p) ps env)) k p
+      × HoldsInProcedures Q (bind_procedure (procedure_name p) ps env) (k + procedure_constructor_count p) rest
 
-  -- states that `BlockHas` holds for a procedure's block; `k` is the number of words ARRAY and
+  -- states that `HoldsInBlock` holds for a procedure's block; `k` is the number of words ARRAY and
   -- RECORD before the procedure
-  pub ProcedureHas : (TypeEnvironment Label → Type 0)
+  pub HoldsInProcedure : (TypeEnvironment Label → Type 0)
       → TypeEnvironment Label
       → ℕ
       → Tree Label (item procedure)
       → Type 0
-  ProcedureHas Q env k (declares_procedure x fs b closing) =
-      BlockHas Q env (k + formals_constructor_count (formal_sections fs)) b
+  HoldsInProcedure Q env k (declares_procedure x fs b closing) =
+      HoldsInBlock Q env (k + formals_constructor_count (formal_sections fs)) b
 
 -- States that an environment and a declaration agree on the object of an ordinal. If the
 -- environment of a body in a well-typed module binds an ordinal to an object, the declaration with

@@ -2,13 +2,13 @@
 -- constants. Other names matter only because they can hide a constant's name.
 -- Rule: docs/LANGUAGE.md, Types 6, 7.
 use Rattle.std.specs.Prelude.{None, Option, Some, if◌then◌else◌, map, nat_lt, option_and_then, suc, ℕ, ◌++◌, ◌==◌, ◌∷◌}
-use Rattle.ob0_tree.specs.Tree.{Tree, block, constant, declares, declares_constant, declares_procedure, end, has_body, item, items, module_text, more, procedure}
+use Rattle.ob0_tree.specs.Tree.{Tree, block, constant, declares, declares_constant, declares_procedure, end, forms_block, item, items, module_text, more, procedure}
 use Rattle.ob0_language_names.specs.Names.{Name, naming_by_spelling}
 use Rattle.ob0_language_names.specs.Parts.{formal_names, formal_sections, module_block, declared_type_names, procedure_name, section_constants, section_types, section_variables, variable_names}
 use Rattle.ob0_language_names.specs.Scopes.{ordinal_after_names, ordinal_after_procedure, first_procedure_ordinal, first_type_ordinal, predeclared_count}
 use Rattle.ob0_language_values.specs.Values.{Value}
 use Rattle.ob0_language_types.specs.Declarations.{declare_constants}
-use Rattle.ob0_language_types.specs.Environments.{Environment, meanings, outermost}
+use Rattle.ob0_language_types.specs.Environments.{Environment, meanings, outermost_environment}
 use Rattle.ob0_language_types.specs.Expressions.{Object, a_constant, a_procedure, a_standard, a_type, a_variable}
 use Rattle.ob0_language_types.specs.Typing.{constant_value, ◌>>=◌}
 use Rattle.ob0_language_types.specs.WellTyped.{bind_names}
@@ -33,34 +33,34 @@ keep_constant (a_standard p) = non_constant
 -- returns the environment of the predeclared names, in which only the constants have values
 abbrev pub predeclared_constants : ConstantEnvironment
 predeclared_constants =
-    map (λ b. (b.0, keep_constant b.1)) (outermost {V = Unit {0}} {P = Unit {0}} naming_by_spelling)
+    map (λ b. (b.0, keep_constant b.1)) (outermost_environment {V = Unit {0}} {P = Unit {0}} naming_by_spelling)
 
 -- Returns the value of the constant with ordinal `d` in a list of constant declarations. The first
 -- declaration in the list has ordinal `k`. Returns None if the list doesn't declare `d`, or if this
 -- constant or an earlier one in the list has no value.
-unfoldable pub value_among : ConstantEnvironment → ℕ → ℕ → Tree Name (items constant) → Option Value
+unfoldable pub value_in_constants : ConstantEnvironment → ℕ → ℕ → Tree Name (items constant) → Option Value
 unfolding constant_value
-value_among known d k end = None
-value_among known d k (more (declares_constant x e) cs) = do
+value_in_constants known d k end = None
+value_in_constants known d k (more (declares_constant x e) cs) = do
   v ← constant_value (meanings naming_by_spelling known) e
-  if k == d then Some v else value_among ((x, a_constant v) ∷ known) d (suc k) cs
+  if k == d then Some v else value_in_constants ((x, a_constant v) ∷ known) d (suc k) cs
 
 -- Returns the value of the constant with ordinal `d`. Returns None if no CONST section declares
 -- `d`. Also returns None if this constant, an earlier constant in its section or a constant of an
 -- enclosing block has no value.
 unfoldable mutual
-  unfolding value_among declare_constants
+  unfolding value_in_constants declare_constants
 
   -- returns the value of the constant with ordinal `d` in a block whose first declaration has
   -- ordinal `k`; None if the block doesn't declare this constant or its value can't be computed
   pub value_in_block : ConstantEnvironment → ℕ → ℕ → Tree Name block → Option Value
-  value_in_block known d k (has_body (declares cs ts vs ps) statements) =
-      if nat_lt d (first_type_ordinal k (has_body (declares cs ts vs ps) statements))
-      then value_among known d k (section_constants cs)
-      else if nat_lt d (first_procedure_ordinal k (has_body (declares cs ts vs ps) statements)) then None
+  value_in_block known d k (forms_block (declares cs ts vs ps) statements) =
+      if nat_lt d (first_type_ordinal k (forms_block (declares cs ts vs ps) statements))
+      then value_in_constants known d k (section_constants cs)
+      else if nat_lt d (first_procedure_ordinal k (forms_block (declares cs ts vs ps) statements)) then None
       else option_and_then (λ inner. value_in_procedures (bind_names
       (declared_type_names (section_types ts) ++ variable_names (section_variables vs)) non_constant
-      inner) d (first_procedure_ordinal k (has_body (declares cs ts vs ps) statements)) ps)
+      inner) d (first_procedure_ordinal k (forms_block (declares cs ts vs ps) statements)) ps)
       (declare_constants naming_by_spelling known (section_constants cs))
 
   -- returns the value of the constant with ordinal `d` in a list of procedures, the first of which

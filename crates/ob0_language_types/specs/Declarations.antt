@@ -2,12 +2,12 @@
 -- Also counts the words ARRAY and RECORD in declarations.
 -- Rule: docs/LANGUAGE.md, Scopes 2, Types 1.
 use Rattle.std.specs.Prelude.{ℕ, ◌+◌, ◌∷◌, Some, Option}
-use Rattle.ob0_tree.specs.Tree.{Tree, block, constant, declares, declares_constant, declares_procedure, declares_type, declares_variable, end, further_section, has_body, item, items, more, procedure, then_section, type_name, variable}
+use Rattle.ob0_tree.specs.Tree.{Tree, block, constant, declares, declares_constant, declares_procedure, declares_type, declares_variable, end, further_section, forms_block, item, items, more, procedure, then_section, type_definition, variable}
 use Rattle.ob0_language_names.specs.Names.{Naming}
 use Rattle.ob0_language_names.specs.Parts.{block_constants, block_types, block_variables, formal_sections, procedure_formals, section_type, section_types, section_variables}
 use Rattle.ob0_language_types.specs.Environments.{Environment, meanings}
 use Rattle.ob0_language_types.specs.Expressions.{a_constant, a_type}
-use Rattle.ob0_language_types.specs.Typing.{constant_value, constructor_count, denoted, ◌>>=◌}
+use Rattle.ob0_language_types.specs.Typing.{constant_value, constructor_count, denoted_type, ◌>>=◌}
 
 -- Returns the environment `env` with constants added. A constant is visible only after its own
 -- declaration. Returns None if the right side of a declaration isn't a constant expression with a
@@ -30,30 +30,30 @@ unfoldable pub declare_types : {N V P : Type 0}
     → Naming N
     → Environment N V P
     → ℕ
-    → Tree N (items type_name)
+    → Tree N (items type_definition)
     → Option (Environment N V P)
-unfolding denoted
+unfolding denoted_type
 declare_types naming env k end = Some env
 declare_types naming env k (more (declares_type x u) ds) = do
-  s ← denoted (meanings naming env) k u
+  s ← denoted_type (meanings naming env) k u
   declare_types naming ((x, a_type s) ∷ env) (k + constructor_count u) ds
 
 -- Returns the environment `env` with a block's constants and then its types added. `k` is the
 -- number of words ARRAY and RECORD before the block. Returns None if one of these declarations has
 -- an error.
-unfoldable pub declare_first : {N V P : Type 0}
+unfoldable pub declare_constants_and_types : {N V P : Type 0}
     → Naming N
     → Environment N V P
     → ℕ
     → Tree N block
     → Option (Environment N V P)
 unfolding declare_constants declare_types
-declare_first naming env k b = do
+declare_constants_and_types naming env k b = do
   with_constants ← declare_constants naming env (block_constants b)
   declare_types naming with_constants k (block_types b)
 
 -- returns the number of words ARRAY and RECORD in declarations of types
-abbrev pub types_constructor_count : {N : Type 0} → Tree N (items type_name) → ℕ
+abbrev pub types_constructor_count : {N : Type 0} → Tree N (items type_definition) → ℕ
 types_constructor_count end = 0
 types_constructor_count (more (declares_type x u) ds) = constructor_count u + types_constructor_count ds
 
@@ -73,7 +73,7 @@ formals_constructor_count (more (then_section f) fs) =
 abbrev mutual
   -- returns the number of words ARRAY and RECORD in a block: in its types, variables and procedures
   pub block_constructor_count : {N : Type 0} → Tree N block → ℕ
-  block_constructor_count (has_body (declares cs ts vs ps) statements) =
+  block_constructor_count (forms_block (declares cs ts vs ps) statements) =
       types_constructor_count (section_types ts)
       + (variables_constructor_count (section_variables vs) + procedures_constructor_count ps)
 
@@ -94,10 +94,10 @@ constructors_before_variables k b = k + types_constructor_count (block_types b)
 
 -- returns the number of words ARRAY and RECORD before a block's procedures; `k` of these words are
 -- before the block
-abbrev pub constructor_after_variables : {N : Type 0} → ℕ → Tree N block → ℕ
-constructor_after_variables k b = constructors_before_variables k b + variables_constructor_count (block_variables b)
+abbrev pub constructors_before_procedures : {N : Type 0} → ℕ → Tree N block → ℕ
+constructors_before_procedures k b = constructors_before_variables k b + variables_constructor_count (block_variables b)
 
 -- returns the number of words ARRAY and RECORD before a procedure's block; `k` of these words are
 -- before the procedure
-abbrev pub constructor_after_formals : {N : Type 0} → ℕ → Tree N (item procedure) → ℕ
-constructor_after_formals k p = k + formals_constructor_count (procedure_formals p)
+abbrev pub constructors_before_procedure_block : {N : Type 0} → ℕ → Tree N (item procedure) → ℕ
+constructors_before_procedure_block k p = k + formals_constructor_count (procedure_formals p)

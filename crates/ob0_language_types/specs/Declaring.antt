@@ -4,9 +4,9 @@ use Rattle.std.specs.Prelude.{ℕ, if◌then◌else◌, Some, None, Option}
 use Rattle.ob0_tree.specs.Tree.{Tree, block, item, procedure}
 use Rattle.ob0_language_names.specs.Names.{Naming}
 use Rattle.ob0_language_names.specs.Parts.{block_variables, procedure_formals, procedure_name}
-use Rattle.ob0_language_types.specs.Declarations.{constructors_before_variables, declare_first}
+use Rattle.ob0_language_types.specs.Declarations.{constructors_before_variables, declare_constants_and_types}
 use Rattle.ob0_language_types.specs.Typing.{◌>>=◌}
-use Rattle.ob0_language_types.specs.WellTyped.{TypeEnvironment, bind_typed_parameters, declare_typed, bind_procedure, procedure_fits, typed_parameters}
+use Rattle.ob0_language_types.specs.WellTyped.{TypeEnvironment, bind_typed_parameters, declare_typed_variables, bind_procedure, procedure_is_well_typed, typed_parameters}
 
 -- Returns the environment `env` with the procedure's name added. Returns None if the procedure
 -- isn't well-typed. `k` is the number of words ARRAY and RECORD before the procedure.
@@ -16,10 +16,10 @@ unfoldable pub declare_procedure : {N : Type 0}
     → ℕ
     → Tree N (item procedure)
     → Option (TypeEnvironment N)
-unfolding typed_parameters procedure_fits
+unfolding typed_parameters procedure_is_well_typed
 declare_procedure naming env k p = do
   ps ← typed_parameters naming env k (procedure_formals p)
-  if procedure_fits naming (bind_typed_parameters ps (bind_procedure (procedure_name p) ps env)) k p
+  if procedure_is_well_typed naming (bind_typed_parameters ps (bind_procedure (procedure_name p) ps env)) k p
       then Some (bind_procedure (procedure_name p) ps env)
       else None
 
@@ -33,4 +33,4 @@ abbrev pub declare_block : {N : Type 0}
     → Tree N block
     → Option (TypeEnvironment N)
 declare_block naming env k b =
-    declare_first naming env k b >>= declare_typed naming (constructors_before_variables k b) (block_variables b)
+    declare_constants_and_types naming env k b >>= declare_typed_variables naming (constructors_before_variables k b) (block_variables b)

@@ -8,7 +8,7 @@ use Rattle.ob0_language_names.specs.Names.{Name, declared}
 use Rattle.ob0_language_names.specs.Occurrences.{Free, binds}
 use Rattle.ob0_language_names.specs.Scopes.{numbered, renamed}
 use Rattle.ob0_language_names.specs.OccurrenceLookup.{resolve_at_occurrence}
-use Rattle.ob0_language_values.specs.Values.{Value, elements, fits, members, number, truth}
+use Rattle.ob0_language_values.specs.Values.{Value, elements, fits_in_32_bits, members, number, truth}
 use Rattle.ob0_language_types.specs.ConstantValues.{value_of_constant}
 use Rattle.ob0_language_types.specs.WellTyped.{WellTyped}
 use Rattle.ob0_language_types.specs.Written.{value_literal}
@@ -24,7 +24,7 @@ FreeRenamingKeepsWellTyped =
 
 -- states that a value is a 32-bit number or a truth value
 abbrev pub IsScalar : Value → Type 0
-IsScalar (number n) = IsTrue (fits n)
+IsScalar (number n) = IsTrue (fits_in_32_bits n)
 IsScalar (truth b) = Unit {0}
 IsScalar (elements vs) = ⊥
 IsScalar (members k ms) = ⊥
@@ -38,7 +38,7 @@ MeansPredeclaredTruth m occurrence _ = Unit {0}
 
 -- States that a CONST section declares a constant with ordinal `d`. Its value is `w`, and the factor `v` is the literal
 -- for this value.
-pub record IsConstantWritten
+pub record IsConstantWithLiteral
     (m : Tree Name module_text) (d : ℕ) (w : Value) (v : Tree Name factor) : Type 0 where
   pub value : value_of_constant m d ≡ Some w
   pub scalar : IsScalar w
@@ -46,7 +46,7 @@ pub record IsConstantWritten
 
 -- States that each occurrence in `uses` is bound to the constant with ordinal `d`. If the constant's value `w` is TRUE
 -- or FALSE, this word must mean the predeclared constant in place of each of these occurrences.
-pub record AreUsesOf (m : Tree Name module_text) (d : ℕ) (w : Value) (uses : OccurrenceSet) : Type 0 where
+pub record AreInlinableUses (m : Tree Name module_text) (d : ℕ) (w : Value) (uses : OccurrenceSet) : Type 0 where
   pub bound : (k : ℕ) → uses k ≡ true → binds m k ≡ Some d
   pub seen : (k : ℕ) → uses k ≡ true → MeansPredeclaredTruth m k w
 
@@ -55,14 +55,14 @@ pub record AreUsesOf (m : Tree Name module_text) (d : ℕ) (w : Value) (uses : O
 abbrev pub InliningKeepsWellTyped : Type 0
 InliningKeepsWellTyped =
     (m : Tree Name module_text) (d : ℕ) (w : Value) (v : Tree Name factor) (uses : OccurrenceSet)
-    → IsConstantWritten m d w v → AreUsesOf m d w uses → WellTyped m → WellTyped (inlined m uses v)
+    → IsConstantWithLiteral m d w v → AreInlinableUses m d w uses → WellTyped m → WellTyped (inlined m uses v)
 
 -- States that a well-typed module remains well-typed if the declaration of an unused constant is removed. A constant is
 -- unused if no occurrence of a name is bound to it.
 abbrev pub RemovingUnusedKeepsWellTyped : Type 0
 RemovingUnusedKeepsWellTyped =
     (m : Tree Name module_text) (d : ℕ) (w : Value) (v : Tree Name factor)
-    → IsConstantWritten m d w v
+    → IsConstantWithLiteral m d w v
     → ((k : ℕ) → binds m k ≢ Some d)
     → WellTyped m
     → WellTyped (module_without d m)
@@ -73,7 +73,7 @@ RemovingUnusedKeepsWellTyped =
 abbrev pub InliningEverywhereKeepsWellTyped : Type 0
 InliningEverywhereKeepsWellTyped =
     (m : Tree Name module_text) (d : ℕ) (w : Value) (v : Tree Name factor)
-    → IsConstantWritten m d w v
+    → IsConstantWithLiteral m d w v
     → ((k : ℕ) → binds m k ≡ Some d → MeansPredeclaredTruth m k w)
     → WellTyped m
     → WellTyped (inlined_everywhere m d v)
@@ -83,6 +83,6 @@ InliningEverywhereKeepsWellTyped =
 abbrev pub ConstantUsesAreFactors : Type 0
 ConstantUsesAreFactors =
     (m : Tree Name module_text) (d : ℕ) (w : Value) (v : Tree Name factor)
-    → IsConstantWritten m d w v
+    → IsConstantWithLiteral m d w v
     → WellTyped m
     → All (λ l. l ≢ declared d) (names_beside_factors (numbered m))

@@ -4,11 +4,11 @@
 use Rattle.std.specs.Prelude.{true, false, List, [], ◌∷◌, ◌++◌, pos, negsuc, if◌then◌else◌, nat_lt, Some, Option}
 use Rattle.ob0_tree.specs.Tree.{Tree, addend, adds, compares, designator, end, expression, factor, field, index, integer, items, more, multiplier, multiplies, negation, none, one, parenthesised, product, relates, selector, simple, sum, term}
 use Rattle.ob0_language_names.specs.Names.{Name}
-use Rattle.ob0_language_values.specs.Values.{Index, Outcome, Place, Shape, Step, Store, Stuck, Value, add, add_short_circuits, at_field, at_index, value_at_path, count_values, elements, ends, gives, multiply, multiply_short_circuits, negate, number, or_stuck, part, read_place, relate, apply_sign, ◌>>=◌}
+use Rattle.ob0_language_values.specs.Values.{Index, Outcome, Place, Shape, Step, Store, Stuck, Value, add, add_short_circuits, at_field, at_index, value_at_path, count_values, elements, ends_run_with, succeeds_with, multiply, multiply_short_circuits, negate, number, or_stuck, part, read_place, apply_relation, apply_sign, ◌>>=◌}
 
 -- the standard procedures: Read, Write and WriteLn
 pub data StandardProcedure : Type 0 where
-  reads writes writes_line : StandardProcedure
+  read_procedure write_procedure write_line_procedure : StandardProcedure
 
 -- the object that a name means; `V` is the type of the data about a variable, and `P` is the type of the data about a
 -- procedure
@@ -29,20 +29,20 @@ pub record Meanings (N V P : Type 0) : Type 0 where
 -- run with Index. Returns Stuck if the operands aren't an array and a number.
 abbrev pub element_step : Value → Value → Outcome Step
 element_step (elements vs) (number (pos i)) =
-    if nat_lt i (count_values vs) then gives (at_index i) else ends Index
-element_step (elements vs) (number (negsuc i)) = ends Index
-element_step _ _ = ends Stuck
+    if nat_lt i (count_values vs) then succeeds_with (at_index i) else ends_run_with Index
+element_step (elements vs) (number (negsuc i)) = ends_run_with Index
+element_step _ _ = ends_run_with Stuck
 
 -- returns the place of a variable; Stuck for any other object
 abbrev pub object_place : {P : Type 0} → Option (Object Place P) → Outcome Place
-object_place (Some (a_variable p)) = gives p
-object_place _ = ends Stuck
+object_place (Some (a_variable p)) = succeeds_with p
+object_place _ = ends_run_with Stuck
 
 -- returns the value of a constant, or the value at a variable's place; Stuck for any other object
 abbrev pub object_value : {P : Type 0} → Store → Option (Object Place P) → Outcome Value
-object_value store (Some (a_constant v)) = gives v
+object_value store (Some (a_constant v)) = succeeds_with v
 object_value store (Some (a_variable p)) = or_stuck (read_place store p)
-object_value store _ = ends Stuck
+object_value store _ = ends_run_with Stuck
 
 -- Evaluates an expression from left to right: returns its value, or the reason why the run ends.
 unfoldable mutual
@@ -52,7 +52,7 @@ unfoldable mutual
   evaluate meaning store (compares a (one (relates r b))) = do
     x ← evaluate_simple meaning store a
     y ← evaluate_simple meaning store b
-    relate r x y
+    apply_relation r x y
 
   -- evaluates a simple expression: its first term with its sign, then the further terms
   pub evaluate_simple : {N P : Type 0} → Meanings N Place P → Store → Tree N simple → Outcome Value
@@ -69,10 +69,10 @@ unfoldable mutual
       → Value
       → Tree N (items addend)
       → Outcome Value
-  evaluate_addends meaning store x end = gives x
+  evaluate_addends meaning store x end = succeeds_with x
   evaluate_addends meaning store x (more (adds o t) rest) = do
     y ← elim (add_short_circuits o x)
-        [ true ↦ gives x | false ↦ evaluate_term meaning store t >>= add o x ]
+        [ true ↦ succeeds_with x | false ↦ evaluate_term meaning store t >>= add o x ]
     evaluate_addends meaning store y rest
 
   -- evaluates a term: its first factor, then the further factors
@@ -89,41 +89,41 @@ unfoldable mutual
       → Value
       → Tree N (items multiplier)
       → Outcome Value
-  evaluate_multipliers meaning store x end = gives x
+  evaluate_multipliers meaning store x end = succeeds_with x
   evaluate_multipliers meaning store x (more (multiplies o f) rest) = do
     y ← elim (multiply_short_circuits o x)
-        [ true ↦ gives x | false ↦ evaluate_factor meaning store f >>= multiply o x ]
+        [ true ↦ succeeds_with x | false ↦ evaluate_factor meaning store f >>= multiply o x ]
     evaluate_multipliers meaning store y rest
 
   -- evaluates a factor: a designator, an integer, an expression in parentheses or a negation
   pub evaluate_factor : {N P : Type 0} → Meanings N Place P → Store → Tree N factor → Outcome Value
   evaluate_factor meaning store (designator x path) = do
     v ← object_value store (meaning.object_for x)
-    steps ← follow meaning store v path
+    steps ← evaluate_selectors meaning store v path
     or_stuck (value_at_path steps v)
-  evaluate_factor meaning store (integer n) = gives (number (pos n))
+  evaluate_factor meaning store (integer n) = succeeds_with (number (pos n))
   evaluate_factor meaning store (parenthesised e) = evaluate meaning store e
   evaluate_factor meaning store (negation f) = evaluate_factor meaning store f >>= negate
 
   -- returns the path that selectors describe in the value `v`; evaluates each index and checks it against the length of
   -- its array; returns Stuck if a selector doesn't fit the value
-  pub follow : {N P : Type 0}
+  pub evaluate_selectors : {N P : Type 0}
       → Meanings N Place P
       → Store
       → Value
       → Tree N (items selector)
       → Outcome (List Step)
-  follow meaning store v end = gives []
-  follow meaning store v (more (field x) rest) = do
+  evaluate_selectors meaning store v end = succeeds_with []
+  evaluate_selectors meaning store v (more (field x) rest) = do
     w ← or_stuck (part v (at_field (meaning.written x)))
-    steps ← follow meaning store w rest
-    gives (at_field (meaning.written x) ∷ steps)
-  follow meaning store v (more (index e) rest) = do
+    steps ← evaluate_selectors meaning store w rest
+    succeeds_with (at_field (meaning.written x) ∷ steps)
+  evaluate_selectors meaning store v (more (index e) rest) = do
     i ← evaluate meaning store e
     s ← element_step v i
     w ← or_stuck (part v s)
-    steps ← follow meaning store w rest
-    gives (s ∷ steps)
+    steps ← evaluate_selectors meaning store w rest
+    succeeds_with (s ∷ steps)
 
 -- returns the place of a designator: the place of the variable `x`, extended by the path of the selectors; Stuck if `x`
 -- isn't a variable
@@ -137,5 +137,5 @@ unfolding evaluate
 designate meaning store x path = do
   p ← object_place (meaning.object_for x)
   v ← or_stuck (read_place store p)
-  steps ← follow meaning store v path
-  gives record { variable = p.variable; path = p.path ++ steps }
+  steps ← evaluate_selectors meaning store v path
+  succeeds_with record { variable = p.variable; path = p.path ++ steps }

@@ -8,8 +8,8 @@ use Rattle.ob0_language_names.specs.Names.{Name, naming_by_label, naming_by_spel
 use Rattle.ob0_language_names.specs.Scopes.{numbered}
 use Rattle.ob0_language_types.specs.Expressions.{Meanings, a_constant, evaluate, evaluate_factor}
 use Rattle.ob0_language_types.specs.Typing.{constant_of, constant_value, type_of, type_of_factor, value_type}
-use Rattle.ob0_language_values.specs.Values.{Place, Store, Value, gives}
-use Rattle.ob0_language_names.specs.DeclaredOnce.{declared_once}
+use Rattle.ob0_language_values.specs.Values.{Place, Store, Value, succeeds_with}
+use Rattle.ob0_language_names.specs.ConsistentNames.{has_consistent_names}
 use Rattle.ob0_language_types.specs.WellTyped.{Mode, TypeMeanings, WellTyped, passes_type_check}
 
 -- States that the type check by names accepts a module exactly if the type check by ordinals accepts the module's
@@ -24,8 +24,8 @@ abbrev pub NumberedTreeDecidesTyping : Type 0
 NumberedTreeDecidesTyping =
     (a b : Tree Name module_text)
     → numbered a ≡ numbered b
-    → IsTrue (declared_once a)
-    → IsTrue (declared_once b)
+    → IsTrue (has_consistent_names a)
+    → IsTrue (has_consistent_names b)
     → WellTyped a ↔ WellTyped b
 
 -- States that a constant expression has the same value in a run as in the checker. Each name that means a constant in
@@ -38,7 +38,7 @@ ConstantValuesAgree =
     → ((x : Name) (w : Value)
     → constant_of (checked.object_for x) ≡ Some w
     → constant_of (active.object_for x) ≡ Some w)
-    → constant_value checked e ≡ Some v → evaluate active store e ≡ gives v
+    → constant_value checked e ≡ Some v → evaluate active store e ≡ succeeds_with v
 
 -- States that `P` holds for each listed name whose occurrence number is in `uses`. The names are consecutive
 -- occurrences, and the first one has number `k`.
@@ -52,7 +52,7 @@ abbrev pub InliningKeepsEvaluation : Type 0
 InliningKeepsEvaluation =
     (meaning : Meanings Name Place (List Mode)) (store : Store) (uses : OccurrenceSet) (v : Tree Name factor)
     (w : Value) (k : ℕ) (e : Tree Name expression)
-    → evaluate_factor meaning store v ≡ gives w
+    → evaluate_factor meaning store v ≡ succeeds_with w
     → EachUseHas uses (λ x. meaning.object_for x ≡ Some (a_constant w)) k (occurrences e)
     → evaluate meaning store (inline_in uses v k e) ≡ evaluate meaning store e
 

@@ -14,7 +14,7 @@ use Rattle.ob0_tree.specs.Tree.{Tree, addend, adds, array_type, compares, design
 use Rattle.ob0_language_names.specs.Names.{Name, same_name}
 use Rattle.ob0_language_names.specs.Parts.{names_in_list}
 use Rattle.ob0_language_types.specs.Expressions.{Meanings, Object, a_constant, a_type, a_variable, evaluate}
-use Rattle.ob0_language_values.specs.Values.{FieldShapes, Outcome, Shape, Value, array_shape, boolean_shape, ends, gives, integer_shape, next_field_shape, no_field_shape, number, record_shape, truth}
+use Rattle.ob0_language_values.specs.Values.{FieldShapes, Outcome, Shape, Value, array_shape, boolean_shape, ends_run_with, succeeds_with, integer_shape, next_field_shape, no_field_shape, number, record_shape, truth}
 
 -- applies the function on the right to the optional value on the left; None if there is no value or the function
 -- returns None
@@ -147,22 +147,22 @@ unfoldable mutual
   pub type_of_factor : {N P : Type 0} → Meanings N Shape P → Tree N factor → Option Shape
   type_of_factor meaning (designator x path) = do
     s ← object_type (meaning.object_for x)
-    type_at meaning s path
+    type_after_selectors meaning s path
   type_of_factor meaning (integer n) = Some integer_shape
   type_of_factor meaning (parenthesised e) = type_of meaning e
   type_of_factor meaning (negation f) = type_of_factor meaning f >>= negation_type
 
   -- returns the type of the element or field that selectors select from a value of type `s`; None if there is no such
   -- element or field, or an index isn't INTEGER
-  pub type_at : {N P : Type 0} → Meanings N Shape P → Shape → Tree N (items selector) → Option Shape
-  type_at meaning s end = Some s
-  type_at meaning s (more (field x) rest) = do
+  pub type_after_selectors : {N P : Type 0} → Meanings N Shape P → Shape → Tree N (items selector) → Option Shape
+  type_after_selectors meaning s end = Some s
+  type_after_selectors meaning s (more (field x) rest) = do
     t ← field_type s (meaning.written x)
-    type_at meaning t rest
-  type_at meaning s (more (index e) rest) = do
+    type_after_selectors meaning t rest
+  type_after_selectors meaning s (more (index e) rest) = do
     i ← type_of meaning e
     t ← element_type s i
-    type_at meaning t rest
+    type_after_selectors meaning t rest
 
 -- returns the value of a constant; None for any other object
 abbrev pub constant_of : {V P : Type 0} → Option (Object V P) → Option Value
@@ -181,8 +181,8 @@ constant_meanings meaning =
 
 -- returns the value that an evaluation gives; None if the evaluation ends the run
 abbrev pub outcome_value : Outcome Value → Option Value
-outcome_value (gives v) = Some v
-outcome_value (ends e) = None
+outcome_value (succeeds_with v) = Some v
+outcome_value (ends_run_with e) = None
 
 -- Returns the value of a constant expression. The names of constants are the only names with a meaning in it. Returns
 -- None if the expression has no type or its evaluation ends with a fault.
@@ -279,42 +279,42 @@ unfoldable mutual
 
   -- Returns the type that a written type denotes: a name's type, or an array or a record within the limits. Returns
   -- None if the written type has an error. `k` is the number of words ARRAY and RECORD before the written type.
-  pub denoted : {N V P : Type 0} → Meanings N V P → ℕ → Tree N written_type → Option Shape
-  denoted meaning k (named_type x) = type_of_name (meaning.object_for x)
-  denoted meaning k (array_type e t) = do
+  pub denoted_type : {N V P : Type 0} → Meanings N V P → ℕ → Tree N written_type → Option Shape
+  denoted_type meaning k (named_type x) = type_of_name (meaning.object_for x)
+  denoted_type meaning k (array_type e t) = do
     v ← constant_value meaning e
     n ← array_length v
-    s ← denoted meaning (suc k) t
+    s ← denoted_type meaning (suc k) t
     check_limits (array_shape k n s)
-  denoted meaning k (record_type g rest) = do
-    later ← denoted_groups meaning (suc k + group_constructor_count g) rest
-    fs ← denoted_group meaning (suc k) later g
+  denoted_type meaning k (record_type g rest) = do
+    later ← denoted_further_fields meaning (suc k + group_constructor_count g) rest
+    fs ← denoted_group_fields meaning (suc k) later g
     check_limits (record_shape k fs)
 
   -- Returns the fields of a group, followed by the fields `later`. Returns None if the group's type
   -- has an error. `k` is the number of words ARRAY and RECORD before the group.
-  pub denoted_group : {N V P : Type 0}
+  pub denoted_group_fields : {N V P : Type 0}
       → Meanings N V P
       → ℕ
       → FieldShapes
       → Tree N fields
       → Option FieldShapes
-  denoted_group meaning k later no_fields = Some later
-  denoted_group meaning k later (some_fields ns t) = do
-    s ← denoted meaning k t
+  denoted_group_fields meaning k later no_fields = Some later
+  denoted_group_fields meaning k later (some_fields ns t) = do
+    s ← denoted_type meaning k t
     Some (prepend_fields (map meaning.written (names_in_list ns)) s later)
 
   -- Returns the fields of the groups after a record's first group, in text order. Returns None if a group's type has an
   -- error. `k` is the number of words ARRAY and RECORD before these groups.
-  pub denoted_groups : {N V P : Type 0}
+  pub denoted_further_fields : {N V P : Type 0}
       → Meanings N V P
       → ℕ
       → Tree N (items further_fields)
       → Option FieldShapes
-  denoted_groups meaning k end = Some no_field_shape
-  denoted_groups meaning k (more (then_fields g) rest) = do
-    later ← denoted_groups meaning (k + group_constructor_count g) rest
-    denoted_group meaning k later g
+  denoted_further_fields meaning k end = Some no_field_shape
+  denoted_further_fields meaning k (more (then_fields g) rest) = do
+    later ← denoted_further_fields meaning (k + group_constructor_count g) rest
+    denoted_group_fields meaning k later g
 
 -- returns the designator of an expression that is only a designator, without sign or parentheses; otherwise None
 abbrev pub lone_designator : {N : Type 0} → Tree N expression → Option (N × Tree N (items selector))

@@ -1,15 +1,15 @@
 -- Valid modules: the type checks of statements, declarations, blocks and modules.
 -- Rule: docs/LANGUAGE.md, Types 8.
 use Rattle.std.specs.Prelude.{ℕ, ◌+◌, Bool, true, false, ◌&&◌, List, [], ◌∷◌, ◌++◌, map, IsTrue, ◌==◌, Some, None, Option}
-use Rattle.ob0_tree.specs.Tree.{Tree, assigns, begins, block, body, branches, calls, declares, declares_procedure, declares_variable, else_branch, else_part, elsif_branch, elsif_part, empty, end, expression, further_section, further_statement, has_body, item, items, maybe, module_text, more, none, one, procedure, repeat_loop, runs, section, selector, sequence, statement, then_section, then_statement, value_section, variable, variable_section, while_loop}
-use Rattle.ob0_language_names.specs.DeclaredOnce.{declared_once}
+use Rattle.ob0_tree.specs.Tree.{Tree, assigns, begins, block, body, branches, calls, declares, declares_procedure, declares_variable, else_branch, else_part, elsif_branch, elsif_part, empty, end, expression, further_section, further_statement, forms_block, item, items, maybe, module_text, more, none, one, procedure, repeat_loop, runs, section, selector, sequence, statement, then_section, then_statement, value_section, variable, variable_section, while_loop}
+use Rattle.ob0_language_names.specs.ConsistentNames.{has_consistent_names}
 use Rattle.ob0_language_names.specs.Names.{Name, Naming, naming_by_spelling, same_name}
 use Rattle.ob0_language_names.specs.Parts.{formal_sections, module_block, names_in_list, procedure_formals, procedure_name, section_names, section_type, section_variables}
 use Rattle.ob0_language_types.specs.Arguments.{arguments_listed}
-use Rattle.ob0_language_types.specs.Declarations.{constructors_before_variables, constructor_after_variables, declare_first, formals_constructor_count, procedure_constructor_count}
-use Rattle.ob0_language_types.specs.Environments.{Environment, meanings, outermost}
-use Rattle.ob0_language_types.specs.Expressions.{Meanings, Object, a_procedure, a_standard, a_variable, reads, writes, writes_line}
-use Rattle.ob0_language_types.specs.Typing.{constructor_count, denoted, lone_designator, type_at, type_of, ◌>>=◌}
+use Rattle.ob0_language_types.specs.Declarations.{constructors_before_variables, constructors_before_procedures, declare_constants_and_types, formals_constructor_count, procedure_constructor_count}
+use Rattle.ob0_language_types.specs.Environments.{Environment, meanings, outermost_environment}
+use Rattle.ob0_language_types.specs.Expressions.{Meanings, Object, a_procedure, a_standard, a_variable, read_procedure, write_procedure, write_line_procedure}
+use Rattle.ob0_language_types.specs.Typing.{constructor_count, denoted_type, lone_designator, type_after_selectors, type_of, ◌>>=◌}
 use Rattle.ob0_language_values.specs.Values.{FieldShapes, Shape, array_shape, boolean_shape, integer_shape, next_field_shape, no_field_shape, record_shape}
 
 -- Returns whether two types are equal.
@@ -72,98 +72,98 @@ unfoldable pub variable_type : {N P : Type 0}
 unfolding type_of
 variable_type meaning None = None
 variable_type meaning (Some (x, path)) =
-    elim (meaning.object_for x) [ Some (a_variable s) ↦ type_at meaning s path | _ ↦ None ]
+    elim (meaning.object_for x) [ Some (a_variable s) ↦ type_after_selectors meaning s path | _ ↦ None ]
 
 -- returns the signature of a procedure or a standard procedure; None for any other object
 abbrev pub signature_of : Option (Object Shape Signature) → Option Signature
 signature_of (Some (a_procedure signature)) = Some signature
-signature_of (Some (a_standard reads)) =
+signature_of (Some (a_standard read_procedure)) =
     Some (record { mode = by_place; shape = integer_shape } ∷ [])
-signature_of (Some (a_standard writes)) =
+signature_of (Some (a_standard write_procedure)) =
     Some (record { mode = by_value; shape = integer_shape } ∷ [])
-signature_of (Some (a_standard writes_line)) = Some []
+signature_of (Some (a_standard write_line_procedure)) = Some []
 signature_of _ = None
 
 -- Returns whether an argument has its parameter's type. For a VAR parameter, the argument must also be a variable or
 -- parameter with its selectors, without parentheses.
-unfoldable pub argument_fits : {N P : Type 0}
+unfoldable pub argument_matches : {N P : Type 0}
     → Meanings N Shape P
     → FormalParameter
     → Tree N expression
     → Bool
 unfolding type_of variable_type
-argument_fits meaning f e =
+argument_matches meaning f e =
     same_known_shape (Some f.shape) (elim f.mode
     [ by_value ↦ type_of meaning e | by_place ↦ variable_type meaning (lone_designator e) ])
 
 -- Returns whether there are as many arguments as parameters, and each argument has the type and form that its parameter
 -- requires (rules 2 and 5).
-unfoldable pub arguments_fit : {N P : Type 0}
+unfoldable pub arguments_match : {N P : Type 0}
     → Meanings N Shape P
     → Signature
     → List (Tree N expression)
     → Bool
-unfolding argument_fits
-arguments_fit meaning [] [] = true
-arguments_fit meaning (f ∷ fs) (e ∷ es) = argument_fits meaning f e && arguments_fit meaning fs es
-arguments_fit meaning _ _ = false
+unfolding argument_matches
+arguments_match meaning [] [] = true
+arguments_match meaning (f ∷ fs) (e ∷ es) = argument_matches meaning f e && arguments_match meaning fs es
+arguments_match meaning _ _ = false
 
 -- returns whether there is a signature and the arguments match it; the signature is None if the called name isn't the
 -- name of a procedure
-unfoldable pub call_fits : {N P : Type 0}
+unfoldable pub call_is_well_typed : {N P : Type 0}
     → Meanings N Shape P
     → Option Signature
     → List (Tree N expression)
     → Bool
-unfolding arguments_fit
-call_fits meaning None es = false
-call_fits meaning (Some signature) es = arguments_fit meaning signature es
+unfolding arguments_match
+call_is_well_typed meaning None es = false
+call_is_well_typed meaning (Some signature) es = arguments_match meaning signature es
 
 -- returns whether an expression has the type BOOLEAN, as a condition must
-unfoldable pub condition_fits : {N P : Type 0} → Meanings N Shape P → Tree N expression → Bool
+unfoldable pub condition_is_boolean : {N P : Type 0} → Meanings N Shape P → Tree N expression → Bool
 unfolding type_of
-condition_fits meaning e = same_known_shape (Some boolean_shape) (type_of meaning e)
+condition_is_boolean meaning e = same_known_shape (Some boolean_shape) (type_of meaning e)
 
 -- Returns whether a statement is well-typed: both sides of an assignment have the same type, the arguments of a call
 -- match the procedure's parameters, and conditions are BOOLEAN.
 unfoldable mutual
-  unfolding condition_fits call_fits
+  unfolding condition_is_boolean call_is_well_typed
 
   -- returns whether a statement and the statements inside it are well-typed
-  pub statement_fits : {N : Type 0} → TypeMeanings N → Tree N statement → Bool
-  statement_fits meaning empty = true
-  statement_fits meaning (assigns x path e) =
+  pub statement_is_well_typed : {N : Type 0} → TypeMeanings N → Tree N statement → Bool
+  statement_is_well_typed meaning empty = true
+  statement_is_well_typed meaning (assigns x path e) =
       same_known_shape (variable_type meaning (Some (x, path))) (type_of meaning e)
-  statement_fits meaning (calls x es) =
-      call_fits meaning (signature_of (meaning.object_for x)) (arguments_listed es)
-  statement_fits meaning (branches e statements rest last) =
-      condition_fits meaning e
-      && (sequence_fits meaning statements && (elsifs_fit meaning rest && else_fits meaning last))
-  statement_fits meaning (while_loop e statements) =
-      condition_fits meaning e && sequence_fits meaning statements
-  statement_fits meaning (repeat_loop statements e) =
-      sequence_fits meaning statements && condition_fits meaning e
+  statement_is_well_typed meaning (calls x es) =
+      call_is_well_typed meaning (signature_of (meaning.object_for x)) (arguments_listed es)
+  statement_is_well_typed meaning (branches e statements rest last) =
+      condition_is_boolean meaning e
+      && (sequence_is_well_typed meaning statements && (elsifs_are_well_typed meaning rest && else_is_well_typed meaning last))
+  statement_is_well_typed meaning (while_loop e statements) =
+      condition_is_boolean meaning e && sequence_is_well_typed meaning statements
+  statement_is_well_typed meaning (repeat_loop statements e) =
+      sequence_is_well_typed meaning statements && condition_is_boolean meaning e
 
   -- returns whether each statement of a sequence is well-typed
-  pub sequence_fits : {N : Type 0} → TypeMeanings N → Tree N sequence → Bool
-  sequence_fits meaning (runs a rest) = statement_fits meaning a && statements_fit meaning rest
+  pub sequence_is_well_typed : {N : Type 0} → TypeMeanings N → Tree N sequence → Bool
+  sequence_is_well_typed meaning (runs a rest) = statement_is_well_typed meaning a && further_statements_are_well_typed meaning rest
 
   -- returns whether each statement of a sequence after the first one is well-typed
-  pub statements_fit : {N : Type 0} → TypeMeanings N → Tree N (items further_statement) → Bool
-  statements_fit meaning end = true
-  statements_fit meaning (more (then_statement a) rest) =
-      statement_fits meaning a && statements_fit meaning rest
+  pub further_statements_are_well_typed : {N : Type 0} → TypeMeanings N → Tree N (items further_statement) → Bool
+  further_statements_are_well_typed meaning end = true
+  further_statements_are_well_typed meaning (more (then_statement a) rest) =
+      statement_is_well_typed meaning a && further_statements_are_well_typed meaning rest
 
   -- returns whether the condition and the statements of each ELSIF part are well-typed
-  pub elsifs_fit : {N : Type 0} → TypeMeanings N → Tree N (items elsif_part) → Bool
-  elsifs_fit meaning end = true
-  elsifs_fit meaning (more (elsif_branch e statements) rest) =
-      condition_fits meaning e && (sequence_fits meaning statements && elsifs_fit meaning rest)
+  pub elsifs_are_well_typed : {N : Type 0} → TypeMeanings N → Tree N (items elsif_part) → Bool
+  elsifs_are_well_typed meaning end = true
+  elsifs_are_well_typed meaning (more (elsif_branch e statements) rest) =
+      condition_is_boolean meaning e && (sequence_is_well_typed meaning statements && elsifs_are_well_typed meaning rest)
 
   -- returns whether the statements of the ELSE part are well-typed; true if there is no ELSE part
-  pub else_fits : {N : Type 0} → TypeMeanings N → Tree N (maybe else_part) → Bool
-  else_fits meaning none = true
-  else_fits meaning (one (else_branch statements)) = sequence_fits meaning statements
+  pub else_is_well_typed : {N : Type 0} → TypeMeanings N → Tree N (maybe else_part) → Bool
+  else_is_well_typed meaning none = true
+  else_is_well_typed meaning (one (else_branch statements)) = sequence_is_well_typed meaning statements
 
 -- returns the environment `env` with each of these names bound to the object `o`
 abbrev pub bind_names : {N V P : Type 0}
@@ -177,17 +177,17 @@ bind_names (x ∷ xs) o env = bind_names xs o ((x, o) ∷ env)
 -- Returns the environment `env` with variables added. The variables of a group (`x, y: T`) are visible only after the
 -- group's type. `k` is the number of words ARRAY and RECORD before these declarations. Returns None if a type has an
 -- error.
-unfoldable pub declare_typed : {N : Type 0}
+unfoldable pub declare_typed_variables : {N : Type 0}
     → Naming N
     → ℕ
     → Tree N (items variable)
     → TypeEnvironment N
     → Option (TypeEnvironment N)
-unfolding denoted
-declare_typed naming k end env = Some env
-declare_typed naming k (more (declares_variable ns u) gs) env = do
-  s ← denoted (meanings naming env) k u
-  declare_typed naming (k + constructor_count u) gs (bind_names (names_in_list ns) (a_variable s) env)
+unfolding denoted_type
+declare_typed_variables naming k end env = Some env
+declare_typed_variables naming k (more (declares_variable ns u) gs) env = do
+  s ← denoted_type (meanings naming env) k u
+  declare_typed_variables naming (k + constructor_count u) gs (bind_names (names_in_list ns) (a_variable s) env)
 
 -- a formal parameter with its name, mode and type
 pub record TypedParameter (N : Type 0) : Type 0 where
@@ -203,10 +203,10 @@ unfoldable pub typed_parameters : {N : Type 0}
     → ℕ
     → Tree N (items further_section)
     → Option (List (TypedParameter N))
-unfolding denoted
+unfolding denoted_type
 typed_parameters naming env k end = Some []
 typed_parameters naming env k (more (then_section f) fs) = do
-  s ← denoted (meanings naming env) k (section_type f)
+  s ← denoted_type (meanings naming env) k (section_type f)
   rest ← typed_parameters naming (bind_names (section_names f) (a_variable s) env)
       (k + constructor_count (section_type f)) fs
   Some (map (λ x. record { name = x; formal = record { mode = section_mode f; shape = s } })
@@ -230,67 +230,67 @@ abbrev pub bind_procedure : {N : Type 0}
 bind_procedure x ps env = (x, a_procedure (map (λ p. p.formal) ps)) ∷ env
 
 -- returns whether the statements of a body are well-typed; true if there is no body
-unfoldable pub body_fits : {N : Type 0} → Naming N → TypeEnvironment N → Tree N (maybe body) → Bool
-unfolding statement_fits
-body_fits naming env none = true
-body_fits naming env (one (begins statements)) = sequence_fits (meanings naming env) statements
+unfoldable pub body_is_well_typed : {N : Type 0} → Naming N → TypeEnvironment N → Tree N (maybe body) → Bool
+unfolding statement_is_well_typed
+body_is_well_typed naming env none = true
+body_is_well_typed naming env (one (begins statements)) = sequence_is_well_typed (meanings naming env) statements
 
 -- returns whether there is a value for which the function `test` returns true
-abbrev pub some_satisfies : {A : Type 0} → Option A → (A → Bool) → Bool
-some_satisfies None test = false
-some_satisfies (Some a) test = test a
+abbrev pub option_satisfies : {A : Type 0} → Option A → (A → Bool) → Bool
+option_satisfies None test = false
+option_satisfies (Some a) test = test a
 
 -- Returns whether a block is well-typed. The check covers its declarations, then each procedure in the environment that
 -- has the earlier procedures, then its statements in the whole environment.
 unfoldable mutual
-  unfolding declare_first declare_typed typed_parameters body_fits
+  unfolding declare_constants_and_types declare_typed_variables typed_parameters body_is_well_typed
 
   -- returns whether a block is well-typed; `k` is the number of words ARRAY and RECORD before the block
-  pub block_fits : {N : Type 0} → Naming N → TypeEnvironment N → ℕ → Tree N block → Bool
-  block_fits naming env k (has_body (declares cs ts vs ps) statements) =
-      some_satisfies (do
-        first ← declare_first naming env k (has_body (declares cs ts vs ps) statements)
-        declare_typed naming (constructors_before_variables k (has_body (declares cs ts vs ps) statements))
+  pub block_is_well_typed : {N : Type 0} → Naming N → TypeEnvironment N → ℕ → Tree N block → Bool
+  block_is_well_typed naming env k (forms_block (declares cs ts vs ps) statements) =
+      option_satisfies (do
+        first ← declare_constants_and_types naming env k (forms_block (declares cs ts vs ps) statements)
+        declare_typed_variables naming (constructors_before_variables k (forms_block (declares cs ts vs ps) statements))
             (section_variables vs) first)
-      (λ inner. procedures_fit naming inner
-      (constructor_after_variables k (has_body (declares cs ts vs ps) statements)) statements ps)
+      (λ inner. procedures_are_well_typed naming inner
+      (constructors_before_procedures k (forms_block (declares cs ts vs ps) statements)) statements ps)
 
   -- Returns whether each procedure of a block is well-typed in the environment that has the earlier procedures. The
   -- block's body `statements` must also be well-typed in the environment that has all procedures. `k` is the number of
   -- words ARRAY and RECORD before the procedures.
-  pub procedures_fit : {N : Type 0}
+  pub procedures_are_well_typed : {N : Type 0}
       → Naming N
       → TypeEnvironment N
       → ℕ
       → Tree N (maybe body)
       → Tree N (items procedure)
       → Bool
-  procedures_fit naming env k statements end = body_fits naming env statements
-  procedures_fit naming env k statements (more p rest) =
-      some_satisfies (typed_parameters naming env k (procedure_formals p))
-      (λ ps. procedure_fits naming (bind_typed_parameters ps (bind_procedure (procedure_name p) ps env)) k p
-      && procedures_fit naming (bind_procedure (procedure_name p) ps env) (k + procedure_constructor_count p)
+  procedures_are_well_typed naming env k statements end = body_is_well_typed naming env statements
+  procedures_are_well_typed naming env k statements (more p rest) =
+      option_satisfies (typed_parameters naming env k (procedure_formals p))
+      (λ ps. procedure_is_well_typed naming (bind_typed_parameters ps (bind_procedure (procedure_name p) ps env)) k p
+      && procedures_are_well_typed naming (bind_procedure (procedure_name p) ps env) (k + procedure_constructor_count p)
       statements rest)
 
   -- returns whether a procedure's block is well-typed; `env` already binds the procedure's name and parameters; `k` is
   -- the number of words ARRAY and RECORD before the procedure
-  pub procedure_fits : {N : Type 0}
+  pub procedure_is_well_typed : {N : Type 0}
       → Naming N
       → TypeEnvironment N
       → ℕ
       → Tree N (item procedure)
       → Bool
-  procedure_fits naming env k (declares_procedure x fs b closing) =
-      block_fits naming env (k + formals_constructor_count (formal_sections fs)) b
+  procedure_is_well_typed naming env k (declares_procedure x fs b closing) =
+      block_is_well_typed naming env (k + formals_constructor_count (formal_sections fs)) b
 
 -- returns whether a module passes the type check; this check ignores names that are declared twice and wrong closing
 -- names
 unfoldable pub passes_type_check : {N : Type 0} → Naming N → Tree N module_text → Bool
-unfolding block_fits
-passes_type_check naming m = block_fits naming (outermost naming) 0 (module_block m)
+unfolding block_is_well_typed
+passes_type_check naming m = block_is_well_typed naming (outermost_environment naming) 0 (module_block m)
 
 -- states that a module is well-typed: it passes the type check, it declares no name twice in a block or record, and its
 -- closing names are right
 unfoldable pub WellTyped : Tree Name module_text → Type 0
 unfolding passes_type_check
-WellTyped m = IsTrue (declared_once m) × IsTrue (passes_type_check naming_by_spelling m)
+WellTyped m = IsTrue (has_consistent_names m) × IsTrue (passes_type_check naming_by_spelling m)

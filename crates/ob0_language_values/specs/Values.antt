@@ -54,41 +54,41 @@ pub data End : Type 0 where
 
 -- the outcome of an evaluation: a result, or the way in which the evaluation ends the run
 pub data Outcome (A : Type 0) : Type 0 where
-  gives : A → Outcome A
-  ends : End → Outcome A
+  succeeds_with : A → Outcome A
+  ends_run_with : End → Outcome A
 
 -- applies `next` to the result of an evaluation; if the evaluation ends the run, returns the same end without using
 -- `next`
 abbrev pub ◌>>=◌ : {A B : Type 0} → Outcome A → (A → Outcome B) → Outcome B
-◌>>=◌ (gives a) next = next a
-◌>>=◌ (ends e) next = ends e
+◌>>=◌ (succeeds_with a) next = next a
+◌>>=◌ (ends_run_with e) next = ends_run_with e
 
 -- returns an optional result as an outcome; the outcome is the end Stuck for None
 abbrev pub or_stuck : {A : Type 0} → Option A → Outcome A
-or_stuck None = ends Stuck
-or_stuck (Some a) = gives a
+or_stuck None = ends_run_with Stuck
+or_stuck (Some a) = succeeds_with a
 
 -- returns whether a number fits in 32 bits as a signed integer
-abbrev pub fits : ℤ → Bool
-fits (pos n) = nat_lt n (2 ^ 31)
-fits (negsuc n) = nat_lt n (2 ^ 31)
+abbrev pub fits_in_32_bits : ℤ → Bool
+fits_in_32_bits (pos n) = nat_lt n (2 ^ 31)
+fits_in_32_bits (negsuc n) = nat_lt n (2 ^ 31)
 
 -- returns the number as a value if it fits in 32 bits, otherwise the end Overflow (rule 3)
 abbrev pub checked_number : ℤ → Outcome Value
-checked_number n = if fits n then gives (number n) else ends Overflow
+checked_number n = if fits_in_32_bits n then succeeds_with (number n) else ends_run_with Overflow
 
 -- returns the outcome of a DIV or MOD: the number, or Overflow if the number doesn't fit in 32 bits, or Divisor for
 -- None
 abbrev pub division_outcome : Option ℤ → Outcome Value
-division_outcome None = ends Divisor
+division_outcome None = ends_run_with Divisor
 division_outcome (Some n) = checked_number n
 
 -- returns the result of `+`, `-` or OR; Stuck for operands for which the operator isn't defined
 abbrev pub add : AddOperator → Value → Value → Outcome Value
 add add_operator.Add (number a) (number b) = checked_number (a +ℤ b)
 add add_operator.Subtract (number a) (number b) = checked_number (a -ℤ b)
-add add_operator.Or (truth a) (truth b) = gives (truth (a || b))
-add _ _ _ = ends Stuck
+add add_operator.Or (truth a) (truth b) = succeeds_with (truth (a || b))
+add _ _ _ = ends_run_with Stuck
 
 -- returns the result of `*`, DIV, MOD or `&`; Stuck for operands for which the operator isn't
 -- defined
@@ -96,8 +96,8 @@ abbrev pub multiply : MultiplyOperator → Value → Value → Outcome Value
 multiply multiply_operator.Multiply (number a) (number b) = checked_number (a *ℤ b)
 multiply multiply_operator.Divide (number a) (number b) = division_outcome (checked_division quotient a b)
 multiply multiply_operator.Modulo (number a) (number b) = division_outcome (checked_division remainder a b)
-multiply multiply_operator.And (truth a) (truth b) = gives (truth (a && b))
-multiply _ _ _ = ends Stuck
+multiply multiply_operator.And (truth a) (truth b) = succeeds_with (truth (a && b))
+multiply _ _ _ = ends_run_with Stuck
 
 -- returns whether the operator is OR and the left operand is TRUE; the right operand isn't evaluated then
 abbrev pub add_short_circuits : AddOperator → Value → Bool
@@ -125,24 +125,24 @@ compare_numbers relation.GreaterEqual a b = int_le b a
 
 -- returns the truth value of a relation between two numbers, or of `=` or `#` between two truth
 -- values; Stuck for other operands
-abbrev pub relate : Relation → Value → Value → Outcome Value
-relate r (number a) (number b) = gives (truth (compare_numbers r a b))
-relate relation.Equal (truth a) (truth b) = gives (truth (same_truth a b))
-relate relation.NotEqual (truth a) (truth b) = gives (truth (not (same_truth a b)))
-relate _ _ _ = ends Stuck
+abbrev pub apply_relation : Relation → Value → Value → Outcome Value
+apply_relation r (number a) (number b) = succeeds_with (truth (compare_numbers r a b))
+apply_relation relation.Equal (truth a) (truth b) = succeeds_with (truth (same_truth a b))
+apply_relation relation.NotEqual (truth a) (truth b) = succeeds_with (truth (not (same_truth a b)))
+apply_relation _ _ _ = ends_run_with Stuck
 
 -- returns the value with an optional sign applied; Overflow if the result doesn't fit in 32 bits, Stuck for a sign
 -- before a value that isn't a number
 abbrev pub apply_sign : Option Sign → Value → Outcome Value
-apply_sign None v = gives v
+apply_sign None v = succeeds_with v
 apply_sign (Some sign.Plus) (number a) = checked_number a
 apply_sign (Some sign.Minus) (number a) = checked_number (neg_ℤ a)
-apply_sign _ _ = ends Stuck
+apply_sign _ _ = ends_run_with Stuck
 
 -- returns the result of `~`; Stuck for any value that isn't a truth value
 abbrev pub negate : Value → Outcome Value
-negate (truth b) = gives (truth (not b))
-negate _ = ends Stuck
+negate (truth b) = succeeds_with (truth (not b))
+negate _ = ends_run_with Stuck
 
 -- a step of a path into a value: to an element of an array, or to a field of a record
 pub data Step : Type 0 where
@@ -230,13 +230,13 @@ copies (suc n) v = next_value v (copies n v)
 -- Returns the initial value of a variable: each number in it is 0, and each truth value is FALSE.
 abbrev mutual
   -- returns the initial value of a variable of this type
-  pub initial : Shape → Value
-  initial integer_shape = number (pos 0)
-  initial boolean_shape = truth false
-  initial (array_shape k n element) = elements (copies n (initial element))
-  initial (record_shape k fs) = members k (initial_members fs)
+  pub initial_value : Shape → Value
+  initial_value integer_shape = number (pos 0)
+  initial_value boolean_shape = truth false
+  initial_value (array_shape k n element) = elements (copies n (initial_value element))
+  initial_value (record_shape k fs) = members k (initial_members fs)
 
   -- returns the initial members of a record variable with these fields
   pub initial_members : FieldShapes → Members
   initial_members no_field_shape = no_member
-  initial_members (next_field_shape x s rest) = next_member x (initial s) (initial_members rest)
+  initial_members (next_field_shape x s rest) = next_member x (initial_value s) (initial_members rest)

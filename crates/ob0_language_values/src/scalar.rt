@@ -1,7 +1,7 @@
 //! Numbers and truth values, and the operators on them (Wirth, Compiler Construction, Oberon-0).
 
 ghost use Rattle.std.specs.Prelude.{◌≡◌};
-ghost use Rattle.ob0_language_values.specs.Values.{add, add_short_circuits, compare_numbers, division_outcome, checked_number, multiply, multiply_short_circuits, negate, number, relate, apply_sign, truth};
+ghost use Rattle.ob0_language_values.specs.Values.{add, add_short_circuits, compare_numbers, division_outcome, checked_number, multiply, multiply_short_circuits, negate, number, apply_relation, apply_sign, truth};
 ghost use Rattle.ob0_language_values.specs.Scalars.{number_outcome, scalar_outcome, scalar_value};
 ghost use Rattle.ob0_tree.specs.declared.tree.MultiplyOperator.TheVariants.{Divide, Modulo};
 
@@ -197,8 +197,12 @@ pub fn multiply_short_circuits(operator: MultiplyOperator, left: Scalar) -> bool
 /// # Errors
 ///
 /// `Operand` if the relation isn't defined for the operands.
-pub fn relate(relation: Relation, left: Scalar, right: Scalar) -> Result<Scalar, OperatorFault>
-    ensures { scalar_outcome result ≡ relate relation (scalar_value left) (scalar_value right) }
+pub fn apply_relation(
+    relation: Relation,
+    left: Scalar,
+    right: Scalar,
+) -> Result<Scalar, OperatorFault>
+    ensures { scalar_outcome result ≡ apply_relation relation (scalar_value left) (scalar_value right) }
 {
     match left {
         Scalar::Number(a) => match right {
@@ -229,7 +233,7 @@ fn compare(relation: Relation, a: i32, b: i32) -> bool
 /// Returns the truth value of `a = b` or `a # b`. Returns the error `Operand` for any other
 /// relation.
 fn relate_truths(relation: Relation, a: bool, b: bool) -> Result<Scalar, OperatorFault>
-    ensures { scalar_outcome result ≡ relate relation (truth a) (truth b) }
+    ensures { scalar_outcome result ≡ apply_relation relation (truth a) (truth b) }
 {
     match relation {
         Relation::Equal => Ok(Scalar::Truth(a == b)),

@@ -16,7 +16,7 @@ use Rattle.ob0_scan.specs.declared.lexeme.LexemeKind.{LexemeKind}
 use Rattle.ob0_scan.specs.declared.lexeme.LexemeKind.TheVariants as lexeme
 use Rattle.ob0_scan.specs.declared.lexeme.Span.{Span}
 use Rattle.ob0_scan.specs.declared.lexeme.Token.{Token}
-use Rattle.ob0_scan.specs.Lexed.{Lexeme, joined}
+use Rattle.ob0_scan.specs.Lexed.{Lexeme, text_of_lexemes}
 use Rattle.ob0_scan.specs.TextWithTokens.{TextWithTokens, IsScan, span_from, token_at, comment_at, tokens_from, comments_from}
 use Rattle.ob0_scan.proofs.Cuts.{nonempty}
 use Rattle.ob0_scan.proofs.Spans.{LexemesFrom, next_from}
@@ -27,8 +27,8 @@ use Rattle.ob0_layout.specs.declared.sites.NextLexeme.TheVariants as next
 use Rattle.ob0_layout.specs.declared.sites.KindAndRole.{KindAndRole}
 use Rattle.ob0_layout.specs.declared.line_role.LineRole.{LineRole}
 use Rattle.ob0_layout.specs.Cuts.{changed_sites, gap_before, gap_cut, last_gap, next_lexeme}
-use Rattle.ob0_layout.specs.Gaps.{all_gaps, changed_gaps, gaps, gaps_after, is_changed}
-use Rattle.ob0_layout.specs.Layout.{PlacedLexeme, placed_lexemes, next_line_level, next_role, has_break, comment_role, gap, indentation}
+use Rattle.ob0_layout.specs.Gaps.{all_gaps, changed_gaps, gaps_of_lexemes, gaps_after, is_changed}
+use Rattle.ob0_layout.specs.Layout.{PlacedLexeme, placed_lexemes, next_line_level, next_role, has_break, comment_role, gap_text_between, indentation}
 use Rattle.ob0_layout.proofs.Apart.{IsSolid}
 use Rattle.ob0_layout.proofs.InText.{from_start}
 
@@ -115,13 +115,13 @@ module _ (text : List ℕ) where
     pub found : (level : ℕ) (broken : Bool) (ss : List LineRole)
         → placed_lexemes at level broken ss rest ≡ placed_lexemes place level (broken || has_break (slice_range text at place)) ss (record { kind = kind; text = t } ∷ ls)
 
-  over_space : (at : ℕ) (t : List ℕ) (ls : List Lexeme) → drop at text ≡ t ++ joined ls → drop (at + length t) text ≡ joined ls
+  over_space : (at : ℕ) (t : List ℕ) (ls : List Lexeme) → drop at text ≡ t ++ text_of_lexemes ls → drop (at + length t) text ≡ text_of_lexemes ls
       → NoMore (at + length t) ls ⊎ Found (at + length t) ls → NoMore at (record { kind = lexeme.Space; text = t } ∷ ls) ⊎ Found at (record { kind = lexeme.Space; text = t } ∷ ls)
   over_space at t ls here there (inl n) = inl (record { up = omega (arith, n.up); tokens = n.tokens; comments = n.comments; none = λ level broken ss. n.none level (broken || has_break t) ss })
   over_space at t ls here there (inr n) =
       let further : n.place - at ≡ length t + (n.place - (at + length t)) = omega (arith, n.up) in
       let parts : slice_range text at n.place ≡ t ++ slice_range text (at + length t) n.place =
-      (λ i. take (further i) (here i)) ∙ take-append-add t (joined ls) (n.place - (at + length t)) ∙ ap (λ r. t ++ take (n.place - (at + length t)) r) (sym there) in
+      (λ i. take (further i) (here i)) ∙ take-append-add t (text_of_lexemes ls) (n.place - (at + length t)) ∙ ap (λ r. t ++ take (n.place - (at + length t)) r) (sym there) in
       let same : (broken : Bool) → ((broken || has_break t) || has_break (slice_range text (at + length t) n.place)) ≡ (broken || has_break (slice_range text at n.place)) =
       λ broken. or_assoc broken (has_break t) _ ∙ ap (λ b. broken || b) (sym (ap has_break parts ∙ break_append t (slice_range text (at + length t) n.place))) in
       inr (record {
@@ -156,7 +156,7 @@ module _ (text : List ℕ) where
 
   over_kind : (k : LexemeKind) (at : ℕ) (t : List ℕ) (ls : List Lexeme) → LexemesFrom text at (record { kind = k; text = t } ∷ ls) []
       → LexemesFrom text (at + length t) ls [] → NoMore (at + length t) ls ⊎ Found (at + length t) ls → NoMore at (record { kind = k; text = t } ∷ ls) ⊎ Found at (record { kind = k; text = t } ∷ ls)
-  over_kind lexeme.Space at t ls s s' more = over_space at t ls (s.rest ∙ append-nil (t ++ joined ls)) (s'.rest ∙ append-nil (joined ls)) more
+  over_kind lexeme.Space at t ls s s' more = over_space at t ls (s.rest ∙ append-nil (t ++ text_of_lexemes ls)) (s'.rest ∙ append-nil (text_of_lexemes ls)) more
   over_kind lexeme.Comment at t ls s s' more = inr (found_here lexeme.Comment at t ls tt s)
   over_kind (lexeme.Token k) at t ls s s' more = inr (found_here (lexeme.Token k) at t ls tt s)
 
@@ -184,19 +184,19 @@ module _ (indent : Indent) (text : List ℕ) where
   gaps_left None start (b ∷ bs) = record { from = start; to = b.span.start; new = [] } ∷ gaps_after indent (length text) b bs
   gaps_left (Some a) start bs = gaps_after indent (length text) (record { lexeme = record { kind = a.kind; text = [] }; span = record { start = start; end = start }; role = a.role }) bs
 
-  at_start : (bs : List PlacedLexeme) → gaps_left None 0 bs ≡ gaps indent (length text) bs
+  at_start : (bs : List PlacedLexeme) → gaps_left None 0 bs ≡ gaps_of_lexemes indent (length text) bs
   at_start [] = refl
   at_start (b ∷ bs) = refl
 
   -- The gaps after a token or comment depend only on its kind, role and end.
   same_after : (b : PlacedLexeme) (bs : List PlacedLexeme) → gaps_after indent (length text) b bs ≡ gaps_left (Some (make_solid b.lexeme.kind b.role)) b.span.end bs
-  unfolding gap
+  unfolding gap_text_between
   same_after b [] = refl
   same_after b (c ∷ cs) = refl
 
   one_gap : (before : Option KindAndRole) (start : ℕ) (b : PlacedLexeme) (bs : List PlacedLexeme)
       → gap_cut indent (make_site start b.span.start (gap_before before b.lexeme.kind b.role)) ∷ gaps_left (Some (make_solid b.lexeme.kind b.role)) b.span.end bs ≡ gaps_left before start (b ∷ bs)
-  unfolding gap
+  unfolding gap_text_between
   one_gap None start b bs = ap (λ cs. record { from = start; to = b.span.start; new = [] } ∷ cs) (sym (same_after b bs))
   one_gap (Some a) start b bs = ap (λ cs. gap_cut indent (make_site start b.span.start (gap_before (Some a) b.lexeme.kind b.role)) ∷ cs) (sym (same_after b bs))
 

@@ -14,7 +14,7 @@ use Rattle.ob0_scan.specs.declared.lexeme.TokenKind.TheVariants as token
 use Rattle.ob0_scan.specs.declared.lexeme.LexemeKind.{LexemeKind}
 use Rattle.ob0_scan.specs.declared.lexeme.LexemeKind.TheVariants as lexeme
 use Rattle.ob0_scan.specs.Classes.{symbol_text, is_space, IsRun, IsLexemeOfKind}
-use Rattle.ob0_scan.specs.Lexed.{Lexeme, joined}
+use Rattle.ob0_scan.specs.Lexed.{Lexeme, text_of_lexemes}
 use Rattle.ob0_scan.specs.Ends.{continues_symbol, continues_lexeme, EachEndsBeforeNext}
 use Rattle.ob0_scan.specs.TextWithTokens.{span_from, words_of_lexemes}
 use Rattle.ob0_scan.proofs.Families.{Family, Blank, Letter, Digit, family, family_of, family-blank, head_family}
@@ -30,7 +30,7 @@ use Rattle.ob0_layout.specs.declared.gap.Gap.TheVariants.{Nothing, Space}
 use Rattle.ob0_layout.specs.declared.line_role.LineRole.{LineRole}
 use Rattle.ob0_layout.specs.declared.line_role.LineRole.TheVariants.{Begins, Opening, Joining, Plain}
 use Rattle.ob0_layout.specs.LineRoles.{line_roles}
-use Rattle.ob0_layout.specs.Layout.{PlacedLexeme, placed_lexemes, next_line_level, next_role, has_break, comment_role, is_comment, has_no_space_before, has_no_space_after, indentation, gap, gap_between, gap_in_line, gap_text, white_space_lexeme, with_formatted_gaps_after, with_formatted_gaps, formatted_lexemes}
+use Rattle.ob0_layout.specs.Layout.{PlacedLexeme, placed_lexemes, next_line_level, next_role, has_break, comment_role, is_comment, has_no_space_before, has_no_space_after, indentation, gap_text_between, gap_between, gap_in_line, gap_text, white_space_lexeme, with_formatted_gaps_after, with_formatted_gaps, formatted_lexemes}
 use Rattle.ob0_layout.proofs.Pairs.{Calm, calm_next, calm_paren, is_paren, is_star, calm_spelled}
 
 -- holds if a lexeme is a token or comment
@@ -104,7 +104,7 @@ direct_ends _ role x h star = absurd (differ h)
 other_family : (text : List ℕ) (f : Family) → family (get_or text 0 0) ≡ f → (families.Mark ≡ f → ⊥) → (get_or text 0 0 == 42) ≡ false
 other_family text f e other = false_from_ne_true (get_or text 0 0 == 42) (λ h. other (sym (ap family (eqb-true (get_or text 0 0) 42 h)) ∙ e))
 
-symbol_first : (s : Symbol) → is_star {N = List ℕ} (spelled_as.Mark (token.Symbol s)) ≡ false → (get_or (symbol_text s) 0 0 == 42) ≡ false
+symbol_first : (s : Symbol) → is_star {N = List ℕ} (spelled_as.WordOrSymbol (token.Symbol s)) ≡ false → (get_or (symbol_text s) 0 0 == 42) ≡ false
 symbol_first symbol.Times h = absurd (differ (sym h))
 symbol_first _ h = refl
 
@@ -169,12 +169,12 @@ gap_between_fits indent a l u Opening n = gap_in_line_fits indent a (record { le
 gap_between_fits indent a l u Joining n = gap_in_line_fits indent a (record { lexeme = l; span = u; role = Joining }) n
 gap_between_fits indent a l u Plain n = gap_in_line_fits indent a (record { lexeme = l; span = u; role = Plain }) n
 
-gap_fits : (indent : Indent) (a b : PlacedLexeme) → Neighbours a b → Fits a.lexeme.kind (get_or b.lexeme.text 0 0) (gap indent a b)
-unfolding gap
+gap_fits : (indent : Indent) (a b : PlacedLexeme) → Neighbours a b → Fits a.lexeme.kind (get_or b.lexeme.text 0 0) (gap_text_between indent a b)
+unfolding gap_text_between
 gap_fits indent a b n = gap_between_fits indent a b.lexeme b.span b.role n
 
-first_of : (l : Lexeme) (ls : List Lexeme) → IsLexemeOfKind l.kind l.text → get_or (joined (l ∷ ls)) 0 0 ≡ get_or l.text 0 0
-first_of l ls h = get_or_append_left l.text (joined ls) 0 0 (nonempty l.kind l.text h)
+first_of : (l : Lexeme) (ls : List Lexeme) → IsLexemeOfKind l.kind l.text → get_or (text_of_lexemes (l ∷ ls)) 0 0 ≡ get_or l.text 0 0
+first_of l ls h = get_or_append_left l.text (text_of_lexemes ls) 0 0 (nonempty l.kind l.text h)
 
 fits_apart : (a b : PlacedLexeme) (rest : List Lexeme) (g : List ℕ) → Neighbours a b → IsLexemeOfKind a.lexeme.kind a.lexeme.text
     → Fits a.lexeme.kind (get_or b.lexeme.text 0 0) g → EachEndsBeforeNext (b.lexeme ∷ rest) → EachEndsBeforeNext (a.lexeme ∷ (white_space_lexeme g ++ (b.lexeme ∷ rest)))
@@ -213,14 +213,14 @@ comment_spread : (indent : Indent) (text : List ℕ) (ls : List Lexeme) → Spre
 comment_spread indent text ls rest at level broken ss a without_white_space h after calm apart =
     let c : PlacedLexeme = record { lexeme = record { kind = lexeme.Comment; text = text }; span = span_from at (length text); role = comment_role broken (next_line_level level ss) } in
     let n : Neighbours a c = record { left = without_white_space; right = tt; right_belongs = apart.0.belongs; starless = λ paren uncommented. absurd (differ (sym uncommented)) } in
-    fits_apart a c (with_formatted_gaps_after indent c (placed_lexemes (at + length text) level false ss ls)) (gap indent a c) n h (gap_fits indent a c n)
+    fits_apart a c (with_formatted_gaps_after indent c (placed_lexemes (at + length text) level false ss ls)) (gap_text_between indent a c) n h (gap_fits indent a c n)
     (rest (at + length text) level false ss c tt apart.0.belongs (λ e. cc) calm apart.1)
 
 token_spread : (indent : Indent) (k : TokenKind) (text : List ℕ) (ls : List Lexeme) → Spread indent ls → Spread indent (record { kind = lexeme.Token k; text = text } ∷ ls)
 token_spread indent k text ls rest at level broken ss a without_white_space h after calm apart =
     let t : PlacedLexeme = record { lexeme = record { kind = lexeme.Token k; text = text }; span = span_from at (length text); role = next_role ss } in
     let n : Neighbours a t = record { left = without_white_space; right = tt; right_belongs = apart.0.belongs; starless = λ paren uncommented. token_first k text apart.0.belongs (after paren) } in
-    fits_apart a t (with_formatted_gaps_after indent t (placed_lexemes (at + length text) (next_line_level level ss) false (drop 1 ss) ls)) (gap indent a t) n h (gap_fits indent a t n)
+    fits_apart a t (with_formatted_gaps_after indent t (placed_lexemes (at + length text) (next_line_level level ss) false (drop 1 ss) ls)) (gap_text_between indent a t) n h (gap_fits indent a t n)
     (rest (at + length text) (next_line_level level ss) false (drop 1 ss) t tt apart.0.belongs (λ e. calm_first calm (paren_of k text e)) (calm_following calm) apart.1)
 
 kind_spread : (indent : Indent) (k : LexemeKind) (text : List ℕ) (ls : List Lexeme) → Spread indent ls → Spread indent (record { kind = k; text = text } ∷ ls)

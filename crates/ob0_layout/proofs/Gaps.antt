@@ -10,7 +10,7 @@ use Rattle.std.proofs.lemmas.List.Elements.{All-cons, All-nil}
 use Rattle.std.specs.Str.{bytes_eq}
 use Rattle.std.proofs.lemmas.Slice.Eq.{bytes_eq-Decides}
 use Rattle.ob0_scan.specs.Classes.{is_space}
-use Rattle.ob0_scan.specs.Lexed.{Lexeme, joined}
+use Rattle.ob0_scan.specs.Lexed.{Lexeme, text_of_lexemes}
 use Rattle.ob0_scan.specs.TextWithTokens.{TextWithTokens, IsScan}
 use Rattle.ob0_text.specs.declared.edits.Indent.{Indent}
 use Rattle.ob0_text.specs.Patches.{Cut, text_with_cuts}
@@ -20,8 +20,8 @@ use Rattle.ob0_layout.specs.declared.gap.Gap.TheVariants.{Nothing, Space, Line}
 use Rattle.ob0_layout.specs.declared.line_role.LineRole.{LineRole}
 use Rattle.ob0_layout.specs.declared.sites.GapSite.{GapSite}
 use Rattle.ob0_layout.specs.Cuts.{LiesIn, gap_cut}
-use Rattle.ob0_layout.specs.Gaps.{IsWhiteSpace, all_gaps, changed_gaps, gaps, gaps_after, is_changed, formatted_len_from}
-use Rattle.ob0_layout.specs.Layout.{PlacedLexeme, placed_lexemes, indentation, gap, gap_text, white_space_lexeme, with_formatted_gaps_after, with_formatted_gaps}
+use Rattle.ob0_layout.specs.Gaps.{IsWhiteSpace, all_gaps, changed_gaps, gaps_of_lexemes, gaps_after, is_changed, formatted_len_from}
+use Rattle.ob0_layout.specs.Layout.{PlacedLexeme, placed_lexemes, indentation, gap_text_between, gap_text, white_space_lexeme, with_formatted_gaps_after, with_formatted_gaps}
 use Rattle.ob0_layout.proofs.Apart.{indented}
 use Rattle.ob0_layout.proofs.InText.{AreIn, IsAt, IsSpaced, White, all_in, no_white}
 use Rattle.ob0_layout.proofs.Pieced.{pieced_here, pieced_later, two_parts}
@@ -43,11 +43,11 @@ laid_white indent Nothing = no_white
 laid_white indent Space = All-cons (λ b. is_space b ≡ true) 32 [] refl no_white
 laid_white indent (Line level) = All-cons (λ b. is_space b ≡ true) 10 (indentation indent level) refl (indented indent level)
 
-gap_white : (indent : Indent) (a b : PlacedLexeme) → White (gap indent a b)
-unfolding gap
+gap_white : (indent : Indent) (a b : PlacedLexeme) → White (gap_text_between indent a b)
+unfolding gap_text_between
 gap_white indent a b = laid_white indent _
 
-joined_spaced : (g : List ℕ) (ls : List Lexeme) → joined (white_space_lexeme g ++ ls) ≡ g ++ joined ls
+joined_spaced : (g : List ℕ) (ls : List Lexeme) → text_of_lexemes (white_space_lexeme g ++ ls) ≡ g ++ text_of_lexemes ls
 joined_spaced [] ls = refl
 joined_spaced (b ∷ bs) ls = refl
 
@@ -121,7 +121,7 @@ module _ (text : List ℕ) where
       earlier b.span.start b.span.end (gaps_after indent (length text) b bs) h.1.ordered (after_are b bs h.2),
     )
 
-    gaps_are : (bs : List PlacedLexeme) → AreIn text 0 bs → AreGaps text 0 (gaps indent (length text) bs)
+    gaps_are : (bs : List PlacedLexeme) → AreIn text 0 bs → AreGaps text 0 (gaps_of_lexemes indent (length text) bs)
     unfolding AreGaps AreIn
     gaps_are [] h = (record { up = omega arith; old = h; new = no_white }, tt)
     gaps_are (b ∷ bs) h = (
@@ -135,21 +135,21 @@ module _ (text : List ℕ) where
 
     -- A token or comment and the gaps after it give the token or comment and the formatted lexemes
     -- after it.
-    over : (b : PlacedLexeme) (bs : List PlacedLexeme) → IsAt text b → AreIn text b.span.end bs → text_with_cuts text b.span.end (gaps_after indent (length text) b bs) ≡ joined (with_formatted_gaps_after indent b bs)
-        → text_with_cuts text b.span.start (gaps_after indent (length text) b bs) ≡ joined (b.lexeme ∷ with_formatted_gaps_after indent b bs)
+    over : (b : PlacedLexeme) (bs : List PlacedLexeme) → IsAt text b → AreIn text b.span.end bs → text_with_cuts text b.span.end (gaps_after indent (length text) b bs) ≡ text_of_lexemes (with_formatted_gaps_after indent b bs)
+        → text_with_cuts text b.span.start (gaps_after indent (length text) b bs) ≡ text_of_lexemes (b.lexeme ∷ with_formatted_gaps_after indent b bs)
     over b bs is h more =
         pieced_later text b.span.start b.span.end (gaps_after indent (length text) b bs) is.ordered (chain b.span.end (gaps_after indent (length text) b bs) (after_are b bs h))
         ∙ ap₂ (λ xs ys. xs ++ ys) is.here more
 
-    after_made : (a : PlacedLexeme) (bs : List PlacedLexeme) → AreIn text a.span.end bs → text_with_cuts text a.span.end (gaps_after indent (length text) a bs) ≡ joined (with_formatted_gaps_after indent a bs)
+    after_made : (a : PlacedLexeme) (bs : List PlacedLexeme) → AreIn text a.span.end bs → text_with_cuts text a.span.end (gaps_after indent (length text) a bs) ≡ text_of_lexemes (with_formatted_gaps_after indent a bs)
     unfolding AreIn
     after_made a [] h = pieced_here text a.span.end (length text) (10 ∷ []) [] ∙ ap (λ xs. 10 ∷ xs) nothing_after
     after_made a (b ∷ bs) h =
-        pieced_here text a.span.end b.span.start (gap indent a b) (gaps_after indent (length text) b bs)
-        ∙ ap (λ xs. gap indent a b ++ xs) (over b bs h.1 h.2 (after_made b bs h.2))
-        ∙ sym (joined_spaced (gap indent a b) (b.lexeme ∷ with_formatted_gaps_after indent b bs))
+        pieced_here text a.span.end b.span.start (gap_text_between indent a b) (gaps_after indent (length text) b bs)
+        ∙ ap (λ xs. gap_text_between indent a b ++ xs) (over b bs h.1 h.2 (after_made b bs h.2))
+        ∙ sym (joined_spaced (gap_text_between indent a b) (b.lexeme ∷ with_formatted_gaps_after indent b bs))
 
-    gaps_made : (bs : List PlacedLexeme) → AreIn text 0 bs → text_with_cuts text 0 (gaps indent (length text) bs) ≡ joined (with_formatted_gaps indent bs)
+    gaps_made : (bs : List PlacedLexeme) → AreIn text 0 bs → text_with_cuts text 0 (gaps_of_lexemes indent (length text) bs) ≡ text_of_lexemes (with_formatted_gaps indent bs)
     unfolding AreIn
     gaps_made [] h = pieced_here text 0 (length text) [] [] ∙ nothing_after
     gaps_made (b ∷ bs) h = pieced_here text 0 b.span.start [] (gaps_after indent (length text) b bs) ∙ over b bs h.1 h.2 (after_made b bs h.2)
@@ -168,14 +168,14 @@ module _ (indent : Indent) (s : TextWithTokens) (scan : IsScan s) (ss : List Lin
   pub new_is_white : All (λ (c : Cut). White c.new) (all_gaps indent s.text ss scan.lexemes)
   new_is_white = new_white s.text 0 (all_gaps indent s.text ss scan.lexemes) all_are
 
-  pub all_made : text_with_cuts s.text 0 (all_gaps indent s.text ss scan.lexemes) ≡ joined (with_formatted_gaps indent (placed_lexemes 0 0 true ss scan.lexemes))
+  pub all_made : text_with_cuts s.text 0 (all_gaps indent s.text ss scan.lexemes) ≡ text_of_lexemes (with_formatted_gaps indent (placed_lexemes 0 0 true ss scan.lexemes))
   all_made = gaps_made s.text indent (placed_lexemes 0 0 true ss scan.lexemes) (all_in s scan ss)
 
-  pub changed_made : text_with_cuts s.text 0 (changed_gaps s.text (all_gaps indent s.text ss scan.lexemes)) ≡ joined (with_formatted_gaps indent (placed_lexemes 0 0 true ss scan.lexemes))
+  pub changed_made : text_with_cuts s.text 0 (changed_gaps s.text (all_gaps indent s.text ss scan.lexemes)) ≡ text_of_lexemes (with_formatted_gaps indent (placed_lexemes 0 0 true ss scan.lexemes))
   changed_made = kept_or_changed s.text 0 (all_gaps indent s.text ss scan.lexemes) all_are ∙ all_made
 
-  pub all_length : formatted_len_from (length s.text) 0 (all_gaps indent s.text ss scan.lexemes) ≡ length (joined (with_formatted_gaps indent (placed_lexemes 0 0 true ss scan.lexemes)))
+  pub all_length : formatted_len_from (length s.text) 0 (all_gaps indent s.text ss scan.lexemes) ≡ length (text_of_lexemes (with_formatted_gaps indent (placed_lexemes 0 0 true ss scan.lexemes)))
   all_length = sym (made_length s.text 0 (all_gaps indent s.text ss scan.lexemes) all_are) ∙ ap length all_made
 
-  pub changed_length : formatted_len_from (length s.text) 0 (changed_gaps s.text (all_gaps indent s.text ss scan.lexemes)) ≡ length (joined (with_formatted_gaps indent (placed_lexemes 0 0 true ss scan.lexemes)))
+  pub changed_length : formatted_len_from (length s.text) 0 (changed_gaps s.text (all_gaps indent s.text ss scan.lexemes)) ≡ length (text_of_lexemes (with_formatted_gaps indent (placed_lexemes 0 0 true ss scan.lexemes)))
   changed_length = sym (made_length s.text 0 (changed_gaps s.text (all_gaps indent s.text ss scan.lexemes)) all_changed_are) ∙ ap length changed_made

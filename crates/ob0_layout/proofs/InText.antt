@@ -10,7 +10,7 @@ use Rattle.std.proofs.lemmas.Str.{IsCharBoundary-start}
 use Rattle.ob0_scan.specs.Classes.{is_space}
 use Rattle.ob0_scan.specs.declared.lexeme.LexemeKind.{LexemeKind}
 use Rattle.ob0_scan.specs.declared.lexeme.LexemeKind.TheVariants as lexeme
-use Rattle.ob0_scan.specs.Lexed.{Lexeme, joined}
+use Rattle.ob0_scan.specs.Lexed.{Lexeme, text_of_lexemes}
 use Rattle.ob0_scan.specs.TextWithTokens.{TextWithTokens, IsScan, text_in_span, span_from}
 use Rattle.ob0_scan.proofs.Cuts.{nonempty}
 use Rattle.ob0_edits_tokens.proofs.TextCuts.{IsBorder}
@@ -53,7 +53,7 @@ module _ (text : List ℕ) where
   before_solid k at t ls without_white_space s = record {
     place = s.place;
     clear = λ ending.
-        let here : get_or text (at + 0) 0 ≡ get_or t 0 0 = byte_at at 0 (t ++ (joined ls ++ [])) (s.rest ∙ append_assoc t (joined ls) []) ∙ get_or_append_left t (joined ls ++ []) 0 0 (nonempty k t s.each.0.belongs) in
+        let here : get_or text (at + 0) 0 ≡ get_or t 0 0 = byte_at at 0 (t ++ (text_of_lexemes ls ++ [])) (s.rest ∙ append_assoc t (text_of_lexemes ls) []) ∙ get_or_append_left t (text_of_lexemes ls ++ []) 0 0 (nonempty k t s.each.0.belongs) in
         let lf : get_or t 0 0 ≡ 10 = sym here ∙ ap (λ n. get_or text n 0) (omega arith) ∙ ending.lf in
         let first = solid_first k t without_white_space s.each.0.belongs in
         let never : true ≡ false = sym (ap is_space lf) ∙ first in absurd (cc);
@@ -64,7 +64,7 @@ module _ (text : List ℕ) where
       let some = nonempty k t s.each.0.belongs in record {
         place = (next_from text at (record { kind = k; text = t }) ls [] s).place;
         clear = λ ending.
-            let here : get_or text (at + (length t - 1)) 0 ≡ get_or t (length t - 1) 0 = byte_at at (length t - 1) (t ++ (joined ls ++ [])) (s.rest ∙ append_assoc t (joined ls) []) ∙ get_or_append_left t (joined ls ++ []) 0 (length t - 1) (omega arith) in
+            let here : get_or text (at + (length t - 1)) 0 ≡ get_or t (length t - 1) 0 = byte_at at (length t - 1) (t ++ (text_of_lexemes ls ++ [])) (s.rest ∙ append_assoc t (text_of_lexemes ls) []) ∙ get_or_append_left t (text_of_lexemes ls ++ []) 0 (length t - 1) (omega arith) in
             let cr : last_byte t ≡ 13 = sym (last_at t) ∙ sym here ∙ ap (λ n. get_or text n 0) (omega arith) ∙ ending.cr in
             solid_last k t without_white_space s.each.0.belongs cr;
       }
@@ -107,7 +107,7 @@ module _ (text : List ℕ) where
 
   placed_kind : (k : LexemeKind) (at : ℕ) (t : List ℕ) (ls : List Lexeme) → LexemesFrom text at (record { kind = k; text = t } ∷ ls) [] → Placed (at + length t) ls → Placed at (record { kind = k; text = t } ∷ ls)
   placed_kind lexeme.Space at t ls s more = λ from level broken ss up start white.
-      more from level (broken || has_break t) ss (omega (arith, up)) start (longer from at t (joined ls) up (s.rest ∙ append-nil (t ++ joined ls)) white s.each.0.belongs.all)
+      more from level (broken || has_break t) ss (omega (arith, up)) start (longer from at t (text_of_lexemes ls) up (s.rest ∙ append-nil (t ++ text_of_lexemes ls)) white s.each.0.belongs.all)
   placed_kind lexeme.Comment at t ls s more = λ from level broken ss. placed_solid lexeme.Comment at t ls tt s more (comment_role broken (next_line_level level ss)) from level ss
   placed_kind (lexeme.Token k) at t ls s more = λ from level broken ss. placed_solid (lexeme.Token k) at t ls tt s more (next_role ss) from (next_line_level level ss) (drop 1 ss)
 
@@ -119,7 +119,7 @@ module _ (text : List ℕ) where
   placed_from (l ∷ ls) at s = placed_kind l.kind at l.text ls s (placed_from ls (at + length l.text) (next_from text at l ls [] s))
 
 pub from_start : (s : TextWithTokens) (scan : IsScan s) → LexemesFrom s.text 0 scan.lexemes []
-from_start s scan = record { utf8 = scan.utf8; place = IsCharBoundary-start s.text scan.utf8; each = scan.lexed.each; rest = sym (append-nil (joined scan.lexemes) ∙ scan.lexed.whole) }
+from_start s scan = record { utf8 = scan.utf8; place = IsCharBoundary-start s.text scan.utf8; each = scan.lexed.each; rest = sym (append-nil (text_of_lexemes scan.lexemes) ∙ scan.lexed.whole) }
 
 -- A scanned text has its tokens and comments.
 pub all_in : (s : TextWithTokens) (scan : IsScan s) (ss : List LineRole) → AreIn s.text 0 (placed_lexemes 0 0 true ss scan.lexemes)

@@ -1,6 +1,6 @@
 -- Proves that a formatted text is a text of the same module.
 use Rattle.std.proofs.Common.{◌≡◌, ℕ, List, map, refl, ap, ◌∙◌, subst}
-use Rattle.ob0_scan.specs.Lexed.{joined, Lexed}
+use Rattle.ob0_scan.specs.Lexed.{text_of_lexemes, LexesInto}
 use Rattle.ob0_scan.specs.TextWithTokens.{TextWithTokens, IsScan, words_of_lexemes}
 use Rattle.ob0_scan.proofs.Borders.{cut_depends_on_next_bytes}
 use Rattle.ob0_scan.proofs.Cuts.{cut_is_unique}
@@ -14,14 +14,14 @@ use Rattle.ob0_layout.proofs.Apart.{laid_out_apart}
 use Rattle.ob0_layout.proofs.Named.{named_lexeme, spelled_words, text_words}
 
 module _ (indent : Indent) (s : TextWithTokens) (scan : IsScan s) (tree : Tree (List ℕ) module_text) (m : ModuleOf s tree) where
-  pub laid_out_lexed : Lexed (layout indent tree scan.lexemes) (formatted_lexemes indent tree scan.lexemes)
+  pub laid_out_lexed : LexesInto (layout indent tree scan.lexemes) (formatted_lexemes indent tree scan.lexemes)
   laid_out_lexed =
       let apart = (cut_depends_on_next_bytes s.text scan.lexemes).0 scan.lexed in
       (cut_depends_on_next_bytes (layout indent tree scan.lexemes) (formatted_lexemes indent tree scan.lexemes)).1 (refl, laid_out_apart indent tree scan.lexemes (spelled_words s scan tree m) apart.1)
 
   -- The lexemes of a formatted text are the formatted lexemes.
   pub same_lexemes : (t : TextWithTokens) (again : IsScan t) → t.text ≡ layout indent tree scan.lexemes → again.lexemes ≡ formatted_lexemes indent tree scan.lexemes
-  same_lexemes t again e = cut_is_unique (layout indent tree scan.lexemes) again.lexemes (formatted_lexemes indent tree scan.lexemes) (subst (λ x. Lexed x again.lexemes) e again.lexed) laid_out_lexed
+  same_lexemes t again e = cut_is_unique (layout indent tree scan.lexemes) again.lexemes (formatted_lexemes indent tree scan.lexemes) (subst (λ x. LexesInto x again.lexemes) e again.lexed) laid_out_lexed
 
   pub layout_module : (t : TextWithTokens) → IsScan t → t.text ≡ layout indent tree scan.lexemes → ModuleOf t tree
   layout_module t again e = record {
@@ -31,4 +31,4 @@ module _ (indent : Indent) (s : TextWithTokens) (scan : IsScan s) (tree : Tree (
   }
 
   pub layout_again : (t : TextWithTokens) (again : IsScan t) → t.text ≡ layout indent tree scan.lexemes → layout indent tree again.lexemes ≡ layout indent tree scan.lexemes
-  layout_again t again e = ap (layout indent tree) (same_lexemes t again e) ∙ ap joined (laid_out_again indent tree scan.lexemes)
+  layout_again t again e = ap (layout indent tree) (same_lexemes t again e) ∙ ap text_of_lexemes (laid_out_again indent tree scan.lexemes)

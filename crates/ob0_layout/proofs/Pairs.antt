@@ -10,15 +10,15 @@ use Rattle.ob0_tree.specs.declared.tree.AddOperator.TheVariants as add_operator
 use Rattle.ob0_tree.specs.declared.tree.MultiplyOperator.{MultiplyOperator}
 use Rattle.ob0_tree.specs.declared.tree.MultiplyOperator.TheVariants as multiply_operator
 use Rattle.ob0_scan.specs.declared.lexeme.TokenKind.TheVariants as kind
-use Rattle.ob0_tree.specs.Lexeme.{Terminal, Mark, relation_token, sign_tokens, add_operator_token, multiply_operator_token}
-use Rattle.ob0_tree.specs.Tree.{Sort, Tree, expression, simple, term, factor, section, names, spell, one, more, compares, relates, sum, adds, product, multiplies, designator, integer, parenthesised, negation, field, index, assigns, calls, branches, while_loop, repeat_loop, no_arguments, some_arguments, then_argument, runs, then_statement, elsif_branch, else_branch, listed, then_name, named_type, array_type, record_type, some_fields, then_fields, no_formals, some_formals, value_section, variable_section, then_section, declares_constant, declares_constants, declares_type, declares_types, declares_variable, declares_variables, declares_procedure, declares, begins, has_body, is_module}
+use Rattle.ob0_tree.specs.Lexeme.{Terminal, WordOrSymbol, relation_token, sign_tokens, add_operator_token, multiply_operator_token}
+use Rattle.ob0_tree.specs.Tree.{Sort, Tree, expression, simple, term, factor, section, names, spell, one, more, compares, relates, sum, adds, product, multiplies, designator, integer, parenthesised, negation, field, index, assigns, calls, branches, while_loop, repeat_loop, no_arguments, some_arguments, then_argument, runs, then_statement, elsif_branch, else_branch, listed, then_name, named_type, array_type, record_type, some_fields, then_fields, no_formals, some_formals, value_section, variable_section, then_section, declares_constant, declares_constants, declares_type, declares_types, declares_variable, declares_variables, declares_procedure, declares, begins, forms_block, is_module}
 
 abbrev pub is_paren : {N : Type 0} → Terminal N → Bool
-is_paren (Mark (kind.Symbol symbol.LeftParen)) = true
+is_paren (WordOrSymbol (kind.Symbol symbol.LeftParen)) = true
 is_paren other = false
 
 abbrev pub is_star : {N : Type 0} → Terminal N → Bool
-is_star (Mark (kind.Symbol symbol.Times)) = true
+is_star (WordOrSymbol (kind.Symbol symbol.Times)) = true
 is_star other = false
 
 -- states that a token comes after each `(`, and that it isn't `*`
@@ -75,15 +75,15 @@ calm_sign N None = calm_end
 calm_sign N (Some sign.Plus) = calm_next refl calm_end
 calm_sign N (Some sign.Minus) = calm_next refl calm_end
 
-no_paren_relation : (N : Type 0) (o : Relation) → is_paren {N = N} (Mark (relation_token o)) ≡ false
+no_paren_relation : (N : Type 0) (o : Relation) → is_paren {N = N} (WordOrSymbol (relation_token o)) ≡ false
 no_paren_relation N relation.Equal = refl
 no_paren_relation N _ = refl
 
-no_paren_add : (N : Type 0) (o : AddOperator) → is_paren {N = N} (Mark (add_operator_token o)) ≡ false
+no_paren_add : (N : Type 0) (o : AddOperator) → is_paren {N = N} (WordOrSymbol (add_operator_token o)) ≡ false
 no_paren_add N add_operator.Add = refl
 no_paren_add N _ = refl
 
-no_paren_multiply : (N : Type 0) (o : MultiplyOperator) → is_paren {N = N} (Mark (multiply_operator_token o)) ≡ false
+no_paren_multiply : (N : Type 0) (o : MultiplyOperator) → is_paren {N = N} (WordOrSymbol (multiply_operator_token o)) ≡ false
 no_paren_multiply N multiply_operator.Multiply = refl
 no_paren_multiply N _ = refl
 
@@ -135,6 +135,6 @@ calm_spelled (declares_variables vs) = calm_next refl (calm_spelled vs)
 calm_spelled (declares_procedure name fs b closing) = calm_next refl (calm_next refl (calm_append (calm_spelled fs) (calm_next refl (calm_append (calm_spelled b) (calm_next refl (calm_next refl (calm_next refl calm_end)))))))
 calm_spelled (declares cs ts vs ps) = calm_append (calm_spelled cs) (calm_append (calm_spelled ts) (calm_append (calm_spelled vs) (calm_spelled ps)))
 calm_spelled (begins s) = calm_next refl (calm_spelled s)
-calm_spelled (has_body ds b) = calm_append (calm_spelled ds) (calm_spelled b)
+calm_spelled (forms_block ds b) = calm_append (calm_spelled ds) (calm_spelled b)
 calm_spelled (is_module name b closing) = calm_next refl (calm_next refl (calm_next refl (calm_append (calm_spelled b) (calm_next refl (calm_next refl (calm_next refl calm_end))))))
 calm_spelled _ = calm_end

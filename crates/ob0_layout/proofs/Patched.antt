@@ -5,7 +5,7 @@ use Rattle.std.proofs.lemmas.Str.{IsUtf8-from_ascii, IsUtf8-append, IsUtf8-drop,
 use Rattle.std.proofs.lemmas.List.Elements.{All-head, All-tail}
 use Rattle.std.proofs.lemmas.Bool.Decides.{nat_tests}
 use Rattle.ob0_scan.specs.Classes.{is_space}
-use Rattle.ob0_scan.specs.Lexed.{joined}
+use Rattle.ob0_scan.specs.Lexed.{text_of_lexemes}
 use Rattle.ob0_scan.specs.TextWithTokens.{TextWithTokens, IsScan}
 use Rattle.ob0_text.specs.declared.edits.Edit.{Edit}
 use Rattle.ob0_text.specs.declared.edits.Indent.{Indent}
@@ -47,7 +47,7 @@ same_cuts unit text u at _ _ are e = absurd (cc)
 
 pub gaps_patched : (unit : counting.Unit) (indent : Indent) (s : TextWithTokens) (scan : IsScan s) (ss : List LineRole) (edits : List Edit)
     → map edit_content edits ≡ map (edit_of (width_of unit) (chars s.text)) (changed_gaps s.text (all_gaps indent s.text ss scan.lexemes))
-    → patched (width_of unit) (chars s.text) edits ≡ Some (chars (joined (with_formatted_gaps indent (placed_lexemes 0 0 true ss scan.lexemes))))
+    → patched (width_of unit) (chars s.text) edits ≡ Some (chars (text_of_lexemes (with_formatted_gaps indent (placed_lexemes 0 0 true ss scan.lexemes))))
 gaps_patched unit indent s scan ss edits e =
     let changed : List Cut = changed_gaps s.text (all_gaps indent s.text ss scan.lexemes) in
     let are : AreGaps s.text 0 changed = all_changed_are indent s scan ss in
@@ -62,6 +62,6 @@ made_utf8 text u at (c ∷ cs) b are =
     IsUtf8-append (take (c.from - at) (drop at text)) (c.new ++ text_with_cuts text c.to cs) (IsUtf8-between text at c.from u are.0.up b old.start.place)
     (IsUtf8-append c.new (text_with_cuts text c.to cs) (white_utf8 c.new are.0.new) (made_utf8 text u c.to cs old.end.place are.1))
 
-pub layout_utf8 : (indent : Indent) (s : TextWithTokens) (scan : IsScan s) (ss : List LineRole) → IsUtf8 (joined (with_formatted_gaps indent (placed_lexemes 0 0 true ss scan.lexemes)))
+pub layout_utf8 : (indent : Indent) (s : TextWithTokens) (scan : IsScan s) (ss : List LineRole) → IsUtf8 (text_of_lexemes (with_formatted_gaps indent (placed_lexemes 0 0 true ss scan.lexemes)))
 layout_utf8 indent s scan ss =
     subst IsUtf8 (all_made indent s scan ss) (made_utf8 s.text scan.utf8 0 (all_gaps indent s.text ss scan.lexemes) (from_start s scan).place (all_are indent s scan ss))

@@ -10,7 +10,7 @@ use Rattle.ob0_text.specs.declared.position_types.Range.{Range}
 use Rattle.ob0_text.specs.Patches.{Cut}
 use Rattle.ob0_text.specs.Texts.{position_of}
 use Rattle.ob0_layout.specs.declared.line_role.LineRole.{LineRole}
-use Rattle.ob0_layout.specs.Layout.{PlacedLexeme, placed_lexemes, gap}
+use Rattle.ob0_layout.specs.Layout.{PlacedLexeme, placed_lexemes, gap_text_between}
 
 -- Returns the gaps after the token or comment `a`. Each gap is given as a cut: its byte range, and
 -- the text that replaces it. The list has the tokens and comments after `a`, and `len` is the
@@ -18,21 +18,21 @@ use Rattle.ob0_layout.specs.Layout.{PlacedLexeme, placed_lexemes, gap}
 abbrev pub gaps_after : Indent → ℕ → PlacedLexeme → List PlacedLexeme → List Cut
 gaps_after indent len a [] = record { from = a.span.end; to = len; new = 10 ∷ [] } ∷ []
 gaps_after indent len a (b ∷ bs) =
-    record { from = a.span.end; to = b.span.start; new = gap indent a b }
+    record { from = a.span.end; to = b.span.start; new = gap_text_between indent a b }
     ∷ gaps_after indent len b bs
 
 -- Returns all gaps of a text of `len` bytes. Each gap is given as a cut: its byte range, and the
 -- text that replaces it. The list has the tokens and comments of the text. The gap at the start of
 -- the text becomes empty.
-abbrev pub gaps : Indent → ℕ → List PlacedLexeme → List Cut
-gaps indent len [] = record { from = 0; to = len; new = [] } ∷ []
-gaps indent len (a ∷ bs) =
+abbrev pub gaps_of_lexemes : Indent → ℕ → List PlacedLexeme → List Cut
+gaps_of_lexemes indent len [] = record { from = 0; to = len; new = [] } ∷ []
+gaps_of_lexemes indent len (a ∷ bs) =
     record { from = 0; to = a.span.start; new = [] } ∷ gaps_after indent len a bs
 
 -- Returns all gaps of a text as cuts. `lexemes` are all lexemes of the text, including white space,
 -- and `ss` has the line roles of its tokens.
 abbrev pub all_gaps : Indent → List ℕ → List LineRole → List Lexeme → List Cut
-all_gaps indent text ss lexemes = gaps indent (length text) (placed_lexemes 0 0 true ss lexemes)
+all_gaps indent text ss lexemes = gaps_of_lexemes indent (length text) (placed_lexemes 0 0 true ss lexemes)
 
 -- Returns whether formatting changes the text of a gap, which is given as a cut.
 abbrev pub is_changed : List ℕ → Cut → Bool

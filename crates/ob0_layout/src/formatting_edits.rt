@@ -88,10 +88,10 @@ fn edits<T: TextStore>(
         ≡ map (λ site. edit_of (width_of (T.unit_of store.now)) (T.content store.now)
         (gap_cut indent site)) sites.now) }
 {
-    let starts = starts(alloc, sites)?;
-    let ends = ends(alloc, sites)?;
-    let from = store.positions(alloc, &starts)?;
-    let to = store.positions(alloc, &ends)?;
+    let gap_starts = gap_starts(alloc, sites)?;
+    let gap_ends = gap_ends(alloc, sites)?;
+    let from = store.positions(alloc, &gap_starts)?;
+    let to = store.positions(alloc, &gap_ends)?;
     let mut edits = Vec::with_capacity(alloc, sites.len())?;
     for (i, site) in sites.iter().enumerate() {
         let range = Range {
@@ -105,14 +105,14 @@ fn edits<T: TextStore>(
 }
 
 /// Returns the byte offsets in the text at which these gaps start, in the same order.
-fn starts(alloc: Global, sites: &[GapSite]) -> Result<Vec<usize>, AllocError>
+fn gap_starts(alloc: Global, sites: &[GapSite]) -> Result<Vec<usize>, AllocError>
     ensures { IfOk result (λ offsets. offsets.items ≡ map (λ site. site.start) sites.now) }
 {
     sites.iter().map(|site| site.start).collect(alloc)
 }
 
 /// Returns the byte offsets in the text at which these gaps end, in the same order.
-fn ends(alloc: Global, sites: &[GapSite]) -> Result<Vec<usize>, AllocError>
+fn gap_ends(alloc: Global, sites: &[GapSite]) -> Result<Vec<usize>, AllocError>
     ensures { IfOk result (λ offsets. offsets.items ≡ map (λ site. site.end) sites.now) }
 {
     sites.iter().map(|site| site.end).collect(alloc)

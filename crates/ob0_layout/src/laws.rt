@@ -4,7 +4,7 @@ ghost use Rattle.std.specs.Prelude.{◌≡◌, ℕ, List, length};
 ghost use Rattle.std.specs.List.{All, AllPass};
 ghost use Rattle.std.specs.Str.{IsUtf8};
 ghost use Rattle.ob0_scan.specs.Classes.{is_space};
-ghost use Rattle.ob0_scan.specs.Lexed.{Lexed};
+ghost use Rattle.ob0_scan.specs.Lexed.{LexesInto};
 ghost use Rattle.ob0_scan.specs.TextWithTokens.{TextWithTokens, IsScan};
 ghost use Rattle.ob0_text.specs.Patches.{Cut, text_with_cuts};
 ghost use Rattle.ob0_text.specs.declared.edits.Indent.{Indent};
@@ -20,7 +20,7 @@ pub fn formatting_keeps_lexemes()
     ensures lexed { (indent : Indent) (s : TextWithTokens) (scan : IsScan s)
         (tree : Tree (List ℕ) module_text)
         → ModuleOf s tree
-        → Lexed (layout indent tree scan.lexemes) (formatted_lexemes indent tree scan.lexemes) }
+        → LexesInto (layout indent tree scan.lexemes) (formatted_lexemes indent tree scan.lexemes) }
     ensures without_white_space { (indent : Indent) (s : TextWithTokens) (scan : IsScan s)
         (tree : Tree (List ℕ) module_text)
         → ModuleOf s tree

@@ -66,7 +66,7 @@ pub fn changed_sites(
                 let kind = LexemeKind::Comment;
                 let gap = gap_before(before, kind, role);
                 let end = span.start as usize;
-                add_if_changed(&mut sites, text, GapSite { start, end, gap }, indent)?;
+                add_gap_if_changed(&mut sites, text, GapSite { start, end, gap }, indent)?;
                 before = Some(KindAndRole { kind, role });
                 start = span.end as usize;
                 comments = without_first_item(comments);
@@ -76,7 +76,7 @@ pub fn changed_sites(
                 let kind = LexemeKind::Token(token.kind);
                 let gap = gap_before(before, kind, role);
                 let end = token.span.start as usize;
-                add_if_changed(&mut sites, text, GapSite { start, end, gap }, indent)?;
+                add_gap_if_changed(&mut sites, text, GapSite { start, end, gap }, indent)?;
                 before = Some(KindAndRole { kind, role });
                 level = next_line_level(level, roles);
                 roles = without_first_item(roles);
@@ -87,12 +87,12 @@ pub fn changed_sites(
     }
     let end = text.len();
     let gap = last_gap(before);
-    add_if_changed(&mut sites, text, GapSite { start, end, gap }, indent)?;
+    add_gap_if_changed(&mut sites, text, GapSite { start, end, gap }, indent)?;
     Ok(sites)
 }
 
 /// Appends a gap to `sites` if formatting changes the gap.
-fn add_if_changed(
+fn add_gap_if_changed(
     sites: &mut Vec<GapSite>,
     text: &[u8],
     site: GapSite,
@@ -113,7 +113,7 @@ fn is_changed(text: &[u8], site: GapSite, indent: Indent) -> bool
     requires { LiesIn (length text.now) site }
     ensures { result ≡ is_changed text.now (gap_cut indent site) }
 {
-    !site.gap.is_text(&text[site.start..site.end], indent)
+    !site.gap.matches_bytes(&text[site.start..site.end], indent)
 }
 
 /// Returns the token or comment that comes first in the text among the remaining tokens `left` and

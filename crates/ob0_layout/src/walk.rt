@@ -2,7 +2,7 @@
 
 ghost use Rattle.std.specs.Prelude.{◌≡◌, ◌++◌, ◌∷◌, [], IfOk};
 ghost use Rattle.ob0_layout.specs.declared.line_role.LineRole.TheVariants.{Begins, Plain};
-ghost use Rattle.ob0_layout.specs.LineRoles.{line_roles, deeper, sign_role, separator_role};
+ghost use Rattle.ob0_layout.specs.LineRoles.{line_roles, deeper_level, sign_role, separator_role};
 ghost use Rattle.ob0_tree.specs.ParsedModule.{tree_of};
 ghost use Rattle.ob0_tree.specs.Tree.{then_name};
 ghost use Rattle.ob0_tree.specs.View.{items_of, expression_of, compound_of, simple_of, term_of, factor_of, selector_of, designator_of, assignment_of, arguments_of_vec, call_of, statement_of, if_of, elsifs_of_vec, sequence_of_vec, type_of, record_type_of, fields_of, section_of, formals_of, constants_of, types_of, variables_of, body_of, procedure_of, block_of};
@@ -31,8 +31,8 @@ pub(crate) fn line_roles(alloc: Global, module: &Module) -> Result<Vec<LineRole>
 }
 
 /// Returns `level` plus 1, capped at 2^32 - 1.
-fn deeper(level: u32) -> u32
-    ensures { result ≡ deeper level }
+fn deeper_level(level: u32) -> u32
+    ensures { result ≡ deeper_level level }
 {
     level.saturating_add(1)
 }
@@ -203,12 +203,12 @@ fn add_statement_roles(out: &mut Vec<LineRole>, level: u32, s: &Statement) -> Re
             out.push(LineRole::Begins(level))?;
             add_expression_roles(out, &w.condition)?;
             add_plain_role(out)?;
-            add_sequence_roles(out, deeper(level), &w.body)?;
+            add_sequence_roles(out, deeper_level(level), &w.body)?;
             add_line_start_role(out, level)
         }
         Statement::Repeat(r) => {
             out.push(LineRole::Begins(level))?;
-            add_sequence_roles(out, deeper(level), &r.body)?;
+            add_sequence_roles(out, deeper_level(level), &r.body)?;
             out.push(LineRole::Begins(level))?;
             add_expression_roles(out, &r.condition)
         }
@@ -275,12 +275,12 @@ fn add_if_roles(out: &mut Vec<LineRole>, level: u32, i: &If) -> Result<(), Alloc
     add_line_start_role(out, level)?;
     add_expression_roles(out, &i.condition)?;
     add_plain_role(out)?;
-    add_sequence_roles(out, deeper(level), &i.then)?;
+    add_sequence_roles(out, deeper_level(level), &i.then)?;
     add_elsif_roles(out, level, &i.elsifs)?;
     match &i.otherwise {
         Some(statements) => {
             add_line_start_role(out, level)?;
-            add_sequence_roles(out, deeper(level), statements)?;
+            add_sequence_roles(out, deeper_level(level), statements)?;
             add_line_start_role(out, level)
         }
         None => add_line_start_role(out, level),
@@ -302,7 +302,7 @@ fn add_elsif_roles(
         add_line_start_role(out, level)?;
         add_expression_roles(out, &e.condition)?;
         add_plain_role(out)?;
-        add_sequence_roles(out, deeper(level), &e.then)?;
+        add_sequence_roles(out, deeper_level(level), &e.then)?;
     }
     Ok(())
 }
@@ -417,7 +417,7 @@ fn add_constant_roles(
     };
     add_line_start_role(out, level)?;
     for c in declared {
-        add_line_start_role(out, deeper(level))?;
+        add_line_start_role(out, deeper_level(level))?;
         add_plain_role(out)?;
         add_expression_roles(out, &c.value)?;
         add_plain_role(out)?;
@@ -440,7 +440,7 @@ fn add_type_declaration_roles(
     };
     add_line_start_role(out, level)?;
     for d in declared {
-        add_line_start_role(out, deeper(level))?;
+        add_line_start_role(out, deeper_level(level))?;
         add_plain_role(out)?;
         add_type_roles(out, &d.written)?;
         add_plain_role(out)?;
@@ -463,7 +463,7 @@ fn add_variable_roles(
     };
     add_line_start_role(out, level)?;
     for v in declared {
-        add_name_roles(out, LineRole::Begins(deeper(level)), &v.names)?;
+        add_name_roles(out, LineRole::Begins(deeper_level(level)), &v.names)?;
         add_plain_role(out)?;
         add_type_roles(out, &v.written)?;
         add_plain_role(out)?;
@@ -484,7 +484,7 @@ fn add_body_roles(
     match statements {
         Some(statements) => {
             add_line_start_role(out, level)?;
-            add_sequence_roles(out, deeper(level), statements)
+            add_sequence_roles(out, deeper_level(level), statements)
         }
         None => Ok(()),
     }
@@ -512,7 +512,7 @@ fn add_procedure_roles(out: &mut Vec<LineRole>, level: u32, p: &Procedure) -> Re
     ensures { IfOk result
         (λ _. out.new.items ≡ out.old.items ++ line_roles level (procedure_of p.now)) }
 {
-    let inner = deeper(level);
+    let inner = deeper_level(level);
     add_line_start_role(out, inner)?;
     add_plain_role(out)?;
     add_formal_roles(out, &p.formals)?;

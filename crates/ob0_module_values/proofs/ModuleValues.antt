@@ -7,7 +7,7 @@ use Rattle.ob0_tree.specs.declared.tree.ModuleTree.{ModuleTree}
 use Rattle.ob0_tree.specs.Lexeme.{EndOfText}
 use Rattle.ob0_tree.specs.Module.{ModuleOf, max_nesting, terminals_of_text}
 use Rattle.ob0_tree.specs.ParsedModule.{IsParsed, ParsedModule, named_tree_of, parsed_module, tree_of}
-use Rattle.ob0_tree.specs.Places.{index_terminals, index_terminals_from, text_at, value_at}
+use Rattle.ob0_tree.specs.Places.{index_terminals, index_terminals_from, token_text_at, token_value_at}
 use Rattle.ob0_tree.specs.Tree.{Tree, module_text, nesting, spell}
 use Rattle.ob0_tree.proofs.Indexed.{indexed, nesting_indexed, reindexed, reindexed-append, spell_indexed}
 use Rattle.ob0_tree_values.proofs.TreeValues.{tree_made}
@@ -39,7 +39,7 @@ places_of s t spelled =
     ap (λ z. z ++ (EndOfText ∷ [])) (spell_indexed 0 t)
     ∙ (sym (reindexed-append 0 (spell t) (EndOfText ∷ []))
     ∙ (ap (λ z. reindexed 0 (z ++ (EndOfText ∷ []))) (sym spelled)
-    ∙ (ap (reindexed 0) (sym (texts s)) ∙ indexes_again (text_at s) (value_at s) s.tokens 0)))
+    ∙ (ap (reindexed 0) (sym (texts s)) ∙ indexes_again (token_text_at s) (token_value_at s) s.tokens 0)))
 
 few_places : (s : TextWithTokens) (t : Tree (List ℕ) module_text) → IsScan s → terminals_of_text s ≡ spell t → length (spell (indexed 0 t)) ≤ 1048576
 few_places s t scan spelled =

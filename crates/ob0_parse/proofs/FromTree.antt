@@ -12,15 +12,15 @@ use Rattle.ob0_tree.specs.declared.tree.Block.{Block, out-Block, roll-Block}
 use Rattle.ob0_tree.specs.declared.tree.ModuleTree.{ModuleTree}
 use Rattle.ob0_tree.specs.declared.tree.Procedure.{Procedure}
 use Rattle.ob0_tree.specs.declared.tree.Statement.{Statement}
-use Rattle.ob0_tree.specs.Lexeme.{Terminal, Name, Mark, EndOfText}
+use Rattle.ob0_tree.specs.Lexeme.{Terminal, Name, WordOrSymbol, EndOfText}
 use Rattle.ob0_tree.specs.Module.{max_nesting}
 use Rattle.ob0_tree.specs.ParsedModule.{ParsedModule, IsParsed, tree_of, parsed_module}
-use Rattle.ob0_tree.specs.Places.{index_terminals, text_at, value_at}
-use Rattle.ob0_tree.specs.Tree.{procedure, body, Sort, item, items, maybe, Tree, declares_procedure, declares, has_body, is_module, spell, nesting}
+use Rattle.ob0_tree.specs.Places.{index_terminals, token_text_at, token_value_at}
+use Rattle.ob0_tree.specs.Tree.{procedure, body, Sort, item, items, maybe, Tree, declares_procedure, declares, forms_block, is_module, spell, nesting}
 use Rattle.ob0_tree.specs.View.{items_of, procedure_of, constants_of, types_of, variables_of, body_of}
 use Rattle.ob0_tree.proofs.Mapped.{nesting_mapped}
 use Rattle.ob0_tree.proofs.Viewed.{block_parts}
-use Rattle.ob0_parse.specs.KeptTokens.{end_token_index, HasTokensAt, IsInPlace, IsProcedureInPlace, IsLocatedBody, IsBodyWaiting, HoldsForEach}
+use Rattle.ob0_parse.specs.KeptTokens.{end_token_index, HasTokensAt, IsInPlace, IsProcedureInPlace, IsLocatedBody, IsKeptBodyInPlace, HoldsForEach}
 use Rattle.ob0_parse.specs.declared.kept.KeptBody.{KeptBody}
 use Rattle.ob0_parse.proofs.Carried.{some_as}
 use Rattle.ob0_parse.proofs.MovedParts.{block_between}
@@ -100,7 +100,7 @@ last_end ts begun left (p ∷ q ∷ ps) (suc i) n is shallow more count h =
 -- Returns the last tokens of a module: END, the closing name, the full stop and the end of the
 -- text.
 abbrev ended : ℕ → List (Terminal ℕ)
-ended closing = Mark (kind.ReservedWord reserved.End) ∷ Name closing ∷ Mark (kind.Symbol symbol.Dot) ∷ EndOfText ∷ []
+ended closing = WordOrSymbol (kind.ReservedWord reserved.End) ∷ Name closing ∷ WordOrSymbol (kind.Symbol symbol.Dot) ∷ EndOfText ∷ []
 
 -- Holds if the tokens are a module's and end with these procedures, this body and this closing
 -- name.
@@ -121,14 +121,14 @@ parts_of m parsed =
     let vs = variables_of b.variables in
     let ps = items_of procedure_of b.procedures.items in
     let s = body_of b.body in
-    let last : List (Terminal ℕ) = Mark (kind.ReservedWord reserved.End) ∷ Name m.closing ∷ Mark (kind.Symbol symbol.Dot) ∷ [] in
-    let all : index_terminals m.source.tokens ≡ spell (is_module m.name (has_body (declares cs ds vs ps) s) m.closing) ++ (EndOfText ∷ []) =
+    let last : List (Terminal ℕ) = WordOrSymbol (kind.ReservedWord reserved.End) ∷ Name m.closing ∷ WordOrSymbol (kind.Symbol symbol.Dot) ∷ [] in
+    let all : index_terminals m.source.tokens ≡ spell (is_module m.name (forms_block (declares cs ds vs ps) s) m.closing) ++ (EndOfText ∷ []) =
     sym parsed.places ∙ ap (λ t. spell (is_module m.name t m.closing) ++ (EndOfText ∷ [])) (block_parts m.block) in
-    let named : nesting (tree_of m) ≤ max_nesting = subst (λ n. n ≤ max_nesting) (nesting_mapped (text_at m.source) (value_at m.source) (tree_of m)) parsed.module_of.shallow in
-    let shallow : nesting (is_module m.name (has_body (declares cs ds vs ps) s) m.closing) ≤ max_nesting = subst (λ t. nesting (is_module m.name t m.closing) ≤ max_nesting) (block_parts m.block) named in
+    let named : nesting (tree_of m) ≤ max_nesting = subst (λ n. n ≤ max_nesting) (nesting_mapped (token_text_at m.source) (token_value_at m.source) (tree_of m)) parsed.module_of.shallow in
+    let shallow : nesting (is_module m.name (forms_block (declares cs ds vs ps) s) m.closing) ≤ max_nesting = subst (λ t. nesting (is_module m.name t m.closing) ≤ max_nesting) (block_parts m.block) named in
     record {
-      begun = Mark (kind.ReservedWord reserved.Module) ∷ Name m.name ∷ Mark (kind.Symbol symbol.Semicolon) ∷ (spell cs ++ (spell ds ++ spell vs));
-      whole = all ∙ ap (λ w. Mark (kind.ReservedWord reserved.Module) ∷ Name m.name ∷ Mark (kind.Symbol symbol.Semicolon) ∷ w) (cut (spell cs) (spell ds) (spell vs) (spell ps) (spell s) last (EndOfText ∷ []));
+      begun = WordOrSymbol (kind.ReservedWord reserved.Module) ∷ Name m.name ∷ WordOrSymbol (kind.Symbol symbol.Semicolon) ∷ (spell cs ++ (spell ds ++ spell vs));
+      whole = all ∙ ap (λ w. WordOrSymbol (kind.ReservedWord reserved.Module) ∷ Name m.name ∷ WordOrSymbol (kind.Symbol symbol.Semicolon) ∷ w) (cut (spell cs) (spell ds) (spell vs) (spell ps) (spell s) last (EndOfText ∷ []));
       procedures_shallow = omega (arith, shallow);
       body_shallow = omega (arith, shallow);
     }
@@ -154,16 +154,16 @@ body_there ts ps ss closing from h first next closed =
     let here : from ≡ length begun =
     last_end ts h.begun (spell t ++ ended closing) ps (length ps - 1) from h.whole h.procedures_shallow (some_left (spell t) closing) (has_last ps from first) first
     ∙ sym (length-append h.begun procedures) in
-    let before : List (Terminal ℕ) = (begun ++ spell t) ++ (Mark (kind.ReservedWord reserved.End) ∷ []) in
+    let before : List (Terminal ℕ) = (begun ++ spell t) ++ (WordOrSymbol (kind.ReservedWord reserved.End) ∷ []) in
     let name : closing ≡ 0 + length before =
-    named_at 0 closing ts before (Mark (kind.Symbol symbol.Dot) ∷ EndOfText ∷ [])
-    (whole ∙ sym (append_assoc begun (spell t) (ended closing)) ∙ sym (append_assoc (begun ++ spell t) (Mark (kind.ReservedWord reserved.End) ∷ []) (Name closing ∷ Mark (kind.Symbol symbol.Dot) ∷ EndOfText ∷ []))) in
+    named_at 0 closing ts before (WordOrSymbol (kind.Symbol symbol.Dot) ∷ EndOfText ∷ [])
+    (whole ∙ sym (append_assoc begun (spell t) (ended closing)) ∙ sym (append_assoc (begun ++ spell t) (WordOrSymbol (kind.ReservedWord reserved.End) ∷ []) (Name closing ∷ WordOrSymbol (kind.Symbol symbol.Dot) ∷ EndOfText ∷ []))) in
     let last : next ≡ length begun + length (spell t) =
-    omega (arith, closed, name, length-append (begun ++ spell t) (Mark (kind.ReservedWord reserved.End) ∷ []), length-append begun (spell t)) in
+    omega (arith, closed, name, length-append (begun ++ spell t) (WordOrSymbol (kind.ReservedWord reserved.End) ∷ []), length-append begun (spell t)) in
     let there : IsInPlace ts (length begun) (length begun + length (spell t)) t = between ts begun (ended closing) t whole h.body_shallow (omega arith) (omega arith) in
     subst (λ n. IsInPlace ts from n t) (sym last) (subst (λ i. IsInPlace ts i (length begun + length (spell t)) t) (sym here) there)
 
-pub body_made : (m : ParsedModule) → IsParsed m → (k : KeptBody) → IsLocatedBody (out-Block m.block).procedures.items (out-Block m.block).body m.closing k → IsBodyWaiting m.source.tokens k
+pub body_made : (m : ParsedModule) → IsParsed m → (k : KeptBody) → IsLocatedBody (out-Block m.block).procedures.items (out-Block m.block).body m.closing k → IsKeptBodyInPlace m.source.tokens k
 body_made m parsed k made =
     let ps = (out-Block m.block).procedures.items in
     let h = subst (λ b. HasParts m.source.tokens ps b m.closing) made.is (parts_of m parsed) in
@@ -178,12 +178,12 @@ pub of_tree : (s : TextWithTokens) (tree : ModuleTree) → IsParsed (parsed_modu
     → left ≡ roll-Block record { constants = (out-Block b).constants; types = (out-Block b).types; variables = (out-Block b).variables; procedures = (out-Block b).procedures; body = without }
     → ps ≡ (out-Block left).procedures
     → IfSome k (IsLocatedBody ps.items ss tree.closing)
-    → HoldsForEach (IsProcedureInPlace s.tokens) ps.items × IfSome k (IsBodyWaiting s.tokens)
+    → HoldsForEach (IsProcedureInPlace s.tokens) ps.items × IfSome k (IsKeptBodyInPlace s.tokens)
 of_tree s tree parsed b left without ss ps k is_b is_ss is_left is_ps made =
     let m = parsed_module s tree in
     let all : ps ≡ (out-Block tree.block).procedures = is_ps ∙ ap (λ o. o.procedures) (block_between left _ is_left) ∙ ap (λ x. (out-Block x).procedures) is_b in
     let statements : ss ≡ (out-Block tree.block).body = is_ss ∙ ap (λ x. (out-Block x).body) is_b in (
       subst (λ (v : Vec Procedure Global). HoldsForEach (IsProcedureInPlace s.tokens) v.items) (sym all) (tree_made m parsed),
-      some_as (IsLocatedBody ps.items ss tree.closing) (IsBodyWaiting s.tokens) k
+      some_as (IsLocatedBody ps.items ss tree.closing) (IsKeptBodyInPlace s.tokens) k
           (λ x h. body_made m parsed x (subst (λ (v : Vec Procedure Global). IsLocatedBody v.items (out-Block tree.block).body tree.closing x) all (subst (λ o. IsLocatedBody ps.items o tree.closing x) statements h))) made,
     )

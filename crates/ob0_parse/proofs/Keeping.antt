@@ -7,7 +7,7 @@ use Rattle.ob0_scan.specs.declared.lexeme.Symbol.TheVariants as symbol
 use Rattle.ob0_scan.specs.declared.lexeme.ReservedWord.TheVariants as reserved
 use Rattle.ob0_scan.specs.declared.lexeme.Token.{Token}
 use Rattle.ob0_scan.specs.Reused.{kind_without_value, kinds}
-use Rattle.ob0_tree.specs.Lexeme.{Terminal, Name, Mark, EndOfText}
+use Rattle.ob0_tree.specs.Lexeme.{Terminal, Name, WordOrSymbol, EndOfText}
 use Rattle.ob0_tree.specs.Module.{max_nesting}
 use Rattle.ob0_tree.specs.Places.{index_terminal, index_terminals_from, index_terminals}
 use Rattle.ob0_tree.specs.Tree.{procedure, Sort, item, Tree, declares_procedure, spell, nesting}
@@ -95,13 +95,13 @@ named_last i n (k ∷ ks) (x ∷ xs) z e = let h = named_last (i + 1) n ks xs z 
 pub in_place : (t : Tree ℕ (item procedure)) (at : ℕ) (ks : List TokenKind) → spell t ≡ index_terminals_of_kinds at ks → (first_token_index t ≡ at) × (end_token_index t ≡ at + length ks)
 in_place (declares_procedure x fs b y) at ks e =
     let second = named_second at x ks _ _ (sym e) in
-    let begun : List (Terminal ℕ) = Mark (kind.ReservedWord reserved.Procedure) ∷ Name x ∷ (spell fs ++ (Mark (kind.Symbol symbol.Semicolon) ∷ (spell b ++ (Mark (kind.ReservedWord reserved.End) ∷ [])))) in
-    let ended : List (Terminal ℕ) = Name y ∷ Mark (kind.Symbol symbol.Semicolon) ∷ [] in
+    let begun : List (Terminal ℕ) = WordOrSymbol (kind.ReservedWord reserved.Procedure) ∷ Name x ∷ (spell fs ++ (WordOrSymbol (kind.Symbol symbol.Semicolon) ∷ (spell b ++ (WordOrSymbol (kind.ReservedWord reserved.End) ∷ [])))) in
+    let ended : List (Terminal ℕ) = Name y ∷ WordOrSymbol (kind.Symbol symbol.Semicolon) ∷ [] in
     let cut : spell (declares_procedure x fs b y) ≡ begun ++ ended =
-    ap (λ w. Mark (kind.ReservedWord reserved.Procedure) ∷ Name x ∷ w)
-    (ap (λ w. spell fs ++ (Mark (kind.Symbol symbol.Semicolon) ∷ w)) (sym (append_assoc (spell b) (Mark (kind.ReservedWord reserved.End) ∷ []) ended))
-    ∙ sym (append_assoc (spell fs) (Mark (kind.Symbol symbol.Semicolon) ∷ (spell b ++ (Mark (kind.ReservedWord reserved.End) ∷ []))) ended)) in
-    (omega (arith, second), named_last at y ks begun (Mark (kind.Symbol symbol.Semicolon)) (sym e ∙ cut))
+    ap (λ w. WordOrSymbol (kind.ReservedWord reserved.Procedure) ∷ Name x ∷ w)
+    (ap (λ w. spell fs ++ (WordOrSymbol (kind.Symbol symbol.Semicolon) ∷ w)) (sym (append_assoc (spell b) (WordOrSymbol (kind.ReservedWord reserved.End) ∷ []) ended))
+    ∙ sym (append_assoc (spell fs) (WordOrSymbol (kind.Symbol symbol.Semicolon) ∷ (spell b ++ (WordOrSymbol (kind.ReservedWord reserved.End) ∷ []))) ended)) in
+    (omega (arith, second), named_last at y ks begun (WordOrSymbol (kind.Symbol symbol.Semicolon)) (sym e ∙ cut))
 
 -- ---- trees at their tokens
 

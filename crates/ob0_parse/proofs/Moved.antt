@@ -5,7 +5,7 @@ use Rattle.ob0_tree.specs.declared.tree.Statement.{Statement}
 use Rattle.ob0_tree.specs.declared.tree.Fields.{Fields}
 use Rattle.ob0_tree.specs.declared.tree.ParameterSection.{ParameterSection}
 use Rattle.ob0_tree.specs.Tree.{Sort, Item, item, Tree, more, some_arguments, then_argument, runs, then_statement, record_type, then_fields, some_formals, then_section}
-use Rattle.ob0_tree.specs.View.{items_of, expression_of, further_argument_of, arguments_listed, statement_of, further_statement_of, sequence_of_list, fields_of, further_fields_of_group, record_of_list, section_of, further_section_of, formals_of_list}
+use Rattle.ob0_tree.specs.View.{items_of, expression_of, further_argument_of, arguments_of_list, statement_of, further_statement_of, sequence_of_list, fields_of, further_fields_of_group, record_of_list, section_of, further_section_of, formals_of_list}
 use Rattle.ob0_parse.specs.MovedTrees.{moved_tree}
 use Rattle.ob0_parse.specs.declared.leaf_moves.LeafMove.{LeafMove}
 use Rattle.ob0_parse_descent.proofs.Unique.{head_of, tail_of}
@@ -90,7 +90,7 @@ parts_moved f by xs ys h = items_moved f (λ t. t) by (λ t. refl) xs ys h
 
 -- ---- lists with a separate case for the first item
 
-pub arguments_moved : (by : LeafMove) (xs ys : List Expression) → AllMoved expression_of by xs ys → arguments_listed ys ≡ moved_tree by (arguments_listed xs)
+pub arguments_moved : (by : LeafMove) (xs ys : List Expression) → AllMoved expression_of by xs ys → arguments_of_list ys ≡ moved_tree by (arguments_of_list xs)
 arguments_moved by [] [] h = refl
 arguments_moved by [] (y ∷ ys) h = absurd (nothing_there h)
 arguments_moved by (x ∷ xs) [] h = absurd h

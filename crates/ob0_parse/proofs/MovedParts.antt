@@ -22,14 +22,14 @@ use Rattle.ob0_tree.specs.declared.tree.TypeDeclaration.{TypeDeclaration}
 use Rattle.ob0_tree.specs.declared.tree.VariableDeclaration.{VariableDeclaration}
 use Rattle.ob0_tree.specs.declared.tree.Procedure.{Procedure}
 use Rattle.ob0_tree.specs.declared.tree.Block.{Block, roll-Block, out-Block, out-roll-Block}
-use Rattle.ob0_tree.specs.Tree.{Tree, maybe, items, elsif_part, else_part, constants, type_names, variables, procedure, body, expression, sequence, sum, product, while_loop, repeat_loop, branches, declares, has_body}
+use Rattle.ob0_tree.specs.Tree.{Tree, maybe, items, elsif_part, else_part, constants, type_definitions, variables, procedure, body, expression, sequence, sum, product, while_loop, repeat_loop, branches, declares, forms_block}
 use Rattle.ob0_tree.specs.View.{simple_of, addend_of, term_of, multiplier_of, factor_of, designator_of, items_of, expression_of, statement_of, sequence_of_list, if_of, elsif_of, else_part_of, type_of, record_of_list, constants_of, types_of, variables_of, procedure_of, body_of, block_of}
 use Rattle.ob0_tree.proofs.Viewed.{simple_made, simple_parts, term_made, term_parts, designator_made, made_record_type, while_made, repeat_made, if_made, if_parts, block_made, block_parts}
 use Rattle.ob0_parse.specs.MovedTrees.{moved_tree}
 use Rattle.ob0_parse.specs.declared.leaf_moves.LeafMove.{LeafMove}
 
-same_block : {c d : Tree ℕ (maybe constants)} {t u : Tree ℕ (maybe type_names)} {v w : Tree ℕ (maybe variables)} {p q : Tree ℕ (items procedure)} {a b : Tree ℕ (maybe body)}
-    → c ≡ d → t ≡ u → v ≡ w → p ≡ q → a ≡ b → has_body (declares c t v p) a ≡ has_body (declares d u w q) b
+same_block : {c d : Tree ℕ (maybe constants)} {t u : Tree ℕ (maybe type_definitions)} {v w : Tree ℕ (maybe variables)} {p q : Tree ℕ (items procedure)} {a b : Tree ℕ (maybe body)}
+    → c ≡ d → t ≡ u → v ≡ w → p ≡ q → a ≡ b → forms_block (declares c t v p) a ≡ forms_block (declares d u w q) b
 same_block e f g h i = cc (e, f, g, h, i)
 
 pub simple_moved : (by : LeafMove) (s : SimpleExpression) (t : Term) (m : Vec Addend Global)
@@ -88,7 +88,7 @@ block_moved by s w x y z cs ts vs ps b is_w is_x is_y is_z of_cs of_ts of_vs of_
     let ps_moved : items_of procedure_of ps.items ≡ moved_tree by (items_of procedure_of (out-Block s).procedures.items) = of_ps ∙ ap (λ o. moved_tree by (items_of procedure_of o.procedures.items)) third in
     let b_moved : body_of b ≡ moved_tree by (body_of (out-Block s).body) = of_b ∙ ap (λ o. moved_tree by (body_of o.body)) fourth in
     block_made _
-    ∙ ap (λ o. has_body (declares (constants_of o.constants) (types_of o.types) (variables_of o.variables) (items_of procedure_of o.procedures.items)) (body_of b)) fourth
+    ∙ ap (λ o. forms_block (declares (constants_of o.constants) (types_of o.types) (variables_of o.variables) (items_of procedure_of o.procedures.items)) (body_of b)) fourth
     ∙ same_block of_cs ts_moved vs_moved ps_moved b_moved
     ∙ ap (moved_tree by) (sym (block_parts s))
 

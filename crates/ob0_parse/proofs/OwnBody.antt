@@ -6,7 +6,7 @@ use Rattle.ob0_scan.specs.declared.lexeme.TokenKind.{TokenKind}
 use Rattle.ob0_scan.specs.declared.lexeme.TokenKind.TheVariants as kind
 use Rattle.ob0_scan.specs.declared.lexeme.ReservedWord.TheVariants as reserved
 use Rattle.ob0_scan.specs.declared.lexeme.Token.{Token}
-use Rattle.ob0_tree.specs.Lexeme.{Mark}
+use Rattle.ob0_tree.specs.Lexeme.{WordOrSymbol}
 use Rattle.ob0_tree.specs.declared.tree.Statement.{Statement}
 use Rattle.ob0_tree.specs.Module.{max_nesting}
 use Rattle.ob0_tree.specs.View.{body_of}
@@ -22,5 +22,5 @@ taken_body ts at x there ends = taken_kept ts at x.1 (body_of (Some x.0)) (subst
 
 -- An expected token is here exactly if it was read.
 pub token_is : (k : TokenKind) (ts : List Token) (at : ℕ) (r : Result ℕ ParseRefusal) → ReadsToken k ts at r → TellsIfTokenAt k ts at (is_ok r)
-token_is k ts at (Ok next) h = (h.0 ∙ ap (λ n. Mark k ∷ rest ts n) h.2, h.1)
+token_is k ts at (Ok next) h = (h.0 ∙ ap (λ n. WordOrSymbol k ∷ rest ts n) h.2, h.1)
 token_is k ts at (Err e) h = h.0

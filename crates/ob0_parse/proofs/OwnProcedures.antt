@@ -7,8 +7,8 @@ use Rattle.ob0_tree.specs.Module.{max_nesting}
 use Rattle.ob0_tree.specs.View.{procedure_of}
 use Rattle.ob0_parse_descent.specs.Reading.{rest, IsReadTree}
 use Rattle.ob0_parse_descent.proofs.Leads.{stops_zero}
-use Rattle.ob0_parse.specs.KeptTokens.{AreKept, HoldsForEach, IsProcedureInPlace, IsReusedProcedure}
-use Rattle.ob0_parse.specs.AreKeptAfterParse.{AreKeptAfterParse, AreKeptAfterRefusal}
+use Rattle.ob0_parse.specs.KeptTokens.{AreInPlace, HoldsForEach, IsProcedureInPlace, IsReusedProcedure}
+use Rattle.ob0_parse.specs.AreInPlaceAfterParse.{AreInPlaceAfterParse, AreInPlaceAfterRefusal}
 use Rattle.ob0_parse.specs.declared.kept.KeptTrees.{KeptTrees}
 use Rattle.ob0_parse_descent.specs.declared.refusal.ParseRefusal.{ParseRefusal}
 use Rattle.ob0_parse_descent.specs.declared.refusal.ParseRefusal.TheVariants.{Syntax, TooDeep, Memory}
@@ -16,12 +16,12 @@ use Rattle.ob0_parse.proofs.Keeping.{made_there}
 use Rattle.ob0_parse.proofs.TakenOver.{taken_kept, taken_is_there}
 use Rattle.ob0_parse.proofs.Carried.{each_joined}
 
-stays_refused : {ts : List Token} {k : KeptTrees} → AreKept ts k → (e : ParseRefusal) → AreKeptAfterRefusal ts k e
+stays_refused : {ts : List Token} {k : KeptTrees} → AreInPlace ts k → (e : ParseRefusal) → AreInPlaceAfterRefusal ts k e
 stays_refused h (Syntax i expected) = h
 stays_refused h (TooDeep i) = h
 stays_refused h Memory = tt
 
-pub stays : {A : Type 0} {ts : List Token} {k : KeptTrees} → AreKept ts k → (r : Result A ParseRefusal) → AreKeptAfterParse ts k r
+pub stays : {A : Type 0} {ts : List Token} {k : KeptTrees} → AreInPlace ts k → (r : Result A ParseRefusal) → AreInPlaceAfterParse ts k r
 stays h (Ok x) = h
 stays h (Err e) = stays_refused h e
 

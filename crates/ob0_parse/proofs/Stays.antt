@@ -8,10 +8,10 @@ use Rattle.ob0_scan.specs.declared.lexeme.Token.{Token}
 use Rattle.ob0_scan.specs.TextWithTokens.{TextWithTokens, max_text}
 use Rattle.ob0_scan.specs.Reused.{kind_without_value, kinds}
 use Rattle.ob0_tree.specs.Lexeme.{Terminal, EndOfText, mapped_terminal}
-use Rattle.ob0_tree.specs.Tree.{Tree, module_text, nesting, spell, mapped}
+use Rattle.ob0_tree.specs.Tree.{Tree, module_text, nesting, spell, mapped_tree}
 use Rattle.ob0_tree.specs.Module.{max_nesting, terminals_of_text}
 use Rattle.ob0_tree.specs.ParsedModule.{ParsedModule, IsParsed, tree_of}
-use Rattle.ob0_tree.specs.Places.{index_terminal, index_terminals_from, index_terminals, text_at, value_at}
+use Rattle.ob0_tree.specs.Places.{index_terminal, index_terminals_from, index_terminals, token_text_at, token_value_at}
 use Rattle.ob0_tree.proofs.Mapped.{nesting_mapped, spell_mapped}
 use Rattle.ob0_tree.proofs.Indexed.{reindexed, reindexed-append, indexed, spell_indexed, nesting_indexed}
 use Rattle.ob0_parse_descent.specs.Descent.{DescendsText, Expects, Deep}
@@ -43,20 +43,20 @@ tree_stays old new parsed tree short same =
     record {
       module_of = module_spelled new.source (tree_of new) short
           (subst (λ (t : Tree ℕ module_text). nesting t ≤ max_nesting) (sym tree)
-          (subst (λ n. n ≤ max_nesting) (nesting_mapped (text_at old.source) (value_at old.source) (tree_of old)) parsed.module_of.shallow))
+          (subst (λ n. n ≤ max_nesting) (nesting_mapped (token_text_at old.source) (token_value_at old.source) (tree_of old)) parsed.module_of.shallow))
           places;
       places = places;
     }
 
 -- Replacing the names and numbers of a text's tokens by indexes gives the tokens by their indexes.
 indexed_again : (s : TextWithTokens) → reindexed 0 (terminals_of_text s ++ (EndOfText ∷ [])) ≡ index_terminals s.tokens
-indexed_again s = ap (reindexed 0) (sym (texts s)) ∙ indexes_again (text_at s) (value_at s) s.tokens 0
+indexed_again s = ap (reindexed 0) (sym (texts s)) ∙ indexes_again (token_text_at s) (token_value_at s) s.tokens 0
 
 -- If no module begins with the first tokens of a text, none begins with the first tokens of another
 -- text whose tokens have the same kinds.
 none_begins : (old new : TextWithTokens) (i : ℕ) → kinds new.tokens ≡ kinds old.tokens → NoModuleBegins old i → NoModuleBegins new i
 none_begins old new i same none t more shallow begins =
-    let r = mapped_terminal (text_at old) (value_at old) in
+    let r = mapped_terminal (token_text_at old) (token_value_at old) in
     let front = take (i + 1) (terminals_of_text new ++ (EndOfText ∷ [])) in
     let unseen : List (Terminal ℕ) = reindexed (0 + length front) more in
     let seen : reindexed 0 front ≡ take (i + 1) (index_terminals old.tokens) =
@@ -67,10 +67,10 @@ none_begins old new i same none t more shallow begins =
     sym left ∙ (ap (reindexed 0) begins ∙ (reindexed-append 0 front more ∙ ap (λ z. z ++ unseen) seen)) in
     let cut : map r (take (i + 1) (index_terminals old.tokens)) ≡ take (i + 1) (terminals_of_text old ++ (EndOfText ∷ [])) =
     sym (take-map r (i + 1) (index_terminals old.tokens)) ∙ ap (take (i + 1)) (texts old) in
-    let under : spell (mapped (text_at old) (value_at old) (indexed 0 t)) ++ (EndOfText ∷ []) ≡ map r (spell (indexed 0 t) ++ (EndOfText ∷ [])) =
-    ap (λ z. z ++ (EndOfText ∷ [])) (spell_mapped (text_at old) (value_at old) (indexed 0 t)) ∙ sym (map-append r (spell (indexed 0 t)) (EndOfText ∷ [])) in
-    none (mapped (text_at old) (value_at old) (indexed 0 t)) (map r unseen)
-    (subst (λ n. n ≤ max_nesting) (sym (nesting_mapped (text_at old) (value_at old) (indexed 0 t))) (subst (λ n. n ≤ max_nesting) (sym (nesting_indexed 0 t)) shallow))
+    let under : spell (mapped_tree (token_text_at old) (token_value_at old) (indexed 0 t)) ++ (EndOfText ∷ []) ≡ map r (spell (indexed 0 t) ++ (EndOfText ∷ [])) =
+    ap (λ z. z ++ (EndOfText ∷ [])) (spell_mapped (token_text_at old) (token_value_at old) (indexed 0 t)) ∙ sym (map-append r (spell (indexed 0 t)) (EndOfText ∷ [])) in
+    none (mapped_tree (token_text_at old) (token_value_at old) (indexed 0 t)) (map r unseen)
+    (subst (λ n. n ≤ max_nesting) (sym (nesting_mapped (token_text_at old) (token_value_at old) (indexed 0 t))) (subst (λ n. n ≤ max_nesting) (sym (nesting_indexed 0 t)) shallow))
     (under ∙ (ap (map r) whole ∙ (map-append r (take (i + 1) (index_terminals old.tokens)) unseen ∙ ap (λ z. z ++ map r unseen) cut)))
 
 as_many : (a b : List Token) → kinds a ≡ kinds b → length a ≡ length b

@@ -5,8 +5,8 @@ use Rattle.ob0_tree.specs.Lexeme.{Terminal}
 use Rattle.ob0_tree.specs.Module.{max_nesting}
 use Rattle.ob0_tree.specs.Places.{index_terminals}
 use Rattle.ob0_tree.specs.Tree.{Sort, Tree, spell, nesting}
-use Rattle.ob0_parse_descent.specs.Descent.{node, Descends}
-use Rattle.ob0_parse_descent.specs.Reading.{rest, SameHead, IsReadTree}
+use Rattle.ob0_parse_descent.specs.Descent.{nonterminal, Descends}
+use Rattle.ob0_parse_descent.specs.Reading.{rest, HaveSameHead, IsReadTree}
 use Rattle.ob0_parse_descent.specs.Follow.{level, EndsConstruct}
 use Rattle.ob0_parse_descent.proofs.Finished.{finishes}
 use Rattle.ob0_parse_descent.proofs.Unique.{same}
@@ -20,7 +20,7 @@ count_rest ts at inside =
     omega (arith, h, count_lexemes 0 ts, inside)
 
 -- If a token stops a tree, the token does so whatever comes after it.
-stops_alike : (n : ℕ) (xs w : List (Terminal ℕ)) → SameHead xs w → EndsConstruct n xs → EndsConstruct n w
+stops_alike : (n : ℕ) (xs w : List (Terminal ℕ)) → HaveSameHead xs w → EndsConstruct n xs → EndsConstruct n w
 stops_alike n xs w h p =
     let s : EndsConstruct n (h.head ∷ h.other) = subst (λ y. EndsConstruct n y) h.is p in
     subst (λ y. EndsConstruct n y) (sym h.alike) s
@@ -36,7 +36,7 @@ taken_there {s = s} t room ts at next stops spelled shallow forward within =
       shallow = shallow;
       only = λ u z w h p e. same u t z w p (stops_alike (level s) (rest ts next) w h stops) e;
       reads = record {
-        on = λ o more r. subst (λ w. Descends (node s room ∷ more) at w o) (sym spelled)
+        stops_as_following = λ o more r. subst (λ w. Descends (nonterminal s room ∷ more) at w o) (sym spelled)
             (finishes {e = next + length (rest ts next)} {o = o} t room more (rest ts next) shallow stops
             (λ i h. let here : next ≡ i = omega (arith, h) in subst (λ j. Descends more j (rest ts next) o) here r) at whole);
       };

@@ -6,9 +6,9 @@ use Rattle.std.specs.declared.alloc.Global.{Global}
 use Rattle.std.specs.Prelude.{◌≡◌, ℕ, ◌+◌, ◌-◌, ◌<◌, ◌≤◌, List, [], ◌∷◌, Option, Some, IfSome, option_map, length, slice_get, slice_range}
 use Rattle.ob0_scan.specs.declared.lexeme.TokenKind.{TokenKind}
 use Rattle.ob0_scan.specs.declared.lexeme.Token.{Token}
-use Rattle.ob0_scan.specs.declared.tokens.SameTokens.{SameTokens}
+use Rattle.ob0_scan.specs.declared.tokens.SameParts.{SameParts}
 use Rattle.ob0_scan.specs.Reused.{kinds}
-use Rattle.ob0_scan.specs.SameKinds.{HasSameTokens}
+use Rattle.ob0_scan.specs.SameKinds.{HasSameKinds}
 use Rattle.ob0_tree.specs.declared.tree.Procedure.{Procedure}
 use Rattle.ob0_tree.specs.declared.tree.Statement.{Statement}
 use Rattle.ob0_tree.specs.Lexeme.{Terminal}
@@ -57,19 +57,19 @@ IsProcedureInPlace ts p = IsInPlace ts (first_token_index (procedure_of p)) (end
 
 -- States that the tokens of the kept procedure are `k.at..k.next`. Its leaves may still be the
 -- indexes of these tokens in an earlier text.
-abbrev pub IsWaiting : List Token → KeptProcedure → Type 0
-IsWaiting ts k =
+abbrev pub IsKeptInPlace : List Token → KeptProcedure → Type 0
+IsKeptInPlace ts k =
     HasTokensAt ts (first_token_index (procedure_of k.procedure)) k.at k.next (procedure_of k.procedure)
 
 -- States that BEGIN and the statements of the kept body are the tokens `k.at..k.next`. The leaves
 -- may still be the indexes of these tokens in an earlier text.
-abbrev pub IsBodyWaiting : List Token → KeptBody → Type 0
-IsBodyWaiting ts k = HasTokensAt ts k.from k.at k.next (body_of (Some k.statements))
+abbrev pub IsKeptBodyInPlace : List Token → KeptBody → Type 0
+IsKeptBodyInPlace ts k = HasTokensAt ts k.from k.at k.next (body_of (Some k.statements))
 
 -- States that BEGIN and the statements of the kept body are in the range that is kept with the
 -- body. If no body is kept, it states nothing.
-abbrev pub IsAnyBodyWaiting : List Token → Option KeptBody → Type 0
-IsAnyBodyWaiting ts body = IfSome body (IsBodyWaiting ts)
+abbrev pub IsAnyKeptBodyInPlace : List Token → Option KeptBody → Type 0
+IsAnyKeptBodyInPlace ts body = IfSome body (IsKeptBodyInPlace ts)
 
 -- States that each item of the list has the property `P`.
 abbrev pub HoldsForEach : {A : Type 0} → (A → Type 0) → List A → Type 0
@@ -78,10 +78,10 @@ HoldsForEach P (x ∷ xs) = P x × HoldsForEach P xs
 
 -- States that the tokens of every kept tree are at their place. For `made`, the leaves determine
 -- the range of these tokens. For `waiting` and `body`, the range is kept with the tree.
-pub record AreKept (ts : List Token) (k : KeptTrees) : Type 0 where
+pub record AreInPlace (ts : List Token) (k : KeptTrees) : Type 0 where
   pub made : HoldsForEach (IsProcedureInPlace ts) k.made.items
-  pub waiting : HoldsForEach (IsWaiting ts) k.waiting.items
-  pub body : IsAnyBodyWaiting ts k.body
+  pub waiting : HoldsForEach (IsKeptInPlace ts) k.waiting.items
+  pub body : IsAnyKeptBodyInPlace ts k.body
 
 -- States that `k` is the body with these statements and the range of its tokens, in a module with
 -- the procedures `ps`. BEGIN follows the last procedure. END follows the statements and comes
@@ -100,91 +100,91 @@ pub record IsLocatedBody
 -- States that each tree with the tokens `at..next` in the old text has the tokens
 -- `place.0..place.1` in the new text. This holds for every two texts that share the tokens
 -- described by `same`.
-abbrev pub RelocatesRange : SameTokens → ℕ → ℕ → ℕ × ℕ → Type 0
+abbrev pub RelocatesRange : SameParts → ℕ → ℕ → ℕ × ℕ → Type 0
 RelocatesRange same at next place =
     (s : Sort) (old new : List Token) (from : ℕ) (t : Tree ℕ s)
-    → HasSameTokens same old new
+    → HasSameKinds same old new
     → HasTokensAt old from at next t
     → HasTokensAt new from place.0 place.1 t
 
 -- States that the kept procedure `b` is at its place in the new text if `a` is at its place in the
 -- old text. This holds for every two texts that share the tokens described by `same`.
-abbrev pub RelocatesProcedure : SameTokens → KeptProcedure → KeptProcedure → Type 0
+abbrev pub RelocatesProcedure : SameParts → KeptProcedure → KeptProcedure → Type 0
 RelocatesProcedure same a b =
-    (old new : List Token) → HasSameTokens same old new → IsWaiting old a → IsWaiting new b
+    (old new : List Token) → HasSameKinds same old new → IsKeptInPlace old a → IsKeptInPlace new b
 
 -- States that the kept procedures `after` are at their places in the new text, under two
 -- conditions. The procedure `a` is at its place in the old text. The procedures `before` are at
 -- their places in the new text. This holds for every two texts that share the tokens described by
 -- `same`.
-abbrev pub AppendsRelocated : SameTokens
+abbrev pub AppendsKeptProcedure : SameParts
     → KeptProcedure
     → List KeptProcedure
     → List KeptProcedure
     → Type 0
-AppendsRelocated same a before after =
+AppendsKeptProcedure same a before after =
     (old new : List Token)
-    → HasSameTokens same old new
-    → IsWaiting old a
-    → HoldsForEach (IsWaiting new) before
-    → HoldsForEach (IsWaiting new) after
+    → HasSameKinds same old new
+    → IsKeptInPlace old a
+    → HoldsForEach (IsKeptInPlace new) before
+    → HoldsForEach (IsKeptInPlace new) after
 
 -- States that the kept procedures `ys` are at their places in the new text if `xs` are at their
 -- places in the old text. This holds for every two texts that share the tokens described by `same`.
-abbrev pub RelocatesAll : SameTokens → List KeptProcedure → List KeptProcedure → Type 0
-RelocatesAll same xs ys =
+abbrev pub RelocatesProcedures : SameParts → List KeptProcedure → List KeptProcedure → Type 0
+RelocatesProcedures same xs ys =
     (old new : List Token)
-    → HasSameTokens same old new
-    → HoldsForEach (IsWaiting old) xs
-    → HoldsForEach (IsWaiting new) ys
+    → HasSameKinds same old new
+    → HoldsForEach (IsKeptInPlace old) xs
+    → HoldsForEach (IsKeptInPlace new) ys
 
 -- States that the kept procedures `after` are at their places in the new text, under two
 -- conditions. The leaves of `p` are the indexes of its tokens in the old text. The procedures
 -- `before` are at their places in the new text. This holds for every two texts that share the
 -- tokens described by `same`.
-abbrev pub AppendsRelocatedMade : SameTokens
+abbrev pub AppendsMadeProcedure : SameParts
     → Procedure
     → List KeptProcedure
     → List KeptProcedure
     → Type 0
-AppendsRelocatedMade same p before after =
+AppendsMadeProcedure same p before after =
     (old new : List Token)
-    → HasSameTokens same old new
+    → HasSameKinds same old new
     → IsProcedureInPlace old p
-    → HoldsForEach (IsWaiting new) before
-    → HoldsForEach (IsWaiting new) after
+    → HoldsForEach (IsKeptInPlace new) before
+    → HoldsForEach (IsKeptInPlace new) after
 
 -- States that the kept procedures `after` are at their places in the new text, under two
 -- conditions. The leaves of the procedures `ps` are the indexes of their tokens in the old text.
 -- The procedures `before` are at their places in the new text. This holds for every two texts that
 -- share the tokens described by `same`.
-abbrev pub AppendsAllRelocatedMade : SameTokens
+abbrev pub AppendsMadeProcedures : SameParts
     → List Procedure
     → List KeptProcedure
     → List KeptProcedure
     → Type 0
-AppendsAllRelocatedMade same ps before after =
+AppendsMadeProcedures same ps before after =
     (old new : List Token)
-    → HasSameTokens same old new
+    → HasSameKinds same old new
     → HoldsForEach (IsProcedureInPlace old) ps
-    → HoldsForEach (IsWaiting new) before
-    → HoldsForEach (IsWaiting new) after
+    → HoldsForEach (IsKeptInPlace new) before
+    → HoldsForEach (IsKeptInPlace new) after
 
 -- States that the body `b` is at its place in the new text if the body `a` is at its place in the
 -- old text. This holds for every two texts that share the tokens described by `same`.
-abbrev pub RelocatesBody : SameTokens → KeptBody → KeptBody → Type 0
+abbrev pub RelocatesBody : SameParts → KeptBody → KeptBody → Type 0
 RelocatesBody same a b =
     (old new : List Token)
-    → HasSameTokens same old new
-    → IsBodyWaiting old a
-    → IsBodyWaiting new b
+    → HasSameKinds same old new
+    → IsKeptBodyInPlace old a
+    → IsKeptBodyInPlace new b
 
 -- States that the body `b` is at its place in the new text if the body `a` is at its place in the
 -- old text. A missing body counts as being at its place. This holds for every two texts that share
 -- the tokens described by `same`.
-abbrev pub RelocatesAnyBody : SameTokens → Option KeptBody → Option KeptBody → Type 0
+abbrev pub RelocatesAnyBody : SameParts → Option KeptBody → Option KeptBody → Type 0
 RelocatesAnyBody same a b =
-    (old new : List Token) → HasSameTokens same old new → IsAnyBodyWaiting old a → IsAnyBodyWaiting new b
+    (old new : List Token) → HasSameKinds same old new → IsAnyKeptBodyInPlace old a → IsAnyKeptBodyInPlace new b
 
 -- States that `k` is the procedure `p` with the range that the leaves of `p` determine.
 abbrev pub IsLocatedProcedure : Procedure → KeptProcedure → Type 0
@@ -202,14 +202,14 @@ IsReusedProcedure ts at x = IsInPlace ts at x.1 (procedure_of x.0)
 
 -- States that `IsReusedProcedure` holds for `x` in every text in which all the kept procedures
 -- `waiting` are at their places.
-abbrev pub IsReusedFromWaiting : List KeptProcedure → ℕ → Procedure × ℕ → Type 0
-IsReusedFromWaiting waiting at x = (ts : List Token) → HoldsForEach (IsWaiting ts) waiting → IsReusedProcedure ts at x
+abbrev pub IsReusedFromKept : List KeptProcedure → ℕ → Procedure × ℕ → Type 0
+IsReusedFromKept waiting at x = (ts : List Token) → HoldsForEach (IsKeptInPlace ts) waiting → IsReusedProcedure ts at x
 
 -- States that the procedures `after` are at their places in every text in which the procedures
 -- `before` are at their places.
-abbrev pub RemainWaiting : List KeptProcedure → List KeptProcedure → Type 0
-RemainWaiting before after =
-    (ts : List Token) → HoldsForEach (IsWaiting ts) before → HoldsForEach (IsWaiting ts) after
+abbrev pub RemainInPlace : List KeptProcedure → List KeptProcedure → Type 0
+RemainInPlace before after =
+    (ts : List Token) → HoldsForEach (IsKeptInPlace ts) before → HoldsForEach (IsKeptInPlace ts) after
 
 -- States that BEGIN and the statements `x.0` have the tokens `at..x.1` of this text. The leaves of
 -- the statements are the indexes of these tokens.

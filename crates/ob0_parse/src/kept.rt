@@ -33,11 +33,11 @@ ghost use Rattle.std.specs.Option.{option_to_list};
 ghost use Rattle.ob0_scan.specs.TextWithTokens.{TextWithTokens};
 ghost use Rattle.ob0_scan.specs.declared.lexeme.Token.{Token};
 ghost use Rattle.ob0_tree.specs.ParsedModule.{IsParsed, parsed_module};
-ghost use Rattle.ob0_scan.specs.SameKinds.{HasSameTokens};
-ghost use Rattle.ob0_parse.specs.KeptTokens.{AreKept, RelocatesRange, RelocatesAll, AppendsRelocatedMade, AppendsAllRelocatedMade, AppendsRelocated, RelocatesBody, RelocatesAnyBody, IsLocatedBody, IsBodyWaiting, IsLocatedProcedure, IsReusedFromWaiting, IsReusedProcedure, IsReusedBody, IsWaiting, RelocatesProcedure, RemainWaiting};
+ghost use Rattle.ob0_scan.specs.SameKinds.{HasSameKinds};
+ghost use Rattle.ob0_parse.specs.KeptTokens.{AreInPlace, RelocatesRange, RelocatesProcedures, AppendsMadeProcedure, AppendsMadeProcedures, AppendsKeptProcedure, RelocatesBody, RelocatesAnyBody, IsLocatedBody, IsKeptBodyInPlace, IsLocatedProcedure, IsReusedFromKept, IsReusedProcedure, IsReusedBody, IsKeptInPlace, RelocatesProcedure, RemainInPlace};
 
 use crate::leaf_moves::{self, LeafMove};
-use ob0_scan::SameTokens;
+use ob0_scan::SameParts;
 use ob0_tree::{ModuleTree, Procedure, Statement};
 use std::alloc::{AllocError, Global};
 
@@ -80,7 +80,7 @@ pub struct KeptTrees {
 impl KeptTrees {
     /// Returns a `KeptTrees` that keeps no tree.
     pub fn empty(alloc: Global) -> KeptTrees
-        ensures { (ts : List Token) → AreKept ts result }
+        ensures { (ts : List Token) → AreInPlace ts result }
     {
         KeptTrees {
             made: Vec::new(alloc),
@@ -92,7 +92,7 @@ impl KeptTrees {
     /// Returns a `KeptTrees` that keeps the procedures of a module's tree. If the module has
     /// procedures, its body is also kept.
     pub fn from_tree(alloc: Global, tree: ModuleTree) -> KeptTrees
-        ensures { (s : TextWithTokens) → IsParsed (parsed_module s tree) → AreKept s.tokens result }
+        ensures { (s : TextWithTokens) → IsParsed (parsed_module s tree) → AreInPlace s.tokens result }
     {
         let closing = tree.closing;
         let mut block = tree.into_block();
@@ -109,19 +109,19 @@ impl KeptTrees {
     /// Returns the kept trees whose tokens are also in the changed text, with the ranges of these
     /// tokens in the changed text. `same` says which tokens the old text and the changed text
     /// share. The trees whose tokens have changed are dropped.
-    pub fn relocate(self, alloc: Global, same: SameTokens) -> Result<KeptTrees, AllocError>
+    pub fn relocate(self, alloc: Global, same: SameParts) -> Result<KeptTrees, AllocError>
         ensures { IfOk result (λ kept. (old new : List Token)
-            → HasSameTokens same old new
-            → AreKept old self
-            → AreKept new kept) }
+            → HasSameKinds same old new
+            → AreInPlace old self
+            → AreInPlace new kept) }
     {
         let KeptTrees {
             mut made,
             waiting,
             body,
         } = self;
-        let mut kept = relocate_waiting(alloc, waiting, same)?;
-        relocate_made(&mut kept, &mut made, same)?;
+        let mut kept = relocate_waiting_procedures(alloc, waiting, same)?;
+        relocate_made_procedures(&mut kept, &mut made, same)?;
         Ok(KeptTrees {
             made,
             waiting: kept,
@@ -155,16 +155,16 @@ fn locate_body(
 
 /// Returns the waiting procedures whose tokens are also in the changed text, in the same order,
 /// with the ranges of these tokens in that text. The other procedures are dropped.
-fn relocate_waiting(
+fn relocate_waiting_procedures(
     alloc: Global,
     waiting: Vec<KeptProcedure>,
-    same: SameTokens,
+    same: SameParts,
 ) -> Result<Vec<KeptProcedure>, AllocError>
-    ensures { IfOk result (λ kept. RelocatesAll same waiting.items kept.items) }
+    ensures { IfOk result (λ kept. RelocatesProcedures same waiting.items kept.items) }
 {
     let mut kept = Vec::new(alloc);
     for procedure in waiting {
-        push_relocated(&mut kept, procedure, same)?;
+        push_relocated_procedure(&mut kept, procedure, same)?;
     }
     Ok(kept)
 }
@@ -172,29 +172,29 @@ fn relocate_waiting(
 /// Moves the procedures of the last parse from `made` to the end of `kept`, beginning with the last
 /// procedure. Each procedure gets the range of its tokens in the changed text. Drops the procedures
 /// whose tokens the changed text doesn't have. Afterwards `made` is empty.
-fn relocate_made(
+fn relocate_made_procedures(
     kept: &mut Vec<KeptProcedure>,
     made: &mut Vec<Procedure>,
-    same: SameTokens,
+    same: SameParts,
 ) -> Result<(), AllocError>
     ensures empty { OnOk result (made.new.items ≡ []) }
     ensures kept { OnOk result
-        (AppendsAllRelocatedMade same made.old.items kept.old.items kept.new.items) }
+        (AppendsMadeProcedures same made.old.items kept.old.items kept.new.items) }
 {
     while let Some(procedure) = made.pop() {
-        push_relocated_made(kept, procedure, same)?;
+        push_made_procedure(kept, procedure, same)?;
     }
     Ok(())
 }
 
 /// Appends a waiting procedure to `kept`, with the range of its tokens in the changed text. Drops
 /// the procedure if the changed text doesn't have its tokens.
-fn push_relocated(
+fn push_relocated_procedure(
     kept: &mut Vec<KeptProcedure>,
     procedure: KeptProcedure,
-    same: SameTokens,
+    same: SameParts,
 ) -> Result<(), AllocError>
-    ensures { OnOk result (AppendsRelocated same procedure kept.old.items kept.new.items) }
+    ensures { OnOk result (AppendsKeptProcedure same procedure kept.old.items kept.new.items) }
 {
     if let Some(there) = procedure.relocate(same) {
         kept.push(there)?;
@@ -204,22 +204,22 @@ fn push_relocated(
 
 /// Appends a procedure of the last parse to `kept`, with the range of its tokens in the changed
 /// text. Drops the procedure if the changed text doesn't have its tokens.
-fn push_relocated_made(
+fn push_made_procedure(
     kept: &mut Vec<KeptProcedure>,
     procedure: Procedure,
-    same: SameTokens,
+    same: SameParts,
 ) -> Result<(), AllocError>
-    ensures { OnOk result (AppendsRelocatedMade same procedure kept.old.items kept.new.items) }
+    ensures { OnOk result (AppendsMadeProcedure same procedure kept.old.items kept.new.items) }
 {
     if let Some(there) = locate_procedure(procedure) {
-        push_relocated(kept, there, same)?;
+        push_relocated_procedure(kept, there, same)?;
     }
     Ok(())
 }
 
 /// Returns the body with the range of its tokens in the changed text. Returns None if there is no
 /// body, or the changed text doesn't have the body's tokens.
-fn relocate_body(body: Option<KeptBody>, same: SameTokens) -> Option<KeptBody>
+fn relocate_body(body: Option<KeptBody>, same: SameParts) -> Option<KeptBody>
     ensures { RelocatesAnyBody same body result }
 {
     match body {
@@ -246,7 +246,7 @@ fn locate_procedure(procedure: Procedure) -> Option<KeptProcedure>
 impl KeptProcedure {
     /// Returns the procedure with the range of its tokens in the changed text, or None if the
     /// changed text doesn't have these tokens.
-    fn relocate(self, same: SameTokens) -> Option<KeptProcedure>
+    fn relocate(self, same: SameParts) -> Option<KeptProcedure>
         ensures { IfSome result (RelocatesProcedure same self) }
     {
         let (at, next) = relocated_range(self.at, self.next, same)?;
@@ -261,7 +261,7 @@ impl KeptProcedure {
 impl KeptBody {
     /// Returns the body with the range of its tokens in the changed text, or None if the changed
     /// text doesn't have these tokens.
-    fn relocate(self, same: SameTokens) -> Option<KeptBody>
+    fn relocate(self, same: SameParts) -> Option<KeptBody>
         ensures { IfSome result (RelocatesBody same self) }
     {
         let (at, next) = relocated_range(self.at, self.next, same)?;
@@ -277,7 +277,7 @@ impl KeptBody {
     /// the statements and the index of the token after them.
     pub(crate) fn move_leaves(self) -> (Vec<Statement>, usize)
         ensures placed { (ts : List Token)
-            → IsBodyWaiting ts self
+            → IsKeptBodyInPlace ts self
             → IsReusedBody ts self.at result }
         ensures next { result.1 ≡ self.next }
     {
@@ -297,7 +297,7 @@ impl KeptBody {
 
 /// Returns the range in the changed text of the tokens that have the indexes `at..next` in the old
 /// text. Returns None if the changed text doesn't have all of these tokens.
-fn relocated_range(at: usize, next: usize, same: SameTokens) -> Option<(usize, usize)>
+fn relocated_range(at: usize, next: usize, same: SameParts) -> Option<(usize, usize)>
     ensures { IfSome result (RelocatesRange same at next) }
 {
     if next <= same.prefix {
@@ -311,7 +311,7 @@ fn relocated_range(at: usize, next: usize, same: SameTokens) -> Option<(usize, u
 /// Returns the index in the changed text of a token that follows the changed tokens, given its
 /// index in the old text. Returns None if the token doesn't follow the changed tokens, or if its
 /// index would be out of range.
-fn relocated_index(index: usize, same: SameTokens) -> Option<usize>
+fn relocated_index(index: usize, same: SameParts) -> Option<usize>
     ensures { IfSome result (λ place. (same.old_suffix ≤ index)
         × (place + same.old_suffix ≡ index + same.new_suffix)) }
 {
@@ -326,10 +326,10 @@ pub(crate) fn take_procedure_at(
     waiting: &mut Vec<KeptProcedure>,
     at: usize,
 ) -> Option<(Procedure, usize)>
-    ensures stay { RemainWaiting waiting.old.items waiting.new.items }
-    ensures placed { IfSome result (IsReusedFromWaiting waiting.old.items at) }
+    ensures stay { RemainInPlace waiting.old.items waiting.new.items }
+    ensures placed { IfSome result (IsReusedFromKept waiting.old.items at) }
 {
-    while let Some(kept) = pop_up_to(waiting, at) {
+    while let Some(kept) = pop_if_reached(waiting, at) {
         if kept.at == at {
             return Some(move_leaves(kept));
         }
@@ -339,7 +339,7 @@ pub(crate) fn take_procedure_at(
 
 /// Removes and returns the last item of `waiting`, which comes first in the text, if it begins at
 /// or before the token `at`. Otherwise returns None.
-fn pop_up_to(waiting: &mut Vec<KeptProcedure>, at: usize) -> Option<KeptProcedure>
+fn pop_if_reached(waiting: &mut Vec<KeptProcedure>, at: usize) -> Option<KeptProcedure>
     ensures rest { waiting.old.items ≡ waiting.new.items ++ option_to_list result }
 {
     match waiting.last() {
@@ -356,7 +356,7 @@ fn pop_up_to(waiting: &mut Vec<KeptProcedure>, at: usize) -> Option<KeptProcedur
 /// Changes each leaf of the procedure to the index of its token in the present text. Returns the
 /// procedure and the index of the token after the procedure.
 fn move_leaves(kept: KeptProcedure) -> (Procedure, usize)
-    ensures { (ts : List Token) → IsWaiting ts kept → IsReusedProcedure ts kept.at result }
+    ensures { (ts : List Token) → IsKeptInPlace ts kept → IsReusedProcedure ts kept.at result }
 {
     let KeptProcedure {
         mut procedure,

@@ -3,7 +3,7 @@
 
 ghost use Rattle.std.specs.Prelude.{◌≡◌};
 ghost use Rattle.ob0_tree.specs.Tree.{then_name};
-ghost use Rattle.ob0_tree.specs.View.{expression_of, compound_of, compared_of, comparison_of, simple_of, addend_of, term_of, multiplier_of, factor_of, designator_of, selector_of, items_of, names_of, assignment_of, call_of, arguments_of_vec, statement_of, if_of, elsif_of, elsifs_of_vec, sequence_of_vec, type_of, record_of_list, fields_of, section_of, formals_of, formals_of_list, constant_of, constants_of, constants_of_vec, type_declaration_of, types_of, types_of_vec, variable_of, variables_of, variables_of_vec, body_of, procedure_of, procedures_of_vec, block_of};
+ghost use Rattle.ob0_tree.specs.View.{expression_of, compound_of, maybe_comparison_of, comparison_of, simple_of, addend_of, term_of, multiplier_of, factor_of, designator_of, selector_of, items_of, names_of, assignment_of, call_of, arguments_of_vec, statement_of, if_of, elsif_of, elsifs_of_vec, sequence_of_vec, type_of, record_of_list, fields_of, section_of, formals_of, formals_of_list, constant_of, constants_of, constants_of_vec, type_declaration_of, types_of, types_of_vec, variable_of, variables_of, variables_of_vec, body_of, procedure_of, procedures_of_vec, block_of};
 ghost use Rattle.ob0_tree.specs.declared.tree.CompoundExpression.{back-CompoundExpression-compared};
 ghost use Rattle.ob0_parse.specs.MovedTrees.{moved_tree, moved_leaf};
 
@@ -55,8 +55,8 @@ fn move_compound(c: &mut CompoundExpression, by: LeafMove)
 /// Applies the move `by` to each token index in a comparison, if there is one.
 #[cycle(expressions)]
 fn move_comparison_if_any(c: &mut Option<Box<Comparison>>, by: LeafMove)
-    ensures { compared_of (back-CompoundExpression-compared c.new)
-        ≡ moved_tree by (compared_of (back-CompoundExpression-compared c.old)) }
+    ensures { maybe_comparison_of (back-CompoundExpression-compared c.new)
+        ≡ moved_tree by (maybe_comparison_of (back-CompoundExpression-compared c.old)) }
 {
     if let Some(c) = c {
         move_comparison(c, by);

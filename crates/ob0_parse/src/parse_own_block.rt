@@ -7,9 +7,9 @@ ghost use Rattle.ob0_scan.specs.declared.lexeme.ReservedWord.TheVariants as rese
 ghost use Rattle.ob0_tree.specs.View.{block_of, body_of, procedure_of};
 ghost use Rattle.ob0_tree.specs.Module.{max_nesting};
 ghost use Rattle.ob0_parse_descent.specs.Reading.{Reads, ReadsItem, IsReadTree, TellsIfTokenAt};
-ghost use Rattle.ob0_parse.specs.KeptTokens.{AreKept, HoldsForEach, IsAnyBodyWaiting, IsWaiting};
+ghost use Rattle.ob0_parse.specs.KeptTokens.{AreInPlace, HoldsForEach, IsAnyKeptBodyInPlace, IsKeptInPlace};
 ghost use Rattle.ob0_parse.specs.OwnBlock.{block_with_procedures, ReadsModule, ReadsOwnProcedures};
-ghost use Rattle.ob0_parse.specs.AreKeptAfterParse.{AreKeptAfterParse};
+ghost use Rattle.ob0_parse.specs.AreInPlaceAfterParse.{AreInPlaceAfterParse};
 
 use crate::kept::take_procedure_at;
 use crate::{KeptBody, KeptProcedure, KeptTrees};
@@ -31,10 +31,10 @@ fn parse_own_block(
     kept: &mut KeptTrees,
 ) -> ConstructResult<OwnBlockParts>
     requires at { at ≤ length parser.now.tokens.now }
-    requires kept { AreKept parser.now.tokens.now kept.old }
+    requires kept { AreInPlace parser.now.tokens.now kept.old }
     ensures read { Reads (block_with_procedures kept.new.made.items) max_nesting parser.now.tokens.now at
         result }
-    ensures stay { AreKeptAfterParse parser.now.tokens.now kept.new result }
+    ensures stay { AreInPlaceAfterParse parser.now.tokens.now kept.new result }
 {
     let (constants, next) = parser.parse_constants(at, MAX_NESTING)?;
     let (types, next) = parser.parse_types(next, MAX_NESTING)?;
@@ -60,9 +60,9 @@ fn parse_own_procedures(
     kept: &mut KeptTrees,
 ) -> Result<usize, ParseRefusal>
     requires at { at ≤ length parser.now.tokens.now }
-    requires kept { AreKept parser.now.tokens.now kept.old }
+    requires kept { AreInPlace parser.now.tokens.now kept.old }
     ensures read { ReadsOwnProcedures kept.new.made.items parser.now.tokens.now at result }
-    ensures stay { AreKeptAfterParse parser.now.tokens.now kept.new result }
+    ensures stay { AreInPlaceAfterParse parser.now.tokens.now kept.new result }
 {
     kept.made.clear();
     let mut next = at;
@@ -82,9 +82,9 @@ fn next_own_procedure(
     waiting: &mut Vec<KeptProcedure>,
 ) -> ItemResult<Procedure>
     requires at { at ≤ length parser.now.tokens.now }
-    requires waiting { HoldsForEach (IsWaiting parser.now.tokens.now) waiting.old.items }
+    requires waiting { HoldsForEach (IsKeptInPlace parser.now.tokens.now) waiting.old.items }
     ensures read { ReadsItem procedure_of max_nesting parser.now.tokens.now at result }
-    ensures waiting { HoldsForEach (IsWaiting parser.now.tokens.now) waiting.new.items }
+    ensures waiting { HoldsForEach (IsKeptInPlace parser.now.tokens.now) waiting.new.items }
 {
     match take_procedure_at(waiting, at) {
         Some(taken) => Ok(Some(taken)),
@@ -101,9 +101,9 @@ fn parse_own_body(
     kept: &mut Option<KeptBody>,
 ) -> ConstructResult<Option<Vec<Statement>>>
     requires at { at ≤ length parser.now.tokens.now }
-    requires kept { IsAnyBodyWaiting parser.now.tokens.now kept.old }
+    requires kept { IsAnyKeptBodyInPlace parser.now.tokens.now kept.old }
     ensures read { Reads body_of max_nesting parser.now.tokens.now at result }
-    ensures stay { IsAnyBodyWaiting parser.now.tokens.now kept.new }
+    ensures stay { IsAnyKeptBodyInPlace parser.now.tokens.now kept.new }
 {
     match take_kept_body(parser, at, kept) {
         Some((statements, next)) => Ok((Some(statements), next)),
@@ -120,13 +120,13 @@ fn take_kept_body(
     at: usize,
     kept: &mut Option<KeptBody>,
 ) -> Option<(Vec<Statement>, usize)>
-    requires kept { IsAnyBodyWaiting parser.now.tokens.now kept.old }
+    requires kept { IsAnyKeptBodyInPlace parser.now.tokens.now kept.old }
     ensures taken { IfSome result (λ x.
         IsReadTree (body_of (Some x.0)) max_nesting parser.now.tokens.now at x.1) }
-    ensures stay { IsAnyBodyWaiting parser.now.tokens.now kept.new }
+    ensures stay { IsAnyKeptBodyInPlace parser.now.tokens.now kept.new }
 {
     let body = kept.take()?;
-    if body.at == at && is_end(parser, body.next) {
+    if body.at == at && has_end_word_at(parser, body.next) {
         return Some(body.move_leaves());
     }
     *kept = Some(body);
@@ -134,7 +134,7 @@ fn take_kept_body(
 }
 
 /// Returns whether the token at `at` is the reserved word END.
-fn is_end(parser: &Parser<'_>, at: usize) -> bool
+fn has_end_word_at(parser: &Parser<'_>, at: usize) -> bool
     requires { at ≤ length parser.now.tokens.now }
     ensures { TellsIfTokenAt (kind.ReservedWord reserved.End) parser.now.tokens.now at result }
 {
@@ -143,13 +143,13 @@ fn is_end(parser: &Parser<'_>, at: usize) -> bool
 
 /// Parses all tokens as a module. Returns the token index of the module's name, its block, and the
 /// token index of its closing name.
-pub(crate) fn module(
+pub(crate) fn parse_module(
     parser: &Parser<'_>,
     kept: &mut KeptTrees,
 ) -> Result<(usize, Block, usize), ParseRefusal>
-    requires { AreKept parser.now.tokens.now kept.old }
+    requires { AreInPlace parser.now.tokens.now kept.old }
     ensures read { ReadsModule parser.now.tokens.now result }
-    ensures stay { AreKeptAfterParse parser.now.tokens.now kept.new result }
+    ensures stay { AreInPlaceAfterParse parser.now.tokens.now kept.new result }
 {
     let start = parser.expect_word(0, ReservedWord::Module)?;
     let (name, next) = parser.expect_identifier(start)?;

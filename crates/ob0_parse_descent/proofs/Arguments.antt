@@ -4,10 +4,10 @@ use Rattle.ob0_scan.specs.declared.lexeme.TokenKind.{TokenKind}
 use Rattle.ob0_scan.specs.declared.lexeme.TokenKind.TheVariants as kind
 use Rattle.ob0_scan.specs.declared.lexeme.Symbol.TheVariants as symbol
 use Rattle.ob0_scan.specs.declared.lexeme.Token.{Token}
-use Rattle.ob0_tree.specs.Lexeme.{Terminal, Name, Number, Mark, EndOfText}
+use Rattle.ob0_tree.specs.Lexeme.{Terminal, Name, Number, WordOrSymbol, EndOfText}
 use Rattle.ob0_tree.specs.Tree.{arguments, further_argument, expression, simple, term, factor, compares, sum, product, designator, integer, parenthesised, negation, no_arguments, some_arguments, item, items, Tree, spell, single_token}
 use Rattle.ob0_parse_descent.specs.Follow.{NextHasRank, opens_expression}
-use Rattle.ob0_parse_descent.specs.Reading.{rest, terminal_or_end, ProductionPart, token, node, BeginsWithParts, SameHead, ReadAs, IsReadTree, FailsToRead, ItemFails, ListRead}
+use Rattle.ob0_parse_descent.specs.Reading.{rest, terminal_or_end, ProductionPart, token, nonterminal, BeginsWithParts, HaveSameHead, StopsAlike, IsReadTree, FailsToRead, ItemFails, IsReadList}
 use Rattle.ob0_parse_descent.specs.Descent.{parts, symbol_part, is_expression_next}
 use Rattle.ob0_parse_descent.proofs.Descent.{both, by, read_mark, read_led}
 use Rattle.ob0_parse_descent.specs.declared.refusal.ParseRefusal.{ParseRefusal}
@@ -17,14 +17,14 @@ use Rattle.ob0_parse_descent.proofs.Expressions.{joined}
 use Rattle.ob0_parse_descent.proofs.Leads.{only_zero}
 use Rattle.ob0_tree.specs.declared.tree.Expression.{Expression}
 use Rattle.ob0_tree.specs.declared.tree.Sign.TheVariants as signs
-use Rattle.ob0_tree.specs.View.{expression_of, further_argument_of, arguments_listed, items_of}
+use Rattle.ob0_tree.specs.View.{expression_of, further_argument_of, arguments_of_list, items_of}
 use Rattle.ob0_parse_descent.proofs.OneToken.{mark_is}
 
 -- Returns true if an expression may begin with this token.
 abbrev opening : Terminal ℕ → Bool
 opening (Name n) = true
 opening (Number n) = true
-opening (Mark k) = opens_expression (Some k)
+opening (WordOrSymbol k) = opens_expression (Some k)
 opening EndOfText = false
 
 opening_at : (i : ℕ) (f : Option TokenKind) → opening (terminal_or_end i f) ≡ opens_expression f
@@ -36,7 +36,7 @@ opening_at i (Some _) = refl
 next_opening : (x : Terminal ℕ) (w : List (Terminal ℕ)) → is_expression_next (x ∷ w) ≡ opening x
 next_opening (Name n) w = refl
 next_opening (Number n) w = refl
-next_opening (Mark k) w = refl
+next_opening (WordOrSymbol k) w = refl
 next_opening EndOfText w = refl
 
 -- If the tokens begin with a factor, an expression may begin with them.
@@ -64,36 +64,36 @@ true_false : {b : Bool} → b ≡ true → b ≡ false → ⊥
 true_false p q = let e = sym p ∙ q in cc
 
 -- The token after `(` determines the production of the arguments.
-arguments_read : {room : ℕ} {ts : List Token} {at : ℕ} {b : Bool} → is_expression_next (rest ts (at + 1)) ≡ b → rest ts at ≡ Mark (kind.Symbol symbol.LeftParen) ∷ rest ts (at + 1)
-    → ReadAs (node (item arguments) room ∷ []) (if b then node expression room ∷ node (items further_argument) room ∷ token (kind.Symbol symbol.RightParen) ∷ [] else token (kind.Symbol symbol.RightParen) ∷ []) ts at (at + 1)
-arguments_read {room = room} {ts = ts} {at = at} {b = true} e here = read_led (node expression room ∷ node (items further_argument) room ∷ token (kind.Symbol symbol.RightParen) ∷ [])
-    (ap (λ b. if b then parts (symbol_part symbol.LeftParen ∷ node expression room ∷ node (items further_argument) room ∷ symbol_part symbol.RightParen ∷ []) else parts (symbol_part symbol.LeftParen ∷ symbol_part symbol.RightParen ∷ [])) e) here
+arguments_read : {room : ℕ} {ts : List Token} {at : ℕ} {b : Bool} → is_expression_next (rest ts (at + 1)) ≡ b → rest ts at ≡ WordOrSymbol (kind.Symbol symbol.LeftParen) ∷ rest ts (at + 1)
+    → StopsAlike (nonterminal (item arguments) room ∷ []) (if b then nonterminal expression room ∷ nonterminal (items further_argument) room ∷ token (kind.Symbol symbol.RightParen) ∷ [] else token (kind.Symbol symbol.RightParen) ∷ []) ts at (at + 1)
+arguments_read {room = room} {ts = ts} {at = at} {b = true} e here = read_led (nonterminal expression room ∷ nonterminal (items further_argument) room ∷ token (kind.Symbol symbol.RightParen) ∷ [])
+    (ap (λ b. if b then parts (symbol_part symbol.LeftParen ∷ nonterminal expression room ∷ nonterminal (items further_argument) room ∷ symbol_part symbol.RightParen ∷ []) else parts (symbol_part symbol.LeftParen ∷ symbol_part symbol.RightParen ∷ [])) e) here
 arguments_read {room = room} {ts = ts} {at = at} {b = false} e here = read_led (token (kind.Symbol symbol.RightParen) ∷ [])
-    (ap (λ b. if b then parts (symbol_part symbol.LeftParen ∷ node expression room ∷ node (items further_argument) room ∷ symbol_part symbol.RightParen ∷ []) else parts (symbol_part symbol.LeftParen ∷ symbol_part symbol.RightParen ∷ [])) e) here
+    (ap (λ b. if b then parts (symbol_part symbol.LeftParen ∷ nonterminal expression room ∷ nonterminal (items further_argument) room ∷ symbol_part symbol.RightParen ∷ []) else parts (symbol_part symbol.LeftParen ∷ symbol_part symbol.RightParen ∷ [])) e) here
 
 expression_next : (ts : List Token) (at : ℕ) {b : Bool} (f : Option TokenKind) → opens_expression f ≡ b → rest ts at ≡ terminal_or_end at f ∷ rest ts (at + 1) → is_expression_next (rest ts at) ≡ b
 expression_next ts at f opened first = ap is_expression_next first ∙ (next_opening (terminal_or_end at f) (rest ts (at + 1)) ∙ (opening_at at f ∙ opened))
 
 abbrev pub arguments_following : ℕ → List ProductionPart
-arguments_following room = node expression room ∷ node (items further_argument) room ∷ token (kind.Symbol symbol.RightParen) ∷ []
+arguments_following room = nonterminal expression room ∷ nonterminal (items further_argument) room ∷ token (kind.Symbol symbol.RightParen) ∷ []
 
 -- If no expression can begin after `(`, `)` must come next.
-none_parts : (room i : ℕ) (f : Option TokenKind) (xs z w : List (Terminal ℕ)) → opens_expression f ≡ false → xs ≡ terminal_or_end i f ∷ z → SameHead xs w → BeginsWithParts (node (item arguments) room ∷ []) (Mark (kind.Symbol symbol.LeftParen) ∷ w) → BeginsWithParts (token (kind.Symbol symbol.RightParen) ∷ []) w
+none_parts : (room i : ℕ) (f : Option TokenKind) (xs z w : List (Terminal ℕ)) → opens_expression f ≡ false → xs ≡ terminal_or_end i f ∷ z → HaveSameHead xs w → BeginsWithParts (nonterminal (item arguments) room ∷ []) (WordOrSymbol (kind.Symbol symbol.LeftParen) ∷ w) → BeginsWithParts (token (kind.Symbol symbol.RightParen) ∷ []) w
 none_parts room i f xs y w closed here h (no_arguments, z, e, n, s, b) = (z, tail_of e, tt)
 none_parts room i f xs y w closed here h (some_arguments a es, z, e, n, s, b) =
     let first : terminal_or_end i f ≡ h.head = head_of (sym here ∙ h.is) in
     absurd (true_false (opens a h.head _ h.other (sym (append_assoc (spell a) _ z) ∙ (sym (tail_of e) ∙ h.alike))) (ap opening (sym first) ∙ (opening_at i f ∙ closed)))
 
-pub arguments_fail_none : {room : ℕ} {ts : List Token} {at : ℕ} {e : ParseRefusal} (f : Option TokenKind) → opens_expression f ≡ false → rest ts (at + 1) ≡ terminal_or_end (at + 1) f ∷ rest ts (at + 1 + 1) → rest ts at ≡ Mark (kind.Symbol symbol.LeftParen) ∷ rest ts (at + 1) → FailsToRead (token (kind.Symbol symbol.RightParen) ∷ []) ts (at + 1) e → ItemFails arguments room ts at e
+pub arguments_fail_none : {room : ℕ} {ts : List Token} {at : ℕ} {e : ParseRefusal} (f : Option TokenKind) → opens_expression f ≡ false → rest ts (at + 1) ≡ terminal_or_end (at + 1) f ∷ rest ts (at + 1 + 1) → rest ts at ≡ WordOrSymbol (kind.Symbol symbol.LeftParen) ∷ rest ts (at + 1) → FailsToRead (token (kind.Symbol symbol.RightParen) ∷ []) ts (at + 1) e → ItemFails arguments room ts at e
 arguments_fail_none {room = room} {ts = ts} {at = at} f closed first here q = record {
   is_here = subst (λ y. NextHasRank 6 y) (sym here) refl;
   fails = fails_following_alike {qs = token (kind.Symbol symbol.RightParen) ∷ []} (arguments_read (expression_next ts (at + 1) f closed first) here) here (λ w h b. none_parts room (at + 1) f (rest ts (at + 1)) _ w closed first h b) q;
 }
 
-some_parts : (room i : ℕ) (f : Option TokenKind) (xs z w : List (Terminal ℕ)) → opens_expression f ≡ true → xs ≡ terminal_or_end i f ∷ z → SameHead xs w → BeginsWithParts (node (item arguments) room ∷ []) (Mark (kind.Symbol symbol.LeftParen) ∷ w) → BeginsWithParts (arguments_following room) w
+some_parts : (room i : ℕ) (f : Option TokenKind) (xs z w : List (Terminal ℕ)) → opens_expression f ≡ true → xs ≡ terminal_or_end i f ∷ z → HaveSameHead xs w → BeginsWithParts (nonterminal (item arguments) room ∷ []) (WordOrSymbol (kind.Symbol symbol.LeftParen) ∷ w) → BeginsWithParts (arguments_following room) w
 some_parts room i f xs y w opened here h (no_arguments, z, e, n, s, b) =
     let first : terminal_or_end i f ≡ h.head = head_of (sym here ∙ h.is) in
-    let close : h.head ≡ Mark (kind.Symbol symbol.RightParen) = head_of (sym h.alike ∙ tail_of e) in
+    let close : h.head ≡ WordOrSymbol (kind.Symbol symbol.RightParen) = head_of (sym h.alike ∙ tail_of e) in
     absurd (true_false opened (ap opens_expression (mark_is f i (kind.Symbol symbol.RightParen) (first ∙ close))))
 some_parts room i f xs y w opened here h (some_arguments a es, z, e, n, s, b) = (
   a,
@@ -101,18 +101,18 @@ some_parts room i f xs y w opened here h (some_arguments a es, z, e, n, s, b) = 
   tail_of e ∙ append_assoc (spell a) _ z,
   omega arith,
   stops_closed es (kind.Symbol symbol.RightParen) z 4 (omega arith) (omega arith),
-  (es, Mark (kind.Symbol symbol.RightParen) ∷ z, append_assoc (spell es) (single_token (kind.Symbol symbol.RightParen)) z, omega arith, omega arith, (z, refl, tt)),
+  (es, WordOrSymbol (kind.Symbol symbol.RightParen) ∷ z, append_assoc (spell es) (single_token (kind.Symbol symbol.RightParen)) z, omega arith, omega arith, (z, refl, tt)),
 )
 
-pub arguments_fail : {room : ℕ} {ts : List Token} {at : ℕ} {e : ParseRefusal} (f : Option TokenKind) → opens_expression f ≡ true → rest ts (at + 1) ≡ terminal_or_end (at + 1) f ∷ rest ts (at + 1 + 1) → rest ts at ≡ Mark (kind.Symbol symbol.LeftParen) ∷ rest ts (at + 1) → FailsToRead (arguments_following room) ts (at + 1) e → ItemFails arguments room ts at e
+pub arguments_fail : {room : ℕ} {ts : List Token} {at : ℕ} {e : ParseRefusal} (f : Option TokenKind) → opens_expression f ≡ true → rest ts (at + 1) ≡ terminal_or_end (at + 1) f ∷ rest ts (at + 1 + 1) → rest ts at ≡ WordOrSymbol (kind.Symbol symbol.LeftParen) ∷ rest ts (at + 1) → FailsToRead (arguments_following room) ts (at + 1) e → ItemFails arguments room ts at e
 arguments_fail {room = room} {ts = ts} {at = at} f opened first here q = record {
   is_here = subst (λ y. NextHasRank 6 y) (sym here) refl;
   fails = fails_following_alike {qs = arguments_following room} (arguments_read (expression_next ts (at + 1) f opened first) here) here (λ w h b. some_parts room (at + 1) f (rest ts (at + 1)) _ w opened first h b) q;
 }
 
-pub taken_no_arguments : {room : ℕ} {ts : List Token} {at n : ℕ} → rest ts at ≡ Mark (kind.Symbol symbol.LeftParen) ∷ rest ts (at + 1) → (rest ts (at + 1) ≡ Mark (kind.Symbol symbol.RightParen) ∷ rest ts n) × (at + 1 < length ts) × (n ≡ at + 1 + 1) → IsReadTree no_arguments room ts at n
+pub taken_no_arguments : {room : ℕ} {ts : List Token} {at n : ℕ} → rest ts at ≡ WordOrSymbol (kind.Symbol symbol.LeftParen) ∷ rest ts (at + 1) → (rest ts (at + 1) ≡ WordOrSymbol (kind.Symbol symbol.RightParen) ∷ rest ts n) × (at + 1 < length ts) × (n ≡ at + 1 + 1) → IsReadTree no_arguments room ts at n
 taken_no_arguments here close = record {
-  spelled = here ∙ ap (λ y. Mark (kind.Symbol symbol.LeftParen) ∷ y) close.0;
+  spelled = here ∙ ap (λ y. WordOrSymbol (kind.Symbol symbol.LeftParen) ∷ y) close.0;
   shallow = omega arith;
   only = λ u z w h s e. only_zero no_arguments u z w refl s e;
   reads = by (arguments_read (ap is_expression_next close.0) here) (read_mark close);
@@ -120,12 +120,12 @@ taken_no_arguments here close = record {
   forward = omega (arith, close.2);
 }
 
-pub taken_arguments : {room : ℕ} {ts : List Token} {at m n : ℕ} (xs : List Expression) → rest ts at ≡ Mark (kind.Symbol symbol.LeftParen) ∷ rest ts (at + 1) → ListRead expression_of further_argument_of xs room ts (at + 1) m → (rest ts m ≡ Mark (kind.Symbol symbol.RightParen) ∷ rest ts n) × (m < length ts) × (n ≡ m + 1) → IsReadTree (arguments_listed xs) room ts at n
+pub taken_arguments : {room : ℕ} {ts : List Token} {at m n : ℕ} (xs : List Expression) → rest ts at ≡ WordOrSymbol (kind.Symbol symbol.LeftParen) ∷ rest ts (at + 1) → IsReadList expression_of further_argument_of xs room ts (at + 1) m → (rest ts m ≡ WordOrSymbol (kind.Symbol symbol.RightParen) ∷ rest ts n) × (m < length ts) × (n ≡ m + 1) → IsReadTree (arguments_of_list xs) room ts at n
 taken_arguments {room = room} {ts = ts} {at = at} {n = n} xs here p close =
     let a = expression_of p.first in
     let es = items_of further_argument_of p.others in
-    subst (λ l. IsReadTree (arguments_listed l) room ts at n) (sym p.is) record {
-      spelled = here ∙ ap (λ y. Mark (kind.Symbol symbol.LeftParen) ∷ y) (joined _ (spell a) _ p.head.spelled (joined _ (spell es) (single_token (kind.Symbol symbol.RightParen)) p.tail.spelled close.0));
+    subst (λ l. IsReadTree (arguments_of_list l) room ts at n) (sym p.is) record {
+      spelled = here ∙ ap (λ y. WordOrSymbol (kind.Symbol symbol.LeftParen) ∷ y) (joined _ (spell a) _ p.head.spelled (joined _ (spell es) (single_token (kind.Symbol symbol.RightParen)) p.tail.spelled close.0));
       shallow = omega (arith, p.head.shallow, p.tail.shallow);
       only = λ u z w h s e. only_zero (some_arguments a es) u z w refl s e;
       reads = by (arguments_read (ap is_expression_next p.head.spelled ∙ tree_next a (rest ts p.middle)) here) (both p.head.reads (both p.tail.reads (read_mark close)));

@@ -5,9 +5,9 @@ use Rattle.ob0_scan.specs.declared.lexeme.ReservedWord.{ReservedWord}
 use Rattle.ob0_scan.specs.declared.lexeme.ReservedWord.TheVariants as reserved
 use Rattle.ob0_scan.specs.declared.lexeme.Symbol.{Symbol}
 use Rattle.ob0_scan.specs.declared.lexeme.Symbol.TheVariants as symbol
-use Rattle.ob0_tree.specs.Lexeme.{Terminal, Name, Number, Mark, EndOfText}
+use Rattle.ob0_tree.specs.Lexeme.{Terminal, Name, Number, WordOrSymbol, EndOfText}
 use Rattle.ob0_tree.specs.Tree.{Sort}
-use Rattle.ob0_parse_descent.specs.Descent.{ProductionPart, token, name, number, node, finish, ProductionChoice, parts, missing, too_deep, chosen_production, Stop, Done, Expects, Deep, Descends, done, taken, other, made, absent, deep}
+use Rattle.ob0_parse_descent.specs.Descent.{ProductionPart, token, name, number, nonterminal, text_end, ProductionChoice, parts, missing, too_deep, chosen_production, Stop, Done, Expects, Deep, Descends, done, taken, other, made, absent, deep}
 use Rattle.ob0_parse_descent.specs.declared.refusal.Expected.TheVariants as expected
 
 -- Numbers the reserved words and symbols, so that they can be compared.
@@ -151,17 +151,17 @@ sign_back symbol.RightBracket = refl
 
 -- Returns true if the token is this reserved word.
 abbrev pub is_word : ReservedWord → Terminal ℕ → Bool
-is_word w (Mark (kind.ReservedWord v)) = word_code w == word_code v
+is_word w (WordOrSymbol (kind.ReservedWord v)) = word_code w == word_code v
 is_word w x = false
 
 abbrev pub is_sign : Symbol → Terminal ℕ → Bool
-is_sign w (Mark (kind.Symbol v)) = sign_code w == sign_code v
+is_sign w (WordOrSymbol (kind.Symbol v)) = sign_code w == sign_code v
 is_sign w x = false
 
 abbrev pub stop_of : ℕ → List ProductionPart → ℕ → List (Terminal ℕ) → Option Stop
 stop_of zero ps i tokens = None
 stop_of (suc n) [] i tokens = Some Done
-stop_of (suc n) (node s room ∷ ps) i tokens =
+stop_of (suc n) (nonterminal s room ∷ ps) i tokens =
     elim (chosen_production s room tokens) as (λ c. Option Stop) [ parts qs ↦ stop_of n (qs ++ ps) i tokens | missing e ↦ Some (Expects i e) | too_deep ↦ Some (Deep i) ]
 stop_of (suc n) (token (kind.ReservedWord w) ∷ ps) i (x ∷ tokens) =
     elim (is_word w x) as (λ b. Option Stop) [ true ↦ stop_of n ps (i + 1) tokens | false ↦ Some (Expects i (expected.Word w)) ]
@@ -169,13 +169,13 @@ stop_of (suc n) (token (kind.Symbol w) ∷ ps) i (x ∷ tokens) =
     elim (is_sign w x) as (λ b. Option Stop) [ true ↦ stop_of n ps (i + 1) tokens | false ↦ Some (Expects i (expected.Symbol w)) ]
 stop_of (suc n) (name ∷ ps) i (Name m ∷ tokens) = stop_of n ps (i + 1) tokens
 stop_of (suc n) (name ∷ ps) i (Number m ∷ tokens) = Some (Expects i expected.Identifier)
-stop_of (suc n) (name ∷ ps) i (Mark k ∷ tokens) = Some (Expects i expected.Identifier)
+stop_of (suc n) (name ∷ ps) i (WordOrSymbol k ∷ tokens) = Some (Expects i expected.Identifier)
 stop_of (suc n) (name ∷ ps) i (EndOfText ∷ tokens) = Some (Expects i expected.Identifier)
 stop_of (suc n) (number ∷ ps) i (Number m ∷ tokens) = stop_of n ps (i + 1) tokens
-stop_of (suc n) (finish ∷ ps) i (EndOfText ∷ tokens) = stop_of n ps (i + 1) tokens
-stop_of (suc n) (finish ∷ ps) i (Name m ∷ tokens) = Some (Expects i expected.EndOfText)
-stop_of (suc n) (finish ∷ ps) i (Number m ∷ tokens) = Some (Expects i expected.EndOfText)
-stop_of (suc n) (finish ∷ ps) i (Mark k ∷ tokens) = Some (Expects i expected.EndOfText)
+stop_of (suc n) (text_end ∷ ps) i (EndOfText ∷ tokens) = stop_of n ps (i + 1) tokens
+stop_of (suc n) (text_end ∷ ps) i (Name m ∷ tokens) = Some (Expects i expected.EndOfText)
+stop_of (suc n) (text_end ∷ ps) i (Number m ∷ tokens) = Some (Expects i expected.EndOfText)
+stop_of (suc n) (text_end ∷ ps) i (WordOrSymbol k ∷ tokens) = Some (Expects i expected.EndOfText)
 stop_of (suc n) (p ∷ ps) i tokens = None
 
 none_some : {o : Stop} → ◌≡◌ {A = Option Stop} None (Some o) → ⊥
@@ -184,26 +184,26 @@ none_some e = cc
 same_stop : {a b : Stop} → Some a ≡ Some b → a ≡ b
 same_stop e = cc
 
-word_is : (w : ReservedWord) (x : Terminal ℕ) → is_word w x ≡ true → x ≡ Mark (kind.ReservedWord w)
-word_is w (Mark (kind.ReservedWord v)) e = ap (λ u. Mark (kind.ReservedWord u)) (sym (word_back v) ∙ (ap word_at (sym (eqb-true (word_code w) (word_code v) e)) ∙ word_back w))
+word_is : (w : ReservedWord) (x : Terminal ℕ) → is_word w x ≡ true → x ≡ WordOrSymbol (kind.ReservedWord w)
+word_is w (WordOrSymbol (kind.ReservedWord v)) e = ap (λ u. WordOrSymbol (kind.ReservedWord u)) (sym (word_back v) ∙ (ap word_at (sym (eqb-true (word_code w) (word_code v) e)) ∙ word_back w))
 word_is w x e = absurd (true≢false (sym e))
 
-word_isnt : (w : ReservedWord) (x : Terminal ℕ) → is_word w x ≡ false → x ≡ Mark (kind.ReservedWord w) → ⊥
+word_isnt : (w : ReservedWord) (x : Terminal ℕ) → is_word w x ≡ false → x ≡ WordOrSymbol (kind.ReservedWord w) → ⊥
 word_isnt w x e is = true≢false (sym (eq-eqb (word_code w) (word_code w) refl) ∙ (ap (is_word w) (sym is) ∙ e))
 
-sign_is : (w : Symbol) (x : Terminal ℕ) → is_sign w x ≡ true → x ≡ Mark (kind.Symbol w)
-sign_is w (Mark (kind.Symbol v)) e = ap (λ u. Mark (kind.Symbol u)) (sym (sign_back v) ∙ (ap sign_at (sym (eqb-true (sign_code w) (sign_code v) e)) ∙ sign_back w))
+sign_is : (w : Symbol) (x : Terminal ℕ) → is_sign w x ≡ true → x ≡ WordOrSymbol (kind.Symbol w)
+sign_is w (WordOrSymbol (kind.Symbol v)) e = ap (λ u. WordOrSymbol (kind.Symbol u)) (sym (sign_back v) ∙ (ap sign_at (sym (eqb-true (sign_code w) (sign_code v) e)) ∙ sign_back w))
 sign_is w x e = absurd (true≢false (sym e))
 
-sign_isnt : (w : Symbol) (x : Terminal ℕ) → is_sign w x ≡ false → x ≡ Mark (kind.Symbol w) → ⊥
+sign_isnt : (w : Symbol) (x : Terminal ℕ) → is_sign w x ≡ false → x ≡ WordOrSymbol (kind.Symbol w) → ⊥
 sign_isnt w x e is = true≢false (sym (eq-eqb (sign_code w) (sign_code w) refl) ∙ (ap (is_sign w) (sym is) ∙ e))
 
 module _ (n : ℕ) (further : (ps : List ProductionPart) (i : ℕ) (tokens : List (Terminal ℕ)) (o : Stop) → stop_of n ps i tokens ≡ Some o → Descends ps i tokens o) where
   by_choice : (s : Sort) (room : ℕ) (ps : List ProductionPart) (i : ℕ) (tokens : List (Terminal ℕ)) (o : Stop) (c : ProductionChoice) → chosen_production s room tokens ≡ c
-      → elim c as (λ c. Option Stop) [ parts qs ↦ stop_of n (qs ++ ps) i tokens | missing e ↦ Some (Expects i e) | too_deep ↦ Some (Deep i) ] ≡ Some o → Descends (node s room ∷ ps) i tokens o
+      → elim c as (λ c. Option Stop) [ parts qs ↦ stop_of n (qs ++ ps) i tokens | missing e ↦ Some (Expects i e) | too_deep ↦ Some (Deep i) ] ≡ Some o → Descends (nonterminal s room ∷ ps) i tokens o
   by_choice s room ps i tokens o (parts qs) c e = made qs c (further (qs ++ ps) i tokens o e)
-  by_choice s room ps i tokens o (missing x) c e = subst (λ y. Descends (node s room ∷ ps) i tokens y) (same_stop e) (absent c)
-  by_choice s room ps i tokens o too_deep c e = subst (λ y. Descends (node s room ∷ ps) i tokens y) (same_stop e) (deep c)
+  by_choice s room ps i tokens o (missing x) c e = subst (λ y. Descends (nonterminal s room ∷ ps) i tokens y) (same_stop e) (absent c)
+  by_choice s room ps i tokens o too_deep c e = subst (λ y. Descends (nonterminal s room ∷ ps) i tokens y) (same_stop e) (deep c)
 
   by_word : (w : ReservedWord) (ps : List ProductionPart) (i : ℕ) (x : Terminal ℕ) (tokens : List (Terminal ℕ)) (o : Stop) (b : Bool) → is_word w x ≡ b
       → elim b as (λ b. Option Stop) [ true ↦ stop_of n ps (i + 1) tokens | false ↦ Some (Expects i (expected.Word w)) ] ≡ Some o → Descends (token (kind.ReservedWord w) ∷ ps) i (x ∷ tokens) o
@@ -224,18 +224,18 @@ module _ (n : ℕ) (further : (ps : List ProductionPart) (i : ℕ) (tokens : Lis
   by_number ps i (Number m ∷ tokens) o e = taken (m, refl) (further ps (i + 1) tokens o e)
   by_number ps i tokens o e = absurd (none_some e)
 
-  by_finish : (ps : List ProductionPart) (i : ℕ) (tokens : List (Terminal ℕ)) (o : Stop) → stop_of (suc n) (finish ∷ ps) i tokens ≡ Some o → Descends (finish ∷ ps) i tokens o
+  by_finish : (ps : List ProductionPart) (i : ℕ) (tokens : List (Terminal ℕ)) (o : Stop) → stop_of (suc n) (text_end ∷ ps) i tokens ≡ Some o → Descends (text_end ∷ ps) i tokens o
   by_finish ps i [] o e = absurd (none_some e)
   by_finish ps i (EndOfText ∷ tokens) o e = taken refl (further ps (i + 1) tokens o e)
-  by_finish ps i (x ∷ tokens) o e = subst (λ y. Descends (finish ∷ ps) i (x ∷ tokens) y) (same_stop e) (other (λ p. cc p) refl)
+  by_finish ps i (x ∷ tokens) o e = subst (λ y. Descends (text_end ∷ ps) i (x ∷ tokens) y) (same_stop e) (other (λ p. cc p) refl)
 
 pub computed : (n : ℕ) (ps : List ProductionPart) (i : ℕ) (tokens : List (Terminal ℕ)) (o : Stop) → stop_of n ps i tokens ≡ Some o → Descends ps i tokens o
 computed zero ps i tokens o e = absurd (none_some e)
 computed (suc n) [] i tokens o e = subst (λ y. Descends [] i tokens y) (same_stop e) done
-computed (suc n) (node s room ∷ ps) i tokens o e = by_choice n (computed n) s room ps i tokens o (chosen_production s room tokens) refl e
+computed (suc n) (nonterminal s room ∷ ps) i tokens o e = by_choice n (computed n) s room ps i tokens o (chosen_production s room tokens) refl e
 computed (suc n) (token (kind.ReservedWord w) ∷ ps) i (x ∷ tokens) o e = by_word n (computed n) w ps i x tokens o (is_word w x) refl e
 computed (suc n) (token (kind.Symbol w) ∷ ps) i (x ∷ tokens) o e = by_sign n (computed n) w ps i x tokens o (is_sign w x) refl e
 computed (suc n) (name ∷ ps) i tokens o e = by_name n (computed n) ps i tokens o e
 computed (suc n) (number ∷ ps) i tokens o e = by_number n (computed n) ps i tokens o e
-computed (suc n) (finish ∷ ps) i tokens o e = by_finish n (computed n) ps i tokens o e
+computed (suc n) (text_end ∷ ps) i tokens o e = by_finish n (computed n) ps i tokens o e
 computed (suc n) (p ∷ ps) i tokens o e = absurd (none_some e)

@@ -5,10 +5,10 @@ use Rattle.ob0_scan.specs.declared.lexeme.TokenKind.TheVariants as kind
 use Rattle.ob0_scan.specs.declared.lexeme.ReservedWord.TheVariants as reserved
 use Rattle.ob0_scan.specs.declared.lexeme.Symbol.TheVariants as symbol
 use Rattle.ob0_tree.specs.declared.tree.Sign.TheVariants as signs
-use Rattle.ob0_tree.specs.Lexeme.{Terminal, Name, Number, Mark}
-use Rattle.ob0_tree.specs.Tree.{Item, arguments, further_argument, further_section, Sort, item, items, maybe, expression, statement, fields, section, Tree, none, one, end, more, compares, relates, sum, adds, product, multiplies, designator, integer, parenthesised, negation, field, index, empty, assigns, calls, branches, while_loop, repeat_loop, no_arguments, some_arguments, then_argument, runs, then_statement, elsif_branch, else_branch, listed, then_name, named_type, array_type, record_type, no_fields, some_fields, then_fields, no_formals, some_formals, value_section, variable_section, then_section, declares_constant, declares_constants, declares_type, declares_types, declares_variable, declares_variables, declares_procedure, declares, begins, has_body, is_module, spell, nesting}
+use Rattle.ob0_tree.specs.Lexeme.{Terminal, Name, Number, WordOrSymbol}
+use Rattle.ob0_tree.specs.Tree.{Item, arguments, further_argument, further_section, Sort, item, items, maybe, expression, statement, fields, section, Tree, none, one, end, more, compares, relates, sum, adds, product, multiplies, designator, integer, parenthesised, negation, field, index, empty, assigns, calls, branches, while_loop, repeat_loop, no_arguments, some_arguments, then_argument, runs, then_statement, elsif_branch, else_branch, listed, then_name, named_type, array_type, record_type, no_fields, some_fields, then_fields, no_formals, some_formals, value_section, variable_section, then_section, declares_constant, declares_constants, declares_type, declares_types, declares_variable, declares_variables, declares_procedure, declares, begins, forms_block, is_module, spell, nesting}
 use Rattle.ob0_parse_descent.specs.Follow.{rank, item_rank, item_level, level, EndsConstruct, NextHasRank}
-use Rattle.ob0_parse_descent.specs.Descent.{ProductionPart, token, name, number, node, parts, symbol_part, is_item_next, is_expression_next, is_section_next, is_assignment_next, chosen_production, Stop, Descends, taken, made}
+use Rattle.ob0_parse_descent.specs.Descent.{ProductionPart, token, name, number, nonterminal, parts, symbol_part, is_item_next, is_expression_next, is_section_next, is_assignment_next, chosen_production, Stop, Descends, taken, made}
 use Rattle.ob0_parse_descent.proofs.Unique.{starts_item, stops_less, stops_items, stops_maybe, stops_else, stops_branches, stops_closed, below, unsigned_term}
 use Rattle.ob0_parse_descent.proofs.Refusals.{no_end}
 use Rattle.ob0_parse_descent.proofs.Descent.{next_item, no_next}
@@ -25,7 +25,7 @@ use Rattle.ob0_parse_descent.proofs.DeclarationParts.{chosen_typed, section_next
 abbrev pub Finishes : ℕ → Stop → List ProductionPart → List (Terminal ℕ) → Type 0
 Finishes e o ps w = (i : ℕ) → i + length w ≡ e → Descends ps i w o
 
-tok : {e : ℕ} {o : Stop} {k : TokenKind} {ps : List ProductionPart} {z : List (Terminal ℕ)} → Finishes e o ps z → Finishes e o (token k ∷ ps) (Mark k ∷ z)
+tok : {e : ℕ} {o : Stop} {k : TokenKind} {ps : List ProductionPart} {z : List (Terminal ℕ)} → Finishes e o ps z → Finishes e o (token k ∷ ps) (WordOrSymbol k ∷ z)
 tok r = λ i h. taken refl (r (i + 1) (omega (arith, h)))
 
 nam : {e : ℕ} {o : Stop} {n : ℕ} {ps : List ProductionPart} {z : List (Terminal ℕ)} → Finishes e o ps z → Finishes e o (name ∷ ps) (Name n ∷ z)
@@ -34,7 +34,7 @@ nam {n = n} r = λ i h. taken (n, refl) (r (i + 1) (omega (arith, h)))
 num : {e : ℕ} {o : Stop} {n : ℕ} {ps : List ProductionPart} {z : List (Terminal ℕ)} → Finishes e o ps z → Finishes e o (number ∷ ps) (Number n ∷ z)
 num {n = n} r = λ i h. taken (n, refl) (r (i + 1) (omega (arith, h)))
 
-prod : {e : ℕ} {o : Stop} {s : Sort} {room : ℕ} {ps qs : List ProductionPart} {w : List (Terminal ℕ)} → chosen_production s room w ≡ parts qs → Finishes e o (qs ++ ps) w → Finishes e o (node s room ∷ ps) w
+prod : {e : ℕ} {o : Stop} {s : Sort} {room : ℕ} {ps qs : List ProductionPart} {w : List (Terminal ℕ)} → chosen_production s room w ≡ parts qs → Finishes e o (qs ++ ps) w → Finishes e o (nonterminal s room ∷ ps) w
 prod {qs = qs} c r = λ i h. made qs c (r i h)
 
 listed_as : {e : ℕ} {o : Stop} {ps : List ProductionPart} {v w : List (Terminal ℕ)} → w ≡ v → Finishes e o ps v → Finishes e o ps w
@@ -43,11 +43,11 @@ listed_as {e = e} {o = o} {ps = ps} is r = subst (λ w. Finishes e o ps w) (sym 
 assoc : {e : ℕ} {o : Stop} {ps : List ProductionPart} (a b z : List (Terminal ℕ)) → Finishes e o ps (a ++ (b ++ z)) → Finishes e o ps ((a ++ b) ++ z)
 assoc a b z r = listed_as (append_assoc a b z) r
 
-some : (i : Item) (room : ℕ) (w : List (Terminal ℕ)) → NextHasRank (item_rank i) w → chosen_production (maybe i) room w ≡ parts (node (item i) room ∷ [])
-some i room w s = ap (λ b. if b then parts (node (item i) room ∷ []) else parts []) (next_item i w s)
+some : (i : Item) (room : ℕ) (w : List (Terminal ℕ)) → NextHasRank (item_rank i) w → chosen_production (maybe i) room w ≡ parts (nonterminal (item i) room ∷ [])
+some i room w s = ap (λ b. if b then parts (nonterminal (item i) room ∷ []) else parts []) (next_item i w s)
 
-further : (i : Item) (room : ℕ) (w : List (Terminal ℕ)) → NextHasRank (item_rank i) w → chosen_production (items i) room w ≡ parts (node (item i) room ∷ node (items i) room ∷ [])
-further i room w s = ap (λ b. if b then parts (node (item i) room ∷ node (items i) room ∷ []) else parts []) (next_item i w s)
+further : (i : Item) (room : ℕ) (w : List (Terminal ℕ)) → NextHasRank (item_rank i) w → chosen_production (items i) room w ≡ parts (nonterminal (item i) room ∷ nonterminal (items i) room ∷ [])
+further i room w s = ap (λ b. if b then parts (nonterminal (item i) room ∷ nonterminal (items i) room ∷ []) else parts []) (next_item i w s)
 
 left_out : (i : Item) (w : List (Terminal ℕ)) → EndsConstruct (item_rank i) w → is_item_next i w ≡ false
 left_out i w s = no_next i w (λ p. no_end (item_rank i) w p s) _ refl
@@ -66,10 +66,10 @@ call_next none (x ∷ z) s = unassigned x z (λ e. let r : rank x ≡ 8 = ap ran
 call_next (one no_arguments) z s = refl
 call_next (one (some_arguments e es)) z s = refl
 
-pub finishes : {e : ℕ} {o : Stop} {s : Sort} (t : Tree ℕ s) (room : ℕ) (ps : List ProductionPart) (z : List (Terminal ℕ)) → nesting t ≤ room → EndsConstruct (level s) z → Finishes e o ps z → Finishes e o (node s room ∷ ps) (spell t ++ z)
-finishes (none {i = i}) room ps z n s r = prod {qs = []} (ap (λ b. if b then parts (node (item i) room ∷ []) else parts []) (left_out i z s)) r
+pub finishes : {e : ℕ} {o : Stop} {s : Sort} (t : Tree ℕ s) (room : ℕ) (ps : List ProductionPart) (z : List (Terminal ℕ)) → nesting t ≤ room → EndsConstruct (level s) z → Finishes e o ps z → Finishes e o (nonterminal s room ∷ ps) (spell t ++ z)
+finishes (none {i = i}) room ps z n s r = prod {qs = []} (ap (λ b. if b then parts (nonterminal (item i) room ∷ []) else parts []) (left_out i z s)) r
 finishes (one {i = i} t) room ps z n s r = prod (some i room _ (starts_item t z)) (finishes t room ps z n (stops_less z (item_level i) (item_rank i) (omega (arith, below i)) s) r)
-finishes (end {i = i}) room ps z n s r = prod {qs = []} (ap (λ b. if b then parts (node (item i) room ∷ node (items i) room ∷ []) else parts []) (left_out i z s)) r
+finishes (end {i = i}) room ps z n s r = prod {qs = []} (ap (λ b. if b then parts (nonterminal (item i) room ∷ nonterminal (items i) room ∷ []) else parts []) (left_out i z s)) r
 finishes (more {i = i} t ts) room ps z n s r =
     prod (further i room _ (subst (λ w. NextHasRank (item_rank i) w) (sym (append_assoc (spell t) (spell ts) z)) (starts_item t (spell ts ++ z))))
     (assoc (spell t) (spell ts) z (finishes t room _ _ (omega arith) (stops_items ts z (item_level i) (below i) s) (finishes ts room ps z (omega arith) s r)))
@@ -95,7 +95,7 @@ finishes (index t) zero ps z n s r = absurd (omega arith)
 finishes (index t) (suc inner) ps z n s r = prod refl (tok (assoc (spell t) _ z (finishes t inner _ _ (omega arith) (omega arith) (tok r))))
 finishes empty room ps z n s r = prod {qs = []} (no_statement room z s) r
 finishes (assigns x ss v) room ps z n s r =
-    prod (chosen_named room {n = x} {w = (spell ss ++ (Mark (kind.Symbol symbol.Becomes) ∷ spell v)) ++ z} true refl (ap is_assignment_next (append_assoc (spell ss) (Mark (kind.Symbol symbol.Becomes) ∷ spell v) z) ∙ assigned_next ss _ (spell v ++ z) refl))
+    prod (chosen_named room {n = x} {w = (spell ss ++ (WordOrSymbol (kind.Symbol symbol.Becomes) ∷ spell v)) ++ z} true refl (ap is_assignment_next (append_assoc (spell ss) (WordOrSymbol (kind.Symbol symbol.Becomes) ∷ spell v) z) ∙ assigned_next ss _ (spell v ++ z) refl))
     (nam (assoc (spell ss) _ z (finishes ss room _ _ (omega arith) (omega arith) (tok (finishes v room ps z (omega arith) (stops_less z 4 8 (omega arith) s) r)))))
 finishes (calls x a) room ps z n s r = prod (chosen_named room {n = x} {w = spell a ++ z} false refl (call_next a z s)) (nam (finishes a room ps z n (stops_less z 6 8 (omega arith) s) r))
 finishes (branches c t es l) zero ps z n s r = absurd (omega arith)
@@ -107,7 +107,7 @@ finishes (repeat_loop t c) zero ps z n s r = absurd (omega arith)
 finishes (repeat_loop t c) (suc inner) ps z n s r = prod refl (tok (assoc (spell t) _ z (finishes t inner _ _ (omega arith) (omega arith) (tok (finishes c inner ps z (omega arith) (stops_less z 4 8 (omega arith) s) r)))))
 finishes no_arguments room ps z n s r = prod refl (tok (tok r))
 finishes (some_arguments e es) room ps z n s r =
-    prod (ap (λ b. if b then parts (symbol_part symbol.LeftParen ∷ node expression room ∷ node (items further_argument) room ∷ symbol_part symbol.RightParen ∷ []) else parts (symbol_part symbol.LeftParen ∷ symbol_part symbol.RightParen ∷ [])) (ap is_expression_next (append_assoc (spell e) _ z) ∙ tree_next e _))
+    prod (ap (λ b. if b then parts (symbol_part symbol.LeftParen ∷ nonterminal expression room ∷ nonterminal (items further_argument) room ∷ symbol_part symbol.RightParen ∷ []) else parts (symbol_part symbol.LeftParen ∷ symbol_part symbol.RightParen ∷ [])) (ap is_expression_next (append_assoc (spell e) _ z) ∙ tree_next e _))
     (tok (assoc (spell e) _ z (finishes e room _ _ (omega arith) (stops_closed es (kind.Symbol symbol.RightParen) z 4 (omega arith) (omega arith)) (assoc (spell es) _ z (finishes es room _ _ (omega arith) (omega arith) (tok r))))))
 finishes (then_argument e) room ps z n s r = prod refl (tok (finishes e room ps z n s r))
 finishes (runs a c) room ps z n s r = prod refl (assoc (spell a) (spell c) z (finishes a room _ _ (omega arith) (stops_items c z 8 (omega arith) s) (finishes c room ps z (omega arith) s r)))
@@ -128,7 +128,7 @@ finishes (some_fields ns t) room ps z n s r =
 finishes (then_fields f) room ps z n s r = prod refl (tok (finishes f room ps z n s r))
 finishes no_formals room ps z n s r = prod refl (tok (tok r))
 finishes (some_formals f fs) room ps z n s r =
-    prod (ap (λ b. if b then parts (symbol_part symbol.LeftParen ∷ node section room ∷ node (items further_section) room ∷ symbol_part symbol.RightParen ∷ []) else parts (symbol_part symbol.LeftParen ∷ symbol_part symbol.RightParen ∷ [])) (ap is_section_next (append_assoc (spell f) _ z) ∙ section_next f _))
+    prod (ap (λ b. if b then parts (symbol_part symbol.LeftParen ∷ nonterminal section room ∷ nonterminal (items further_section) room ∷ symbol_part symbol.RightParen ∷ []) else parts (symbol_part symbol.LeftParen ∷ symbol_part symbol.RightParen ∷ [])) (ap is_section_next (append_assoc (spell f) _ z) ∙ section_next f _))
     (tok (assoc (spell f) _ z (finishes f room _ _ (omega arith) (stops_closed fs (kind.Symbol symbol.RightParen) z 0 (omega arith) (omega arith)) (assoc (spell fs) _ z (finishes fs room _ _ (omega arith) (omega arith) (tok r))))))
 finishes (value_section ns t) room ps z n s r =
     prod (chosen_typed room ns _ (append_assoc (spell ns) _ z)) (assoc (spell ns) _ z (finishes ns 0 _ _ (unnested ns) (omega arith) (tok (finishes t room ps z n s r))))
@@ -153,5 +153,5 @@ finishes (declares cs ds vs us) room ps z n s r =
     long : {A : Type 0} (a b c d z : List A) → (a ++ (b ++ (c ++ d))) ++ z ≡ a ++ (b ++ (c ++ (d ++ z)))
     long a b c d z = simp append_assoc
 finishes (begins t) room ps z n s r = prod refl (tok (finishes t room ps z n s r))
-finishes (has_body ds b) room ps z n s r = prod refl (assoc (spell ds) (spell b) z (finishes ds room _ _ (omega arith) (stops_maybe b z 15 (omega arith) s) (finishes b room ps z (omega arith) s r)))
+finishes (forms_block ds b) room ps z n s r = prod refl (assoc (spell ds) (spell b) z (finishes ds room _ _ (omega arith) (stops_maybe b z 15 (omega arith) s) (finishes b room ps z (omega arith) s r)))
 finishes (is_module x b y) room ps z n s r = prod refl (tok (nam (tok (assoc (spell b) _ z (finishes b room _ _ n (omega arith) (tok (nam (tok r))))))))

@@ -5,10 +5,10 @@ use Rattle.ob0_scan.specs.declared.lexeme.TokenKind.TheVariants as kind
 use Rattle.ob0_scan.specs.declared.lexeme.ReservedWord.TheVariants as reserved
 use Rattle.ob0_scan.specs.declared.lexeme.Symbol.TheVariants as symbol
 use Rattle.ob0_scan.specs.declared.lexeme.Token.{Token}
-use Rattle.ob0_tree.specs.Lexeme.{Terminal, Mark}
-use Rattle.ob0_tree.specs.Tree.{Item, then_argument, then_statement, else_branch, then_fields, then_section, begins, declares_constants, declares_types, declares_variables, further_argument, further_statement, else_part, further_fields, further_section, body, constants, type_names, variables, constant, type_name, variable, expression, statement, sequence, fields, section, Sort, item, items, Tree, spell, nesting}
+use Rattle.ob0_tree.specs.Lexeme.{Terminal, WordOrSymbol}
+use Rattle.ob0_tree.specs.Tree.{Item, then_argument, then_statement, else_branch, then_fields, then_section, begins, declares_constants, declares_types, declares_variables, further_argument, further_statement, else_part, further_fields, further_section, body, constants, type_definitions, variables, constant, type_definition, variable, expression, statement, sequence, fields, section, Sort, item, items, Tree, spell, nesting}
 use Rattle.ob0_parse_descent.specs.Follow.{kind_rank, item_rank, item_level, level, NextHasRank}
-use Rattle.ob0_parse_descent.specs.Reading.{rest, token, node, BeginsWithParts, ReadAs, IsReadTree, FailsToRead, ItemFails}
+use Rattle.ob0_parse_descent.specs.Reading.{rest, token, nonterminal, BeginsWithParts, StopsAlike, IsReadTree, FailsToRead, ItemFails}
 use Rattle.ob0_parse_descent.specs.Descent.{parts, chosen_item_production}
 use Rattle.ob0_parse_descent.proofs.Descent.{by, read_led}
 use Rattle.ob0_parse_descent.specs.declared.refusal.ParseRefusal.{ParseRefusal}
@@ -16,25 +16,25 @@ use Rattle.ob0_parse_descent.proofs.Unique.{stops_less, tail_of}
 use Rattle.ob0_parse_descent.proofs.Refusals.{fails_following}
 
 pub record Leads {s : Sort} {i : Item} (k : TokenKind) (make : Tree ℕ s → Tree ℕ (item i)) : Type 0 where
-  pub spelled : (t : Tree ℕ s) → spell (make t) ≡ Mark k ∷ spell t
+  pub spelled : (t : Tree ℕ s) → spell (make t) ≡ WordOrSymbol k ∷ spell t
   pub deep : (t : Tree ℕ s) → nesting (make t) ≡ nesting t
   pub back : (u : Tree ℕ (item i)) → (v : Tree ℕ s) × (u ≡ make v)
   pub lower : level s ≤ item_level i
   pub ranked : kind_rank k ≡ item_rank i
-  pub chosen_production : (room : ℕ) (w : List (Terminal ℕ)) → chosen_item_production i room (Mark k ∷ w) ≡ parts (token k ∷ node s room ∷ [])
+  pub chosen_production : (room : ℕ) (w : List (Terminal ℕ)) → chosen_item_production i room (WordOrSymbol k ∷ w) ≡ parts (token k ∷ nonterminal s room ∷ [])
 
-led_back : {s : Sort} {i : Item} {k : TokenKind} {make : Tree ℕ s → Tree ℕ (item i)} → Leads k make → (u : Tree ℕ (item i)) (z w : List (Terminal ℕ)) → spell u ++ z ≡ Mark k ∷ w → (v : Tree ℕ s) × (u ≡ make v) × (spell v ++ z ≡ w)
+led_back : {s : Sort} {i : Item} {k : TokenKind} {make : Tree ℕ s → Tree ℕ (item i)} → Leads k make → (u : Tree ℕ (item i)) (z w : List (Terminal ℕ)) → spell u ++ z ≡ WordOrSymbol k ∷ w → (v : Tree ℕ s) × (u ≡ make v) × (spell v ++ z ≡ w)
 led_back {k = k} l u z w e =
     let b = l.back u in
-    let spelled : spell u ≡ Mark k ∷ spell b.0 = ap spell b.1 ∙ l.spelled b.0 in
+    let spelled : spell u ≡ WordOrSymbol k ∷ spell b.0 = ap spell b.1 ∙ l.spelled b.0 in
     (b.0, b.1, tail_of (ap (λ x. x ++ z) (sym spelled) ∙ e))
 
-led_read : {s : Sort} {i : Item} {k : TokenKind} {make : Tree ℕ s → Tree ℕ (item i)} {room : ℕ} {ts : List Token} {at : ℕ} → Leads k make → rest ts at ≡ Mark k ∷ rest ts (at + 1) → ReadAs (node (item i) room ∷ []) (node s room ∷ []) ts at (at + 1)
-led_read {s = s} {room = room} {ts = ts} {at = at} l here = read_led (node s room ∷ []) (l.chosen_production room (rest ts (at + 1))) here
+led_read : {s : Sort} {i : Item} {k : TokenKind} {make : Tree ℕ s → Tree ℕ (item i)} {room : ℕ} {ts : List Token} {at : ℕ} → Leads k make → rest ts at ≡ WordOrSymbol k ∷ rest ts (at + 1) → StopsAlike (nonterminal (item i) room ∷ []) (nonterminal s room ∷ []) ts at (at + 1)
+led_read {s = s} {room = room} {ts = ts} {at = at} l here = read_led (nonterminal s room ∷ []) (l.chosen_production room (rest ts (at + 1))) here
 
-pub taken_led : {s : Sort} {i : Item} {k : TokenKind} {make : Tree ℕ s → Tree ℕ (item i)} {room : ℕ} {ts : List Token} {at n : ℕ} → Leads k make → (t : Tree ℕ s) → rest ts at ≡ Mark k ∷ rest ts (at + 1) → IsReadTree t room ts (at + 1) n → IsReadTree (make t) room ts at n
+pub taken_led : {s : Sort} {i : Item} {k : TokenKind} {make : Tree ℕ s → Tree ℕ (item i)} {room : ℕ} {ts : List Token} {at n : ℕ} → Leads k make → (t : Tree ℕ s) → rest ts at ≡ WordOrSymbol k ∷ rest ts (at + 1) → IsReadTree t room ts (at + 1) n → IsReadTree (make t) room ts at n
 taken_led {s = s} {i = i} {k = k} {make = make} {room = room} {ts = ts} {n = n} l t here p = record {
-  spelled = here ∙ (ap (λ y. Mark k ∷ y) p.spelled ∙ ap (λ y. y ++ rest ts n) (sym (l.spelled t)));
+  spelled = here ∙ (ap (λ y. WordOrSymbol k ∷ y) p.spelled ∙ ap (λ y. y ++ rest ts n) (sym (l.spelled t)));
   shallow = subst (λ y. y ≤ room) (sym (l.deep t)) p.shallow;
   only = λ u z w h stop e.
       let b = led_back l u z (spell t ++ w) (e ∙ ap (λ y. y ++ w) (l.spelled t)) in
@@ -45,15 +45,15 @@ taken_led {s = s} {i = i} {k = k} {make = make} {room = room} {ts = ts} {n = n} 
   forward = omega (arith, p.forward);
 }
 
-led_parts : {s : Sort} {i : Item} {k : TokenKind} {make : Tree ℕ s → Tree ℕ (item i)} (room : ℕ) → Leads k make → (w : List (Terminal ℕ)) → BeginsWithParts (node (item i) room ∷ []) (Mark k ∷ w) → BeginsWithParts (node s room ∷ []) w
+led_parts : {s : Sort} {i : Item} {k : TokenKind} {make : Tree ℕ s → Tree ℕ (item i)} (room : ℕ) → Leads k make → (w : List (Terminal ℕ)) → BeginsWithParts (nonterminal (item i) room ∷ []) (WordOrSymbol k ∷ w) → BeginsWithParts (nonterminal s room ∷ []) w
 led_parts {s = s} {i = i} room l w (u, z, e, n, stop, b) =
     let v = led_back l u z w (sym e) in
     (v.0, z, sym v.2, subst (λ y. y ≤ room) (ap nesting v.1 ∙ l.deep v.0) n, stops_less z (level s) (item_level i) l.lower stop, tt)
 
-pub led_fails : {s : Sort} {i : Item} {k : TokenKind} {make : Tree ℕ s → Tree ℕ (item i)} {room : ℕ} {ts : List Token} {at : ℕ} {e : ParseRefusal} → Leads k make → rest ts at ≡ Mark k ∷ rest ts (at + 1) → FailsToRead (node s room ∷ []) ts (at + 1) e → ItemFails i room ts at e
+pub led_fails : {s : Sort} {i : Item} {k : TokenKind} {make : Tree ℕ s → Tree ℕ (item i)} {room : ℕ} {ts : List Token} {at : ℕ} {e : ParseRefusal} → Leads k make → rest ts at ≡ WordOrSymbol k ∷ rest ts (at + 1) → FailsToRead (nonterminal s room ∷ []) ts (at + 1) e → ItemFails i room ts at e
 led_fails {s = s} {i = i} {k = k} {room = room} l here q = record {
   is_here = subst (λ y. NextHasRank (item_rank i) y) (sym here) l.ranked;
-  fails = fails_following {qs = node s room ∷ []} (led_read l here) here (led_parts room l) q;
+  fails = fails_following {qs = nonterminal s room ∷ []} (led_read l here) here (led_parts room l) q;
 }
 
 back_then_argument : (u : Tree ℕ (item further_argument)) → (v : Tree ℕ expression) × (u ≡ then_argument v)
@@ -98,7 +98,7 @@ back_declares_constants (declares_constants v) = (v, refl)
 pub leads_declares_constants : Leads (kind.ReservedWord reserved.Const) declares_constants
 leads_declares_constants = record { spelled = λ t. refl; deep = λ t. refl; back = back_declares_constants; lower = omega arith; ranked = refl; chosen_production = λ room w. refl }
 
-back_declares_types : (u : Tree ℕ (item type_names)) → (v : Tree ℕ (items type_name)) × (u ≡ declares_types v)
+back_declares_types : (u : Tree ℕ (item type_definitions)) → (v : Tree ℕ (items type_definition)) × (u ≡ declares_types v)
 back_declares_types (declares_types v) = (v, refl)
 
 pub leads_declares_types : Leads (kind.ReservedWord reserved.Type) declares_types

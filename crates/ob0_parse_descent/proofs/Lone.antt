@@ -10,7 +10,7 @@ use Rattle.ob0_tree.specs.declared.tree.Term.{out-Term}
 use Rattle.ob0_tree.specs.View.{items_of, simple_of, addend_of, term_of, multiplier_of, factor_of}
 use Rattle.ob0_tree.proofs.Viewed.{simple_parts, term_parts}
 use Rattle.ob0_parse_descent.specs.Follow.{rank, binding_strength, EndsConstruct, NextHasRank}
-use Rattle.ob0_parse_descent.specs.Reading.{terminal_or_end, rest, IsReadTree, IsSingleTokenFactor, Unsigned, IsSignAt}
+use Rattle.ob0_parse_descent.specs.Reading.{terminal_or_end, rest, IsReadTree, IsSingleTokenFactor, HasNoSign, IsSignAt}
 use Rattle.ob0_parse_descent.proofs.NamedStatements.{true_not_false}
 use Rattle.ob0_parse_descent.proofs.Items.{taking_none, taking_done}
 use Rattle.ob0_parse_descent.proofs.Expressions.{taken_compares, taken_no_item, taken_sum, taken_product, taken_integer, taken_designator}
@@ -49,8 +49,8 @@ pub lone_simple : {ts : List Token} {at : ℕ} (f : Tree ℕ factor) (level room
 lone_simple {ts = ts} {at = at} f level room l lone =
     let term = lone_term f level room (omega (arith, l)) lone in
     let own = unsigned_term (product f end) (rest ts (at + 1)) in
-    let unsigned : Unsigned (rest ts at) = record { plus = λ z e. own.plus z (sym term.spelled ∙ e); minus = λ z e. own.minus z (sym term.spelled ∙ e) } in
-    let sign : IsSignAt ts at None at = record { spelled = refl; forward = omega arith; within = omega (arith, term.within, term.forward); unsigned = unsigned; counted = omega arith } in
+    let unsigned : HasNoSign (rest ts at) = record { plus = λ z e. own.plus z (sym term.spelled ∙ e); minus = λ z e. own.minus z (sym term.spelled ∙ e) } in
+    let sign : IsSignAt ts at None at = record { spelled = refl; forward = omega arith; within = omega (arith, term.within, term.forward); unsigned = unsigned; next_index = omega arith } in
     taken_sum None (product f end) end sign term (taking_done end (taking_none addend room ts (at + 1) term.within) (no_start (rest ts (at + 1)) 3 level l lone.stops))
 
 pub lone_expression : {ts : List Token} {at : ℕ} (f : Tree ℕ factor) (room : ℕ) → IsSingleTokenFactor 4 f ts at → IsReadTree (compares (sum None (product f end) end) none) room ts at (at + 1)

@@ -3,10 +3,10 @@ use Rattle.std.proofs.Common.{◌≡◌, ℕ, ◌+◌, ◌<◌, ◌≤◌, List,
 use Rattle.ob0_scan.specs.declared.lexeme.TokenKind.TheVariants as kind
 use Rattle.ob0_scan.specs.declared.lexeme.Symbol.TheVariants as symbol
 use Rattle.ob0_scan.specs.declared.lexeme.Token.{Token}
-use Rattle.ob0_tree.specs.Lexeme.{Terminal, Name, Mark}
+use Rattle.ob0_tree.specs.Lexeme.{Terminal, Name, WordOrSymbol}
 use Rattle.ob0_tree.specs.Tree.{item, items, further_name, names, Tree, end, more, listed, then_name, spell, nesting}
 use Rattle.ob0_parse_descent.specs.Follow.{EndsConstruct, NextHasRank}
-use Rattle.ob0_parse_descent.specs.Reading.{rest, name, node, BeginsWithParts, SameHead, IsReadTree, FailsToRead, ItemFails, NoName}
+use Rattle.ob0_parse_descent.specs.Reading.{rest, name, nonterminal, BeginsWithParts, HaveSameHead, IsReadTree, FailsToRead, ItemFails, IsNoName}
 use Rattle.ob0_parse_descent.proofs.Descent.{both, by, read_name, read_made, read_led}
 use Rattle.ob0_parse_descent.specs.declared.refusal.Expected.TheVariants as expected
 use Rattle.ob0_parse_descent.specs.declared.refusal.ParseRefusal.{ParseRefusal}
@@ -16,12 +16,12 @@ use Rattle.ob0_parse_descent.proofs.Refusals.{fails_weaken, fails_following, fai
 use Rattle.ob0_parse_descent.proofs.Leads.{fails_in_name}
 use Rattle.ob0_parse_descent.proofs.Items.{Taking, taking_fails}
 
-then_name_only : (i : ℕ) (u : Tree ℕ (item further_name)) (z w : List (Terminal ℕ)) → spell u ++ z ≡ Mark (kind.Symbol symbol.Comma) ∷ Name i ∷ w → (u ≡ then_name i) × (z ≡ w)
+then_name_only : (i : ℕ) (u : Tree ℕ (item further_name)) (z w : List (Terminal ℕ)) → spell u ++ z ≡ WordOrSymbol (kind.Symbol symbol.Comma) ∷ Name i ∷ w → (u ≡ then_name i) × (z ≡ w)
 then_name_only i (then_name n) z w e = (ap then_name (name_of (tail_of e)), tail_of (tail_of e))
 
-pub taken_then_name : {ts : List Token} {at n : ℕ} (x : ℕ) → rest ts at ≡ Mark (kind.Symbol symbol.Comma) ∷ rest ts (at + 1) → (rest ts (at + 1) ≡ Name (at + 1) ∷ rest ts n) × (at + 1 < length ts) × (x ≡ at + 1) × (n ≡ at + 1 + 1) → IsReadTree (then_name x) 0 ts at n
+pub taken_then_name : {ts : List Token} {at n : ℕ} (x : ℕ) → rest ts at ≡ WordOrSymbol (kind.Symbol symbol.Comma) ∷ rest ts (at + 1) → (rest ts (at + 1) ≡ Name (at + 1) ∷ rest ts n) × (at + 1 < length ts) × (x ≡ at + 1) × (n ≡ at + 1 + 1) → IsReadTree (then_name x) 0 ts at n
 taken_then_name {ts = ts} {at = at} {n = n} x here p = subst (λ y. IsReadTree (then_name y) 0 ts at n) (sym p.2) record {
-  spelled = here ∙ ap (λ y. Mark (kind.Symbol symbol.Comma) ∷ y) p.0;
+  spelled = here ∙ ap (λ y. WordOrSymbol (kind.Symbol symbol.Comma) ∷ y) p.0;
   shallow = omega arith;
   only = λ u z w h s e. then_name_only (at + 1) u z w e;
   reads = by (read_led (name ∷ []) refl here) (read_name p.0 p.3);
@@ -29,16 +29,16 @@ taken_then_name {ts = ts} {at = at} {n = n} x here p = subst (λ y. IsReadTree (
   forward = omega (arith, p.3);
 }
 
-then_name_parts : (w : List (Terminal ℕ)) → BeginsWithParts (node (item further_name) 0 ∷ []) (Mark (kind.Symbol symbol.Comma) ∷ w) → BeginsWithParts (name ∷ []) w
+then_name_parts : (w : List (Terminal ℕ)) → BeginsWithParts (nonterminal (item further_name) 0 ∷ []) (WordOrSymbol (kind.Symbol symbol.Comma) ∷ w) → BeginsWithParts (name ∷ []) w
 then_name_parts w (then_name n, z, e, l, s, b) = (n, z, tail_of e, tt)
 
-pub then_name_fails : {ts : List Token} {at : ℕ} {e : ParseRefusal} → rest ts at ≡ Mark (kind.Symbol symbol.Comma) ∷ rest ts (at + 1) → FailsToRead (name ∷ []) ts (at + 1) e → ItemFails further_name 0 ts at e
+pub then_name_fails : {ts : List Token} {at : ℕ} {e : ParseRefusal} → rest ts at ≡ WordOrSymbol (kind.Symbol symbol.Comma) ∷ rest ts (at + 1) → FailsToRead (name ∷ []) ts (at + 1) e → ItemFails further_name 0 ts at e
 then_name_fails here q = record {
   is_here = subst (λ y. NextHasRank 5 y) (sym here) refl;
   fails = fails_following {qs = name ∷ []} (read_led (name ∷ []) refl here) here then_name_parts q;
 }
 
-listed_only : {ts : List Token} {m n : ℕ} (i : ℕ) (others : Tree ℕ (items further_name)) → IsReadTree others 0 ts m n → (u : Tree ℕ names) (z w : List (Terminal ℕ)) → SameHead (rest ts n) w → EndsConstruct 5 z → spell u ++ z ≡ Name i ∷ (spell others ++ w) → (u ≡ listed i others) × (z ≡ w)
+listed_only : {ts : List Token} {m n : ℕ} (i : ℕ) (others : Tree ℕ (items further_name)) → IsReadTree others 0 ts m n → (u : Tree ℕ names) (z w : List (Terminal ℕ)) → HaveSameHead (rest ts n) w → EndsConstruct 5 z → spell u ++ z ≡ Name i ∷ (spell others ++ w) → (u ≡ listed i others) × (z ≡ w)
 listed_only i others p (listed k us) z w h s e =
     let r = p.only us z w h s (tail_of e) in
     let same : k ≡ i = name_of e in
@@ -51,11 +51,11 @@ pub nameless : (t : Tree ℕ (items further_name)) → nesting t ≤ 0
 nameless end = omega arith
 nameless (more (then_name n) ts) = let h = nameless ts in omega arith
 
-names_parts : (w : List (Terminal ℕ)) → BeginsWithParts (node names 0 ∷ []) w → BeginsWithParts (name ∷ node (items further_name) 0 ∷ []) w
+names_parts : (w : List (Terminal ℕ)) → BeginsWithParts (nonterminal names 0 ∷ []) w → BeginsWithParts (name ∷ nonterminal (items further_name) 0 ∷ []) w
 names_parts w (listed k us, z, e, l, s, b) = (k, spell us ++ z, e, (us, z, refl, nameless us, s, tt))
 
-pub names_fails_first : {ts : List Token} {at : ℕ} {e : ParseRefusal} → NoName ts at × (e ≡ Syntax at expected.Identifier) → FailsToRead (node names 0 ∷ []) ts at e
-names_fails_first q = fails_weaken {qs = name ∷ node (items further_name) 0 ∷ []} (read_made refl) (λ w h b. names_parts w b) (fails_in_name q)
+pub names_fails_first : {ts : List Token} {at : ℕ} {e : ParseRefusal} → IsNoName ts at × (e ≡ Syntax at expected.Identifier) → FailsToRead (nonterminal names 0 ∷ []) ts at e
+names_fails_first q = fails_weaken {qs = name ∷ nonterminal (items further_name) 0 ∷ []} (read_made refl) (λ w h b. names_parts w b) (fails_in_name q)
 
-pub names_fails_more : {ts : List Token} {at m n : ℕ} {e : ParseRefusal} (others : Tree ℕ (items further_name)) → rest ts at ≡ Name at ∷ rest ts m → m ≡ at + 1 → Taking others 0 ts m n → ItemFails further_name 0 ts n e → FailsToRead (node names 0 ∷ []) ts at e
-names_fails_more others here l p q = fails_weaken {qs = name ∷ node (items further_name) 0 ∷ []} (read_made refl) (λ w h b. names_parts w b) (fails_pass_name here l (taking_fails others p q))
+pub names_fails_more : {ts : List Token} {at m n : ℕ} {e : ParseRefusal} (others : Tree ℕ (items further_name)) → rest ts at ≡ Name at ∷ rest ts m → m ≡ at + 1 → Taking others 0 ts m n → ItemFails further_name 0 ts n e → FailsToRead (nonterminal names 0 ∷ []) ts at e
+names_fails_more others here l p q = fails_weaken {qs = name ∷ nonterminal (items further_name) 0 ∷ []} (read_made refl) (λ w h b. names_parts w b) (fails_pass_name here l (taking_fails others p q))

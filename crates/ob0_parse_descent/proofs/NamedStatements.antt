@@ -4,10 +4,10 @@ use Rattle.ob0_scan.specs.declared.lexeme.TokenKind.{TokenKind}
 use Rattle.ob0_scan.specs.declared.lexeme.TokenKind.TheVariants as kind
 use Rattle.ob0_scan.specs.declared.lexeme.Symbol.TheVariants as symbol
 use Rattle.ob0_scan.specs.declared.lexeme.Token.{Token}
-use Rattle.ob0_tree.specs.Lexeme.{Terminal, Name, Mark}
+use Rattle.ob0_tree.specs.Lexeme.{Terminal, Name, WordOrSymbol}
 use Rattle.ob0_tree.specs.Tree.{selector, arguments, expression, factor, statement, designator, empty, assigns, calls, branches, while_loop, repeat_loop, no_arguments, some_arguments, Sort, item, items, maybe, Tree, none, one, end, more, spell}
 use Rattle.ob0_parse_descent.specs.Follow.{rank, level, EndsConstruct, NextHasRank}
-use Rattle.ob0_parse_descent.specs.Reading.{rest, ProductionPart, token, name, node, BeginsWithParts, SameHead, Refused, ReadAs, IsReadTree, DescentStopsWith, FailsToRead, ItemFails, Other}
+use Rattle.ob0_parse_descent.specs.Reading.{rest, ProductionPart, token, name, nonterminal, BeginsWithParts, HaveSameHead, CantBegin, StopsAlike, IsReadTree, DescentStopsWith, FailsToRead, ItemFails, IsOtherToken}
 use Rattle.ob0_parse_descent.specs.Descent.{parts, symbol_part, is_assignment_next, is_item_next, chosen_production, Stop, Descends, done, taken, made}
 use Rattle.ob0_parse_descent.specs.declared.refusal.Expected.TheVariants as expected
 use Rattle.ob0_parse_descent.proofs.Descent.{both, by, read_token, read_made, read_back, unmade, past_name, next_item, no_next}
@@ -31,26 +31,26 @@ record After {s : Sort} (t : Tree ℕ s) (w : List (Terminal ℕ)) (ps : List Pr
   stops : EndsConstruct (level s) left
   begins : other ≡ t → left ≡ w → BeginsWithParts ps w
 
-known : {s : Sort} {room : ℕ} {ps qs : List ProductionPart} {ts : List Token} {at next : ℕ} {after : List (Terminal ℕ)} (t : Tree ℕ s) → IsReadTree t room ts at next → ((w : List (Terminal ℕ)) → SameHead (rest ts next) w → BeginsWithParts ps (spell t ++ w) → After t w qs) → Refused qs (rest ts next) after → Refused ps (rest ts at) after
+known : {s : Sort} {room : ℕ} {ps qs : List ProductionPart} {ts : List Token} {at next : ℕ} {after : List (Terminal ℕ)} (t : Tree ℕ s) → IsReadTree t room ts at next → ((w : List (Terminal ℕ)) → HaveSameHead (rest ts next) w → BeginsWithParts ps (spell t ++ w) → After t w qs) → CantBegin qs (rest ts next) after → CantBegin ps (rest ts at) after
 known {ps = ps} {qs = qs} {ts = ts} {next = next} {after = after} t p f r = record {
   passed = spell t ++ r.passed;
   fault = r.fault;
   here = p.spelled ∙ (ap (λ y. spell t ++ y) r.here ∙ sym (append_assoc (spell t) r.passed (r.fault ∷ after)));
-  never = λ unseen b.
+  cant_begin = λ unseen b.
       let w : List (Terminal ℕ) = r.passed ++ (r.fault ∷ unseen) in
       let h = refused_head qs (rest ts next) after unseen r in
       let k = f w h (subst (λ y. BeginsWithParts ps y) (append_assoc (spell t) r.passed (r.fault ∷ unseen)) b) in
       let same = p.only k.other k.left w h k.stops k.is in
-      r.never unseen (k.begins same.0 same.1);
+      r.cant_begin unseen (k.begins same.0 same.1);
 }
 
-fails_known : {s : Sort} {room : ℕ} {ps : List ProductionPart} {ts : List Token} {at next : ℕ} {e : ParseRefusal} (qs : List ProductionPart) → ((o : Stop) → DescentStopsWith qs ts next o → DescentStopsWith ps ts at o) → (t : Tree ℕ s) → IsReadTree t room ts at next → ((w : List (Terminal ℕ)) → SameHead (rest ts next) w → BeginsWithParts ps (spell t ++ w) → After t w qs) → FailsToRead qs ts next e → FailsToRead ps ts at e
+fails_known : {s : Sort} {room : ℕ} {ps : List ProductionPart} {ts : List Token} {at next : ℕ} {e : ParseRefusal} (qs : List ProductionPart) → ((o : Stop) → DescentStopsWith qs ts next o → DescentStopsWith ps ts at o) → (t : Tree ℕ s) → IsReadTree t room ts at next → ((w : List (Terminal ℕ)) → HaveSameHead (rest ts next) w → BeginsWithParts ps (spell t ++ w) → After t w qs) → FailsToRead qs ts next e → FailsToRead ps ts at e
 fails_known qs g t p f q = fails_by g (λ after r. known t p f r) q
 
 -- Proves that the descent reads the parts of an assignment or a call after the name.
 
 abbrev pub named_statement : ℕ → Bool → List ProductionPart
-named_statement room b = if b then name ∷ node (items selector) room ∷ symbol_part symbol.Becomes ∷ node expression room ∷ [] else name ∷ node (maybe arguments) room ∷ []
+named_statement room b = if b then name ∷ nonterminal (items selector) room ∷ symbol_part symbol.Becomes ∷ nonterminal expression room ∷ [] else name ∷ nonterminal (maybe arguments) room ∷ []
 
 pub chosen_named : (room : ℕ) {n : ℕ} {xs w : List (Terminal ℕ)} (b : Bool) → xs ≡ Name n ∷ w → is_assignment_next w ≡ b → chosen_production statement room xs ≡ parts (named_statement room b)
 chosen_named room true e is = ap (λ y. chosen_production statement room y) e ∙ ap (λ c. if c then parts (named_statement room true) else parts (named_statement room false)) is
@@ -58,48 +58,48 @@ chosen_named room false e is = ap (λ y. chosen_production statement room y) e �
 
 selected : (w : List (Terminal ℕ)) → NextHasRank 1 w → is_assignment_next w ≡ true
 selected [] s = absurd s
-selected (Mark (kind.Symbol symbol.Becomes) ∷ w) s = refl
+selected (WordOrSymbol (kind.Symbol symbol.Becomes) ∷ w) s = refl
 selected (x ∷ w) s = next_item selector (x ∷ w) s
 
 selector_next : (f : Tree ℕ (item selector)) (fs : Tree ℕ (items selector)) (z : List (Terminal ℕ)) → is_assignment_next ((spell f ++ spell fs) ++ z) ≡ true
 selector_next f fs z = selected _ (subst (λ w. NextHasRank 1 w) (sym (append_assoc (spell f) (spell fs) z)) (starts_item f (spell fs ++ z)))
 
-pub assigned_next : (ss : Tree ℕ (items selector)) (z y : List (Terminal ℕ)) → z ≡ Mark (kind.Symbol symbol.Becomes) ∷ y → is_assignment_next (spell ss ++ z) ≡ true
+pub assigned_next : (ss : Tree ℕ (items selector)) (z y : List (Terminal ℕ)) → z ≡ WordOrSymbol (kind.Symbol symbol.Becomes) ∷ y → is_assignment_next (spell ss ++ z) ≡ true
 assigned_next end z y e = ap is_assignment_next e
 assigned_next (more f fs) z y e = selector_next f fs z
 
 -- If a designator was read and the statement is an assignment, the descent reads the statement as
 -- `:=` and an expression after that designator.
-target_read : {room : ℕ} {ts : List Token} {at m : ℕ} (ss : Tree ℕ (items selector)) (x : ℕ) → IsReadTree (designator x ss) room ts at m → is_assignment_next (spell ss ++ rest ts m) ≡ true → ReadAs (node statement room ∷ []) (token (kind.Symbol symbol.Becomes) ∷ node expression room ∷ []) ts at m
+target_read : {room : ℕ} {ts : List Token} {at m : ℕ} (ss : Tree ℕ (items selector)) (x : ℕ) → IsReadTree (designator x ss) room ts at m → is_assignment_next (spell ss ++ rest ts m) ≡ true → StopsAlike (nonterminal statement room ∷ []) (token (kind.Symbol symbol.Becomes) ∷ nonterminal expression room ∷ []) ts at m
 target_read {room = room} ss x p is = by (read_made (chosen_named room true p.spelled is)) (record {
-  on = λ o more r.
-      let q = read_back {qs = name ∷ node (items selector) room ∷ []} (ap (λ w. chosen_production factor room w) p.spelled) p.reads in
-      q.on o (token (kind.Symbol symbol.Becomes) ∷ node expression room ∷ more) r;
+  stops_as_following = λ o more r.
+      let q = read_back {qs = name ∷ nonterminal (items selector) room ∷ []} (ap (λ w. chosen_production factor room w) p.spelled) p.reads in
+      q.stops_as_following o (token (kind.Symbol symbol.Becomes) ∷ nonterminal expression room ∷ more) r;
 })
 
-pub unassigned : (x : Terminal ℕ) (w : List (Terminal ℕ)) → x ≢ Mark (kind.Symbol symbol.Becomes) → ¬ NextHasRank 1 (x ∷ w) → is_assignment_next (x ∷ w) ≡ false
-unassigned (Mark (kind.Symbol symbol.Becomes)) w differs lacks = absurd (differs refl)
+pub unassigned : (x : Terminal ℕ) (w : List (Terminal ℕ)) → x ≢ WordOrSymbol (kind.Symbol symbol.Becomes) → ¬ NextHasRank 1 (x ∷ w) → is_assignment_next (x ∷ w) ≡ false
+unassigned (WordOrSymbol (kind.Symbol symbol.Becomes)) w differs lacks = absurd (differs refl)
 unassigned x w differs lacks = no_next selector (x ∷ w) lacks _ refl
 
 no_selector_next : (room : ℕ) (w : List (Terminal ℕ)) → ¬ NextHasRank 1 w → chosen_production (items selector) room w ≡ parts []
-no_selector_next room w lacks = ap (λ b. if b then parts (node (item selector) room ∷ node (items selector) room ∷ []) else parts []) (no_next selector w lacks _ refl)
+no_selector_next room w lacks = ap (λ b. if b then parts (nonterminal (item selector) room ∷ nonterminal (items selector) room ∷ []) else parts []) (no_next selector w lacks _ refl)
 
 -- If a name was read and neither `:=` nor a selector follows, the descent reads the statement as
 -- optional arguments after that name.
-call_read : {room : ℕ} {ts : List Token} {at m : ℕ} (x : ℕ) → IsReadTree (designator x end) room ts at m → Other (Mark (kind.Symbol symbol.Becomes)) ts m → ¬ NextHasRank 1 (rest ts m) → ReadAs (node statement room ∷ []) (node (maybe arguments) room ∷ []) ts at m
+call_read : {room : ℕ} {ts : List Token} {at m : ℕ} (x : ℕ) → IsReadTree (designator x end) room ts at m → IsOtherToken (WordOrSymbol (kind.Symbol symbol.Becomes)) ts m → ¬ NextHasRank 1 (rest ts m) → StopsAlike (nonterminal statement room ∷ []) (nonterminal (maybe arguments) room ∷ []) ts at m
 call_read {room = room} {ts = ts} {at = at} {m = m} x p o lacks =
     let is : is_assignment_next (rest ts m) ≡ false = ap is_assignment_next o.here ∙ unassigned o.fault (rest ts (m + 1)) o.differs (λ s. lacks (subst (λ y. NextHasRank 1 y) (sym o.here) s)) in
     by (read_made (chosen_named room false p.spelled is)) (record {
-      on = λ s more r.
-          let whole = unmade {qs = name ∷ node (items selector) room ∷ []} (ap (λ w. chosen_production factor room w) p.spelled) (p.reads.on s (node (maybe arguments) room ∷ more) r) in
+      stops_as_following = λ s more r.
+          let whole = unmade {qs = name ∷ nonterminal (items selector) room ∷ []} (ap (λ w. chosen_production factor room w) p.spelled) (p.reads.stops_as_following s (nonterminal (maybe arguments) room ∷ more) r) in
           let following = unmade (no_selector_next room (rest ts m) lacks) (past_name p.spelled whole) in
-          subst (λ w. Descends (name ∷ node (maybe arguments) room ∷ more) at w s) (sym p.spelled) (taken (x, refl) following);
+          subst (λ w. Descends (name ∷ nonterminal (maybe arguments) room ∷ more) at w s) (sym p.spelled) (taken (x, refl) following);
     })
 
 abbrev same_lexeme : Terminal ℕ → Terminal ℕ → Type 0
 same_lexeme x y = x ≡ y
 
-name_mark : {k : TokenKind} {n : ℕ} → same_lexeme (Name n) (Mark k) → ⊥
+name_mark : {k : TokenKind} {n : ℕ} → same_lexeme (Name n) (WordOrSymbol k) → ⊥
 name_mark e = cc
 
 no_selectors : {x k : ℕ} {f : Tree ℕ (item selector)} {fs : Tree ℕ (items selector)} → designator k end ≡ designator x (more f fs) → ⊥
@@ -107,27 +107,27 @@ no_selectors e = cc
 
 -- If a designator and the tokens after it equal an assignment and some tokens, they equal the
 -- assignment's target, `:=`, its value and those tokens.
-assigned : {N : Type 0} (x k : N) (ss rs : Tree N (items selector)) (v : Tree N expression) (z w : List (Terminal N)) → spell (designator x ss) ++ w ≡ spell (assigns k rs v) ++ z → spell (designator k rs) ++ (Mark (kind.Symbol symbol.Becomes) ∷ (spell v ++ z)) ≡ spell (designator x ss) ++ w
-assigned x k ss rs v z w e = sym (e ∙ ap (λ y. Name k ∷ y) (append_assoc (spell rs) (Mark (kind.Symbol symbol.Becomes) ∷ spell v) z))
+assigned : {N : Type 0} (x k : N) (ss rs : Tree N (items selector)) (v : Tree N expression) (z w : List (Terminal N)) → spell (designator x ss) ++ w ≡ spell (assigns k rs v) ++ z → spell (designator k rs) ++ (WordOrSymbol (kind.Symbol symbol.Becomes) ∷ (spell v ++ z)) ≡ spell (designator x ss) ++ w
+assigned x k ss rs v z w e = sym (e ∙ ap (λ y. Name k ∷ y) (append_assoc (spell rs) (WordOrSymbol (kind.Symbol symbol.Becomes) ∷ spell v) z))
 
 -- Proves that an assignment is refused if its value is refused.
 
 abbrev pub value_parts : ℕ → List ProductionPart
-value_parts room = token (kind.Symbol symbol.Becomes) ∷ node expression room ∷ []
+value_parts room = token (kind.Symbol symbol.Becomes) ∷ nonterminal expression room ∷ []
 
-not_becomes : {xs y : List (Terminal ℕ)} (w : List (Terminal ℕ)) (a : Tree ℕ (maybe arguments)) (z : List (Terminal ℕ)) → xs ≡ Mark (kind.Symbol symbol.Becomes) ∷ y → SameHead xs w → EndsConstruct 8 z → spell a ++ z ≡ w → ⊥
+not_becomes : {xs y : List (Terminal ℕ)} (w : List (Terminal ℕ)) (a : Tree ℕ (maybe arguments)) (z : List (Terminal ℕ)) → xs ≡ WordOrSymbol (kind.Symbol symbol.Becomes) ∷ y → HaveSameHead xs w → EndsConstruct 8 z → spell a ++ z ≡ w → ⊥
 not_becomes w none z here h s e = not_at z h.head h.other 8 (e ∙ h.alike) (omega (arith, ap rank (head_of (sym here ∙ h.is)))) s
 not_becomes w (one no_arguments) z here h s e = omega (arith, ap rank (head_of (sym here ∙ h.is) ∙ head_of (sym h.alike ∙ sym e)))
 not_becomes w (one (some_arguments c cs)) z here h s e = omega (arith, ap rank (head_of (sym here ∙ h.is) ∙ head_of (sym h.alike ∙ sym e)))
 
-following_value : {xs y : List (Terminal ℕ)} (room x : ℕ) (ss : Tree ℕ (items selector)) → xs ≡ Mark (kind.Symbol symbol.Becomes) ∷ y → (w : List (Terminal ℕ)) → SameHead xs w → BeginsWithParts (node statement room ∷ []) (spell (designator x ss) ++ w) → After (designator x ss) w (value_parts room)
+following_value : {xs y : List (Terminal ℕ)} (room x : ℕ) (ss : Tree ℕ (items selector)) → xs ≡ WordOrSymbol (kind.Symbol symbol.Becomes) ∷ y → (w : List (Terminal ℕ)) → HaveSameHead xs w → BeginsWithParts (nonterminal statement room ∷ []) (spell (designator x ss) ++ w) → After (designator x ss) w (value_parts room)
 following_value room x ss here w h (empty, z, e, n, s, b) = absurd (not_at z _ _ 8 (sym e) (omega arith) s)
 following_value room x ss here w h (branches c t es l, z, e, n, s, b) = absurd (name_mark (head_of e))
 following_value room x ss here w h (while_loop c t, z, e, n, s, b) = absurd (name_mark (head_of e))
 following_value room x ss here w h (repeat_loop t c, z, e, n, s, b) = absurd (name_mark (head_of e))
 following_value room x ss here w h (assigns k rs v, z, e, n, s, b) = record {
   other = designator k rs;
-  left = Mark (kind.Symbol symbol.Becomes) ∷ (spell v ++ z);
+  left = WordOrSymbol (kind.Symbol symbol.Becomes) ∷ (spell v ++ z);
   is = assigned x k ss rs v z w e;
   stops = omega arith;
   begins = λ same is. (spell v ++ z, sym is, (v, z, refl, omega arith, stops_less z 4 8 (omega arith) s, tt));
@@ -140,19 +140,19 @@ following_value room x ss here w h (calls k a, z, e, n, s, b) = record {
   begins = λ same is. absurd (not_becomes w a z here h s is);
 }
 
-pub assignment_fails_value : {room : ℕ} {ts : List Token} {at m : ℕ} {e : ParseRefusal} (ss : Tree ℕ (items selector)) (x : ℕ) → IsReadTree (designator x ss) room ts at m → rest ts m ≡ Mark (kind.Symbol symbol.Becomes) ∷ rest ts (m + 1) → FailsToRead (node expression room ∷ []) ts (m + 1) e → FailsToRead (node statement room ∷ []) ts at e
-assignment_fails_value {room = room} ss x p here q = fails_known (value_parts room) (λ o r more. (target_read ss x p (assigned_next ss _ _ here)).on o more (r more)) (designator x ss) p (λ w h b. following_value room x ss here w h b) (fails_pass_token here refl q)
+pub assignment_fails_value : {room : ℕ} {ts : List Token} {at m : ℕ} {e : ParseRefusal} (ss : Tree ℕ (items selector)) (x : ℕ) → IsReadTree (designator x ss) room ts at m → rest ts m ≡ WordOrSymbol (kind.Symbol symbol.Becomes) ∷ rest ts (m + 1) → FailsToRead (nonterminal expression room ∷ []) ts (m + 1) e → FailsToRead (nonterminal statement room ∷ []) ts at e
+assignment_fails_value {room = room} ss x p here q = fails_known (value_parts room) (λ o r more. (target_read ss x p (assigned_next ss _ _ here)).stops_as_following o more (r more)) (designator x ss) p (λ w h b. following_value room x ss here w h b) (fails_pass_token here refl q)
 
 -- Proves that a statement is refused if `:=` is missing after selectors.
 
-following_selectors : (room x : ℕ) (f : Tree ℕ (item selector)) (fs : Tree ℕ (items selector)) (w : List (Terminal ℕ)) → BeginsWithParts (node statement room ∷ []) (spell (designator x (more f fs)) ++ w) → After (designator x (more f fs)) w (token (kind.Symbol symbol.Becomes) ∷ [])
+following_selectors : (room x : ℕ) (f : Tree ℕ (item selector)) (fs : Tree ℕ (items selector)) (w : List (Terminal ℕ)) → BeginsWithParts (nonterminal statement room ∷ []) (spell (designator x (more f fs)) ++ w) → After (designator x (more f fs)) w (token (kind.Symbol symbol.Becomes) ∷ [])
 following_selectors room x f fs w (empty, z, e, n, s, b) = absurd (not_at z _ _ 8 (sym e) (omega arith) s)
 following_selectors room x f fs w (branches c t es l, z, e, n, s, b) = absurd (name_mark (head_of e))
 following_selectors room x f fs w (while_loop c t, z, e, n, s, b) = absurd (name_mark (head_of e))
 following_selectors room x f fs w (repeat_loop t c, z, e, n, s, b) = absurd (name_mark (head_of e))
 following_selectors room x f fs w (assigns k rs v, z, e, n, s, b) = record {
   other = designator k rs;
-  left = Mark (kind.Symbol symbol.Becomes) ∷ (spell v ++ z);
+  left = WordOrSymbol (kind.Symbol symbol.Becomes) ∷ (spell v ++ z);
   is = assigned x k (more f fs) rs v z w e;
   stops = omega arith;
   begins = λ same is. (spell v ++ z, sym is, tt);
@@ -165,19 +165,19 @@ following_selectors room x f fs w (calls k a, z, e, n, s, b) = record {
   begins = λ same is. absurd (no_selectors same);
 }
 
-pub becomes_missing : {room : ℕ} {ts : List Token} {at m : ℕ} (x : ℕ) (f : Tree ℕ (item selector)) (fs : Tree ℕ (items selector)) → IsReadTree (designator x (more f fs)) room ts at m → Other (Mark (kind.Symbol symbol.Becomes)) ts m → FailsToRead (node statement room ∷ []) ts at (Syntax m (expected.Symbol symbol.Becomes))
-becomes_missing {room = room} {ts = ts} {m = m} x f fs p o = fails_known (token (kind.Symbol symbol.Becomes) ∷ []) (λ s r following. (target_read (more f fs) x p (selector_next f fs (rest ts m))).on s following (r (node expression room ∷ following))) (designator x (more f fs)) p (λ w h b. following_selectors room x f fs w b) (fails_token refl o)
+pub becomes_missing : {room : ℕ} {ts : List Token} {at m : ℕ} (x : ℕ) (f : Tree ℕ (item selector)) (fs : Tree ℕ (items selector)) → IsReadTree (designator x (more f fs)) room ts at m → IsOtherToken (WordOrSymbol (kind.Symbol symbol.Becomes)) ts m → FailsToRead (nonterminal statement room ∷ []) ts at (Syntax m (expected.Symbol symbol.Becomes))
+becomes_missing {room = room} {ts = ts} {m = m} x f fs p o = fails_known (token (kind.Symbol symbol.Becomes) ∷ []) (λ s r following. (target_read (more f fs) x p (selector_next f fs (rest ts m))).stops_as_following s following (r (nonterminal expression room ∷ following))) (designator x (more f fs)) p (λ w h b. following_selectors room x f fs w b) (fails_token refl o)
 
 -- Proves that a call is refused if its arguments are refused.
 
-following_call : (room x : ℕ) (ss : Tree ℕ (items selector)) (ts : List Token) (m : ℕ) → Other (Mark (kind.Symbol symbol.Becomes)) ts m → (w : List (Terminal ℕ)) → SameHead (rest ts m) w → BeginsWithParts (node statement room ∷ []) (spell (designator x ss) ++ w) → After (designator x ss) w (node (maybe arguments) room ∷ [])
+following_call : (room x : ℕ) (ss : Tree ℕ (items selector)) (ts : List Token) (m : ℕ) → IsOtherToken (WordOrSymbol (kind.Symbol symbol.Becomes)) ts m → (w : List (Terminal ℕ)) → HaveSameHead (rest ts m) w → BeginsWithParts (nonterminal statement room ∷ []) (spell (designator x ss) ++ w) → After (designator x ss) w (nonterminal (maybe arguments) room ∷ [])
 following_call room x ss ts m o w h (empty, z, e, n, s, b) = absurd (not_at z _ _ 8 (sym e) (omega arith) s)
 following_call room x ss ts m o w h (branches c t es l, z, e, n, s, b) = absurd (name_mark (head_of e))
 following_call room x ss ts m o w h (while_loop c t, z, e, n, s, b) = absurd (name_mark (head_of e))
 following_call room x ss ts m o w h (repeat_loop t c, z, e, n, s, b) = absurd (name_mark (head_of e))
 following_call room x ss ts m o w h (assigns k rs v, z, e, n, s, b) = record {
   other = designator k rs;
-  left = Mark (kind.Symbol symbol.Becomes) ∷ (spell v ++ z);
+  left = WordOrSymbol (kind.Symbol symbol.Becomes) ∷ (spell v ++ z);
   is = assigned x k ss rs v z w e;
   stops = omega arith;
   begins = λ same is. absurd (o.differs (alike h o.here (sym is)));
@@ -190,13 +190,13 @@ following_call room x ss ts m o w h (calls k a, z, e, n, s, b) = record {
   begins = λ same is. (a, z, sym is, n, stops_less z 6 8 (omega arith) s, tt);
 }
 
-pub call_fails : {room : ℕ} {ts : List Token} {at m : ℕ} {e : ParseRefusal} (x : ℕ) (ss : List Selector) → length ss ≡ 0 → IsReadTree (designator x (items_of selector_of ss)) room ts at m × ¬ NextHasRank 1 (rest ts m) → Other (Mark (kind.Symbol symbol.Becomes)) ts m → ItemFails arguments room ts m e → FailsToRead (node statement room ∷ []) ts at e
-call_fails {room = room} {ts = ts} {m = m} x [] l p o q = fails_known (node (maybe arguments) room ∷ []) (λ s r following. (call_read x p.0 o p.1).on s following (r following)) (designator x end) p.0 (λ w h b. following_call room x end ts m o w h b) (fails_maybe q)
+pub call_fails : {room : ℕ} {ts : List Token} {at m : ℕ} {e : ParseRefusal} (x : ℕ) (ss : List Selector) → length ss ≡ 0 → IsReadTree (designator x (items_of selector_of ss)) room ts at m × ¬ NextHasRank 1 (rest ts m) → IsOtherToken (WordOrSymbol (kind.Symbol symbol.Becomes)) ts m → ItemFails arguments room ts m e → FailsToRead (nonterminal statement room ∷ []) ts at e
+call_fails {room = room} {ts = ts} {m = m} x [] l p o q = fails_known (nonterminal (maybe arguments) room ∷ []) (λ s r following. (call_read x p.0 o p.1).stops_as_following s following (r following)) (designator x end) p.0 (λ w h b. following_call room x end ts m o w h b) (fails_maybe q)
 call_fails x (s ∷ ss) l p o q = absurd (omega arith)
 
 -- Proves that an assignment or a call is refused if its name or its selectors are refused.
 
-target_parts : (room i : ℕ) (xs w y : List (Terminal ℕ)) → xs ≡ Name i ∷ y → SameHead xs w → BeginsWithParts (node statement room ∷ []) w → BeginsWithParts (name ∷ node (items selector) room ∷ []) w
+target_parts : (room i : ℕ) (xs w y : List (Terminal ℕ)) → xs ≡ Name i ∷ y → HaveSameHead xs w → BeginsWithParts (nonterminal statement room ∷ []) w → BeginsWithParts (name ∷ nonterminal (items selector) room ∷ []) w
 target_parts room i xs w y here h (empty, z, e, n, s, b) = absurd (not_at z _ _ 8 (sym e ∙ h.alike) (omega (arith, ap rank (head_of (sym here ∙ h.is)))) s)
 target_parts room i xs w y here h (branches c t es l, z, e, n, s, b) = absurd (omega (arith, ap rank (alike h here e)))
 target_parts room i xs w y here h (while_loop c t, z, e, n, s, b) = absurd (omega (arith, ap rank (alike h here e)))
@@ -215,21 +215,21 @@ starts_next (x ∷ w) e = eqb-true (rank x) 1 e
 no_selector_stops : {i : ℕ} {w : List (Terminal ℕ)} {o : Stop} → Descends [] i w o → Descends (token (kind.Symbol symbol.Dot) ∷ []) i w o → ¬ NextHasRank 1 w → ⊥
 no_selector_stops done (taken is r) lacks = lacks (ap rank is)
 
-named_reads : (room : ℕ) (ts : List Token) (at : ℕ) → rest ts at ≡ Name at ∷ rest ts (at + 1) → (o : Stop) → DescentStopsWith (name ∷ node (items selector) room ∷ []) ts at o → (b : Bool) → is_item_next selector (rest ts (at + 1)) ≡ b → DescentStopsWith (node statement room ∷ []) ts at o
+named_reads : (room : ℕ) (ts : List Token) (at : ℕ) → rest ts at ≡ Name at ∷ rest ts (at + 1) → (o : Stop) → DescentStopsWith (name ∷ nonterminal (items selector) room ∷ []) ts at o → (b : Bool) → is_item_next selector (rest ts (at + 1)) ≡ b → DescentStopsWith (nonterminal statement room ∷ []) ts at o
 named_reads room ts at here o r true is =
-    λ following. made _ (chosen_named room true here (selected (rest ts (at + 1)) (starts_next (rest ts (at + 1)) is))) (r (token (kind.Symbol symbol.Becomes) ∷ node expression room ∷ following))
+    λ following. made _ (chosen_named room true here (selected (rest ts (at + 1)) (starts_next (rest ts (at + 1)) is))) (r (token (kind.Symbol symbol.Becomes) ∷ nonterminal expression room ∷ following))
 named_reads room ts at here o r false is =
     let lacks : ¬ NextHasRank 1 (rest ts (at + 1)) = λ s. true_not_false (sym (next_item selector (rest ts (at + 1)) s) ∙ is) in
     let past : (ps : List ProductionPart) → Descends ps (at + 1) (rest ts (at + 1)) o = λ ps. unmade (no_selector_next room (rest ts (at + 1)) lacks) (past_name here (r ps)) in
     absurd (no_selector_stops (past []) (past (token (kind.Symbol symbol.Dot) ∷ [])) lacks)
 
-pub named_fails : {room : ℕ} {ts : List Token} {at : ℕ} {e : ParseRefusal} → rest ts at ≡ Name at ∷ rest ts (at + 1) → FailsToRead (name ∷ node (items selector) room ∷ []) ts at e → FailsToRead (node statement room ∷ []) ts at e
+pub named_fails : {room : ℕ} {ts : List Token} {at : ℕ} {e : ParseRefusal} → rest ts at ≡ Name at ∷ rest ts (at + 1) → FailsToRead (name ∷ nonterminal (items selector) room ∷ []) ts at e → FailsToRead (nonterminal statement room ∷ []) ts at e
 named_fails {room = room} {ts = ts} {at = at} here q =
     fails_by (λ o r. named_reads room ts at here o r _ refl) (λ after r. select (λ w h b. target_parts room at (rest ts at) w (rest ts (at + 1)) here h b) r) q
 
 -- Proves that assignments and calls are read correctly.
 
-calls_only : {room : ℕ} {ts : List Token} {at m n : ℕ} (i : ℕ) (a : Tree ℕ (maybe arguments)) → IsReadTree (designator i end) room ts at m → Other (Mark (kind.Symbol symbol.Becomes)) ts m → IsReadTree a room ts m n → (u : Tree ℕ statement) (z w : List (Terminal ℕ)) → SameHead (rest ts n) w → EndsConstruct 8 z → spell u ++ z ≡ Name i ∷ (spell a ++ w) → (u ≡ calls i a) × (z ≡ w)
+calls_only : {room : ℕ} {ts : List Token} {at m n : ℕ} (i : ℕ) (a : Tree ℕ (maybe arguments)) → IsReadTree (designator i end) room ts at m → IsOtherToken (WordOrSymbol (kind.Symbol symbol.Becomes)) ts m → IsReadTree a room ts m n → (u : Tree ℕ statement) (z w : List (Terminal ℕ)) → HaveSameHead (rest ts n) w → EndsConstruct 8 z → spell u ++ z ≡ Name i ∷ (spell a ++ w) → (u ≡ calls i a) × (z ≡ w)
 calls_only i a p o q empty z w h s e = absurd (not_at z _ _ 8 e (omega arith) s)
 calls_only i a p o q (branches c t es l) z w h s e = absurd (name_not_mark (sym e))
 calls_only i a p o q (while_loop c t) z w h s e = absurd (name_not_mark (sym e))
@@ -240,35 +240,35 @@ calls_only i a p o q (calls k b) z w h s e =
     (cc (names, r.0), r.1)
 calls_only i a p o q (assigns k ss v) z w h s e =
     let h1 = head_at a q w h in
-    let r = p.only (designator k ss) (Mark (kind.Symbol symbol.Becomes) ∷ (spell v ++ z)) (spell a ++ w) h1 (omega arith) (sym (ap (λ y. Name k ∷ y) (append_assoc (spell ss) _ z)) ∙ e) in
+    let r = p.only (designator k ss) (WordOrSymbol (kind.Symbol symbol.Becomes) ∷ (spell v ++ z)) (spell a ++ w) h1 (omega arith) (sym (ap (λ y. Name k ∷ y) (append_assoc (spell ss) _ z)) ∙ e) in
     absurd (o.differs (alike h1 o.here (sym r.1)))
 
-pub taken_call : {room : ℕ} {ts : List Token} {at m n : ℕ} (a : Tree ℕ (maybe arguments)) (x : ℕ) → IsReadTree (designator x end) room ts at m → ¬ NextHasRank 1 (rest ts m) → Other (Mark (kind.Symbol symbol.Becomes)) ts m → IsReadTree a room ts m n → IsReadTree (calls x a) room ts at n
+pub taken_call : {room : ℕ} {ts : List Token} {at m n : ℕ} (a : Tree ℕ (maybe arguments)) (x : ℕ) → IsReadTree (designator x end) room ts at m → ¬ NextHasRank 1 (rest ts m) → IsOtherToken (WordOrSymbol (kind.Symbol symbol.Becomes)) ts m → IsReadTree a room ts m n → IsReadTree (calls x a) room ts at n
 taken_call a x p lacks o q = record { spelled = p.spelled ∙ ap (λ y. Name x ∷ y) q.spelled; shallow = q.shallow; only = calls_only x a p o q; reads = by (call_read x p o lacks) q.reads; within = q.within; forward = omega (arith, p.forward, q.forward) }
 
-pub call_made : {room : ℕ} {ts : List Token} {at m n : ℕ} {a : Tree ℕ (maybe arguments)} (x : ℕ) (ss : List Selector) → length ss ≡ 0 → IsReadTree (designator x (items_of selector_of ss)) room ts at m × ¬ NextHasRank 1 (rest ts m) → Other (Mark (kind.Symbol symbol.Becomes)) ts m → IsReadTree a room ts m n → IsReadTree (calls x a) room ts at n
+pub call_made : {room : ℕ} {ts : List Token} {at m n : ℕ} {a : Tree ℕ (maybe arguments)} (x : ℕ) (ss : List Selector) → length ss ≡ 0 → IsReadTree (designator x (items_of selector_of ss)) room ts at m × ¬ NextHasRank 1 (rest ts m) → IsOtherToken (WordOrSymbol (kind.Symbol symbol.Becomes)) ts m → IsReadTree a room ts m n → IsReadTree (calls x a) room ts at n
 call_made {a = a} x [] l p o q = taken_call a x p.0 p.1 o q
 call_made x (s ∷ ss) l p o q = absurd (omega arith)
 
-pub becomes_missing_listed : {room : ℕ} {ts : List Token} {at m : ℕ} (x : ℕ) (ss : List Selector) → (length ss ≡ 0 → ⊥) → IsReadTree (designator x (items_of selector_of ss)) room ts at m → Other (Mark (kind.Symbol symbol.Becomes)) ts m → FailsToRead (node statement room ∷ []) ts at (Syntax m (expected.Symbol symbol.Becomes))
+pub becomes_missing_listed : {room : ℕ} {ts : List Token} {at m : ℕ} (x : ℕ) (ss : List Selector) → (length ss ≡ 0 → ⊥) → IsReadTree (designator x (items_of selector_of ss)) room ts at m → IsOtherToken (WordOrSymbol (kind.Symbol symbol.Becomes)) ts m → FailsToRead (nonterminal statement room ∷ []) ts at (Syntax m (expected.Symbol symbol.Becomes))
 becomes_missing_listed x [] l p o = absurd (l refl)
 becomes_missing_listed x (s ∷ ss) l p o = becomes_missing x (selector_of s) (items_of selector_of ss) p o
 
-assigns_only : {room : ℕ} {ts : List Token} {m n : ℕ} (i : ℕ) (ss : Tree ℕ (items selector)) (v : Tree ℕ expression) → IsReadTree v room ts m n → (u : Tree ℕ statement) (z w : List (Terminal ℕ)) → SameHead (rest ts n) w → EndsConstruct 8 z → spell u ++ z ≡ Name i ∷ ((spell ss ++ (Mark (kind.Symbol symbol.Becomes) ∷ spell v)) ++ w) → (u ≡ assigns i ss v) × (z ≡ w)
+assigns_only : {room : ℕ} {ts : List Token} {m n : ℕ} (i : ℕ) (ss : Tree ℕ (items selector)) (v : Tree ℕ expression) → IsReadTree v room ts m n → (u : Tree ℕ statement) (z w : List (Terminal ℕ)) → HaveSameHead (rest ts n) w → EndsConstruct 8 z → spell u ++ z ≡ Name i ∷ ((spell ss ++ (WordOrSymbol (kind.Symbol symbol.Becomes) ∷ spell v)) ++ w) → (u ≡ assigns i ss v) × (z ≡ w)
 assigns_only i ss v q empty z w h s e = absurd (not_at z _ _ 8 e (omega arith) s)
 assigns_only i ss v q (branches c t es l) z w h s e = absurd (name_not_mark (sym e))
 assigns_only i ss v q (while_loop c t) z w h s e = absurd (name_not_mark (sym e))
 assigns_only i ss v q (repeat_loop t c) z w h s e = absurd (name_not_mark (sym e))
 assigns_only i ss v q (calls k b) z w h s e = absurd (no_call ss b _ z s (sym (append_assoc (spell ss) _ w) ∙ sym (tail_of e)))
 assigns_only i ss v q (assigns k rs b) z w h s e =
-    let r = same rs ss (Mark (kind.Symbol symbol.Becomes) ∷ (spell b ++ z)) (Mark (kind.Symbol symbol.Becomes) ∷ (spell v ++ w)) (omega arith) (omega arith) (regroup (spell rs) _ z (spell ss) _ w (tail_of e)) in
+    let r = same rs ss (WordOrSymbol (kind.Symbol symbol.Becomes) ∷ (spell b ++ z)) (WordOrSymbol (kind.Symbol symbol.Becomes) ∷ (spell v ++ w)) (omega arith) (omega arith) (regroup (spell rs) _ z (spell ss) _ w (tail_of e)) in
     let r1 = q.only b z w h (stops_less z 4 8 (omega arith) s) (tail_of r.1) in
     let names : k ≡ i = name_of e in
     (cc (names, r.0, r1.0), r1.1)
 
-pub taken_assignment : {room : ℕ} {ts : List Token} {at m n : ℕ} (ss : Tree ℕ (items selector)) (x : ℕ) (v : Tree ℕ expression) → IsReadTree (designator x ss) room ts at m → rest ts m ≡ Mark (kind.Symbol symbol.Becomes) ∷ rest ts (m + 1) → IsReadTree v room ts (m + 1) n → IsReadTree (assigns x ss v) room ts at n
+pub taken_assignment : {room : ℕ} {ts : List Token} {at m n : ℕ} (ss : Tree ℕ (items selector)) (x : ℕ) (v : Tree ℕ expression) → IsReadTree (designator x ss) room ts at m → rest ts m ≡ WordOrSymbol (kind.Symbol symbol.Becomes) ∷ rest ts (m + 1) → IsReadTree v room ts (m + 1) n → IsReadTree (assigns x ss v) room ts at n
 taken_assignment ss x v p here q = record {
-  spelled = p.spelled ∙ ap (λ y. Name x ∷ y) (joined _ (spell ss) (Mark (kind.Symbol symbol.Becomes) ∷ spell v) refl (here ∙ ap (λ y. Mark (kind.Symbol symbol.Becomes) ∷ y) q.spelled));
+  spelled = p.spelled ∙ ap (λ y. Name x ∷ y) (joined _ (spell ss) (WordOrSymbol (kind.Symbol symbol.Becomes) ∷ spell v) refl (here ∙ ap (λ y. WordOrSymbol (kind.Symbol symbol.Becomes) ∷ y) q.spelled));
   shallow = omega (arith, p.shallow, q.shallow);
   only = assigns_only x ss v q;
   reads = by (target_read ss x p (assigned_next ss _ _ here)) (both (read_token here refl) q.reads);

@@ -2,13 +2,13 @@
 use Rattle.std.proofs.Common.{◌≡◌, ℕ, Option, Some, None, List, [], ◌∷◌, refl}
 use Rattle.ob0_scan.specs.declared.lexeme.TokenKind.{TokenKind}
 use Rattle.ob0_scan.specs.declared.lexeme.TokenKind.TheVariants as kind
-use Rattle.ob0_tree.specs.Lexeme.{Terminal, Name, Number, Mark}
+use Rattle.ob0_tree.specs.Lexeme.{Terminal, Name, Number, WordOrSymbol}
 use Rattle.ob0_tree.specs.Places.{index_terminal}
-use Rattle.ob0_parse_descent.specs.Reading.{terminal_or_end, token, name, Refused}
+use Rattle.ob0_parse_descent.specs.Reading.{terminal_or_end, token, name, CantBegin}
 use Rattle.ob0_parse_descent.specs.Follow.{rank, kind_rank}
 use Rattle.ob0_parse_descent.proofs.Refusals.{at_once}
 
-pub mark_is : (f : Option TokenKind) (i : ℕ) (k : TokenKind) → terminal_or_end i f ≡ Mark k → f ≡ Some k
+pub mark_is : (f : Option TokenKind) (i : ℕ) (k : TokenKind) → terminal_or_end i f ≡ WordOrSymbol k → f ≡ Some k
 mark_is None i k e = cc
 mark_is (Some kind.Identifier) i k e = cc
 mark_is (Some (kind.Integer _)) i k e = cc
@@ -26,10 +26,10 @@ number_is (Some kind.Identifier) i n e = cc
 number_is (Some (kind.Integer v)) i n e = (v, refl)
 number_is (Some _) i n e = cc
 
-pub no_token : (f : Option TokenKind) (i : ℕ) (k : TokenKind) {xs after : List (Terminal ℕ)} → xs ≡ terminal_or_end i f ∷ after → (f ≡ Some k → ⊥) → Refused (token k ∷ []) xs after
+pub no_token : (f : Option TokenKind) (i : ℕ) (k : TokenKind) {xs after : List (Terminal ℕ)} → xs ≡ terminal_or_end i f ∷ after → (f ≡ Some k → ⊥) → CantBegin (token k ∷ []) xs after
 no_token f i k e h = at_once e (λ u b. h (mark_is f i k (cc (b.1))))
 
-pub no_name : (f : Option TokenKind) (i : ℕ) {xs after : List (Terminal ℕ)} → xs ≡ terminal_or_end i f ∷ after → (f ≡ Some kind.Identifier → ⊥) → Refused (name ∷ []) xs after
+pub no_name : (f : Option TokenKind) (i : ℕ) {xs after : List (Terminal ℕ)} → xs ≡ terminal_or_end i f ∷ after → (f ≡ Some kind.Identifier → ⊥) → CantBegin (name ∷ []) xs after
 no_name f i e h = at_once e (λ u b. h (name_is f i b.0 (cc (b.2))))
 
 pub rank_of : (i : ℕ) (k : TokenKind) → rank (index_terminal i k) ≡ kind_rank k

@@ -10,9 +10,9 @@ use Rattle.ob0_scan.specs.declared.lexeme.ReservedWord.{ReservedWord}
 use Rattle.ob0_scan.specs.declared.lexeme.ReservedWord.TheVariants as reserved
 use Rattle.ob0_scan.specs.declared.lexeme.Symbol.{Symbol}
 use Rattle.ob0_scan.specs.declared.lexeme.Symbol.TheVariants as symbol
-use Rattle.ob0_tree.specs.Lexeme.{Terminal, Name, Number, Mark, EndOfText}
+use Rattle.ob0_tree.specs.Lexeme.{Terminal, Name, Number, WordOrSymbol, EndOfText}
 use Rattle.ob0_tree.specs.Module.{max_nesting}
-use Rattle.ob0_tree.specs.Tree.{Item, selector, multiplier, addend, comparison, arguments, further_argument, further_statement, elsif_part, else_part, further_name, further_fields, formals, further_section, constant, constants, type_name, type_names, variable, variables, procedure, body, Sort, item, items, maybe, expression, simple, term, factor, statement, sequence, names, written_type, fields, section, declarations, block, module_text}
+use Rattle.ob0_tree.specs.Tree.{Item, selector, multiplier, addend, comparison, arguments, further_argument, further_statement, elsif_part, else_part, further_name, further_fields, formals, further_section, constant, constants, type_definition, type_definitions, variable, variables, procedure, body, Sort, item, items, maybe, expression, simple, term, factor, statement, sequence, names, written_type, fields, section, declarations, block, module_text}
 use Rattle.ob0_parse_descent.specs.Follow.{rank, item_rank, opens_expression}
 use Rattle.ob0_parse_descent.specs.declared.refusal.Expected.{Expected}
 use Rattle.ob0_parse_descent.specs.declared.refusal.Expected.TheVariants as expected
@@ -23,8 +23,8 @@ pub data ProductionPart : Type 0 where
   token : TokenKind → ProductionPart
   name : ProductionPart
   number : ProductionPart
-  node : Sort → (room : ℕ) → ProductionPart
-  finish : ProductionPart
+  nonterminal : Sort → (room : ℕ) → ProductionPart
+  text_end : ProductionPart
 
 -- ---- the production that the next tokens determine
 
@@ -60,34 +60,34 @@ is_item_next i (x ∷ tokens) = rank x == item_rank i
 abbrev pub is_expression_next : List (Terminal ℕ) → Bool
 is_expression_next (Name n ∷ tokens) = true
 is_expression_next (Number n ∷ tokens) = true
-is_expression_next (Mark k ∷ tokens) = opens_expression (Some k)
+is_expression_next (WordOrSymbol k ∷ tokens) = opens_expression (Some k)
 is_expression_next tokens = false
 
 -- Returns whether the next token begins a section of formal parameters.
 abbrev pub is_section_next : List (Terminal ℕ) → Bool
 is_section_next (Name n ∷ tokens) = true
-is_section_next (Mark (kind.ReservedWord reserved.Var) ∷ tokens) = true
+is_section_next (WordOrSymbol (kind.ReservedWord reserved.Var) ∷ tokens) = true
 is_section_next tokens = false
 
 -- Returns whether a statement is an assignment, given the tokens after its identifier. It is an
 -- assignment if the next token is `:=` or begins a selector.
 abbrev pub is_assignment_next : List (Terminal ℕ) → Bool
-is_assignment_next (Mark (kind.Symbol symbol.Becomes) ∷ tokens) = true
+is_assignment_next (WordOrSymbol (kind.Symbol symbol.Becomes) ∷ tokens) = true
 is_assignment_next tokens = is_item_next selector tokens
 
 -- Returns the production of an item that consists of an operator and a construct of the sort `s`.
 -- The operator is the next token.
 abbrev pub operation_choice : Sort → ℕ → List (Terminal ℕ) → ProductionChoice
-operation_choice s room (Mark k ∷ tokens) = parts (token k ∷ node s room ∷ [])
+operation_choice s room (WordOrSymbol k ∷ tokens) = parts (token k ∷ nonterminal s room ∷ [])
 operation_choice s room tokens = missing expected.Expression
 
 -- Returns the production of an item, with `room` levels of nesting left. This function is used only
 -- if the next token begins the item, so its value for other tokens doesn't matter.
 abbrev pub chosen_item_production : Item → (room : ℕ) → List (Terminal ℕ) → ProductionChoice
 -- selector = "[" expression "]" | "." ident
-chosen_item_production selector room (Mark (kind.Symbol symbol.LeftBracket) ∷ tokens) =
+chosen_item_production selector room (WordOrSymbol (kind.Symbol symbol.LeftBracket) ∷ tokens) =
     nested_choice room
-    (λ inner. symbol_part symbol.LeftBracket ∷ node expression inner ∷ symbol_part symbol.RightBracket ∷ [])
+    (λ inner. symbol_part symbol.LeftBracket ∷ nonterminal expression inner ∷ symbol_part symbol.RightBracket ∷ [])
 chosen_item_production selector room tokens = parts (symbol_part symbol.Dot ∷ name ∷ [])
 -- multiplier = ("*" | DIV | MOD | "&") factor
 chosen_item_production multiplier room tokens = operation_choice factor room tokens
@@ -99,168 +99,168 @@ chosen_item_production comparison room tokens = operation_choice simple room tok
 chosen_item_production arguments room tokens =
     if is_expression_next (drop 1 tokens)
     then parts (symbol_part symbol.LeftParen
-    ∷ node expression room
-    ∷ node (items further_argument) room
+    ∷ nonterminal expression room
+    ∷ nonterminal (items further_argument) room
     ∷ symbol_part symbol.RightParen
     ∷ [])
     else parts (symbol_part symbol.LeftParen ∷ symbol_part symbol.RightParen ∷ [])
 -- further_argument = "," expression
-chosen_item_production further_argument room tokens = parts (symbol_part symbol.Comma ∷ node expression room ∷ [])
+chosen_item_production further_argument room tokens = parts (symbol_part symbol.Comma ∷ nonterminal expression room ∷ [])
 -- further_statement = ";" statement
-chosen_item_production further_statement room tokens = parts (symbol_part symbol.Semicolon ∷ node statement room ∷ [])
+chosen_item_production further_statement room tokens = parts (symbol_part symbol.Semicolon ∷ nonterminal statement room ∷ [])
 -- elsif_part = ELSIF expression THEN sequence
 chosen_item_production elsif_part room tokens =
     parts
-    (reserved_part reserved.Elsif ∷ node expression room ∷ reserved_part reserved.Then ∷ node sequence room ∷ [])
+    (reserved_part reserved.Elsif ∷ nonterminal expression room ∷ reserved_part reserved.Then ∷ nonterminal sequence room ∷ [])
 -- else_part = ELSE sequence
-chosen_item_production else_part room tokens = parts (reserved_part reserved.Else ∷ node sequence room ∷ [])
+chosen_item_production else_part room tokens = parts (reserved_part reserved.Else ∷ nonterminal sequence room ∷ [])
 -- further_name = "," ident
 chosen_item_production further_name room tokens = parts (symbol_part symbol.Comma ∷ name ∷ [])
 -- further_fields = ";" fields
-chosen_item_production further_fields room tokens = parts (symbol_part symbol.Semicolon ∷ node fields room ∷ [])
+chosen_item_production further_fields room tokens = parts (symbol_part symbol.Semicolon ∷ nonterminal fields room ∷ [])
 -- formals = "(" [section {further_section}] ")"
 chosen_item_production formals room tokens =
     if is_section_next (drop 1 tokens)
     then parts (symbol_part symbol.LeftParen
-    ∷ node section room
-    ∷ node (items further_section) room
+    ∷ nonterminal section room
+    ∷ nonterminal (items further_section) room
     ∷ symbol_part symbol.RightParen
     ∷ [])
     else parts (symbol_part symbol.LeftParen ∷ symbol_part symbol.RightParen ∷ [])
 -- further_section = ";" section
-chosen_item_production further_section room tokens = parts (symbol_part symbol.Semicolon ∷ node section room ∷ [])
+chosen_item_production further_section room tokens = parts (symbol_part symbol.Semicolon ∷ nonterminal section room ∷ [])
 -- constant = ident "=" expression ";"
 chosen_item_production constant room tokens =
-    parts (name ∷ symbol_part symbol.Equal ∷ node expression room ∷ symbol_part symbol.Semicolon ∷ [])
+    parts (name ∷ symbol_part symbol.Equal ∷ nonterminal expression room ∷ symbol_part symbol.Semicolon ∷ [])
 -- constants = CONST {constant}
-chosen_item_production constants room tokens = parts (reserved_part reserved.Const ∷ node (items constant) room ∷ [])
--- type_name = ident "=" type ";"
-chosen_item_production type_name room tokens =
-    parts (name ∷ symbol_part symbol.Equal ∷ node written_type room ∷ symbol_part symbol.Semicolon ∷ [])
--- type_names = TYPE {type_name}
-chosen_item_production type_names room tokens = parts (reserved_part reserved.Type ∷ node (items type_name) room ∷ [])
+chosen_item_production constants room tokens = parts (reserved_part reserved.Const ∷ nonterminal (items constant) room ∷ [])
+-- type_definition = ident "=" type ";"
+chosen_item_production type_definition room tokens =
+    parts (name ∷ symbol_part symbol.Equal ∷ nonterminal written_type room ∷ symbol_part symbol.Semicolon ∷ [])
+-- type_definitions = TYPE {type_definition}
+chosen_item_production type_definitions room tokens = parts (reserved_part reserved.Type ∷ nonterminal (items type_definition) room ∷ [])
 -- variable = identList ":" type ";"
 chosen_item_production variable room tokens =
-    parts (node names 0 ∷ symbol_part symbol.Colon ∷ node written_type room ∷ symbol_part symbol.Semicolon ∷ [])
+    parts (nonterminal names 0 ∷ symbol_part symbol.Colon ∷ nonterminal written_type room ∷ symbol_part symbol.Semicolon ∷ [])
 -- variables = VAR {variable}
-chosen_item_production variables room tokens = parts (reserved_part reserved.Var ∷ node (items variable) room ∷ [])
+chosen_item_production variables room tokens = parts (reserved_part reserved.Var ∷ nonterminal (items variable) room ∷ [])
 -- procedure = PROCEDURE ident [formals] ";" block END ident ";"
 chosen_item_production procedure room tokens =
     nested_choice room (λ inner. reserved_part reserved.Procedure
     ∷ name
-    ∷ node (maybe formals) inner
+    ∷ nonterminal (maybe formals) inner
     ∷ symbol_part symbol.Semicolon
-    ∷ node block inner
+    ∷ nonterminal block inner
     ∷ reserved_part reserved.End
     ∷ name
     ∷ symbol_part symbol.Semicolon
     ∷ [])
 -- body = BEGIN sequence
-chosen_item_production body room tokens = parts (reserved_part reserved.Begin ∷ node sequence room ∷ [])
+chosen_item_production body room tokens = parts (reserved_part reserved.Begin ∷ nonterminal sequence room ∷ [])
 
 -- Returns the production that the next tokens determine for a construct, with `room` levels of
--- nesting left. A list of names needs no level (`node names 0`), because its parts don't count for
+-- nesting left. A list of names needs no level (`nonterminal names 0`), because its parts don't count for
 -- nesting.
 abbrev pub chosen_production : Sort → (room : ℕ) → List (Terminal ℕ) → ProductionChoice
 chosen_production (item i) room tokens = chosen_item_production i room tokens
 chosen_production (items i) room tokens =
-    if is_item_next i tokens then parts (node (item i) room ∷ node (items i) room ∷ []) else parts []
+    if is_item_next i tokens then parts (nonterminal (item i) room ∷ nonterminal (items i) room ∷ []) else parts []
 chosen_production (maybe i) room tokens =
-    if is_item_next i tokens then parts (node (item i) room ∷ []) else parts []
+    if is_item_next i tokens then parts (nonterminal (item i) room ∷ []) else parts []
 -- expression = simple [comparison]
-chosen_production expression room tokens = parts (node simple room ∷ node (maybe comparison) room ∷ [])
+chosen_production expression room tokens = parts (nonterminal simple room ∷ nonterminal (maybe comparison) room ∷ [])
 -- simple = ["+" | "-"] term {addend}
-chosen_production simple room (Mark (kind.Symbol symbol.Plus) ∷ tokens) =
-    parts (symbol_part symbol.Plus ∷ node term room ∷ node (items addend) room ∷ [])
-chosen_production simple room (Mark (kind.Symbol symbol.Minus) ∷ tokens) =
-    parts (symbol_part symbol.Minus ∷ node term room ∷ node (items addend) room ∷ [])
-chosen_production simple room tokens = parts (node term room ∷ node (items addend) room ∷ [])
+chosen_production simple room (WordOrSymbol (kind.Symbol symbol.Plus) ∷ tokens) =
+    parts (symbol_part symbol.Plus ∷ nonterminal term room ∷ nonterminal (items addend) room ∷ [])
+chosen_production simple room (WordOrSymbol (kind.Symbol symbol.Minus) ∷ tokens) =
+    parts (symbol_part symbol.Minus ∷ nonterminal term room ∷ nonterminal (items addend) room ∷ [])
+chosen_production simple room tokens = parts (nonterminal term room ∷ nonterminal (items addend) room ∷ [])
 -- term = factor {multiplier}
-chosen_production term room tokens = parts (node factor room ∷ node (items multiplier) room ∷ [])
+chosen_production term room tokens = parts (nonterminal factor room ∷ nonterminal (items multiplier) room ∷ [])
 -- factor = ident {selector} | integer | "(" expression ")" | "~" factor
-chosen_production factor room (Name n ∷ tokens) = parts (name ∷ node (items selector) room ∷ [])
+chosen_production factor room (Name n ∷ tokens) = parts (name ∷ nonterminal (items selector) room ∷ [])
 chosen_production factor room (Number n ∷ tokens) = parts (number ∷ [])
-chosen_production factor room (Mark (kind.Symbol symbol.LeftParen) ∷ tokens) =
+chosen_production factor room (WordOrSymbol (kind.Symbol symbol.LeftParen) ∷ tokens) =
     nested_choice room
-    (λ inner. symbol_part symbol.LeftParen ∷ node expression inner ∷ symbol_part symbol.RightParen ∷ [])
-chosen_production factor room (Mark (kind.Symbol symbol.Not) ∷ tokens) =
-    nested_choice room (λ inner. symbol_part symbol.Not ∷ node factor inner ∷ [])
+    (λ inner. symbol_part symbol.LeftParen ∷ nonterminal expression inner ∷ symbol_part symbol.RightParen ∷ [])
+chosen_production factor room (WordOrSymbol (kind.Symbol symbol.Not) ∷ tokens) =
+    nested_choice room (λ inner. symbol_part symbol.Not ∷ nonterminal factor inner ∷ [])
 chosen_production factor room tokens = missing expected.Expression
 -- statement = [assignment | call | if | while | repeat]
 -- assignment = ident {selector} ":=" expression, call = ident [arguments]: if a selector follows the
 -- identifier, the statement is an assignment
 chosen_production statement room (Name n ∷ tokens) =
     if is_assignment_next tokens
-    then parts (name ∷ node (items selector) room ∷ symbol_part symbol.Becomes ∷ node expression room ∷ [])
-    else parts (name ∷ node (maybe arguments) room ∷ [])
+    then parts (name ∷ nonterminal (items selector) room ∷ symbol_part symbol.Becomes ∷ nonterminal expression room ∷ [])
+    else parts (name ∷ nonterminal (maybe arguments) room ∷ [])
 -- if = IF expression THEN sequence {elsif_part} [else_part] END
-chosen_production statement room (Mark (kind.ReservedWord reserved.If) ∷ tokens) =
+chosen_production statement room (WordOrSymbol (kind.ReservedWord reserved.If) ∷ tokens) =
     nested_choice room (λ inner. reserved_part reserved.If
-    ∷ node expression inner
+    ∷ nonterminal expression inner
     ∷ reserved_part reserved.Then
-    ∷ node sequence inner
-    ∷ node (items elsif_part) inner
-    ∷ node (maybe else_part) inner
+    ∷ nonterminal sequence inner
+    ∷ nonterminal (items elsif_part) inner
+    ∷ nonterminal (maybe else_part) inner
     ∷ reserved_part reserved.End
     ∷ [])
 -- while = WHILE expression DO sequence END
-chosen_production statement room (Mark (kind.ReservedWord reserved.While) ∷ tokens) =
+chosen_production statement room (WordOrSymbol (kind.ReservedWord reserved.While) ∷ tokens) =
     nested_choice room (λ inner. reserved_part reserved.While
-    ∷ node expression inner
+    ∷ nonterminal expression inner
     ∷ reserved_part reserved.Do
-    ∷ node sequence inner
+    ∷ nonterminal sequence inner
     ∷ reserved_part reserved.End
     ∷ [])
 -- repeat = REPEAT sequence UNTIL expression
-chosen_production statement room (Mark (kind.ReservedWord reserved.Repeat) ∷ tokens) =
+chosen_production statement room (WordOrSymbol (kind.ReservedWord reserved.Repeat) ∷ tokens) =
     nested_choice room (λ inner. reserved_part reserved.Repeat
-    ∷ node sequence inner
+    ∷ nonterminal sequence inner
     ∷ reserved_part reserved.Until
-    ∷ node expression inner
+    ∷ nonterminal expression inner
     ∷ [])
 chosen_production statement room tokens = parts []
 -- sequence = statement {further_statement}
-chosen_production sequence room tokens = parts (node statement room ∷ node (items further_statement) room ∷ [])
+chosen_production sequence room tokens = parts (nonterminal statement room ∷ nonterminal (items further_statement) room ∷ [])
 -- identList = ident {further_name}
-chosen_production names room tokens = parts (name ∷ node (items further_name) room ∷ [])
+chosen_production names room tokens = parts (name ∷ nonterminal (items further_name) room ∷ [])
 -- type = ident | ARRAY expression OF type | RECORD fields {further_fields} END
 chosen_production written_type room (Name n ∷ tokens) = parts (name ∷ [])
-chosen_production written_type room (Mark (kind.ReservedWord reserved.Array) ∷ tokens) =
+chosen_production written_type room (WordOrSymbol (kind.ReservedWord reserved.Array) ∷ tokens) =
     nested_choice room (λ inner. reserved_part reserved.Array
-    ∷ node expression inner
+    ∷ nonterminal expression inner
     ∷ reserved_part reserved.Of
-    ∷ node written_type inner
+    ∷ nonterminal written_type inner
     ∷ [])
-chosen_production written_type room (Mark (kind.ReservedWord reserved.Record) ∷ tokens) =
+chosen_production written_type room (WordOrSymbol (kind.ReservedWord reserved.Record) ∷ tokens) =
     nested_choice room (λ inner. reserved_part reserved.Record
-    ∷ node fields inner
-    ∷ node (items further_fields) inner
+    ∷ nonterminal fields inner
+    ∷ nonterminal (items further_fields) inner
     ∷ reserved_part reserved.End
     ∷ [])
 chosen_production written_type room tokens = missing expected.Type
 -- fields = [identList ":" type]
 chosen_production fields room (Name n ∷ tokens) =
-    parts (node names 0 ∷ symbol_part symbol.Colon ∷ node written_type room ∷ [])
+    parts (nonterminal names 0 ∷ symbol_part symbol.Colon ∷ nonterminal written_type room ∷ [])
 chosen_production fields room tokens = parts []
 -- section = [VAR] identList ":" type
-chosen_production section room (Mark (kind.ReservedWord reserved.Var) ∷ tokens) =
-    parts (reserved_part reserved.Var ∷ node names 0 ∷ symbol_part symbol.Colon ∷ node written_type room ∷ [])
-chosen_production section room tokens = parts (node names 0 ∷ symbol_part symbol.Colon ∷ node written_type room ∷ [])
--- declarations = [constants] [type_names] [variables] {procedure}
+chosen_production section room (WordOrSymbol (kind.ReservedWord reserved.Var) ∷ tokens) =
+    parts (reserved_part reserved.Var ∷ nonterminal names 0 ∷ symbol_part symbol.Colon ∷ nonterminal written_type room ∷ [])
+chosen_production section room tokens = parts (nonterminal names 0 ∷ symbol_part symbol.Colon ∷ nonterminal written_type room ∷ [])
+-- declarations = [constants] [type_definitions] [variables] {procedure}
 chosen_production declarations room tokens =
-    parts (node (maybe constants) room
-    ∷ node (maybe type_names) room
-    ∷ node (maybe variables) room
-    ∷ node (items procedure) room
+    parts (nonterminal (maybe constants) room
+    ∷ nonterminal (maybe type_definitions) room
+    ∷ nonterminal (maybe variables) room
+    ∷ nonterminal (items procedure) room
     ∷ [])
 -- block = declarations [body]
-chosen_production block room tokens = parts (node declarations room ∷ node (maybe body) room ∷ [])
+chosen_production block room tokens = parts (nonterminal declarations room ∷ nonterminal (maybe body) room ∷ [])
 -- module = MODULE ident ";" block END ident "."
 chosen_production module_text room tokens =
     parts (reserved_part reserved.Module
     ∷ name
     ∷ symbol_part symbol.Semicolon
-    ∷ node block room
+    ∷ nonterminal block room
     ∷ reserved_part reserved.End
     ∷ name
     ∷ symbol_part symbol.Dot
@@ -271,11 +271,11 @@ chosen_production module_text room tokens =
 -- States that this token matches this part of a production. No token matches a part that is a
 -- construct.
 abbrev pub MatchesPart : ProductionPart → Terminal ℕ → Type 0
-MatchesPart (token k) x = x ≡ Mark k
+MatchesPart (token k) x = x ≡ WordOrSymbol k
 MatchesPart name x = (n : ℕ) × (x ≡ Name n)
 MatchesPart number x = (n : ℕ) × (x ≡ Number n)
-MatchesPart (node s room) x = ⊥
-MatchesPart finish x = x ≡ EndOfText
+MatchesPart (nonterminal s room) x = ⊥
+MatchesPart text_end x = x ≡ EndOfText
 
 -- Returns this reserved word or symbol as an expected token, or None if the kind is an identifier
 -- or an integer.
@@ -292,8 +292,8 @@ abbrev pub expected_part : ProductionPart → Option Expected
 expected_part (token k) = expected_token k
 expected_part name = Some expected.Identifier
 expected_part number = None
-expected_part (node s room) = None
-expected_part finish = Some expected.EndOfText
+expected_part (nonterminal s room) = None
+expected_part text_end = Some expected.EndOfText
 
 -- The way in which the descent ends. `Done`: everything was read. `Expects`: another token or
 -- construct is expected at the token with this index. `Deep`: the token with this index opens a
@@ -321,14 +321,14 @@ pub data Descends : List ProductionPart → ℕ → List (Terminal ℕ) → Stop
       (qs : List ProductionPart)
       → chosen_production s room tokens ≡ parts qs
       → Descends (qs ++ ps) i tokens o
-      → Descends (node s room ∷ ps) i tokens o
+      → Descends (nonterminal s room ∷ ps) i tokens o
   -- The construct can't begin with the next token.
   absent : {s : Sort} {room : ℕ} {ps : List ProductionPart} {i : ℕ} {tokens : List (Terminal ℕ)}
       {e : Expected}
-      → chosen_production s room tokens ≡ missing e → Descends (node s room ∷ ps) i tokens (Expects i e)
+      → chosen_production s room tokens ≡ missing e → Descends (nonterminal s room ∷ ps) i tokens (Expects i e)
   -- The construct opens a level of nesting, but no level is left.
   deep : {s : Sort} {room : ℕ} {ps : List ProductionPart} {i : ℕ} {tokens : List (Terminal ℕ)}
-      → chosen_production s room tokens ≡ too_deep → Descends (node s room ∷ ps) i tokens (Deep i)
+      → chosen_production s room tokens ≡ too_deep → Descends (nonterminal s room ∷ ps) i tokens (Deep i)
 
 -- States that the descent over the same parts and tokens always ends with the same stop.
 abbrev pub StopIsUnique : Type 0
@@ -341,4 +341,4 @@ StopIsUnique =
 -- States that the descent through a whole text ends with this stop. The end of the text counts as a
 -- token. At most 100 levels of nesting are allowed.
 abbrev pub DescendsText : List (Terminal ℕ) → Stop → Type 0
-DescendsText tokens o = Descends (node module_text max_nesting ∷ finish ∷ []) 0 tokens o
+DescendsText tokens o = Descends (nonterminal module_text max_nesting ∷ text_end ∷ []) 0 tokens o

@@ -8,7 +8,7 @@ use Rattle.ob0_scan.specs.declared.lexeme.TokenKind.{TokenKind}
 use Rattle.ob0_scan.specs.declared.lexeme.TokenKind.TheVariants as kind
 use Rattle.ob0_scan.specs.declared.lexeme.Symbol.TheVariants as symbol
 use Rattle.ob0_scan.specs.declared.lexeme.Token.{Token}
-use Rattle.ob0_tree.specs.Lexeme.{Terminal, Name, Number, Mark, EndOfText, sign_tokens}
+use Rattle.ob0_tree.specs.Lexeme.{Terminal, Name, Number, WordOrSymbol, EndOfText, sign_tokens}
 use Rattle.ob0_tree.specs.declared.tree.Sign.{Sign}
 use Rattle.ob0_tree.specs.declared.tree.Designator.{Designator}
 use Rattle.ob0_tree.specs.declared.tree.Names.{Names}
@@ -17,7 +17,7 @@ use Rattle.ob0_scan.specs.declared.lexeme.ReservedWord.TheVariants as reserved
 use Rattle.ob0_tree.specs.Tree.{Item, Sort, item, items, selector, factor, names, written_type, Tree, designator, some_fields, spell, nesting}
 use Rattle.ob0_tree.specs.Places.{index_terminal, index_terminals}
 use Rattle.ob0_tree.specs.View.{items_of, selector_of, names_of, type_of}
-pub use Rattle.ob0_parse_descent.specs.Descent.{ProductionPart, token, name, number, node, finish}
+pub use Rattle.ob0_parse_descent.specs.Descent.{ProductionPart, token, name, number, nonterminal, text_end}
 use Rattle.ob0_parse_descent.specs.Descent.{Stop, Expects, Deep, Descends, expected_token, is_section_next}
 use Rattle.ob0_parse_descent.specs.Follow.{rank, kind_rank, item_rank, level, EndsConstruct, NextHasRank}
 use Rattle.ob0_parse_descent.specs.declared.refusal.Expected.TheVariants as expected
@@ -39,28 +39,28 @@ rest ts i = drop i (index_terminals ts)
 -- that can continue the tree.
 abbrev pub BeginsWithParts : List ProductionPart → List (Terminal ℕ) → Type 0
 BeginsWithParts [] w = Unit {0}
-BeginsWithParts (token k ∷ ps) w = (z : List (Terminal ℕ)) × (w ≡ Mark k ∷ z) × BeginsWithParts ps z
+BeginsWithParts (token k ∷ ps) w = (z : List (Terminal ℕ)) × (w ≡ WordOrSymbol k ∷ z) × BeginsWithParts ps z
 BeginsWithParts (name ∷ ps) w = (n : ℕ) × (z : List (Terminal ℕ)) × (w ≡ Name n ∷ z) × BeginsWithParts ps z
 BeginsWithParts (number ∷ ps) w = (n : ℕ) × (z : List (Terminal ℕ)) × (w ≡ Number n ∷ z) × BeginsWithParts ps z
-BeginsWithParts (node s room ∷ ps) w =
+BeginsWithParts (nonterminal s room ∷ ps) w =
     (t : Tree ℕ s)
     × (z : List (Terminal ℕ))
     × (w ≡ spell t ++ z)
     × (nesting t ≤ room)
     × EndsConstruct (level s) z
     × BeginsWithParts ps z
-BeginsWithParts (finish ∷ ps) w = (z : List (Terminal ℕ)) × (w ≡ EndOfText ∷ z) × BeginsWithParts ps z
+BeginsWithParts (text_end ∷ ps) w = (z : List (Terminal ℕ)) × (w ≡ EndOfText ∷ z) × BeginsWithParts ps z
 
 -- States that the list `tokens` ends with `after`. The tokens before `after` can't be the beginning of
 -- these parts, whatever tokens follow.
-pub record Refused (parts : List ProductionPart) (tokens after : List (Terminal ℕ)) : Type 0 where
+pub record CantBegin (parts : List ProductionPart) (tokens after : List (Terminal ℕ)) : Type 0 where
   pub passed : List (Terminal ℕ)
   pub fault : Terminal ℕ
   pub here : tokens ≡ passed ++ (fault ∷ after)
-  pub never : (unseen : List (Terminal ℕ)) → BeginsWithParts parts (passed ++ (fault ∷ unseen)) → ⊥
+  pub cant_begin : (unseen : List (Terminal ℕ)) → BeginsWithParts parts (passed ++ (fault ∷ unseen)) → ⊥
 
 -- States that neither list is empty and that both lists begin with the same token.
-pub record SameHead (xs w : List (Terminal ℕ)) : Type 0 where
+pub record HaveSameHead (xs w : List (Terminal ℕ)) : Type 0 where
   pub head : Terminal ℕ
   pub following : List (Terminal ℕ)
   pub other : List (Terminal ℕ)
@@ -70,8 +70,8 @@ pub record SameHead (xs w : List (Terminal ℕ)) : Type 0 where
 -- States that the descent over the parts `ps`, starting at the token `at`, ends with the same stop as
 -- the descent over the parts `following`, starting at the token `next`. This holds whatever parts
 -- `more` follow both lists.
-pub record ReadAs (ps following : List ProductionPart) (ts : List Token) (at next : ℕ) : Type 0 where
-  pub on : (o : Stop) (more : List ProductionPart)
+pub record StopsAlike (ps following : List ProductionPart) (ts : List Token) (at next : ℕ) : Type 0 where
+  pub stops_as_following : (o : Stop) (more : List ProductionPart)
       → Descends (following ++ more) next (rest ts next) o
       → Descends (ps ++ more) at (rest ts at) o
 
@@ -83,11 +83,11 @@ pub record IsReadTree {s : Sort} (t : Tree ℕ s) (room : ℕ) (ts : List Token)
   pub spelled : rest ts at ≡ spell t ++ rest ts next
   pub shallow : nesting t ≤ room
   pub only : (u : Tree ℕ s) (z w : List (Terminal ℕ))
-      → SameHead (rest ts next) w
+      → HaveSameHead (rest ts next) w
       → EndsConstruct (level s) z
       → spell u ++ z ≡ spell t ++ w
       → (u ≡ t) × (z ≡ w)
-  pub reads : ReadAs (node s room ∷ []) [] ts at next
+  pub reads : StopsAlike (nonterminal s room ∷ []) [] ts at next
   pub within : next ≤ length ts
   pub forward : at ≤ next
 
@@ -95,8 +95,8 @@ pub record IsReadTree {s : Sort} (t : Tree ℕ s) (room : ℕ) (ts : List Token)
 -- too deep nesting at the token `i`. The end of the text counts as a token. For a failed allocation
 -- it states nothing.
 abbrev pub IsRightRefusalOfParts : List ProductionPart → List Token → ℕ → ParseRefusal → Type 0
-IsRightRefusalOfParts parts ts at (Syntax i expected) = (i ≤ length ts) × Refused parts (rest ts at) (rest ts (i + 1))
-IsRightRefusalOfParts parts ts at (TooDeep i) = (i ≤ length ts) × Refused parts (rest ts at) (rest ts (i + 1))
+IsRightRefusalOfParts parts ts at (Syntax i expected) = (i ≤ length ts) × CantBegin parts (rest ts at) (rest ts (i + 1))
+IsRightRefusalOfParts parts ts at (TooDeep i) = (i ≤ length ts) × CantBegin parts (rest ts at) (rest ts (i + 1))
 IsRightRefusalOfParts parts ts at Memory = Unit {0}
 
 -- States that the descent over these parts, starting at the token `at`, ends with this stop. This
@@ -106,17 +106,17 @@ DescentStopsWith parts ts at o = (more : List ProductionPart) → Descends (part
 
 -- States that the descent over these parts, starting at the token `at`, stops as the refusal says.
 -- For a failed allocation it states nothing.
-abbrev pub DescentStopsByRefusal : List ProductionPart → List Token → ℕ → ParseRefusal → Type 0
-DescentStopsByRefusal parts ts at (Syntax i expected) = DescentStopsWith parts ts at (Expects i expected)
-DescentStopsByRefusal parts ts at (TooDeep i) = DescentStopsWith parts ts at (Deep i)
-DescentStopsByRefusal parts ts at Memory = Unit {0}
+abbrev pub DescentStopsAsRefusalSays : List ProductionPart → List Token → ℕ → ParseRefusal → Type 0
+DescentStopsAsRefusalSays parts ts at (Syntax i expected) = DescentStopsWith parts ts at (Expects i expected)
+DescentStopsAsRefusalSays parts ts at (TooDeep i) = DescentStopsWith parts ts at (Deep i)
+DescentStopsAsRefusalSays parts ts at Memory = Unit {0}
 
 -- States that the refusal `e` is right. These parts can't be read starting at the token `at`, and
 -- the descent over the parts stops as `e` says. The refusal `Memory` is always right.
 pub record FailsToRead
     (parts : List ProductionPart) (ts : List Token) (at : ℕ) (e : ParseRefusal) : Type 0 where
   pub why : IsRightRefusalOfParts parts ts at e
-  pub reads : DescentStopsByRefusal parts ts at e
+  pub reads : DescentStopsAsRefusalSays parts ts at e
 
 -- States that the result of parsing a construct at the token `at` is right. The tree of a parsed
 -- construct begins at that token and ends before the returned index. If the result is a refusal, no
@@ -130,17 +130,17 @@ abbrev pub Reads : {A : Type 0} {s : Sort}
     → Result (A × ℕ) ParseRefusal
     → Type 0
 Reads view room ts at (Ok x) = IsReadTree (view x.0) room ts at x.1
-Reads {s = s} view room ts at (Err e) = FailsToRead (node s room ∷ []) ts at e
+Reads {s = s} view room ts at (Err e) = FailsToRead (nonterminal s room ∷ []) ts at e
 
 -- States that the token at the index `at` isn't `x`.
-pub record Other (x : Terminal ℕ) (ts : List Token) (at : ℕ) : Type 0 where
+pub record IsOtherToken (x : Terminal ℕ) (ts : List Token) (at : ℕ) : Type 0 where
   pub fault : Terminal ℕ
   pub here : rest ts at ≡ fault ∷ rest ts (at + 1)
   pub differs : fault ≢ x
   pub within : at ≤ length ts
 
 -- States that the token at the index `at` isn't an identifier.
-pub record NoName (ts : List Token) (at : ℕ) : Type 0 where
+pub record IsNoName (ts : List Token) (at : ℕ) : Type 0 where
   pub fault : Terminal ℕ
   pub here : rest ts at ≡ fault ∷ rest ts (at + 1)
   pub ranked : rank fault ≢ 7
@@ -148,22 +148,22 @@ pub record NoName (ts : List Token) (at : ℕ) : Type 0 where
 
 -- States that the Bool is true exactly if this reserved word or symbol is at the index `at`.
 abbrev pub TellsIfTokenAt : TokenKind → List Token → ℕ → Bool → Type 0
-TellsIfTokenAt k ts at true = (rest ts at ≡ Mark k ∷ rest ts (at + 1)) × (at < length ts)
-TellsIfTokenAt k ts at false = Other (Mark k) ts at
+TellsIfTokenAt k ts at true = (rest ts at ≡ WordOrSymbol k ∷ rest ts (at + 1)) × (at < length ts)
+TellsIfTokenAt k ts at false = IsOtherToken (WordOrSymbol k) ts at
 
 -- States that the Bool is true exactly if an identifier is at the index `at`.
 abbrev pub TellsIfNameAt : List Token → ℕ → Bool → Type 0
 TellsIfNameAt ts at true = (rest ts at ≡ Name at ∷ rest ts (at + 1)) × (at < length ts)
-TellsIfNameAt ts at false = NoName ts at
+TellsIfNameAt ts at false = IsNoName ts at
 
 -- States that the result of reading this reserved word or symbol at the index `at` is right. If the
 -- result is an index, the word or symbol is at `at`, and the index is `at + 1`. If the result is a
 -- refusal, another token is at `at`, and the refusal says that the word or symbol is expected.
 abbrev pub ReadsToken : TokenKind → List Token → ℕ → Result ℕ ParseRefusal → Type 0
 ReadsToken k ts at (Ok next) =
-    (rest ts at ≡ Mark k ∷ rest ts next) × (at < length ts) × (next ≡ at + 1)
+    (rest ts at ≡ WordOrSymbol k ∷ rest ts next) × (at < length ts) × (next ≡ at + 1)
 ReadsToken k ts at (Err e) =
-    Other (Mark k) ts at × (Some e ≡ option_map (Syntax at) (expected_token k))
+    IsOtherToken (WordOrSymbol k) ts at × (Some e ≡ option_map (Syntax at) (expected_token k))
 
 -- States that the result of reading an identifier at the index `at` is right. If the result is a
 -- pair, an identifier is at `at`, and the pair is `at` and `at + 1`. If the result is a refusal,
@@ -171,7 +171,7 @@ ReadsToken k ts at (Err e) =
 abbrev pub ReadsName : List Token → ℕ → Result (ℕ × ℕ) ParseRefusal → Type 0
 ReadsName ts at (Ok x) =
     (rest ts at ≡ Name at ∷ rest ts x.1) × (at < length ts) × (x.0 ≡ at) × (x.1 ≡ at + 1)
-ReadsName ts at (Err e) = NoName ts at × (e ≡ Syntax at expected.Identifier)
+ReadsName ts at (Err e) = IsNoName ts at × (e ≡ Syntax at expected.Identifier)
 
 -- States that the result of opening a nesting level at the token `at` is right, given the number
 -- `room` of levels left. If the result is a number, it is `room` minus 1. If the result is a
@@ -191,7 +191,7 @@ pub record IsSingleTokenFactor (level : ℕ) (f : Tree ℕ factor) (ts : List To
 pub record ItemFails
     (i : Item) (room : ℕ) (ts : List Token) (at : ℕ) (e : ParseRefusal) : Type 0 where
   pub is_here : NextHasRank (item_rank i) (rest ts at)
-  pub fails : FailsToRead (node (item i) room ∷ []) ts at e
+  pub fails : FailsToRead (nonterminal (item i) room ∷ []) ts at e
 
 -- States that the result of parsing an optional item at the token `at` is right. The tree of a
 -- parsed item begins at that token and ends before the returned index. If the result is None, no
@@ -209,9 +209,9 @@ ReadsItem view room ts at (Ok (Some x)) = IsReadTree (view x.0) room ts at x.1 �
 ReadsItem {i = i} view room ts at (Err e) = ItemFails i room ts at e
 
 -- States that the tokens don't begin with a sign.
-pub record Unsigned (w : List (Terminal ℕ)) : Type 0 where
-  pub plus : (z : List (Terminal ℕ)) → w ≡ Mark (kind.Symbol symbol.Plus) ∷ z → ⊥
-  pub minus : (z : List (Terminal ℕ)) → w ≡ Mark (kind.Symbol symbol.Minus) ∷ z → ⊥
+pub record HasNoSign (w : List (Terminal ℕ)) : Type 0 where
+  pub plus : (z : List (Terminal ℕ)) → w ≡ WordOrSymbol (kind.Symbol symbol.Plus) ∷ z → ⊥
+  pub minus : (z : List (Terminal ℕ)) → w ≡ WordOrSymbol (kind.Symbol symbol.Minus) ∷ z → ⊥
 
 -- States that `sign` is the sign at the token `at`, and that `next` is the index of the token after
 -- the sign. If there is no sign, `sign` is None and `next` is `at`.
@@ -219,8 +219,8 @@ pub record IsSignAt (ts : List Token) (at : ℕ) (sign : Option Sign) (next : �
   pub spelled : rest ts at ≡ sign_tokens sign ++ rest ts next
   pub forward : at ≤ next
   pub within : next ≤ length ts
-  pub unsigned : IfNone sign (Unsigned (rest ts at))
-  pub counted : next ≡ at + length (sign_tokens {N = ℕ} sign)
+  pub unsigned : IfNone sign (HasNoSign (rest ts at))
+  pub next_index : next ≡ at + length (sign_tokens {N = ℕ} sign)
 
 -- States that the result of parsing a designator (a name with its selectors) at the token `at` is
 -- right. A parsed designator begins at that token and ends before the returned index, and no
@@ -230,7 +230,7 @@ abbrev pub ReadsDesignator : ℕ → List Token → ℕ → Result (Designator �
 ReadsDesignator room ts at (Ok x) =
     IsReadTree (designator x.0.name (items_of selector_of x.0.selectors.items)) room ts at x.1
     × ¬ NextHasRank 1 (rest ts x.1)
-ReadsDesignator room ts at (Err e) = FailsToRead (name ∷ node (items selector) room ∷ []) ts at e
+ReadsDesignator room ts at (Err e) = FailsToRead (name ∷ nonterminal (items selector) room ∷ []) ts at e
 
 -- States that the operator found for a token of the kind `k` is right. If an operator was found,
 -- `k` spells it. If no operator was found (None), the rank of `k` isn't `r`, the rank of these
@@ -242,7 +242,7 @@ IsOperatorOf mark r k None = kind_rank k ≢ r
 -- States that the tokens `at..next` are the list `xs`: its first element, then the further
 -- elements, each with the separator before it. `view` returns the tree of the first element, and
 -- `further` returns the tree of a further element.
-pub record ListRead
+pub record IsReadList
     {A : Type 0} {s : Sort} {i : Item} (view : A → Tree ℕ s) (further : A → Tree ℕ (item i))
     (xs : List A) (room : ℕ) (ts : List Token) (at next : ℕ) : Type 0 where
   pub first : A
@@ -263,9 +263,9 @@ abbrev pub ReadsList : {A : Type 0} {s : Sort} {i : Item}
     → ℕ
     → Result (Vec A Global × ℕ) ParseRefusal
     → Type 0
-ReadsList view further room ts at (Ok x) = ListRead view further x.0.items room ts at x.1
+ReadsList view further room ts at (Ok x) = IsReadList view further x.0.items room ts at x.1
 ReadsList {s = s} {i = i} view further room ts at (Err e) =
-    FailsToRead (node s room ∷ node (items i) room ∷ []) ts at e
+    FailsToRead (nonterminal s room ∷ nonterminal (items i) room ∷ []) ts at e
 
 -- States that the result of parsing names, a colon and a type at the token `at` is right. The
 -- parsed parts begin at that token and end before the returned index. If the result is a refusal,
@@ -277,12 +277,12 @@ abbrev pub ReadsTypedNames : ℕ
     → Type 0
 ReadsTypedNames room ts at (Ok x) = IsReadTree (some_fields (names_of x.0.0) (type_of x.0.1)) room ts at x.1
 ReadsTypedNames room ts at (Err e) =
-    FailsToRead (node names 0 ∷ token (kind.Symbol symbol.Colon) ∷ node written_type room ∷ []) ts
+    FailsToRead (nonterminal names 0 ∷ token (kind.Symbol symbol.Colon) ∷ nonterminal written_type room ∷ []) ts
     at e
 
 -- States that the Bool is true exactly if a section of formal parameters may begin at the index
 -- `at`.
 abbrev pub TellsIfSectionMayBegin : List Token → ℕ → Bool → Type 0
 TellsIfSectionMayBegin ts at true =
-    Other (Mark (kind.Symbol symbol.RightParen)) ts at × (is_section_next (rest ts at) ≡ true)
-TellsIfSectionMayBegin ts at false = NoName ts at × Other (Mark (kind.ReservedWord reserved.Var)) ts at
+    IsOtherToken (WordOrSymbol (kind.Symbol symbol.RightParen)) ts at × (is_section_next (rest ts at) ≡ true)
+TellsIfSectionMayBegin ts at false = IsNoName ts at × IsOtherToken (WordOrSymbol (kind.ReservedWord reserved.Var)) ts at

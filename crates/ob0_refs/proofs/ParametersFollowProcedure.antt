@@ -4,8 +4,8 @@ use Rattle.std.proofs.lemmas.List.Elements.{All-append, All-cons, All-nil, All-w
 use Rattle.ob0_tree.specs.declared.tree.Role.{Role}
 use Rattle.ob0_tree.specs.declared.tree.Role.TheVariants as role
 use Rattle.ob0_tree.specs.ParsedModule.{ParsedModule, tree_of}
-use Rattle.ob0_tree.specs.Places.{text_at}
-use Rattle.ob0_tree.specs.Tree.{Sort, Tree, block, declares, declares_procedure, end, has_body, identifiers, is_module, item, items, module_text, more, procedure}
+use Rattle.ob0_tree.specs.Places.{token_text_at}
+use Rattle.ob0_tree.specs.Tree.{Sort, Tree, block, declares, declares_procedure, end, forms_block, identifiers, is_module, item, items, module_text, more, procedure}
 use Rattle.ob0_language_names.specs.Parts.{formal_names, formal_sections, module_block}
 use Rattle.ob0_scope_table.specs.Resolution.{declaring_names}
 use Rattle.ob0_scope_table.proofs.Declared.{formals_declared}
@@ -48,7 +48,7 @@ all_before xs ys hs h =
 
 mutual
   block_among : (b : Tree ℕ block) → AreAmong (declaring b) (block_headings b)
-  block_among (has_body (declares cs ts vs ps) statements) =
+  block_among (forms_block (declares cs ts vs ps) statements) =
       let C : List (Role × ℕ) = identifiers role.Declaring cs in
       let T : List (Role × ℕ) = identifiers role.Declaring ts in
       let V : List (Role × ℕ) = identifiers role.Declaring vs in
@@ -102,8 +102,8 @@ following m h s =
           ap (λ b. if b then None else slice_get all ((7 + n) - 7)) late
           ∙ ((λ i. slice_get (s.is i) (place i)) ∙ got s.before h.0 (h.1 ++ s.after));
       following =
-          (λ i. take (length h.1) (map (text_at m.source) (drop (next i) (s.is i))))
-          ∙ (ap (λ ys. take (length h.1) (map (text_at m.source) ys)) (left s.before h.0 (h.1 ++ s.after)) ∙ first_ones (text_at m.source) h.1 s.after);
+          (λ i. take (length h.1) (map (token_text_at m.source) (drop (next i) (s.is i))))
+          ∙ (ap (λ ys. take (length h.1) (map (token_text_at m.source) ys)) (left s.before h.0 (h.1 ++ s.after)) ∙ first_ones (token_text_at m.source) h.1 s.after);
     }
 
 pub parameters_are_following-holds : ParametersFollowProcedure

@@ -4,13 +4,13 @@
 use Rattle.std.specs.Prelude.{ℕ, ◌+◌, ◌-◌, Bool, true, false, List, [], ◌∷◌, drop, map, nat_lt, if◌then◌else◌, Option, Some, None, option_and_then}
 use Rattle.ob0_tree.specs.declared.tree.Role.TheVariants as role
 use Rattle.ob0_tree.specs.ParsedModule.{ParsedModule, tree_of}
-use Rattle.ob0_tree.specs.Places.{text_at}
+use Rattle.ob0_tree.specs.Places.{token_text_at}
 use Rattle.ob0_tree.specs.Tree.{identifiers}
 use Rattle.ob0_language_names.specs.Names.{Name}
 use Rattle.ob0_language_names.specs.Scopes.{predeclared_count}
 use Rattle.ob0_scope_table.specs.Resolution.{declaring_names}
 use Rattle.ob0_scope.specs.declared.naming.Named as named
-use Rattle.ob0_refs.specs.Hovers.{HoverParameter, constant_text, named_type_text, predeclared_text, procedure_text, type_text, variable_text}
+use Rattle.ob0_refs.specs.Hovers.{HoverParameter, constant_text, type_declaration_text, predeclared_text, procedure_text, type_text, variable_text}
 use Rattle.ob0_language_types.specs.Expressions.{Object, a_constant, a_procedure, a_standard, a_type, a_variable}
 use Rattle.ob0_language_types.specs.WellTyped.{FormalParameter, Mode, Signature, by_place, by_value}
 use Rattle.ob0_language_values.specs.Values.{Shape, Value, elements, members, number, truth}
@@ -31,7 +31,7 @@ is_by_place by_place = true
 -- returns a formal parameter with this name in the form for hover texts
 abbrev pub hover_parameter : Name → FormalParameter → HoverParameter
 hover_parameter name f =
-    record { by_place = is_by_place f.mode; name = name; of = type_text f.shape }
+    record { by_place = is_by_place f.mode; name = name; text_of_type = type_text f.shape }
 
 -- Returns the parameters of a procedure in the form for hover texts, one by one from the
 -- procedure's signature. The list has the names declared after the procedure's name. The first of
@@ -45,7 +45,7 @@ hover_parameters (x ∷ xs) [] = []
 -- its object. Returns None for a constant whose value is neither a number nor a truth value.
 abbrev pub object_hover : Name → List Name → Object Shape Signature → Option (List ℕ)
 object_hover name following (a_constant v) = constant_hover name v
-object_hover name following (a_type s) = Some (named_type_text name (type_text s))
+object_hover name following (a_type s) = Some (type_declaration_text name (type_text s))
 object_hover name following (a_variable s) = Some (variable_text name (type_text s))
 object_hover name following (a_procedure fs) =
     Some (procedure_text name (hover_parameters following fs))
@@ -54,7 +54,7 @@ object_hover name following (a_standard s) = Some (predeclared_text name)
 -- returns the names that the text declares after the declaration with this ordinal, in text order
 abbrev pub names_declared_after : ParsedModule → ℕ → List Name
 names_declared_after m ordinal =
-    map (text_at m.source)
+    map (token_text_at m.source)
     (drop (ordinal + 1 - predeclared_count) (declaring_names (identifiers role.Declaring (tree_of m))))
 
 -- Returns the hover text of a name that the text declares, given the name's object. Returns None if
@@ -64,7 +64,7 @@ abbrev pub declaration_hover : ParsedModule
     → Option (Object Shape Signature)
     → Option (List ℕ)
 declaration_hover m n object =
-    option_and_then (object_hover (text_at m.source n.token) (names_declared_after m n.ordinal)) object
+    option_and_then (object_hover (token_text_at m.source n.token) (names_declared_after m n.ordinal)) object
 
 -- Returns the hover text of a name, given the name's object. A name with an ordinal from 0 to 6 is
 -- predeclared and needs no object. Returns None if any other name has no object, or if its object
@@ -72,5 +72,5 @@ declaration_hover m n object =
 abbrev pub name_hover : ParsedModule → named.Named → Option (Object Shape Signature) → Option (List ℕ)
 name_hover m n object =
     if nat_lt n.ordinal predeclared_count
-    then Some (predeclared_text (text_at m.source n.token))
+    then Some (predeclared_text (token_text_at m.source n.token))
     else declaration_hover m n object

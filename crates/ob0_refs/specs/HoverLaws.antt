@@ -4,8 +4,8 @@ use Rattle.std.specs.Prelude.{◌≡◌, ℕ, List, [], ◌++◌, ◌∷◌, Som
 use Rattle.std.specs.List.{All}
 use Rattle.ob0_tree.specs.declared.tree.Role.TheVariants as role
 use Rattle.ob0_tree.specs.ParsedModule.{ParsedModule, tree_of}
-use Rattle.ob0_tree.specs.Places.{text_at}
-use Rattle.ob0_tree.specs.Tree.{Tree, block, declares, declares_procedure, end, has_body, identifiers, item, items, more, procedure}
+use Rattle.ob0_tree.specs.Places.{token_text_at}
+use Rattle.ob0_tree.specs.Tree.{Tree, block, declares, declares_procedure, end, forms_block, identifiers, item, items, more, procedure}
 use Rattle.ob0_language_names.specs.Parts.{formal_names, formal_sections, module_block}
 use Rattle.ob0_scope_table.specs.Resolution.{declaring_names, declaration_token}
 use Rattle.ob0_refs.specs.Declarations.{names_declared_after}
@@ -15,7 +15,7 @@ use Rattle.ob0_refs.specs.Declarations.{names_declared_after}
 abbrev mutual
   -- returns the headings of all procedures in a block, at any depth
   pub block_headings : Tree ℕ block → List (ℕ × List ℕ)
-  block_headings (has_body (declares cs ts vs ps) statements) = headings ps
+  block_headings (forms_block (declares cs ts vs ps) statements) = headings ps
 
   -- returns the headings of these procedures, each followed by the headings in the procedure's
   -- block
@@ -34,7 +34,7 @@ pub record HasParametersAfter (m : ParsedModule) (heading : ℕ × List ℕ) : T
   pub ordinal : ℕ
   pub declares : declaration_token (declaring_names (identifiers role.Declaring (tree_of m))) ordinal
       ≡ Some heading.0
-  pub following : take (length heading.1) (names_declared_after m ordinal) ≡ map (text_at m.source) heading.1
+  pub following : take (length heading.1) (names_declared_after m ordinal) ≡ map (token_text_at m.source) heading.1
 
 -- States that the first names declared after each procedure's name are the names of the procedure's
 -- parameters, in order.

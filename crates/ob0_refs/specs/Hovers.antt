@@ -37,8 +37,8 @@ constant_text name value = codes "CONST " ++ (name ++ (codes " = " ++ scalar_tex
 
 -- returns the hover text of a type declaration, given its name and the text of its type:
 -- `TYPE t = T`
-abbrev pub named_type_text : List ℕ → List ℕ → List ℕ
-named_type_text name of = codes "TYPE " ++ (name ++ (codes " = " ++ of))
+abbrev pub type_declaration_text : List ℕ → List ℕ → List ℕ
+type_declaration_text name of = codes "TYPE " ++ (name ++ (codes " = " ++ of))
 
 -- returns the hover text of a variable, given its name and the text of its type: `VAR x: T`
 abbrev pub variable_text : List ℕ → List ℕ → List ℕ
@@ -52,7 +52,7 @@ field_text name of = codes "FIELD " ++ (name ++ (codes ": " ++ of))
 pub record HoverParameter : Type 0 where
   pub by_place : Bool
   pub name : List ℕ
-  pub of : List ℕ
+  pub text_of_type : List ℕ
 
 -- returns `VAR ` for a VAR parameter, otherwise the empty text
 abbrev pub var_prefix_text : Bool → List ℕ
@@ -61,7 +61,7 @@ var_prefix_text false = []
 
 -- returns the text of a parameter: `a: T` or `VAR a: T`
 abbrev pub parameter_text : HoverParameter → List ℕ
-parameter_text p = var_prefix_text p.by_place ++ (p.name ++ (codes ": " ++ p.of))
+parameter_text p = var_prefix_text p.by_place ++ (p.name ++ (codes ": " ++ p.text_of_type))
 
 -- returns the texts of these parameters, with `; ` before each
 abbrev pub further_parameters_text : List HoverParameter → List ℕ

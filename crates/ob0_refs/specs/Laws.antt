@@ -3,19 +3,19 @@
 use Rattle.std.specs.Prelude.{◌≡◌, ℕ, true, Some, None, map, is_some}
 use Rattle.std.specs.List.{Contains}
 use Rattle.ob0_scan.specs.declared.lexeme.Span.{Span}
-use Rattle.ob0_tree.specs.Places.{text_at}
+use Rattle.ob0_tree.specs.Places.{token_text_at}
 use Rattle.ob0_scope_table.specs.Resolution.{Resolution, span_at}
-use Rattle.ob0_scope.specs.NamesAtPlaces.{name_on}
+use Rattle.ob0_scope.specs.NamesAtPlaces.{name_at_offset}
 use Rattle.ob0_types_fields.specs.Identifiers.{field_at, field_tokens}
 use Rattle.ob0_types.specs.CheckedModules.{IsWellTyped}
-use Rattle.ob0_refs.specs.Questions.{hover_at_place, definition_at, references_at, identified_at}
+use Rattle.ob0_refs.specs.Questions.{hover_at_offset, definition_at, references_at, answer_at_offset}
 use Rattle.ob0_refs.specs.declared.answers.Of.TheVariants as answer_of
 
 -- states that the identifier at this byte offset has this span and refers to a field: the field
 -- with this index in the record with the ordinal `k`
-abbrev pub IsOnField : Resolution → ℕ → Span → ℕ → ℕ → Type 0
-IsOnField r offset span k index =
-    identified_at r offset ≡ Some record { span = span; of = answer_of.Field k index }
+abbrev pub RefersToFieldAt : Resolution → ℕ → Span → ℕ → ℕ → Type 0
+RefersToFieldAt r offset span k index =
+    answer_at_offset r offset ≡ Some record { span = span; of = answer_of.Field k index }
 
 -- States that each field of a valid module has a definition, both at its declaration and at each
 -- selector.
@@ -23,19 +23,19 @@ abbrev pub FieldsHaveDefinitions : Type 0
 FieldsHaveDefinitions =
     (r : Resolution) (offset k index : ℕ) (span : Span)
     → IsWellTyped r
-    → IsOnField r offset span k index
+    → RefersToFieldAt r offset span k index
     → is_some (definition_at r offset) ≡ true
 
 -- States that renaming at this byte offset finds a field of the record with the ordinal `k`, and no
 -- name. The renaming changes exactly the references to the field, including its declaration. The
 -- identifier at the offset is one of them.
-pub record IsRenamedAtPlace (r : Resolution) (offset : ℕ) (span : Span) (k : ℕ) : Type 0 where
+pub record RenamesFieldAt (r : Resolution) (offset : ℕ) (span : Span) (k : ℕ) : Type 0 where
   pub token : ℕ
-  pub no_name : name_on r.module_read offset ≡ None
+  pub no_name : name_at_offset r.module_read offset ≡ None
   pub field : field_at r offset ≡ Some record { token = token; owner = k }
   pub place : span_at r.module_read.source token ≡ span
   pub uses : references_at r offset true
-      ≡ map (span_at r.module_read.source) (field_tokens r k (text_at r.module_read.source token))
+      ≡ map (span_at r.module_read.source) (field_tokens r k (token_text_at r.module_read.source token))
   pub itself : Contains (references_at r offset true) span
 
 -- States that renaming at any identifier that refers to a field finds that field and changes
@@ -43,8 +43,8 @@ pub record IsRenamedAtPlace (r : Resolution) (offset : ℕ) (span : Span) (k : �
 abbrev pub FieldRenamingChangesReferences : Type 0
 FieldRenamingChangesReferences =
     (r : Resolution) (offset k index : ℕ) (span : Span)
-    → IsOnField r offset span k index
-    → IsRenamedAtPlace r offset span k
+    → RefersToFieldAt r offset span k index
+    → RenamesFieldAt r offset span k
 
 -- States that each field of a valid module has a hover text, both at its declaration and at each
 -- selector.
@@ -52,5 +52,5 @@ abbrev pub FieldsHaveHovers : Type 0
 FieldsHaveHovers =
     (r : Resolution) (offset k index : ℕ) (span : Span)
     → IsWellTyped r
-    → IsOnField r offset span k index
-    → is_some (hover_at_place r offset) ≡ true
+    → RefersToFieldAt r offset span k index
+    → is_some (hover_at_offset r offset) ≡ true

@@ -6,4 +6,4 @@ use Rattle.ob0_refs.specs.declared.hovers.Parameter.{Parameter}
 
 -- returns the `HoverParameter` with the name and type text of a `Parameter`
 abbrev pub parameter_view : Parameter → hovers.HoverParameter
-parameter_view p = record { by_place = p.by_place; name = p.name.now; of = string_bytes p.of }
+parameter_view p = record { by_place = p.by_place; name = p.name.now; text_of_type = string_bytes p.text_of_type }

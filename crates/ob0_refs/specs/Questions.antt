@@ -5,7 +5,7 @@ use Rattle.std.specs.Prelude.{◌≡◌, ◌==◌, ℕ, Bool, true, false, not, 
 use Rattle.std.specs.List.{filter}
 use Rattle.ob0_scan.specs.declared.lexeme.Span.{Span}
 use Rattle.ob0_tree.specs.ParsedModule.{ParsedModule}
-use Rattle.ob0_tree.specs.Places.{text_at}
+use Rattle.ob0_tree.specs.Places.{token_text_at}
 use Rattle.ob0_language_names.specs.Scopes.{predeclared_count}
 use Rattle.ob0_language_values.specs.Values.{Shape}
 use Rattle.ob0_scope_table.specs.Resolution.{Resolution, span_at}
@@ -28,7 +28,7 @@ use Rattle.ob0_refs.specs.declared.answers.Of.TheVariants as answer_of
 -- Returns the index of a field among the fields of its record, counted from 0. The field is found
 -- by its name. Returns 0 if it isn't found.
 abbrev pub field_index : ParsedModule → FieldName → ℕ
-field_index m x = unwrap_or (field_index_in_record m x.owner (text_at m.source x.token)) 0
+field_index m x = unwrap_or (field_index_in_record m x.owner (token_text_at m.source x.token)) 0
 
 -- returns the answer about a field's identifier: the identifier's span, the field's record, and the
 -- field's index in the record
@@ -38,29 +38,29 @@ field_answer m x =
 
 -- returns the answer about the identifier with this token index and this meaning: its span and the
 -- thing that it refers to
-abbrev pub answer_of_identified : ParsedModule → ℕ → IdentifierMeaning → answer.At
-answer_of_identified m token (Name ordinal) = name_answer m (record { token = token; ordinal = ordinal })
-answer_of_identified m token (Field k) = field_answer m (record { token = token; owner = k })
+abbrev pub answer_about_identifier : ParsedModule → ℕ → IdentifierMeaning → answer.At
+answer_about_identifier m token (Name ordinal) = name_answer m (record { token = token; ordinal = ordinal })
+answer_about_identifier m token (Field k) = field_answer m (record { token = token; owner = k })
 
 -- returns the answer about the name or field at a byte offset, or None if there is neither
-abbrev pub identified_at : Resolution → ℕ → Option answer.At
-identified_at r offset =
-    option_map (λ (x : ResolvedIdentifier). answer_of_identified r.module_read x.token x.means) (identifier_meaning_at r offset)
+abbrev pub answer_at_offset : Resolution → ℕ → Option answer.At
+answer_at_offset r offset =
+    option_map (λ (x : ResolvedIdentifier). answer_about_identifier r.module_read x.token x.means) (identifier_meaning_at r offset)
 
 -- ---- prepareRename: the span of the name or field, if it can be renamed
 
 -- returns the span of the identifier with this token index and this meaning, or None if it is a
 -- predeclared name
-abbrev pub renamable_span_of_identified : ParsedModule → ℕ → IdentifierMeaning → Option Span
-renamable_span_of_identified m token (Name ordinal) =
+abbrev pub renamable_span_of_identifier : ParsedModule → ℕ → IdentifierMeaning → Option Span
+renamable_span_of_identifier m token (Name ordinal) =
     if nat_lt ordinal predeclared_count then None else Some (span_at m.source token)
-renamable_span_of_identified m token (Field k) = Some (span_at m.source token)
+renamable_span_of_identifier m token (Field k) = Some (span_at m.source token)
 
 -- Returns the span of the name or field at a byte offset. Returns None if there is neither, or if
 -- the name is predeclared.
 abbrev pub renamable_span_at : Resolution → ℕ → Option Span
 renamable_span_at r offset =
-    option_and_then (λ (x : ResolvedIdentifier). renamable_span_of_identified r.module_read x.token x.means)
+    option_and_then (λ (x : ResolvedIdentifier). renamable_span_of_identifier r.module_read x.token x.means)
     (identifier_meaning_at r offset)
 
 -- ---- definition: the span of the identifier that declares the name or field
@@ -68,35 +68,35 @@ renamable_span_at r offset =
 -- returns the span of the identifier that declares a field, or None if the field isn't found
 abbrev pub field_definition : ParsedModule → FieldName → Option Span
 field_definition m x =
-    option_map (span_at m.source) (field_declaring_token m x.owner (text_at m.source x.token))
+    option_map (span_at m.source) (field_declaring_token m x.owner (token_text_at m.source x.token))
 
 -- Returns the span of the identifier that declares the name or field that an identifier refers to.
 -- Returns None for a predeclared name, and for a field that isn't found.
-abbrev pub definition_of_identified : ParsedModule → ℕ → IdentifierMeaning → Option Span
-definition_of_identified m token (Name ordinal) = declaring_span m ordinal
-definition_of_identified m token (Field k) = field_definition m (record { token = token; owner = k })
+abbrev pub definition_of_identifier : ParsedModule → ℕ → IdentifierMeaning → Option Span
+definition_of_identifier m token (Name ordinal) = declaring_span m ordinal
+definition_of_identifier m token (Field k) = field_definition m (record { token = token; owner = k })
 
 -- Returns the span of the identifier that declares the name or field at a byte offset. Returns None
 -- if there is neither, or if the name is predeclared.
 abbrev pub definition_at : Resolution → ℕ → Option Span
 definition_at r offset =
-    option_and_then (λ (x : ResolvedIdentifier). definition_of_identified r.module_read x.token x.means)
+    option_and_then (λ (x : ResolvedIdentifier). definition_of_identifier r.module_read x.token x.means)
     (identifier_meaning_at r offset)
 
 -- ---- references: the spans of all identifiers that refer to the name or field
 
 -- returns a list of token indexes without this token index, or the whole list for None
-abbrev pub other_tokens : Option ℕ → List ℕ → List ℕ
-other_tokens None tokens = tokens
-other_tokens (Some token) tokens = filter (λ other. not (other == token)) tokens
+abbrev pub tokens_without : Option ℕ → List ℕ → List ℕ
+tokens_without None tokens = tokens
+tokens_without (Some token) tokens = filter (λ other. not (other == token)) tokens
 
 -- Returns the token indexes of all identifiers that refer to a field, in text order. If the Bool is
 -- false, the declaring identifier is left out.
 abbrev pub field_reference_tokens : Resolution → FieldName → Bool → List ℕ
-field_reference_tokens r x true = field_tokens r x.owner (text_at r.module_read.source x.token)
+field_reference_tokens r x true = field_tokens r x.owner (token_text_at r.module_read.source x.token)
 field_reference_tokens r x false =
-    other_tokens (field_declaring_token r.module_read x.owner (text_at r.module_read.source x.token))
-    (field_tokens r x.owner (text_at r.module_read.source x.token))
+    tokens_without (field_declaring_token r.module_read x.owner (token_text_at r.module_read.source x.token))
+    (field_tokens r x.owner (token_text_at r.module_read.source x.token))
 
 -- Returns the spans of all identifiers that refer to a field, in text order. If `include` is false,
 -- the declaring identifier is left out.
@@ -105,21 +105,21 @@ field_reference_spans r include x = map (span_at r.module_read.source) (field_re
 
 -- Returns the spans of the references to the name or field that an identifier refers to. If
 -- `include` is false, the declaring identifier is left out.
-abbrev pub references_of_identified : Resolution → Bool → ℕ → IdentifierMeaning → List Span
-references_of_identified r include token (Name ordinal) = references_to r.module_read ordinal include
-references_of_identified r include token (Field k) = field_reference_spans r include (record { token = token; owner = k })
+abbrev pub references_of_identifier : Resolution → Bool → ℕ → IdentifierMeaning → List Span
+references_of_identifier r include token (Name ordinal) = references_to r.module_read ordinal include
+references_of_identifier r include token (Field k) = field_reference_spans r include (record { token = token; owner = k })
 
 -- Returns the spans of the references to the name or field that an identifier refers to. If there
 -- is no identifier (None), the list is empty. If `include` is false, the declaring identifier is
 -- left out.
-abbrev pub references_of_optional : Resolution → Bool → Option ResolvedIdentifier → List Span
-references_of_optional r include None = []
-references_of_optional r include (Some x) = references_of_identified r include x.token x.means
+abbrev pub references_of_optional_identifier : Resolution → Bool → Option ResolvedIdentifier → List Span
+references_of_optional_identifier r include None = []
+references_of_optional_identifier r include (Some x) = references_of_identifier r include x.token x.means
 
 -- Returns the spans of the references to the name or field at a byte offset. If there is neither,
 -- the list is empty. If `include` is false, the declaring identifier is left out.
 abbrev pub references_at : Resolution → ℕ → Bool → List Span
-references_at r offset include = references_of_optional r include (identifier_meaning_at r offset)
+references_at r offset include = references_of_optional_identifier r include (identifier_meaning_at r offset)
 
 -- States that these are the spans of the references to the name or field at a byte offset. If
 -- `include` is false, the declaring identifier is left out.
@@ -134,7 +134,7 @@ abbrev pub field_hover_with_type : Resolution → ℕ → Shape → HoverText
 field_hover_with_type r token s =
     record {
       span = span_at r.module_read.source token;
-      text = field_text (text_at r.module_read.source token) (type_text s);
+      text = field_text (token_text_at r.module_read.source token) (type_text s);
     }
 
 -- Returns the hover text of an identifier that declares or selects a field. The text shows the
@@ -144,13 +144,13 @@ field_hover r x = option_map (λ f. field_hover_with_type r x.token f.shape) (ty
 
 -- Returns the hover text of an identifier with this meaning. Returns None if the declaration or
 -- field that it refers to isn't found.
-abbrev pub hover_of_identified : Resolution → ℕ → IdentifierMeaning → Option HoverText
-hover_of_identified r token (Name ordinal) =
+abbrev pub hover_of_identifier : Resolution → ℕ → IdentifierMeaning → Option HoverText
+hover_of_identifier r token (Name ordinal) =
     hover_of_name r.module_read (record { token = token; ordinal = ordinal })
-hover_of_identified r token (Field k) = field_hover r (record { token = token; owner = k })
+hover_of_identifier r token (Field k) = field_hover r (record { token = token; owner = k })
 
 -- returns the hover text of the identifier at a byte offset, or None if there is no name and no
 -- field
-abbrev pub hover_at_place : Resolution → ℕ → Option HoverText
-hover_at_place r offset =
-    option_and_then (λ (x : ResolvedIdentifier). hover_of_identified r x.token x.means) (identifier_meaning_at r offset)
+abbrev pub hover_at_offset : Resolution → ℕ → Option HoverText
+hover_at_offset r offset =
+    option_and_then (λ (x : ResolvedIdentifier). hover_of_identifier r x.token x.means) (identifier_meaning_at r offset)

@@ -6,32 +6,33 @@
 
 ghost use Rattle.std.specs.Prelude.{◌≡◌, ◌+◌, ◌-◌, [], IfOk, Some, drop, map, option_map, string_bytes};
 ghost use Rattle.ob0_tree.specs.ParsedModule.{tree_of};
-ghost use Rattle.ob0_tree.specs.Places.{text_at};
+ghost use Rattle.ob0_tree.specs.Places.{token_text_at};
 ghost use Rattle.ob0_tree.specs.Tree.{identifiers};
 ghost use Rattle.ob0_tree.specs.declared.tree.Role.TheVariants as role;
 ghost use Rattle.ob0_scope_table.specs.Resolution.{declaring_names};
 ghost use Rattle.ob0_refs.specs.DeclarationParts.{declared_object_view, signature_view};
 ghost use Rattle.ob0_refs.specs.Declarations.{declaration_hover, name_hover, names_declared_after, hover_parameter, hover_parameters};
-ghost use Rattle.ob0_refs.specs.Hovers.{field_text, named_type_text, procedure_text, type_text, variable_text};
+ghost use Rattle.ob0_refs.specs.Hovers.{field_text, type_declaration_text, procedure_text, type_text, variable_text};
 ghost use Rattle.ob0_refs.specs.Parameters.{parameter_view};
 ghost use Rattle.ob0_types_table.specs.KnownTables.{declared_object_in, shapes_of};
 ghost use Rattle.ob0_types_table.specs.Tables.{formal_view, type_shape};
 ghost use Rattle.ob0_language_names.specs.Scopes.{predeclared_count};
 
 use crate::hovers::{
-    Parameter, constant_text, named_type_text, predeclared_text, procedure_text, variable_text,
+    Parameter, constant_text, predeclared_text, procedure_text, type_declaration_text,
+    variable_text,
 };
 use crate::type_texts::type_text;
 use ob0_scan::Tokens;
 use ob0_scope::Named;
 use ob0_scope_table::{PREDECLARED_COUNT, Resolved};
-use ob0_tree::text_at;
+use ob0_tree::token_text_at;
 use ob0_types_table::{DeclarationTable, FormalParameter, Object, TypeId};
 use std::alloc::{AllocError, Global};
 
 /// Returns the hover text of a name. Returns None if the name has no declaration or is a constant
 /// with a fault.
-pub(crate) fn name_text(
+pub(crate) fn name_hover_text(
     alloc: Global,
     known: &DeclarationTable,
     names: &Resolved<'_>,
@@ -41,18 +42,18 @@ pub(crate) fn name_text(
         ≡ name_hover names.now.module_read name (declared_object_in known.now name.ordinal)) }
 {
     if name.ordinal < PREDECLARED_COUNT {
-        let text = predeclared_text(alloc, text_at(names.tokens(), name.token))?;
+        let text = predeclared_text(alloc, token_text_at(names.tokens(), name.token))?;
         return Ok(Some(text));
     }
     match known.object(name.ordinal) {
         None => Ok(None),
-        Some(object) => object_text(alloc, known, names, name, object),
+        Some(object) => object_hover_text(alloc, known, names, name, object),
     }
 }
 
 /// Returns the hover text of the declaration of `name`. `object` is the constant, type, variable or
 /// procedure that is declared. Returns None for a constant with a fault.
-fn object_text(
+fn object_hover_text(
     alloc: Global,
     known: &DeclarationTable,
     names: &Resolved<'_>,
@@ -62,7 +63,7 @@ fn object_text(
     ensures { IfOk result (λ r. option_map string_bytes r
         ≡ declaration_hover names.now.module_read name (declared_object_view known.now object.now)) }
 {
-    let text = text_at(names.tokens(), name.token);
+    let text = token_text_at(names.tokens(), name.token);
     match object {
         Object::Named(of) => Ok(Some(type_hover_text(alloc, known, text, *of)?)),
         Object::Constant(value) => Ok(Some(constant_text(alloc, text, *value)?)),
@@ -84,10 +85,10 @@ fn type_hover_text(
     of: TypeId,
 ) -> Result<String, AllocError>
     ensures { IfOk result (λ text. string_bytes text
-        ≡ named_type_text name.now (type_text (type_shape (shapes_of known.now) of))) }
+        ≡ type_declaration_text name.now (type_text (type_shape (shapes_of known.now) of))) }
 {
     let of = type_text(alloc, known, of)?;
-    named_type_text(alloc, name, of.as_str())
+    type_declaration_text(alloc, name, of.as_str())
 }
 
 /// Returns the hover text of a variable: its name and the text of its type.
@@ -130,15 +131,15 @@ fn procedure_hover_text(
     formals: &[FormalParameter],
 ) -> Result<String, AllocError>
     ensures { IfOk result (λ text. string_bytes text
-        ≡ procedure_text (text_at names.now.module_read.source name.token)
+        ≡ procedure_text (token_text_at names.now.module_read.source name.token)
         (hover_parameters (names_declared_after names.now.module_read name.ordinal)
         (signature_view known.now formals.now))) }
 {
     let following = declarations_after(names, name.ordinal);
-    let parameters = parameters_of(alloc, known, names.tokens(), following, formals)?;
+    let parameters = hover_parameters_of(alloc, known, names.tokens(), following, formals)?;
     procedure_text(
         alloc,
-        text_at(names.tokens(), name.token),
+        token_text_at(names.tokens(), name.token),
         parameters.as_slice(),
     )
 }
@@ -163,7 +164,7 @@ fn declarations_after<'r>(names: &'r Resolved<'_>, ordinal: usize) -> &'r [usize
 
 /// Returns the parameters of a procedure for its hover text, each with its name and the text of its
 /// type. `following` has the token indexes of the declaring identifiers after the procedure's name.
-fn parameters_of<'s>(
+fn hover_parameters_of<'s>(
     alloc: Global,
     known: &DeclarationTable,
     tokens: &'s Tokens,
@@ -171,18 +172,18 @@ fn parameters_of<'s>(
     formals: &[FormalParameter],
 ) -> Result<Vec<Parameter<'s>>, AllocError>
     ensures { IfOk result (λ ps. map parameter_view ps.items
-        ≡ hover_parameters (map (text_at tokens.now) following.now)
+        ≡ hover_parameters (map (token_text_at tokens.now) following.now)
         (signature_view known.now formals.now)) }
 {
     let mut found = Vec::new(alloc);
     for (token, formal) in following.iter().zip(formals) {
-        found.push(parameter_of(alloc, known, text_at(tokens, *token), *formal)?)?;
+        found.push(hover_parameter_of(alloc, known, token_text_at(tokens, *token), *formal)?)?;
     }
     Ok(found)
 }
 
 /// Returns a parameter for a hover text, with this name and the text of its type.
-fn parameter_of<'s>(
+fn hover_parameter_of<'s>(
     alloc: Global,
     known: &DeclarationTable,
     name: &'s str,
@@ -194,6 +195,6 @@ fn parameter_of<'s>(
     Ok(Parameter {
         by_place: formal.by_place,
         name,
-        of: type_text(alloc, known, formal.of)?,
+        text_of_type: type_text(alloc, known, formal.of)?,
     })
 }

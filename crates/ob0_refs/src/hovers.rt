@@ -2,7 +2,7 @@
 
 ghost use Rattle.std.specs.Prelude.{◌≡◌, ◌++◌, ℕ, IfOk, OnOk, map, string_bytes};
 ghost use Rattle.ob0_language_values.specs.Values.{FieldShapes, Shape, array_shape, record_shape};
-ghost use Rattle.ob0_refs.specs.Hovers.{var_prefix_text, constant_text, field_count, named_type_text, parameter_text, parameters_text, predeclared_text, procedure_text, truth_text, type_text, variable_text};
+ghost use Rattle.ob0_refs.specs.Hovers.{var_prefix_text, constant_text, field_count, type_declaration_text, parameter_text, parameters_text, predeclared_text, procedure_text, truth_text, type_text, variable_text};
 ghost use Rattle.ob0_refs.specs.Parameters.{parameter_view};
 
 use ob0_language_values::Scalar;
@@ -14,7 +14,7 @@ use std::alloc::{AllocError, Global};
 pub(crate) struct Parameter<'a> {
     pub(crate) by_place: bool,
     pub(crate) name: &'a str,
-    pub(crate) of: String,
+    pub(crate) text_of_type: String,
 }
 
 /// Returns the text of an array type, given the array's length and the text of its element type.
@@ -56,8 +56,12 @@ fn truth_word(b: bool) -> &'static str
 }
 
 /// Returns the hover text of a type declaration, given its name and the text of its type.
-pub(crate) fn named_type_text(alloc: Global, name: &str, of: &str) -> Result<String, AllocError>
-    ensures { IfOk result (λ text. string_bytes text ≡ named_type_text name.now of.now) }
+pub(crate) fn type_declaration_text(
+    alloc: Global,
+    name: &str,
+    of: &str,
+) -> Result<String, AllocError>
+    ensures { IfOk result (λ text. string_bytes text ≡ type_declaration_text name.now of.now) }
 {
     format!(in alloc; "TYPE {name} = {of}")
 }
@@ -113,7 +117,7 @@ fn push_parameter(text: &mut String, parameter: &Parameter<'_>) -> Result<(), Al
     text.push_str(var_prefix(parameter.by_place))?;
     text.push_str(parameter.name)?;
     text.push_str(": ")?;
-    text.push_str(parameter.of.as_str())
+    text.push_str(parameter.text_of_type.as_str())
 }
 
 /// Returns `VAR ` for a VAR parameter, otherwise the empty text.

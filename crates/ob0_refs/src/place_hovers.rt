@@ -3,16 +3,16 @@
 
 ghost use Rattle.std.specs.Prelude.{◌≡◌, IfOk, option_map};
 ghost use Rattle.ob0_refs.specs.Parts.{hover_view};
-ghost use Rattle.ob0_refs.specs.Questions.{field_hover, hover_at_place, hover_of_identified, field_hover_with_type};
+ghost use Rattle.ob0_refs.specs.Questions.{field_hover, hover_at_offset, hover_of_identifier, field_hover_with_type};
 ghost use Rattle.ob0_refs.specs.Shown.{hover_of_name};
 ghost use Rattle.ob0_types_table.specs.KnownTables.{shapes_of};
 ghost use Rattle.ob0_types_table.specs.Tables.{type_shape};
 
 use crate::answers::Hover;
-use crate::declaration_texts::{field_hover_text, name_text};
+use crate::declaration_texts::{field_hover_text, name_hover_text};
 use ob0_scope::Named;
 use ob0_scope_table::{Resolved, token_span};
-use ob0_tree::text_at;
+use ob0_tree::token_text_at;
 use ob0_types::{IdentifierMeaning, ResolvedIdentifier, WellTyped, identifier_meaning_at};
 use ob0_types_fields::{FieldName, typed_field};
 use ob0_types_table::{DeclarationTable, TypeId};
@@ -27,23 +27,23 @@ pub fn hover(
     well_typed: &WellTyped<'_>,
     offset: usize,
 ) -> Result<Option<Hover>, AllocError>
-    ensures { IfOk result (λ h. option_map hover_view h ≡ hover_at_place well_typed.now offset) }
+    ensures { IfOk result (λ h. option_map hover_view h ≡ hover_at_offset well_typed.now offset) }
 {
     match identifier_meaning_at(well_typed, offset) {
         None => Ok(None),
-        Some(found) => hover_of_identified(alloc, well_typed, found),
+        Some(found) => hover_of_identifier(alloc, well_typed, found),
     }
 }
 
 /// Returns the hover text of an identifier with this meaning. Returns None if the declaration or
 /// field that it refers to isn't found.
-fn hover_of_identified(
+fn hover_of_identifier(
     alloc: Global,
     well_typed: &WellTyped<'_>,
     found: ResolvedIdentifier,
 ) -> Result<Option<Hover>, AllocError>
     ensures { IfOk result
-        (λ h. option_map hover_view h ≡ hover_of_identified well_typed.now found.token found.means) }
+        (λ h. option_map hover_view h ≡ hover_of_identifier well_typed.now found.token found.means) }
 {
     let token = found.token;
     match found.means {
@@ -71,7 +71,7 @@ fn hover_of_name(
 {
     let names = well_typed.resolved();
     let span = token_span(names.tokens(), name.token);
-    match name_text(alloc, well_typed.declarations(), names, name)? {
+    match name_hover_text(alloc, well_typed.declarations(), names, name)? {
         None => Ok(None),
         Some(text) => Ok(Some(Hover { span, text })),
     }
@@ -90,7 +90,13 @@ fn field_hover(
     let names = well_typed.resolved();
     match typed_field(known, names, field) {
         None => Ok(None),
-        Some(found) => Ok(Some(field_hover_with_type(alloc, known, names, field.token, found.of)?)),
+        Some(found) => Ok(Some(field_hover_with_type(
+            alloc,
+            known,
+            names,
+            field.token,
+            found.type_id,
+        )?)),
     }
 }
 
@@ -106,7 +112,7 @@ fn field_hover_with_type(
         (λ h. hover_view h ≡ field_hover_with_type names.now token (type_shape (shapes_of known.now) of)) }
 {
     let tokens = names.tokens();
-    let text = field_hover_text(alloc, known, text_at(tokens, token), of)?;
+    let text = field_hover_text(alloc, known, token_text_at(tokens, token), of)?;
     Ok(Hover {
         span: token_span(tokens, token),
         text,

@@ -11,7 +11,7 @@
 //! take one pass over the module's fields.
 
 ghost use Rattle.std.specs.Prelude.{◌≡◌, IfOk, Some};
-ghost use Rattle.ob0_refs.specs.Questions.{AreReferencesAt, field_answer, answer_of_identified, definition_of_identified, definition_at, field_definition, field_reference_spans, field_reference_tokens, field_index, identified_at, references_of_identified, other_tokens, renamable_span_at, renamable_span_of_identified};
+ghost use Rattle.ob0_refs.specs.Questions.{AreReferencesAt, field_answer, answer_about_identifier, definition_of_identifier, definition_at, field_definition, field_reference_spans, field_reference_tokens, field_index, answer_at_offset, references_of_identifier, tokens_without, renamable_span_at, renamable_span_of_identifier};
 
 use crate::answers::{At, Of};
 use crate::declaration_spans::{declaration_span, references_to, spans_of};
@@ -19,7 +19,7 @@ use crate::names::name_answer;
 use ob0_scan::Span;
 use ob0_scope::Named;
 use ob0_scope_table::{PREDECLARED_COUNT, token_span};
-use ob0_tree::text_at;
+use ob0_tree::token_text_at;
 use ob0_types::{
     IdentifierMeaning, ResolvedIdentifier, WellTyped, field_declaring_token, field_index_in_record,
     field_tokens, identifier_meaning_at,
@@ -32,17 +32,17 @@ use std::alloc::{AllocError, Global};
 /// at each selector. A closing name refers to its procedure. Returns None if there is no such
 /// identifier, or if it is the module's name.
 pub fn at(well_typed: &WellTyped<'_>, offset: usize) -> Option<At>
-    ensures { result ≡ identified_at well_typed.now offset }
+    ensures { result ≡ answer_at_offset well_typed.now offset }
 {
     match identifier_meaning_at(well_typed, offset) {
         None => None,
-        Some(found) => Some(answer_of_identified(well_typed, found)),
+        Some(found) => Some(answer_about_identifier(well_typed, found)),
     }
 }
 
 /// Returns the answer about an identifier: its span and the thing that it refers to.
-fn answer_of_identified(well_typed: &WellTyped<'_>, found: ResolvedIdentifier) -> At
-    ensures { result ≡ answer_of_identified well_typed.now.module_read found.token found.means }
+fn answer_about_identifier(well_typed: &WellTyped<'_>, found: ResolvedIdentifier) -> At
+    ensures { result ≡ answer_about_identifier well_typed.now.module_read found.token found.means }
 {
     let token = found.token;
     match found.means {
@@ -74,7 +74,7 @@ fn field_index(well_typed: &WellTyped<'_>, field: FieldName) -> usize
     ensures { result ≡ field_index well_typed.now.module_read field }
 {
     let names = well_typed.resolved();
-    let name = text_at(names.tokens(), field.token);
+    let name = token_text_at(names.tokens(), field.token);
     match field_index_in_record(well_typed, field.owner, name) {
         Some(index) => index,
         None => 0,
@@ -88,16 +88,16 @@ pub fn renamable_span(well_typed: &WellTyped<'_>, offset: usize) -> Option<Span>
 {
     match identifier_meaning_at(well_typed, offset) {
         None => None,
-        Some(found) => renamable_span_of_identified(well_typed, found),
+        Some(found) => renamable_span_of_identifier(well_typed, found),
     }
 }
 
 /// Returns the span of an identifier. Returns None if the identifier is a predeclared name.
-fn renamable_span_of_identified(
+fn renamable_span_of_identifier(
     well_typed: &WellTyped<'_>,
     found: ResolvedIdentifier,
 ) -> Option<Span>
-    ensures { result ≡ renamable_span_of_identified well_typed.now.module_read found.token found.means }
+    ensures { result ≡ renamable_span_of_identifier well_typed.now.module_read found.token found.means }
 {
     let span = token_span(well_typed.resolved().tokens(), found.token);
     match found.means {
@@ -119,14 +119,14 @@ pub fn definition(well_typed: &WellTyped<'_>, offset: usize) -> Option<Span>
 {
     match identifier_meaning_at(well_typed, offset) {
         None => None,
-        Some(found) => definition_of_identified(well_typed, found),
+        Some(found) => definition_of_identifier(well_typed, found),
     }
 }
 
 /// Returns the span of the identifier that declares the name or field that an identifier refers to.
 /// Returns None for a predeclared name, and for a field that isn't found.
-fn definition_of_identified(well_typed: &WellTyped<'_>, found: ResolvedIdentifier) -> Option<Span>
-    ensures { result ≡ definition_of_identified well_typed.now.module_read found.token found.means }
+fn definition_of_identifier(well_typed: &WellTyped<'_>, found: ResolvedIdentifier) -> Option<Span>
+    ensures { result ≡ definition_of_identifier well_typed.now.module_read found.token found.means }
 {
     let token = found.token;
     match found.means {
@@ -141,7 +141,7 @@ fn field_definition(well_typed: &WellTyped<'_>, field: FieldName) -> Option<Span
     ensures { result ≡ field_definition well_typed.now.module_read field }
 {
     let names = well_typed.resolved();
-    let name = text_at(names.tokens(), field.token);
+    let name = token_text_at(names.tokens(), field.token);
     match field_declaring_token(well_typed, field.owner, name) {
         None => None,
         Some(token) => Some(token_span(names.tokens(), token)),
@@ -160,20 +160,20 @@ pub fn references(
 {
     match identifier_meaning_at(well_typed, offset) {
         None => Ok(Vec::new(alloc)),
-        Some(found) => references_of_identified(alloc, well_typed, found, include),
+        Some(found) => references_of_identifier(alloc, well_typed, found, include),
     }
 }
 
 /// Returns the spans of the references to the name or field that an identifier refers to. The
 /// declaring identifier is among them if `include` is true.
-fn references_of_identified(
+fn references_of_identifier(
     alloc: Global,
     well_typed: &WellTyped<'_>,
     found: ResolvedIdentifier,
     include: bool,
 ) -> Result<Vec<Span>, AllocError>
     ensures { IfOk result
-        (λ spans. spans.items ≡ references_of_identified well_typed.now include found.token found.means) }
+        (λ spans. spans.items ≡ references_of_identifier well_typed.now include found.token found.means) }
 {
     let token = found.token;
     match found.means {
@@ -219,7 +219,7 @@ fn field_reference_tokens(
     ensures { IfOk result (λ tokens. tokens.items ≡ field_reference_tokens well_typed.now field include) }
 {
     let names = well_typed.resolved();
-    let name = text_at(names.tokens(), field.token);
+    let name = token_text_at(names.tokens(), field.token);
     let tokens = field_tokens(alloc, well_typed, field.owner, name)?;
     if include {
         return Ok(tokens);
@@ -235,7 +235,7 @@ fn without_optional_token(
     token: Option<usize>,
     tokens: Vec<usize>,
 ) -> Result<Vec<usize>, AllocError>
-    ensures { IfOk result (λ others. others.items ≡ other_tokens token tokens.items) }
+    ensures { IfOk result (λ others. others.items ≡ tokens_without token tokens.items) }
 {
     match token {
         None => Ok(tokens),
@@ -248,7 +248,7 @@ fn without_optional_token(
 
 /// Returns the list `tokens` without `token`.
 fn without_token(alloc: Global, token: usize, tokens: &[usize]) -> Result<Vec<usize>, AllocError>
-    ensures { IfOk result (λ others. others.items ≡ other_tokens (Some token) tokens.now) }
+    ensures { IfOk result (λ others. others.items ≡ tokens_without (Some token) tokens.now) }
 {
     let mut others = Vec::new(alloc);
     for other in tokens {

@@ -15,11 +15,11 @@ use Rattle.ob0_text.specs.declared.refusals.EditRefusal.{EditRefusal}
 use Rattle.ob0_text.specs.declared.refusals.EditRefusal.TheVariants as refusal
 use Rattle.ob0_tree.specs.ParsedModule.{named_tree_of, tree_of}
 use Rattle.ob0_tree.specs.Places as place
-use Rattle.ob0_tree.specs.Tree.{mapped}
+use Rattle.ob0_tree.specs.Tree.{mapped_tree}
 use Rattle.ob0_language_names.specs.Names.{Name, same_name}
 use Rattle.ob0_scope_table.specs.Resolution.{Resolution}
 use Rattle.ob0_types.specs.CheckedModules.{IsWellTyped}
-use Rattle.ob0_edits_tokens.specs.Changed.{is_among, words_of}
+use Rattle.ob0_edits_tokens.specs.Changed.{is_in_list, words_of}
 use Rattle.ob0_edits_tokens.specs.OfTrees.{RenamingKeepsSpelling, number_at, renamed_word_text}
 use Rattle.ob0_edits_tokens.specs.Replaced.{AreIdentifierIndexes, ReplacesName, text_after_replacement}
 use Rattle.ob0_edits_tokens.specs.Written.{name_word}
@@ -34,44 +34,44 @@ use Rattle.ob0_rename.proofs.Rewritten.{number_same, of_rewritten, text_same}
 
 -- ---- the tree with the new name at the tokens of a field
 
-among-any : (k : ℕ) (places : List ℕ) → is_among k places ≡ list_any (λ token. k == token) places
+among-any : (k : ℕ) (places : List ℕ) → is_in_list k places ≡ list_any (λ token. k == token) places
 among-any k [] = refl
 among-any k (p ∷ ps) = ap (λ b. (k == p) || b) (among-any k ps)
 
 -- Each token of a field has the field's name.
-written-so : (source : TextWithTokens) (k : ℕ) (f : Name) (i : ℕ) (xs : List FieldName) → list_any (λ token. i == token) (tokens_of_field source k f xs) ≡ true → place.text_at source i ≡ f
+written-so : (source : TextWithTokens) (k : ℕ) (f : Name) (i : ℕ) (xs : List FieldName) → list_any (λ token. i == token) (tokens_of_field source k f xs) ≡ true → place.token_text_at source i ≡ f
 written-so source k f i [] e = absurd (cc)
-written-so source k f i (x ∷ xs) e = one (x.owner == k) (same_name (place.text_at source x.token) f) refl (written-so source k f i xs) e
+written-so source k f i (x ∷ xs) e = one (x.owner == k) (same_name (place.token_text_at source x.token) f) refl (written-so source k f i xs) e
   where
-    here : (b : Bool) → (i == x.token) ≡ b → same_name (place.text_at source x.token) f ≡ true → (list_any (λ token. i == token) (tokens_of_field source k f xs) ≡ true → place.text_at source i ≡ f)
-        → (b || list_any (λ token. i == token) (tokens_of_field source k f xs)) ≡ true → place.text_at source i ≡ f
-    here true at same later e = ap (place.text_at source) (eqb-true i x.token at) ∙ (bytes_eq-Decides (place.text_at source x.token) f).0 same
+    here : (b : Bool) → (i == x.token) ≡ b → same_name (place.token_text_at source x.token) f ≡ true → (list_any (λ token. i == token) (tokens_of_field source k f xs) ≡ true → place.token_text_at source i ≡ f)
+        → (b || list_any (λ token. i == token) (tokens_of_field source k f xs)) ≡ true → place.token_text_at source i ≡ f
+    here true at same later e = ap (place.token_text_at source) (eqb-true i x.token at) ∙ (bytes_eq-Decides (place.token_text_at source x.token) f).0 same
     here false at same later e = later e
 
-    one : (b c : Bool) → same_name (place.text_at source x.token) f ≡ c → (list_any (λ token. i == token) (tokens_of_field source k f xs) ≡ true → place.text_at source i ≡ f)
-        → list_any (λ token. i == token) (if b && c then x.token ∷ tokens_of_field source k f xs else tokens_of_field source k f xs) ≡ true → place.text_at source i ≡ f
+    one : (b c : Bool) → same_name (place.token_text_at source x.token) f ≡ c → (list_any (λ token. i == token) (tokens_of_field source k f xs) ≡ true → place.token_text_at source i ≡ f)
+        → list_any (λ token. i == token) (if b && c then x.token ∷ tokens_of_field source k f xs else tokens_of_field source k f xs) ≡ true → place.token_text_at source i ≡ f
     one true true same later e = here (i == x.token) refl same later e
     one true false same later e = later e
     one false c same later e = later e
 
 pub field_there : (r : Resolution) (k : ℕ) (f new : Name) → IsWellTyped r → RenamingChangesFieldTokens
-    → mapped (renamed_word_text (words_of r.module_read.source) (field_tokens_to_rename r k f new) new) (number_at (words_of r.module_read.source)) (tree_of r.module_read) ≡ with_renamed_field (named_tree_of r.module_read) k f new
+    → mapped_tree (renamed_word_text (words_of r.module_read.source) (field_tokens_to_rename r k f new) new) (number_at (words_of r.module_read.source)) (tree_of r.module_read) ≡ with_renamed_field (named_tree_of r.module_read) k f new
 field_there r k f new well by_tokens = one (same_name new f) refl
   where
     s : TextWithTokens
     s = r.module_read.source
 
-    kept : (i : ℕ) → new ≡ f → (b : Bool) → list_any (λ token. i == token) (field_tokens r k f) ≡ b → place.text_at s i ≡ (if b then new else place.text_at s i)
+    kept : (i : ℕ) → new ≡ f → (b : Bool) → list_any (λ token. i == token) (field_tokens r k f) ≡ b → place.token_text_at s i ≡ (if b then new else place.token_text_at s i)
     kept i own true e = written-so s k f i (field_identifiers r) e ∙ sym own
     kept i own false e = refl
 
     one : (b : Bool) → same_name new f ≡ b
-        → mapped (renamed_word_text (words_of s) (if b then [] else field_tokens r k f) new) (number_at (words_of s)) (tree_of r.module_read) ≡ with_renamed_field (named_tree_of r.module_read) k f new
+        → mapped_tree (renamed_word_text (words_of s) (if b then [] else field_tokens r k f) new) (number_at (words_of s)) (tree_of r.module_read) ≡ with_renamed_field (named_tree_of r.module_read) k f new
     one true own =
-        (λ j. mapped (λ i. (text_same s i ∙ kept i ((bytes_eq-Decides new f).0 own) (list_any (λ token. i == token) (field_tokens r k f)) refl) j) (λ i. number_same s i j) (tree_of r.module_read))
+        (λ j. mapped_tree (λ i. (text_same s i ∙ kept i ((bytes_eq-Decides new f).0 own) (list_any (λ token. i == token) (field_tokens r k f)) refl) j) (λ i. number_same s i j) (tree_of r.module_read))
         ∙ sym (by_tokens r k f new well.resolved well.well_typed)
     one false other =
-        (λ j. mapped (λ i. if among-any i (field_tokens r k f) j then new else text_same s i j) (λ i. number_same s i j) (tree_of r.module_read))
+        (λ j. mapped_tree (λ i. if among-any i (field_tokens r k f) j then new else text_same s i j) (λ i. number_same s i j) (tree_of r.module_read))
         ∙ sym (by_tokens r k f new well.resolved well.well_typed)
 
 -- ---- another field with the new name

@@ -2,8 +2,8 @@
 use Rattle.std.proofs.Common.{◌≡◌, ℕ, suc, ◌+◌, ◌≤◌, ◌<◌, ◌==◌, ◌&&◌, Bool, true, false, if◌then◌else◌, Some, List, [], ◌∷◌, ◌++◌, slice_get, refl, sym, ◌∙◌, subst, arith, eqb-true}
 use Rattle.std.proofs.lemmas.Bool.{and_parts}
 use Rattle.std.proofs.lemmas.Slice.Eq.{bytes_eq-Decides}
-use Rattle.ob0_tree.specs.Tree.{Sort, Tree, block, constant, constants, declares, declares_constant, declares_constants, declares_procedure, declares_type, declares_types, declares_variable, declares_variables, end, formals, further_name, further_section, has_body, is_module, item, items, listed, maybe, module_text, more, names, none, one, procedure, section, some_formals, then_name, then_section, type_name, type_names, value_section, variable, variable_section, variables}
-use Rattle.ob0_language_names.specs.DeclaredOnce.{are_distinct, block_names, block_once, declared_once, formals_have_distinct_fields, procedure_once, procedures_once, types_have_distinct_fields, variables_have_distinct_fields}
+use Rattle.ob0_tree.specs.Tree.{Sort, Tree, block, constant, constants, declares, declares_constant, declares_constants, declares_procedure, declares_type, declares_types, declares_variable, declares_variables, end, formals, further_name, further_section, forms_block, is_module, item, items, listed, maybe, module_text, more, names, none, one, procedure, section, some_formals, then_name, then_section, type_definition, type_definitions, value_section, variable, variable_section, variables}
+use Rattle.ob0_language_names.specs.ConsistentNames.{are_distinct, block_names, block_has_consistent_names, has_consistent_names, formals_have_distinct_fields, procedure_has_consistent_names, procedures_have_consistent_names, types_have_distinct_fields, variables_have_distinct_fields}
 use Rattle.ob0_language_names.specs.Mapping.{map_names}
 use Rattle.ob0_language_names.specs.Names.{Name, naming_by_spelling, same_name}
 use Rattle.ob0_language_names.specs.Parts.{constant_names, formal_names, formal_sections, further_names, module_block, declared_type_names, names_in_list, procedure_name, section_constants, section_names, section_types, section_variables, variable_names}
@@ -70,12 +70,12 @@ module _ (d : ℕ) (new : Name) where
   constant_section-kept scope k none s h = refl
   constant_section-kept scope k (one (declares_constants cs)) s h = λ i. one (declares_constants (constants-kept scope k cs s h i))
 
-  types-kept : (scope : Scope Name) (k : ℕ) (ts : Tree Name (items type_name)) → InScope scope → AreSo k (declared_type_names ts) → relabel_types naming_by_spelling ren scope k ts ≡ ts
+  types-kept : (scope : Scope Name) (k : ℕ) (ts : Tree Name (items type_definition)) → InScope scope → AreSo k (declared_type_names ts) → relabel_types naming_by_spelling ren scope k ts ≡ ts
   types-kept scope k end s h = refl
   types-kept scope k (more (declares_type x t) ts) s h = λ i.
       more (declares_type (declared-kept k x h.0 i) (uses-kept scope t s i)) (types-kept ((x, k) ∷ scope) (suc k) ts (h.0, s) h.1 i)
 
-  type_section-kept : (scope : Scope Name) (k : ℕ) (ts : Tree Name (maybe type_names)) → InScope scope → AreSo k (declared_type_names (section_types ts)) → relabel_type_section naming_by_spelling ren scope k ts ≡ ts
+  type_section-kept : (scope : Scope Name) (k : ℕ) (ts : Tree Name (maybe type_definitions)) → InScope scope → AreSo k (declared_type_names (section_types ts)) → relabel_type_section naming_by_spelling ren scope k ts ≡ ts
   type_section-kept scope k none s h = refl
   type_section-kept scope k (one (declares_types ts)) s h = λ i. one (declares_types (types-kept scope k ts s h i))
 
@@ -109,9 +109,9 @@ module _ (d : ℕ) (new : Name) where
   formals-kept scope k _ s h = refl
 
   mutual
-    block-kept : (scope : Scope Name) (k : ℕ) (own : List Name) (b : Tree Name block) → InScope scope → AreSo k (names_in b) → block_once own b ≡ true → relabel_block naming_by_spelling ren scope k b ≡ b
-    block-kept scope k own (has_body (declares cs ts vs ps) statements) s h once =
-        let b : Tree Name block = has_body (declares cs ts vs ps) statements in
+    block-kept : (scope : Scope Name) (k : ℕ) (own : List Name) (b : Tree Name block) → InScope scope → AreSo k (names_in b) → block_has_consistent_names own b ≡ true → relabel_block naming_by_spelling ren scope k b ≡ b
+    block-kept scope k own (forms_block (declares cs ts vs ps) statements) s h once =
+        let b : Tree Name block = forms_block (declares cs ts vs ps) statements in
         let xs = constant_names (section_constants cs) in
         let ys = declared_type_names (section_types ts) in
         let zs = variable_names (section_variables vs) in
@@ -121,33 +121,33 @@ module _ (d : ℕ) (new : Name) where
         let s₁ = in_scope-names k xs scope parts.0 s in
         let s₂ = in_scope-names (first_type_ordinal k b) ys (types_scope k b scope) parts₁.0 s₁ in
         let s₃ = in_scope-names (first_variable_ordinal k b) zs (variables_scope k b scope) parts₂.0 s₂ in
-        let onces = and_parts (are_distinct (own ++ block_names b)) (types_have_distinct_fields (section_types ts) && (variables_have_distinct_fields (section_variables vs) && procedures_once ps)) once in
-        let onces₁ = and_parts (types_have_distinct_fields (section_types ts)) (variables_have_distinct_fields (section_variables vs) && procedures_once ps) onces.1 in
-        let onces₂ = and_parts (variables_have_distinct_fields (section_variables vs)) (procedures_once ps) onces₁.1 in
+        let onces = and_parts (are_distinct (own ++ block_names b)) (types_have_distinct_fields (section_types ts) && (variables_have_distinct_fields (section_variables vs) && procedures_have_consistent_names ps)) once in
+        let onces₁ = and_parts (types_have_distinct_fields (section_types ts)) (variables_have_distinct_fields (section_variables vs) && procedures_have_consistent_names ps) onces.1 in
+        let onces₂ = and_parts (variables_have_distinct_fields (section_variables vs)) (procedures_have_consistent_names ps) onces₁.1 in
         let later = procedures-kept (procedures_scope k b scope) (first_procedure_ordinal k b) ps s₃ parts₂.1 onces₂.1 in
-        λ i. has_body
+        λ i. forms_block
         (declares (constant_section-kept scope k cs s parts.0 i) (type_section-kept (types_scope k b scope) (first_type_ordinal k b) ts s₁ parts₁.0 i)
         (variable_section-kept (variables_scope k b scope) (first_variable_ordinal k b) vs s₂ parts₂.0 i) (later.0 i))
         (uses-kept (body_scope k b scope) statements later.1 i)
 
-    procedures-kept : (scope : Scope Name) (k : ℕ) (ps : Tree Name (items procedure)) → InScope scope → AreSo k (names_in_procedures ps) → procedures_once ps ≡ true
+    procedures-kept : (scope : Scope Name) (k : ℕ) (ps : Tree Name (items procedure)) → InScope scope → AreSo k (names_in_procedures ps) → procedures_have_consistent_names ps ≡ true
         → (relabel_procedures naming_by_spelling ren scope k ps ≡ ps) × InScope (declare_procedure_names k ps scope)
     procedures-kept scope k end s h once = (refl, s)
     procedures-kept scope k (more p rest) s h once =
         let parts = so-append k (names_in_procedure p) (names_in_procedures rest) h in
-        let onces = and_parts (procedure_once p) (procedures_once rest) once in
+        let onces = and_parts (procedure_has_consistent_names p) (procedures_have_consistent_names rest) once in
         let here = procedure-kept scope k p s parts.0 onces.0 in
         let later = procedures-kept ((procedure_name p, k) ∷ scope) (ordinal_after_procedure (suc k) p) rest (here.1, s)
         (subst (λ n. AreSo n (names_in_procedures rest)) (sym (after_names_in_procedure k p)) parts.1) onces.1 in
         ((λ i. more (here.0 i) (later.0 i)), later.1)
 
-    procedure-kept : (scope : Scope Name) (k : ℕ) (p : Tree Name (item procedure)) → InScope scope → AreSo k (names_in_procedure p) → procedure_once p ≡ true
+    procedure-kept : (scope : Scope Name) (k : ℕ) (p : Tree Name (item procedure)) → InScope scope → AreSo k (names_in_procedure p) → procedure_has_consistent_names p ≡ true
         → (relabel_procedure naming_by_spelling ren scope k p ≡ p) × IsSo k (procedure_name p)
     procedure-kept scope k (declares_procedure x fs b closing) s h once =
         let own = formal_names (formal_sections fs) in
         let parts = so-append (suc k) own (names_in b) h.1 in
-        let onces = and_parts (same_name x closing) (formals_have_distinct_fields (formal_sections fs) && block_once own b) once in
-        let onces₁ = and_parts (formals_have_distinct_fields (formal_sections fs)) (block_once own b) onces.1 in
+        let onces = and_parts (same_name x closing) (formals_have_distinct_fields (formal_sections fs) && block_has_consistent_names own b) once in
+        let onces₁ = and_parts (formals_have_distinct_fields (formal_sections fs)) (block_has_consistent_names own b) onces.1 in
         let closed : x ≡ closing = (bytes_eq-Decides x closing).0 onces.0 in
         let s₁ = in_scope-names (suc k) own ((x, k) ∷ scope) parts.0 (h.0, s) in
         let inside = block-kept (declare_names (suc k) own ((x, k) ∷ scope)) (ordinal_after_names (suc k) own) own b s₁ parts.1 onces₁.1 in
@@ -159,9 +159,9 @@ module _ (d : ℕ) (new : Name) where
       none : (k : ℕ) (x : Name) → k < d → IsSo k x
       none k x low e = absurd (omega (arith, low, eqb-true k d e))
 
-  pub same_module : (t : Tree Name module_text) → 7 ≤ d → AreSo 7 (names_in (module_block t)) → declared_once t ≡ true → renamed t d new ≡ t
+  pub same_module : (t : Tree Name module_text) → 7 ≤ d → AreSo 7 (names_in (module_block t)) → has_consistent_names t ≡ true → renamed t d new ≡ t
   same_module (is_module x b closing) high h once =
-      let onces = and_parts (same_name x closing) (block_once [] b) once in
+      let onces = and_parts (same_name x closing) (block_has_consistent_names [] b) once in
       let inside = block-kept (predeclared_scope naming_by_spelling) 7 [] b (predeclared-so high) h onces.1 in
       λ i. is_module x (inside i) closing
 

@@ -13,7 +13,7 @@ pub are_names : (tokens : List Token) (low : ℕ) (places : List ℕ) (high : �
 are_names tokens low [] high up are = tt
 are_names tokens low (p ∷ ps) high up are = (up.0, are.0.0, are.0.1 _, lower tokens (p + 1) (suc p) ps (omega arith) (are_names tokens (p + 1) ps high up.1 are.1))
 
-pub among_same : (k : ℕ) (places : List ℕ) → changed.is_among k places ≡ names_at.is_among k places
+pub among_same : (k : ℕ) (places : List ℕ) → changed.is_in_list k places ≡ names_at.is_among k places
 among_same k [] = refl
 among_same k (p ∷ ps) = ap (λ b. (k == p) || b) (among_same k ps)
 

@@ -13,7 +13,7 @@ use Rattle.ob0_text.specs.declared.refusals.EditRefusal.{EditRefusal}
 use Rattle.ob0_text.specs.declared.refusals.EditRefusal.TheVariants as refusal
 use Rattle.ob0_tree.specs.ParsedModule.{ParsedModule, named_tree_of, tree_of}
 use Rattle.ob0_tree.specs.Tree.{Tree, module_text, occurrences}
-use Rattle.ob0_language_names.specs.DeclaredOnce.{declared_once}
+use Rattle.ob0_language_names.specs.ConsistentNames.{has_consistent_names}
 use Rattle.ob0_language_names.specs.Names.{Name}
 use Rattle.ob0_language_names.specs.Occurrences.{Free, at_declaration, at_occurrence, bindings, first_name_conflict, first_difference, is_duplicate}
 use Rattle.ob0_scope.specs.Renames.{namesake, other_declaration, conflict_of}
@@ -21,7 +21,7 @@ use Rattle.ob0_scope_table.specs.Resolution.{IsResolution, Resolution}
 use Rattle.ob0_language_names.specs.Scopes.{renamed}
 use Rattle.ob0_scope.specs.declared.name_conflicts.FirstConflict as reported
 use Rattle.ob0_scope.specs.declared.name_conflicts.FirstConflict.TheVariants as reports
-use Rattle.ob0_tree.specs.Places.{text_at}
+use Rattle.ob0_tree.specs.Places.{token_text_at}
 use Rattle.ob0_types.specs.CheckedModules.{IsWellTyped}
 use Rattle.ob0_types.specs.IdentifierMeanings as identifier_with_meaning
 use Rattle.ob0_types.specs.declared.meant.ResolvedIdentifier.{ResolvedIdentifier}
@@ -31,29 +31,29 @@ use Rattle.ob0_language_types.specs.WellTyped.{WellTyped}
 use Rattle.ob0_language_runs.specs.EditLaws.{FreeRenamingKeepsTypingAndRuns, HaveSameRuns}
 use Rattle.ob0_edits_tokens.specs.Changed.{changes_at, changed_words, words_of}
 use Rattle.ob0_edits_tokens.specs.OfTrees.{RenamingKeepsSpelling}
-use Rattle.ob0_edits_tokens.specs.Replaced.{AreIdentifierIndexes, LeavesWords, ReplacesName, edit_at, parts, text_after_replacement}
+use Rattle.ob0_edits_tokens.specs.Replaced.{AreIdentifierIndexes, LeavesWords, ReplacesName, edit_at, range_and_text, text_after_replacement}
 use Rattle.ob0_edits_tokens.specs.Written.{name_word}
-use Rattle.ob0_scope.specs.NamesAtPlaces.{name_on, tokens_bound_to}
+use Rattle.ob0_scope.specs.NamesAtPlaces.{name_at_offset, tokens_bound_to}
 use Rattle.ob0_scope.specs.declared.naming.Named as named
 use Rattle.ob0_types_fields.specs.declared.field_name.FieldName.{FieldName}
 use Rattle.ob0_types_fields.specs.Identifiers.{field_at}
 use Rattle.ob0_scope.proofs.Written.{renamed_there}
 use Rattle.ob0_tree.specs.Module.{ModuleOf}
 use Rattle.ob0_rename.specs.Answers.{RenameAnswers, AnswersForDeclaration, IsRenameRefusal, IsDeclarationRefusal, FailsOnlyForMemory, AcceptsPresentName, WritesName}
-use Rattle.ob0_rename.specs.Renaming.{TargetsField, TargetsDeclaration, Renaming, RenameTarget, ordinal_target, declaration, field_of, renaming_target, identifier_meaning_at, meaning_of_name_or_field, module_of, nothing, declaring_token, is_declared_as, predeclared, token_range, tokens_to_rename}
+use Rattle.ob0_rename.specs.Renaming.{TargetsField, TargetsDeclaration, Renaming, RenameTarget, ordinal_target, declaration, field_of, renaming_target, rename_target_at, target_of_name_or_field, module_of, nothing, declaring_token, is_declared_as, predeclared, token_range, tokens_to_rename}
 use Rattle.ob0_rename.proofs.Owned.{other_is_declared}
 use Rattle.ob0_rename.proofs.Rewritten.{of_renamed}
 use Rattle.ob0_rename.proofs.Occurring.{occurrence_is_there}
 
 -- states the facts about edits that write a new name at places of a scanned text
 pub record Edited (unit : counting.Unit) (text : List ℕ) (new : Name) (s : TextWithTokens) (places : List ℕ) (result : Result (Vec Edit Global) EditRefusal) : Type 0 where
-  pub edits : IfOk result (λ edits. map parts edits.items ≡ map (edit_at unit text s.tokens new) places)
+  pub edits : IfOk result (λ edits. map range_and_text edits.items ≡ map (edit_at unit text s.tokens new) places)
   pub short : IfOk result (λ edits. length (text_after_replacement s places new) ≤ max_text)
   pub leaves : (ws : List Word) → ReplacesName new ws → IfOk result (λ edits. LeavesWords unit text edits.items (changed_words (changes_at places ws) 0 (words_of s)))
   pub too_long : IsErrOf result refusal.TooLong → max_text < length (text_after_replacement s places new)
   pub refusals : IfErr result (λ why. (why ≡ refusal.TooLong) ⊎ (why ≡ refusal.Memory))
 
-pub once_of : (t : Tree Name module_text) → WellTyped t → declared_once t ≡ true
+pub once_of : (t : Tree Name module_text) → WellTyped t → has_consistent_names t ≡ true
 unfolding WellTyped
 once_of t well = well.0
 
@@ -161,16 +161,16 @@ answered_there a d means (Err why) h = elim h [ inl e ↦ inl e | inr e ↦ inr 
 -- returns the target that the meaning of an identifier gives
 abbrev pub target_of : TextWithTokens → ℕ → IdentifierMeaning → RenameTarget
 target_of source token (name_of ordinal) = ordinal_target ordinal
-target_of source token (Field k) = field_of k (text_at source token)
+target_of source token (Field k) = field_of k (token_text_at source token)
 
 abbrev pub target_in : TextWithTokens → Option ResolvedIdentifier → RenameTarget
 target_in source None = nothing
 target_in source (Some x) = target_of source x.token x.means
 
-pub target_there : (r : Resolution) (offset : ℕ) (found : Option ResolvedIdentifier) → found ≡ identifier_with_meaning.identifier_meaning_at r offset → identifier_meaning_at r offset ≡ target_in r.module_read.source found
-target_there r offset found is = one (name_on r.module_read offset) (field_at r offset) ∙ ap (target_in r.module_read.source) (sym is)
+pub target_there : (r : Resolution) (offset : ℕ) (found : Option ResolvedIdentifier) → found ≡ identifier_with_meaning.identifier_meaning_at r offset → rename_target_at r offset ≡ target_in r.module_read.source found
+target_there r offset found is = one (name_at_offset r.module_read offset) (field_at r offset) ∙ ap (target_in r.module_read.source) (sym is)
   where
-    one : (n : Option named.Named) (f : Option FieldName) → meaning_of_name_or_field r.module_read.source n f ≡ target_in r.module_read.source (identifier_with_meaning.meaning_of_name_or_field n f)
+    one : (n : Option named.Named) (f : Option FieldName) → target_of_name_or_field r.module_read.source n f ≡ target_in r.module_read.source (identifier_with_meaning.meaning_of_name_or_field n f)
     one (Some n) f = refl
     one None None = refl
     one None (Some x) = refl

@@ -10,14 +10,14 @@ use Rattle.ob0_tree.specs.Lexeme.{EndOfText}
 use Rattle.ob0_tree.specs.Module.{ModuleOf, terminal_of_token}
 use Rattle.ob0_tree.specs.ParsedModule.{IsParsed, ParsedModule, named_tree_of, tree_of}
 use Rattle.ob0_tree.specs.Places as place
-use Rattle.ob0_tree.specs.Tree.{Tree, mapped, module_text, nesting, spell}
-use Rattle.ob0_language_names.specs.DeclaredOnce.{declared_once}
+use Rattle.ob0_tree.specs.Tree.{Tree, mapped_tree, module_text, nesting, spell}
+use Rattle.ob0_language_names.specs.ConsistentNames.{has_consistent_names}
 use Rattle.ob0_language_names.specs.Names.{Name}
 use Rattle.ob0_language_names.specs.Scopes.{renamed}
 use Rattle.ob0_edits_tokens.specs.Changed.{changes_at, changed_words, words_of}
-use Rattle.ob0_edits_tokens.specs.OfTrees.{RenamingKeepsSpelling, number_at, indexed_tokens, renamed_word_text, text_of_word}
+use Rattle.ob0_edits_tokens.specs.OfTrees.{RenamingKeepsSpelling, number_at, indexed_tokens, renamed_word_text, word_text_at}
 use Rattle.ob0_edits_tokens.specs.Replaced.{AreIdentifierIndexes}
-use Rattle.ob0_edits_tokens.specs.Words.{word_lexeme}
+use Rattle.ob0_edits_tokens.specs.Words.{terminal_of_word}
 use Rattle.ob0_edits_tokens.specs.Written.{name_word}
 use Rattle.ob0_scope.specs.NamesAtPlaces as names_at
 use Rattle.ob0_scope.specs.NamesAtPlaces.{IsRenamedAt, tokens_bound_to}
@@ -27,15 +27,15 @@ use Rattle.ob0_rename.proofs.Owned.{own_module}
 
 -- words by their indexes, and tokens by theirs
 
-pub text_same : (s : TextWithTokens) (k : ℕ) → text_of_word (words_of s) k ≡ place.text_at s k
+pub text_same : (s : TextWithTokens) (k : ℕ) → word_text_at (words_of s) k ≡ place.token_text_at s k
 text_same s k = of_list s.tokens k
   where
-    of_list : (ts : List Token) (k : ℕ) → text_of_word (map (word_of_token s.text) ts) k ≡ place.token_text_or_empty s.text (slice_get ts k)
+    of_list : (ts : List Token) (k : ℕ) → word_text_at (map (word_of_token s.text) ts) k ≡ place.token_text_or_empty s.text (slice_get ts k)
     of_list [] k = refl
     of_list (t ∷ ts) zero = refl
     of_list (t ∷ ts) (suc k) = of_list ts k
 
-pub number_same : (s : TextWithTokens) (k : ℕ) → number_at (words_of s) k ≡ place.value_at s k
+pub number_same : (s : TextWithTokens) (k : ℕ) → number_at (words_of s) k ≡ place.token_value_at s k
 number_same s k = of_list s.tokens k
   where
     of_list : (ts : List Token) (k : ℕ) → number_at (map (word_of_token s.text) ts) k ≡ place.token_value_or_zero (slice_get ts k)
@@ -51,46 +51,46 @@ placed_from text k (t ∷ ts) =
 spelled_places : (m : ParsedModule) → IsParsed m → spell (tree_of m) ≡ indexed_tokens 0 (words_of m.source)
 spelled_places m is = append_cancel_right (spell (tree_of m)) (indexed_tokens 0 (words_of m.source)) (EndOfText ∷ []) (is.places ∙ sym (placed_from m.source.text 0 m.source.tokens))
 
-lexemes_same : (text : List ℕ) (ts : List Token) → map (terminal_of_token text) ts ≡ map word_lexeme (map (word_of_token text) ts)
+lexemes_same : (text : List ℕ) (ts : List Token) → map (terminal_of_token text) ts ≡ map terminal_of_word (map (word_of_token text) ts)
 lexemes_same text [] = refl
 lexemes_same text (t ∷ ts) = ap (λ xs. terminal_of_token text t ∷ xs) (lexemes_same text ts)
 
 -- the module with the new name at these tokens
 
 pub at_places : (m : ParsedModule) (new : Name) (places : List ℕ) (k : ℕ)
-    → renamed_word_text (words_of m.source) places new k ≡ (if names_at.is_among k places then new else place.text_at m.source k)
+    → renamed_word_text (words_of m.source) places new k ≡ (if names_at.is_among k places then new else place.token_text_at m.source k)
 at_places m new places k = λ i. if among_same k places i then new else text_same m.source k i
 
-renamed_there : (m : ParsedModule) (d : ℕ) (new : Name) (own : Bool) → is_declared_as m d new ≡ own → declared_once (named_tree_of m) ≡ true → IsRenamedAt m d (tokens_bound_to m d true)
-    → mapped (renamed_word_text (words_of m.source) (if own then [] else tokens_bound_to m d true) new) (number_at (words_of m.source)) (tree_of m) ≡ renamed (named_tree_of m) d new
+renamed_there : (m : ParsedModule) (d : ℕ) (new : Name) (own : Bool) → is_declared_as m d new ≡ own → has_consistent_names (named_tree_of m) ≡ true → IsRenamedAt m d (tokens_bound_to m d true)
+    → mapped_tree (renamed_word_text (words_of m.source) (if own then [] else tokens_bound_to m d true) new) (number_at (words_of m.source)) (tree_of m) ≡ renamed (named_tree_of m) d new
 renamed_there m d new true e once there =
-    (λ i. mapped (λ k. text_same m.source k i) (λ k. number_same m.source k i) (tree_of m)) ∙ sym (own_module m d new e once)
+    (λ i. mapped_tree (λ k. text_same m.source k i) (λ k. number_same m.source k i) (tree_of m)) ∙ sym (own_module m d new e once)
 renamed_there m d new false e once there =
-    (λ i. mapped (λ k. at_places m new (tokens_bound_to m d true) k i) (λ k. number_same m.source k i) (tree_of m)) ∙ sym (there new)
+    (λ i. mapped_tree (λ k. at_places m new (tokens_bound_to m d true) k i) (λ k. number_same m.source k i) (tree_of m)) ∙ sym (there new)
 
-pub renamed_module : (m : ParsedModule) (d : ℕ) (new : Name) → declared_once (named_tree_of m) ≡ true → IsRenamedAt m d (tokens_bound_to m d true)
-    → mapped (renamed_word_text (words_of m.source) (tokens_to_rename m d new) new) (number_at (words_of m.source)) (tree_of m) ≡ renamed (named_tree_of m) d new
+pub renamed_module : (m : ParsedModule) (d : ℕ) (new : Name) → has_consistent_names (named_tree_of m) ≡ true → IsRenamedAt m d (tokens_bound_to m d true)
+    → mapped_tree (renamed_word_text (words_of m.source) (tokens_to_rename m d new) new) (number_at (words_of m.source)) (tree_of m) ≡ renamed (named_tree_of m) d new
 renamed_module m d new once there = renamed_there m d new (is_declared_as m d new) refl once there
 
 -- A text with a module's words, but a new name at some places, is a text of the tree with that name
 -- there.
 pub of_rewritten : (m : ParsedModule) (t : Tree Name module_text) (places : List ℕ) (new : Name) → IsParsed m → RenamingKeepsSpelling → AreIdentifierIndexes m.source.tokens 0 places
-    → mapped (renamed_word_text (words_of m.source) places new) (number_at (words_of m.source)) (tree_of m) ≡ t
+    → mapped_tree (renamed_word_text (words_of m.source) places new) (number_at (words_of m.source)) (tree_of m) ≡ t
     → (after : TextWithTokens) → IsScan after → words_of after ≡ changed_words (changes_at places (name_word new ∷ [])) 0 (words_of m.source) → ModuleOf after t
 of_rewritten m t places new is spells names there after scan words =
     record {
       spelled =
           lexemes_same after.text after.tokens
-          ∙ (ap (map word_lexeme) words ∙ (spells m.source module_text (tree_of m) places new names (spelled_places m is) ∙ ap spell there));
+          ∙ (ap (map terminal_of_word) words ∙ (spells m.source module_text (tree_of m) places new names (spelled_places m is) ∙ ap spell there));
       short = scan.short;
       shallow =
           subst (λ n. n ≤ 100)
-          (nesting_mapped (place.text_at m.source) (place.value_at m.source) (tree_of m)
+          (nesting_mapped (place.token_text_at m.source) (place.token_value_at m.source) (tree_of m)
           ∙ (sym (nesting_mapped (renamed_word_text (words_of m.source) places new) (number_at (words_of m.source)) (tree_of m)) ∙ ap nesting there))
           is.module_of.shallow;
     }
 
-pub of_renamed : (m : ParsedModule) (d : ℕ) (new : Name) → IsParsed m → declared_once (named_tree_of m) ≡ true → RenamingKeepsSpelling → IsRenamedAt m d (tokens_bound_to m d true)
+pub of_renamed : (m : ParsedModule) (d : ℕ) (new : Name) → IsParsed m → has_consistent_names (named_tree_of m) ≡ true → RenamingKeepsSpelling → IsRenamedAt m d (tokens_bound_to m d true)
     → AreIdentifierIndexes m.source.tokens 0 (tokens_to_rename m d new)
     → (after : TextWithTokens) → IsScan after → words_of after ≡ changed_words (changes_at (tokens_to_rename m d new) (name_word new ∷ [])) 0 (words_of m.source)
     → ModuleOf after (renamed (named_tree_of m) d new)

@@ -21,7 +21,7 @@ use Rattle.ob0_tree.specs.declared.tree.Role.TheVariants as role
 use Rattle.ob0_language_names.specs.Names.{Name}
 use Rattle.ob0_scope_table.specs.Resolution.{declaring_names}
 use Rattle.ob0_edits_tokens.specs.Changed.{words_of}
-use Rattle.ob0_edits_tokens.specs.OfTrees.{text_of_word, word_at}
+use Rattle.ob0_edits_tokens.specs.OfTrees.{word_text_at, word_at}
 use Rattle.ob0_edits_tokens.proofs.OfTrees.{word_kind}
 use Rattle.ob0_types.specs.IdentifierMeanings.{IsField}
 use Rattle.ob0_types.specs.declared.meant.ResolvedIdentifier.{ResolvedIdentifier}
@@ -44,7 +44,7 @@ words_named (l ∷ ls) after are = one l.kind are.0.belongs (words_named ls afte
     one lexeme.Comment belongs later = later
     one (lexeme.Token kind) belongs later = ((λ e. subst (λ k. IsLexemeOfKind (lexeme.Token k) l.text) e belongs), later)
 
-named_word : (ws : List Word) (k : ℕ) → EachNamed ws → k < length ws → (word_at ws k).kind ≡ token.Identifier → IsIdentifier (text_of_word ws k)
+named_word : (ws : List Word) (k : ℕ) → EachNamed ws → k < length ws → (word_at ws k).kind ≡ token.Identifier → IsIdentifier (word_text_at ws k)
 named_word [] k each low e = absurd (omega (arith, low))
 named_word (w ∷ ws) zero each low e = each.0 e
 named_word (w ∷ ws) (suc k) each low e = named_word ws k each.1 (omega (arith, low)) e
@@ -62,7 +62,7 @@ one_is_identifier ts (p ∷ ps) zero k h e = let same : p ≡ k = cc in subst (o
 one_is_identifier ts (p ∷ ps) (suc j) k h e = one_is_identifier ts ps j k h.1 e
 
 -- The text of an identifier token is an identifier.
-pub spelled_at : (m : ParsedModule) (k : ℕ) → IsScan m.source → order.IsIdentifierToken m.source.tokens k → IsIdentifier (place.text_at m.source k)
+pub spelled_at : (m : ParsedModule) (k : ℕ) → IsScan m.source → order.IsIdentifierToken m.source.tokens k → IsIdentifier (place.token_text_at m.source k)
 spelled_at m k scan is_there =
     let each : EachNamed (words_of m.source) = subst EachNamed (sym (scan_words m.source scan)) (words_named scan.lexemes [] scan.lexed.each) in
     let low : k < length (words_of m.source) = omega (arith, is_there.0, length-map m.source.tokens (word_of_token m.source.text)) in
@@ -76,6 +76,6 @@ own_identifier m d new is scan e =
     subst IsIdentifier by.written (spelled_at m found.0 scan is_there)
 
 -- The text of a field's identifier at a place is an identifier.
-pub field_spelled : (m : ParsedModule) (found : Option ResolvedIdentifier) → IsScan m.source → IfSome found (λ x. IsField x.means → order.IsIdentifierToken m.source.tokens x.token) → IfSome found (λ x. IsField x.means → IsIdentifier (place.text_at m.source x.token))
+pub field_spelled : (m : ParsedModule) (found : Option ResolvedIdentifier) → IsScan m.source → IfSome found (λ x. IsField x.means → order.IsIdentifierToken m.source.tokens x.token) → IfSome found (λ x. IsField x.means → IsIdentifier (place.token_text_at m.source x.token))
 field_spelled m None scan identifier_with_meaning = tt
 field_spelled m (Some x) scan identifier_with_meaning = λ field. spelled_at m x.token scan (identifier_with_meaning field)

@@ -7,10 +7,10 @@ use Rattle.std.specs.Option.{option_or}
 use Rattle.std.proofs.lemmas.Bool.{and_parts, or_parts}
 use Rattle.std.proofs.lemmas.List.Folds.{list_any-append}
 use Rattle.std.proofs.lemmas.Slice.Eq.{bytes_eq-Decides}
-use Rattle.ob0_tree.specs.Tree.{Tree, block, declares, declares_procedure, end, has_body, is_module, item, items, module_text, more, procedure}
-use Rattle.ob0_language_names.specs.DeclaredOnce.{are_distinct, block_names, block_once, declared_once, formals_have_distinct_fields, is_among, procedure_once, procedures_once, types_have_distinct_fields, variables_have_distinct_fields}
+use Rattle.ob0_tree.specs.Tree.{Tree, block, declares, declares_procedure, end, forms_block, is_module, item, items, module_text, more, procedure}
+use Rattle.ob0_language_names.specs.ConsistentNames.{are_distinct, block_names, block_has_consistent_names, has_consistent_names, formals_have_distinct_fields, is_among, procedure_has_consistent_names, procedures_have_consistent_names, types_have_distinct_fields, variables_have_distinct_fields}
 use Rattle.ob0_language_names.specs.Names.{Name, same_name}
-use Rattle.ob0_language_names.specs.Occurrences.{Free, bindings, blocks_in, blocks_in_procedure, blocks_in_procedures, declares_ordinal, another_has_name}
+use Rattle.ob0_language_names.specs.Occurrences.{Free, bindings, scopes_in_block, scopes_in_procedure, scopes_in_procedures, declares_ordinal, another_has_name}
 use Rattle.ob0_language_names.specs.Parts.{constant_names, formal_names, formal_sections, module_block, declared_type_names, procedure_name, section_constants, section_types, section_variables, variable_names}
 use Rattle.ob0_scope.specs.Renames.{namesake, namesake_in, other_with_name}
 use Rattle.ob0_language_names.specs.Scopes.{Scope, ordinal_after_block, ordinal_after_names, ordinal_after_procedure, ordinal_after_procedures, body_scope, declare_names, declare_procedure_names, first_procedure_ordinal, first_type_ordinal, first_variable_ordinal, procedures_scope, types_scope, variables_scope}
@@ -78,10 +78,10 @@ module _ (d : ℕ) (new : Name) where
       in_scope-procedures (ordinal_after_procedure (suc k) p) rest ((x, k) ∷ s) (subst (λ n. AreSo d new n (names_in_procedures rest)) (sym (after_names_in_procedure k p)) parts.1) (parts.0.0, so)
 
   mutual
-    block_clear : (j : ℕ) (own : List Name) (b : Tree Name block) → InScope d new (declare_names j own []) → AreSo d new (ordinal_after_names j own) (names_in b) → block_once own b ≡ true
-        → list_any (Clashes d new) (blocks_in (ordinal_after_names j own) (declare_names j own []) b) ≡ false
-    block_clear j own (has_body (declares cs ts vs ps) statements) s h once =
-        let b : Tree Name block = has_body (declares cs ts vs ps) statements in
+    block_clear : (j : ℕ) (own : List Name) (b : Tree Name block) → InScope d new (declare_names j own []) → AreSo d new (ordinal_after_names j own) (names_in b) → block_has_consistent_names own b ≡ true
+        → list_any (Clashes d new) (scopes_in_block (ordinal_after_names j own) (declare_names j own []) b) ≡ false
+    block_clear j own (forms_block (declares cs ts vs ps) statements) s h once =
+        let b : Tree Name block = forms_block (declares cs ts vs ps) statements in
         let k : ℕ = ordinal_after_names j own in
         let mine : Scope Name = body_scope k b (declare_names j own []) in
         let xs = constant_names (section_constants cs) in
@@ -94,35 +94,35 @@ module _ (d : ℕ) (new : Name) where
         let s₂ = in_scope-names d new (first_type_ordinal k b) ys (types_scope k b (declare_names j own [])) parts₁.0 s₁ in
         let s₃ = in_scope-names d new (first_variable_ordinal k b) zs (variables_scope k b (declare_names j own [])) parts₂.0 s₂ in
         let s₄ = in_scope-procedures (first_procedure_ordinal k b) ps (procedures_scope k b (declare_names j own [])) parts₂.1 s₃ in
-        let onces = and_parts (are_distinct (own ++ block_names b)) (types_have_distinct_fields (section_types ts) && (variables_have_distinct_fields (section_variables vs) && procedures_once ps)) once in
-        let onces₁ = and_parts (types_have_distinct_fields (section_types ts)) (variables_have_distinct_fields (section_variables vs) && procedures_once ps) onces.1 in
-        let onces₂ = and_parts (variables_have_distinct_fields (section_variables vs)) (procedures_once ps) onces₁.1 in
+        let onces = and_parts (are_distinct (own ++ block_names b)) (types_have_distinct_fields (section_types ts) && (variables_have_distinct_fields (section_variables vs) && procedures_have_consistent_names ps)) once in
+        let onces₁ = and_parts (types_have_distinct_fields (section_types ts)) (variables_have_distinct_fields (section_variables vs) && procedures_have_consistent_names ps) onces.1 in
+        let onces₂ = and_parts (variables_have_distinct_fields (section_variables vs)) (procedures_have_consistent_names ps) onces₁.1 in
         let in_scope : are_distinct (labels_in own_name mine) ≡ true =
         ap are_distinct (own_names-block k b (declare_names j own [])
         ∙ ap (onto (block_names b)) (labels_in-names own_name j own [] ∙ ap (λ xs. onto xs []) (label_names-own j own)))
         ∙ (ap are_distinct (sym (onto-append own (block_names b) [])) ∙ (distinct-onto (own ++ block_names b) [] ∙ (ap are_distinct (append-nil (own ++ block_names b)) ∙ onces.0))) in
         λ i. no_clash mine s₄ in_scope i || procedures_clear (first_procedure_ordinal k b) ps parts₂.1 onces₂.1 i
 
-    procedures_clear : (k : ℕ) (ps : Tree Name (items procedure)) → AreSo d new k (names_in_procedures ps) → procedures_once ps ≡ true → list_any (Clashes d new) (blocks_in_procedures k ps) ≡ false
+    procedures_clear : (k : ℕ) (ps : Tree Name (items procedure)) → AreSo d new k (names_in_procedures ps) → procedures_have_consistent_names ps ≡ true → list_any (Clashes d new) (scopes_in_procedures k ps) ≡ false
     procedures_clear k end h once = refl
     procedures_clear k (more p rest) h once =
         let parts = so-append d new k (names_in_procedure p) (names_in_procedures rest) h in
-        let onces = and_parts (procedure_once p) (procedures_once rest) once in
-        list_any-append (Clashes d new) (blocks_in_procedure (suc k) p) (blocks_in_procedures (ordinal_after_procedure (suc k) p) rest)
+        let onces = and_parts (procedure_has_consistent_names p) (procedures_have_consistent_names rest) once in
+        list_any-append (Clashes d new) (scopes_in_procedure (suc k) p) (scopes_in_procedures (ordinal_after_procedure (suc k) p) rest)
         ∙ (λ i. procedure_clear k p parts.0 onces.0 i
         || procedures_clear (ordinal_after_procedure (suc k) p) rest (subst (λ n. AreSo d new n (names_in_procedures rest)) (sym (after_names_in_procedure k p)) parts.1) onces.1 i)
 
-    procedure_clear : (k : ℕ) (p : Tree Name (item procedure)) → AreSo d new k (names_in_procedure p) → procedure_once p ≡ true → list_any (Clashes d new) (blocks_in_procedure (suc k) p) ≡ false
+    procedure_clear : (k : ℕ) (p : Tree Name (item procedure)) → AreSo d new k (names_in_procedure p) → procedure_has_consistent_names p ≡ true → list_any (Clashes d new) (scopes_in_procedure (suc k) p) ≡ false
     procedure_clear k (declares_procedure x fs b closing) h once =
         let own = formal_names (formal_sections fs) in
         let parts = so-append d new (suc k) own (names_in b) h.1 in
-        let onces = and_parts (same_name x closing) (formals_have_distinct_fields (formal_sections fs) && block_once own b) once in
-        let onces₁ = and_parts (formals_have_distinct_fields (formal_sections fs)) (block_once own b) onces.1 in
+        let onces = and_parts (same_name x closing) (formals_have_distinct_fields (formal_sections fs) && block_has_consistent_names own b) once in
+        let onces₁ = and_parts (formals_have_distinct_fields (formal_sections fs)) (block_has_consistent_names own b) onces.1 in
         block_clear (suc k) own b (in_scope-names d new (suc k) own [] parts.0 tt) parts.1 onces₁.1
 
-  pub own_name_free : (t : Tree Name module_text) → 7 ≤ d → AreSo d new 7 (names_in (module_block t)) → declared_once t ≡ true → Free t d new
+  pub own_name_free : (t : Tree Name module_text) → 7 ≤ d → AreSo d new 7 (names_in (module_block t)) → has_consistent_names t ≡ true → Free t d new
   own_name_free (is_module x b closing) high h once =
-      let onces = and_parts (same_name x closing) (block_once [] b) once in
+      let onces = and_parts (same_name x closing) (block_has_consistent_names [] b) once in
       (block_clear 7 [] b tt h onces.1, ap bindings (same_module d new (is_module x b closing) high h once))
 
 -- ---- declarations in blocks have ordinals of the module
@@ -156,9 +156,9 @@ within-procedures low high k (more p rest) s l h w =
     within-procedures low high (ordinal_after_procedure (suc k) p) rest ((procedure_name p, k) ∷ s) (omega (arith, l, n)) h (l, omega (arith, h, n, m), w)
 
 mutual
-  block_within : (low high k : ℕ) (own : Scope Name) (b : Tree Name block) → low ≤ k → ordinal_after_block k b ≤ high → Within low high own → AllWithin low high (blocks_in k own b)
-  block_within low high k own (has_body (declares cs ts vs ps) statements) l h w =
-      let b : Tree Name block = has_body (declares cs ts vs ps) statements in
+  block_within : (low high k : ℕ) (own : Scope Name) (b : Tree Name block) → low ≤ k → ordinal_after_block k b ≤ high → Within low high own → AllWithin low high (scopes_in_block k own b)
+  block_within low high k own (forms_block (declares cs ts vs ps) statements) l h w =
+      let b : Tree Name block = forms_block (declares cs ts vs ps) statements in
       let xs = constant_names (section_constants cs) in
       let ys = declared_type_names (section_types ts) in
       let zs = variable_names (section_variables vs) in
@@ -172,16 +172,16 @@ mutual
       let l₃ = le_trans l (le_trans a (le_trans a₁ a₂)) in
       (within-procedures low high (first_procedure_ordinal k b) ps (procedures_scope k b own) l₃ h w₃, procedures_within low high (first_procedure_ordinal k b) ps l₃ h)
 
-  procedures_within : (low high k : ℕ) (ps : Tree Name (items procedure)) → low ≤ k → ordinal_after_procedures k ps ≤ high → AllWithin low high (blocks_in_procedures k ps)
+  procedures_within : (low high k : ℕ) (ps : Tree Name (items procedure)) → low ≤ k → ordinal_after_procedures k ps ≤ high → AllWithin low high (scopes_in_procedures k ps)
   procedures_within low high k end l h = tt
   procedures_within low high k (more p rest) l h =
       let n = le-ordinal_after_procedure (suc k) p in
       let m = le-ordinal_after_procedures (ordinal_after_procedure (suc k) p) rest in
-      within_more low high (blocks_in_procedure (suc k) p) (blocks_in_procedures (ordinal_after_procedure (suc k) p) rest)
+      within_more low high (scopes_in_procedure (suc k) p) (scopes_in_procedures (ordinal_after_procedure (suc k) p) rest)
       (procedure_within low high (suc k) p (omega (arith, l)) (le_trans m h))
       (procedures_within low high (ordinal_after_procedure (suc k) p) rest (omega (arith, l, n)) h)
 
-  procedure_within : (low high k : ℕ) (p : Tree Name (item procedure)) → low ≤ k → ordinal_after_procedure k p ≤ high → AllWithin low high (blocks_in_procedure k p)
+  procedure_within : (low high k : ℕ) (p : Tree Name (item procedure)) → low ≤ k → ordinal_after_procedure k p ≤ high → AllWithin low high (scopes_in_procedure k p)
   procedure_within low high k (declares_procedure x fs b closing) l h =
       let own = formal_names (formal_sections fs) in
       block_within low high (ordinal_after_names k own) (declare_names k own []) b (le_trans l (le-ordinal_after_names k own)) h
@@ -206,4 +206,4 @@ named_within low high d new (s ∷ ss) w = one (declares_ordinal s d) (other_wit
 
 pub namesake_within : (t : Tree Name module_text) (d : ℕ) (new : Name) → OneWithin 7 (ordinal_after_block 7 (module_block t)) (namesake t d new)
 namesake_within (is_module x b closing) d new =
-    named_within 7 (ordinal_after_block 7 b) d new (blocks_in 7 [] b) (block_within 7 (ordinal_after_block 7 b) 7 [] b (le_refl 7) (le_refl (ordinal_after_block 7 b)) tt)
+    named_within 7 (ordinal_after_block 7 b) d new (scopes_in_block 7 [] b) (block_within 7 (ordinal_after_block 7 b) 7 [] b (le_refl 7) (le_refl (ordinal_after_block 7 b)) tt)

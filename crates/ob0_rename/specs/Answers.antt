@@ -17,9 +17,9 @@ use Rattle.ob0_language_names.specs.Occurrences.{Free, at_declaration, at_occurr
 use Rattle.ob0_language_names.specs.Scopes.{renamed}
 use Rattle.ob0_language_types.specs.WellTyped.{WellTyped}
 use Rattle.ob0_language_runs.specs.EditLaws.{HaveSameRuns}
-use Rattle.ob0_edits_tokens.specs.Replaced.{edit_at, parts}
+use Rattle.ob0_edits_tokens.specs.Replaced.{edit_at, range_and_text}
 use Rattle.ob0_language_fields.specs.Renaming.{IsFreeFieldName, with_renamed_field, is_duplicate_field}
-use Rattle.ob0_rename.specs.Renaming.{TargetsDeclaration, TargetsField, Renaming, field_tokens_to_rename, is_declared_as, renaming_target, module_of, nothing, occurrence_range, conflicting_field_range, conflicting_range, predeclared, text_after_renaming, tokens_to_rename, named_tree}
+use Rattle.ob0_rename.specs.Renaming.{TargetsDeclaration, TargetsField, Renaming, field_tokens_to_rename, is_declared_as, renaming_target, module_of, nothing, occurrence_range, conflicting_field_range, conflicting_declaration_range, predeclared, text_after_renaming, tokens_to_rename, named_tree}
 
 -- States that the edits write the new name at these tokens and change nothing else. Applied all at
 -- once, they give a text with the tree `tree` and with at most `max_text` bytes. The tree is
@@ -27,7 +27,7 @@ use Rattle.ob0_rename.specs.Renaming.{TargetsDeclaration, TargetsField, Renaming
 pub record WritesName (r : Renaming) (tokens : List ℕ) (tree : Tree Name module_text)
     (edits : List Edit) : Type 0 where
   pub short : length (text_after_renaming r tokens) ≤ max_text
-  pub changes : map parts edits
+  pub changes : map range_and_text edits
       ≡ map (edit_at r.unit r.text (module_of r).source.tokens r.new) tokens
   pub after : TextWithTokens
   pub scan : IsScan after
@@ -41,7 +41,7 @@ pub record WritesName (r : Renaming) (tokens : List ℕ) (tree : Tree Name modul
 -- States that these edits rename the declaration `d`. The new name is an identifier and is free for
 -- `d`: it causes no name conflict. The edits write it at every token that declares `d`, refers to
 -- `d` or repeats its name after END. The edited text is the renamed module.
-pub record Renames (r : Renaming) (d : ℕ) (edits : List Edit) : Type 0 where
+pub record RenamesDeclaration (r : Renaming) (d : ℕ) (edits : List Edit) : Type 0 where
   pub identifier : IsIdentifier r.new
   pub free : Free (named_tree r) d r.new
   pub writes : WritesName r (tokens_to_rename (module_of r) d r.new)
@@ -56,7 +56,7 @@ IsDeclarationRefusal r d refusal.BadName = ¬ IsIdentifier r.new
 IsDeclarationRefusal r d (refusal.Duplicate range) =
     IsIdentifier r.new
     × (first_name_conflict (named_tree r) d r.new ≡ Some at_declaration)
-    × (conflicting_range r d ≡ Some range)
+    × (conflicting_declaration_range r d ≡ Some range)
 IsDeclarationRefusal r d (refusal.Captures range) =
     IsIdentifier r.new
     × ((k : ℕ)
@@ -74,7 +74,7 @@ IsDeclarationRefusal r d refusal.Memory = ⊥
 -- States that the answer is edits that rename the declaration `d`, or the first refusal that
 -- applies, or `Memory`.
 abbrev pub AnswersForDeclaration : Renaming → ℕ → Result (Vec Edit Global) EditRefusal → Type 0
-AnswersForDeclaration r d (Ok edits) = Renames r d edits.items
+AnswersForDeclaration r d (Ok edits) = RenamesDeclaration r d edits.items
 AnswersForDeclaration r d (Err why) = (why ≡ refusal.Memory) ⊎ IsDeclarationRefusal r d why
 
 -- ---- answers to the renaming of a field
@@ -140,7 +140,7 @@ IsRenameRefusal r refusal.Memory = ⊥
 -- States that these edits rename the declaration or field at the renaming's place.
 abbrev pub AreRenameEdits : Renaming → List Edit → Type 0
 AreRenameEdits r edits =
-    ((d : ℕ) × TargetsDeclaration r d × Renames r d edits)
+    ((d : ℕ) × TargetsDeclaration r d × RenamesDeclaration r d edits)
     ⊎ ((k : ℕ) × ((f : Name) × TargetsField r k f × RenamesField r k f edits))
 
 -- States that the answer is edits that rename the declaration or field at the renaming's place, or
@@ -151,7 +151,7 @@ RenameAnswers r (Err why) = (why ≡ refusal.Memory) ⊎ IsRenameRefusal r why
 
 -- States that a declaration or field of the module is at the renaming's place, not a predeclared
 -- name, and that the new name is an identifier. An allocation can fail only in this case.
-pub record AllocatesOnly (r : Renaming) : Type 0 where
+pub record MayRunOutOfMemory (r : Renaming) : Type 0 where
   pub identifier : IsIdentifier r.new
   pub some : ¬ (renaming_target r ≡ nothing)
   pub declared : ¬ (renaming_target r ≡ predeclared)

@@ -9,7 +9,7 @@ use Rattle.ob0_text.specs.declared.position_types.Position.{Position}
 use Rattle.ob0_text.specs.declared.position_types.Range.{Range}
 use Rattle.ob0_text.specs.declared.position_types.Unit as counting
 use Rattle.ob0_tree.specs.ParsedModule as read
-use Rattle.ob0_tree.specs.Places.{text_at}
+use Rattle.ob0_tree.specs.Places.{token_text_at}
 use Rattle.ob0_tree.specs.Tree.{Tree, identifiers, module_text, occurrences}
 use Rattle.ob0_tree.specs.declared.tree.Role.TheVariants as role
 use Rattle.ob0_language_names.specs.Names.{Name, same_name}
@@ -18,7 +18,7 @@ use Rattle.ob0_scope.specs.Renames.{namesake}
 use Rattle.ob0_scope_table.specs.Resolution.{Resolution, declaring_names, span_at, declaration_token}
 use Rattle.ob0_edits_tokens.specs.Replaced.{text_after_replacement}
 use Rattle.ob0_edits_tokens.specs.Ranges.{range_of}
-use Rattle.ob0_scope.specs.NamesAtPlaces.{name_on, tokens_bound_to}
+use Rattle.ob0_scope.specs.NamesAtPlaces.{name_at_offset, tokens_bound_to}
 use Rattle.ob0_scope.specs.declared.naming.Named as named
 use Rattle.ob0_types_fields.specs.declared.field_name.FieldName.{FieldName}
 use Rattle.ob0_types_fields.specs.Identifiers.{field_declaring_token, field_at, field_tokens}
@@ -68,23 +68,23 @@ ordinal_target ordinal = if nat_lt ordinal predeclared_count then predeclared el
 -- `nothing` if there is no such identifier (None).
 abbrev pub field_target : TextWithTokens → Option FieldName → RenameTarget
 field_target source None = nothing
-field_target source (Some x) = field_of x.owner (text_at source x.token)
+field_target source (Some x) = field_of x.owner (token_text_at source x.token)
 
 -- Returns the target for the name at a place. If no name is at the place (None), returns the target
 -- for the field at the place.
-abbrev pub meaning_of_name_or_field : TextWithTokens → Option named.Named → Option FieldName → RenameTarget
-meaning_of_name_or_field source (Some n) f = ordinal_target n.ordinal
-meaning_of_name_or_field source None f = field_target source f
+abbrev pub target_of_name_or_field : TextWithTokens → Option named.Named → Option FieldName → RenameTarget
+target_of_name_or_field source (Some n) f = ordinal_target n.ordinal
+target_of_name_or_field source None f = field_target source f
 
 -- Returns the target at a byte offset: the declaration to which the name at the offset is bound, or
 -- otherwise the field at the offset. Returns `nothing` if the offset is on neither.
-abbrev pub identifier_meaning_at : Resolution → ℕ → RenameTarget
-identifier_meaning_at names offset =
-    meaning_of_name_or_field names.module_read.source (name_on names.module_read offset) (field_at names offset)
+abbrev pub rename_target_at : Resolution → ℕ → RenameTarget
+rename_target_at names offset =
+    target_of_name_or_field names.module_read.source (name_at_offset names.module_read offset) (field_at names offset)
 
 -- Returns the target of the renaming, from the identifier at its place.
 abbrev pub renaming_target : Renaming → RenameTarget
-renaming_target r = identifier_meaning_at r.names (offset_of (width_of r.unit) r.text r.place)
+renaming_target r = rename_target_at r.names (offset_of (width_of r.unit) r.text r.place)
 
 -- States that the renaming's target is the declaration with the ordinal `d`.
 abbrev pub TargetsDeclaration : Renaming → ℕ → Type 0
@@ -107,7 +107,7 @@ declaring_token m ordinal =
 abbrev pub is_declared_as : read.ParsedModule → ℕ → Name → Bool
 is_declared_as m d new =
     elim (declaring_token m d)
-    [ Some token ↦ same_name (text_at m.source token) new | None ↦ false ]
+    [ Some token ↦ same_name (token_text_at m.source token) new | None ↦ false ]
 
 -- Returns the indexes of the tokens at which the name of the declaration `d` is declared, used or
 -- repeated as a closing name. The list is empty if the declaration already has the name `new`.
@@ -131,8 +131,8 @@ token_range r token = range_of (width_of r.unit) r.text (span_at (module_of r).s
 
 -- Returns the range of the identifier that declares another object with the new name in the block
 -- that declares `d`. Returns None if there is no such object.
-abbrev pub conflicting_range : Renaming → ℕ → Option Range
-conflicting_range r d =
+abbrev pub conflicting_declaration_range : Renaming → ℕ → Option Range
+conflicting_declaration_range r d =
     option_map (token_range r)
     (option_and_then (declaring_token (module_of r)) (namesake (named_tree r) d r.new))
 

@@ -11,7 +11,7 @@ ghost use Rattle.ob0_scope_table.specs.Resolution.{span_at};
 ghost use Rattle.ob0_scope.specs.declared.name_conflicts.FirstConflict.TheVariants.{Duplicate, Occurrence};
 ghost use Rattle.ob0_text.specs.declared.refusals.EditRefusal.TheVariants as refused;
 ghost use Rattle.ob0_edits_tokens.specs.Ranges.{range_of};
-ghost use Rattle.ob0_rename.specs.Answers.{RenameAnswers, AnswersForDeclaration, AllocatesOnly, FailsOnlyForMemory, AcceptsPresentName};
+ghost use Rattle.ob0_rename.specs.Answers.{RenameAnswers, AnswersForDeclaration, MayRunOutOfMemory, FailsOnlyForMemory, AcceptsPresentName};
 ghost use Rattle.ob0_rename.specs.Renaming.{declaring_token, is_declared_as, renaming_of};
 
 use crate::fields::rename_field;
@@ -47,7 +47,7 @@ pub fn rename<T: TextStore>(
     requires { T.content store.now ≡ chars well_typed.now.module_read.source.text }
     ensures answers { RenameAnswers (renaming_of (T.unit_of store.now) (T.content store.now) well_typed.now place new.now) result }
     ensures memory { result ≡ Err refused.Memory
-        → AllocatesOnly (renaming_of (T.unit_of store.now) (T.content store.now) well_typed.now place new.now) }
+        → MayRunOutOfMemory (renaming_of (T.unit_of store.now) (T.content store.now) well_typed.now place new.now) }
     ensures own_name { AcceptsPresentName (renaming_of (T.unit_of store.now) (T.content store.now) well_typed.now place new.now) result }
 {
     let offset = store.offset(place);
@@ -123,7 +123,7 @@ fn refusal_of<T: TextStore>(store: &T, names: &Resolved, capture: FirstConflict)
             range: token_range(store, names.tokens(), names.declaring_token(other)),
         },
         FirstConflict::Occurrence(k) => EditRefusal::Captures {
-            range: token_range(store, names.tokens(), names.occurrence(k)),
+            range: token_range(store, names.tokens(), names.occurrence_token(k)),
         },
     }
 }

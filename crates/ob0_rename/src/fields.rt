@@ -5,7 +5,7 @@ ghost use Rattle.std.specs.Str.{chars};
 ghost use Rattle.ob0_scan.specs.Classes.{IsIdentifier};
 ghost use Rattle.ob0_text.specs.declared.position_types.Position as positions;
 ghost use Rattle.ob0_text.specs.declared.refusals.EditRefusal.TheVariants as refused;
-ghost use Rattle.ob0_tree.specs.Places.{text_at};
+ghost use Rattle.ob0_tree.specs.Places.{token_text_at};
 ghost use Rattle.ob0_language_names.specs.Names.{same_name};
 ghost use Rattle.ob0_edits_tokens.specs.Replaced.{AreIdentifierIndexes};
 ghost use Rattle.ob0_types_fields.specs.Identifiers.{field_declaring_token};
@@ -18,7 +18,7 @@ use ob0_edits_tokens::replacement_edits;
 use ob0_language_field_laws::laws::free_field_renaming_keeps_typing_and_runs;
 use ob0_scan::is_identifier;
 use ob0_text::{Edit, EditRefusal, TextStore};
-use ob0_tree::text_at;
+use ob0_tree::token_text_at;
 use ob0_types::{WellTyped, field_declaring_token, field_tokens};
 use ob0_types_fields::laws::{duplicate_has_declaring_token, renaming_changes_field_tokens};
 use std::alloc::{AllocError, Global};
@@ -44,10 +44,10 @@ pub(crate) fn rename_field<T: TextStore>(
           place = place;
           new = new.now;
         }) owner
-        (text_at well_typed.now.module_read.source token) result }
+        (token_text_at well_typed.now.module_read.source token) result }
     ensures memory { result ≡ Err refused.Memory → IsIdentifier new.now }
     ensures own_name { IsIdentifier new.now
-        → new.now ≡ text_at well_typed.now.module_read.source token
+        → new.now ≡ token_text_at well_typed.now.module_read.source token
         → FailsOnlyForMemory result }
 {
     names_replace_names();
@@ -61,7 +61,7 @@ pub(crate) fn rename_field<T: TextStore>(
     if !is_identifier(new) {
         return Err(EditRefusal::BadName);
     }
-    let old = text_at(names.tokens(), token);
+    let old = token_text_at(names.tokens(), token);
     match conflicting_field(well_typed, owner, old, new) {
         Some(other) => Err(EditRefusal::Duplicate {
             range: token_range(store, names.tokens(), Some(other)),

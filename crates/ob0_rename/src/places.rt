@@ -5,7 +5,7 @@ ghost use Rattle.std.specs.Prelude.{◌≡◌, ℕ, IfOk, IfSome, Some};
 ghost use Rattle.ob0_scan.specs.Classes.{IsIdentifier};
 ghost use Rattle.ob0_scope_table.specs.Resolution.{span_at};
 ghost use Rattle.ob0_text.specs.Units.{width_of};
-ghost use Rattle.ob0_tree.specs.Places.{text_at};
+ghost use Rattle.ob0_tree.specs.Places.{token_text_at};
 ghost use Rattle.ob0_edits_tokens.specs.Ranges.{range_of};
 ghost use Rattle.ob0_edits_tokens.specs.Replaced.{AreIdentifierIndexes};
 ghost use Rattle.ob0_types.specs.IdentifierMeanings.{IsField, identifier_meaning_at};
@@ -28,7 +28,7 @@ pub(crate) fn identifier_with_meaning(
 ) -> Option<ResolvedIdentifier>
     ensures found { result ≡ identifier_meaning_at well_typed.now offset }
     ensures spelled { IfSome result (λ x. IsField x.means
-        → IsIdentifier (text_at well_typed.now.module_read.source x.token)) }
+        → IsIdentifier (token_text_at well_typed.now.module_read.source x.token)) }
 {
     // The proof needs the contract of this call.
     let _text = well_typed.resolved().tokens().text();

@@ -32,13 +32,13 @@ use Rattle.ob0_edits_tokens.specs.OfTrees.{RenamingKeepsSpelling}
 use Rattle.ob0_edits_tokens.specs.Replaced.{AreIdentifierIndexes, ReplacesName}
 use Rattle.ob0_edits_tokens.specs.Written.{name_word}
 use Rattle.ob0_rename.specs.Answers.{RenameAnswers}
-use Rattle.ob0_rename.specs.Renaming.{TargetsField, TargetsDeclaration, Renaming, RenameTarget, declaration, declaring_token, field_of, field_tokens_to_rename, is_declared_as, renaming_target, nothing, conflicting_range, predeclared, renaming_of, token_range, tokens_to_rename}
+use Rattle.ob0_rename.specs.Renaming.{TargetsField, TargetsDeclaration, Renaming, RenameTarget, declaration, declaring_token, field_of, field_tokens_to_rename, is_declared_as, renaming_target, nothing, conflicting_declaration_range, predeclared, renaming_of, token_range, tokens_to_rename}
 use Rattle.ob0_rename.proofs.FieldOutcomes.{duplicated, field_answered, field_answered_there, other_none}
 use Rattle.ob0_rename.proofs.Named.{are_names}
 use Rattle.ob0_rename.proofs.Occurring.{occurrence_is_there}
 use Rattle.ob0_rename.proofs.Outcomes.{answered, answered_there}
 use Rattle.ob0_rename.proofs.Owned.{other_is_declared}
-use Rattle.ob0_analysis.specs.Analysed.{IsModuleIn}
+use Rattle.ob0_analysis.specs.Analysed.{IsResolvedWellTypedModule}
 use Rattle.ob0_analysis.specs.Texts.{utf8}
 use Rattle.ob0_edits.specs.Renamings.{FindsRenameResult}
 use Rattle.ob0_edits.proofs.Renamings.{new_name_found, settled}
@@ -47,7 +47,7 @@ use Rattle.ob0_world_rules.specs.Answers.{IsAnswerForText}
 use Rattle.ob0_world_rules.specs.Edited.{Replacement, replacements}
 use Rattle.ob0_world_rules.specs.Language.{WellTypedText}
 use Rattle.ob0_world_rules.specs.Laws.{HasAnswers}
-use Rattle.ob0_rename_answers.specs.RenameAnswers.{EachHasNames}
+use Rattle.ob0_rename_answers.specs.RenameAnswers.{WellTypedTextsHaveNames}
 use Rattle.ob0_rename_answers.proofs.NewNameEdits.{NoMemory, Outcome, outcome}
 
 abbrev pub NamesReplaceNames : Type 0
@@ -77,7 +77,7 @@ names_or_none tokens places true h = tt
 names_or_none tokens places false h = h
 
 module _ (keeps : FreeRenamingKeepsTypingAndRuns) (field_keeps : FreeFieldRenamingKeepsTypingAndRuns) (by_tokens : RenamingChangesFieldTokens) (by_token : DuplicateHasDeclaringToken) (spells : RenamingKeepsSpelling) (identified : NamesReplaceNames) where
-  module _ (unit : Unit) (text : List ℕ) (place : Position) (new : List ℕ) (names : Resolution) (read : IsModuleIn (utf8 text) names) (none : (given : List Replacement) → IsAnswerForText unit text (rename place new) given → ⊥) where
+  module _ (unit : Unit) (text : List ℕ) (place : Position) (new : List ℕ) (names : Resolution) (read : IsResolvedWellTypedModule (utf8 text) names) (none : (given : List Replacement) → IsAnswerForText unit text (rename place new) given → ⊥) where
     abbrev asked : Renaming
     asked = renaming_of unit text names place new
 
@@ -119,7 +119,7 @@ module _ (keeps : FreeRenamingKeepsTypingAndRuns) (field_keeps : FreeFieldRenami
       duplicate : IsIdentifier new → (other : ℕ) → namesake tree d new ≡ Some other → ⊥
       duplicate id other e =
           let is_there = other_is_declared m d new other e in
-          let range : conflicting_range asked d ≡ Some (token_range asked is_there.0) =
+          let range : conflicting_declaration_range asked d ≡ Some (token_range asked is_there.0) =
           ap (λ o. option_map (token_range asked) (option_and_then (declaring_token m) o)) e ∙ ap (option_map (token_range asked)) is_there.1 in
           finish (Err (refusal.Duplicate (token_range asked is_there.0))) (duplicate_other (token_range asked is_there.0))
           (answered_there asked d means (Err (refusal.Duplicate (token_range asked is_there.0))) (inr (id, sym (captured_there tree d new other (sym e)), range)))
@@ -176,7 +176,7 @@ module _ (keeps : FreeRenamingKeepsTypingAndRuns) (field_keeps : FreeFieldRenami
     by_target (declaration d) e = declared d e
     by_target (field_of k f) e = named_field k f e
 
-pub renaming_has_answers : FreeRenamingKeepsTypingAndRuns → FreeFieldRenamingKeepsTypingAndRuns → RenamingChangesFieldTokens → DuplicateHasDeclaringToken → RenamingKeepsSpelling → NamesReplaceNames → EachHasNames → (position : Position) (name : List ℕ) → HasAnswers (rename position name)
+pub renaming_has_answers : FreeRenamingKeepsTypingAndRuns → FreeFieldRenamingKeepsTypingAndRuns → RenamingChangesFieldTokens → DuplicateHasDeclaringToken → RenamingKeepsSpelling → NamesReplaceNames → WellTypedTextsHaveNames → (position : Position) (name : List ℕ) → HasAnswers (rename position name)
 renaming_has_answers keeps field_keeps by_tokens by_token spells identified each position name unit text none = none [] (inr (inr unfit, refl))
   where
     unfit : WellTypedText text → ⊥

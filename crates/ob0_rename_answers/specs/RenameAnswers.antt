@@ -3,20 +3,20 @@
 use Rattle.std.specs.Prelude.{ℕ, List}
 use Rattle.ob0_text.specs.declared.position_types.Position.{Position}
 use Rattle.ob0_scope_table.specs.Resolution.{Resolution}
-use Rattle.ob0_analysis.specs.Analysed.{IsModuleIn}
+use Rattle.ob0_analysis.specs.Analysed.{IsResolvedWellTypedModule}
 use Rattle.ob0_analysis.specs.Texts.{utf8}
 use Rattle.ob0_world_rules.specs.Asks.{rename}
 use Rattle.ob0_world_rules.specs.Language.{WellTypedText}
 use Rattle.ob0_world_rules.specs.Laws.{HasAnswers}
 
 -- States that each well-typed text has a module in which each name is bound to its declaration.
-abbrev pub EachHasNames : Type 0
-EachHasNames =
-    (text : List ℕ) → WellTypedText text → (names : Resolution) × IsModuleIn (utf8 text) names
+abbrev pub WellTypedTextsHaveNames : Type 0
+WellTypedTextsHaveNames =
+    (text : List ℕ) → WellTypedText text → (names : Resolution) × IsResolvedWellTypedModule (utf8 text) names
 
 -- States that a request for a rename has an answer for each text, unit, position and new name, on
--- the assumption (`EachHasNames`) that each well-typed text has a module whose names are bound to
+-- the assumption (`WellTypedTextsHaveNames`) that each well-typed text has a module whose names are bound to
 -- declarations. `HasAnswers` is a double negation: it says that an answer can't be missing.
 abbrev pub RenamingHasAnswers : Type 0
 RenamingHasAnswers =
-    EachHasNames → (position : Position) (name : List ℕ) → HasAnswers (rename position name)
+    WellTypedTextsHaveNames → (position : Position) (name : List ℕ) → HasAnswers (rename position name)

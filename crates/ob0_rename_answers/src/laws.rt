@@ -8,7 +8,7 @@ use ob0_language_runs::laws::free_renaming_keeps_typing_and_runs;
 use ob0_types_fields::laws::{duplicate_has_declaring_token, renaming_changes_field_tokens};
 
 /// Proves that a request for a rename has an answer for each text. The proof assumes that each
-/// well-typed text has a module whose names are bound to declarations (`EachHasNames`).
+/// well-typed text has a module whose names are bound to declarations (`WellTypedTextsHaveNames`).
 pub fn renaming_has_answers()
     ensures { RenamingHasAnswers }
 {

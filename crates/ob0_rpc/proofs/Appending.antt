@@ -290,8 +290,8 @@ edit_put_down said start end t0 t1 t2 t3 utf8 h1 h2 h3 r =
 
 -- ---- lists
 
-pub each_none : (later : Bool) (t : List ℕ) → AppendsEach later [] t t
-each_none later t = record { text = sym (append-nil t); reads = tt }
+pub each_none : (needs_comma : Bool) (t : List ℕ) → AppendsEach needs_comma [] t t
+each_none needs_comma t = record { text = sym (append-nil t); reads = tt }
 
 pub each_one : (d : Data) (old new : List ℕ) → Appends d old new → AppendsEach false (d ∷ []) old new
 each_one d old new a = record { text = a.text ∙ ap (λ t. old ++ t) (sym (append-nil (compact_text d))); reads = (a.reads, tt) }
@@ -332,21 +332,21 @@ some_taken shown (x ∷ xs) zero h = refl
 some_taken shown (x ∷ xs) (suc i) h = sym (lt-ltb 0 (suc i) (omega arith))
 
 -- After the next item of a list was appended, the items so far are appended.
-pub each_next : {A : Type 0} (shown : A → Data) (xs : List A) (i : ℕ) (x : A) (later : Bool) (a b c : List ℕ) → i < length xs → AppendsEach false (map shown (take i xs)) a b
-    → later ≡ nat_lt 0 i → AppendsItem later (shown (get_or xs i x)) b c → AppendsEach false (map shown (take (i + 1) xs)) a c
-each_next shown xs i x later a b c h each is next =
-    let put = next.text ∙ sym (append_assoc b (comma_if later) (compact_text (shown (get_or xs i x)))) in
+pub each_next : {A : Type 0} (shown : A → Data) (xs : List A) (i : ℕ) (x : A) (needs_comma : Bool) (a b c : List ℕ) → i < length xs → AppendsEach false (map shown (take i xs)) a b
+    → needs_comma ≡ nat_lt 0 i → AppendsItem needs_comma (shown (get_or xs i x)) b c → AppendsEach false (map shown (take (i + 1) xs)) a c
+each_next shown xs i x needs_comma a b c h each is next =
+    let put = next.text ∙ sym (append_assoc b (comma_if needs_comma) (compact_text (shown (get_or xs i x)))) in
     rw (add-one, take-suc xs i x h, map-append shown (take i xs) (get_or xs i x ∷ []))
-    (each_joined (map shown (take i xs)) (shown (get_or xs i x) ∷ []) a b (b ++ comma_if later) c each
-    (ap (λ l. b ++ comma_if l) (is ∙ sym (some_taken shown xs i h) ∙ sym (and_true _))) (each_one (shown (get_or xs i x)) (b ++ comma_if later) c (record { text = put; reads = next.reads })))
+    (each_joined (map shown (take i xs)) (shown (get_or xs i x) ∷ []) a b (b ++ comma_if needs_comma) c each
+    (ap (λ l. b ++ comma_if l) (is ∙ sym (some_taken shown xs i h) ∙ sym (and_true _))) (each_one (shown (get_or xs i x)) (b ++ comma_if needs_comma) c (record { text = put; reads = next.reads })))
 
 -- If the items so far are all items of a list, the whole list is appended.
 pub each_done : {A : Type 0} (shown : A → Data) (xs : List A) (i : ℕ) (a b : List ℕ) → length xs ≤ i → AppendsEach false (map shown (take i xs)) a b → AppendsEach false (map shown xs) a b
 each_done shown xs i a b all each = subst (λ ys. AppendsEach false (map shown ys) a b) (take_all i xs all) each
 
-items_listed : (later : Bool) (ds : List Data) → items_text later (items_of ds) ≡ comma_separated_texts later ds ++ 93 ∷ []
-items_listed later [] = refl
-items_listed later (d ∷ ds) = rw (items_listed true ds) (simp append_assoc refl)
+items_listed : (needs_comma : Bool) (ds : List Data) → items_text needs_comma (items_of ds) ≡ comma_separated_texts needs_comma ds ++ 93 ∷ []
+items_listed needs_comma [] = refl
+items_listed needs_comma (d ∷ ds) = rw (items_listed true ds) (simp append_assoc refl)
 
 items_read : (ds : List Data) → AllReadBack ds → of_items (items_outline (items_of ds)) ≡ Some (items_of ds)
 items_read [] h = refl
@@ -360,9 +360,9 @@ utf8_comma : (b : Bool) → IsUtf8 (comma_if b)
 utf8_comma true = IsUtf8-are_ascii _ refl
 utf8_comma false = IsUtf8-are_ascii _ refl
 
-listed_utf8 : (later : Bool) (ds : List Data) → AllReadBack ds → IsUtf8 (comma_separated_texts later ds)
-listed_utf8 later [] h = IsUtf8-nil
-listed_utf8 later (d ∷ ds) h = IsUtf8-append (comma_if later) _ (utf8_comma later) (IsUtf8-append (compact_text d) _ h.0.utf8 (listed_utf8 true ds h.1))
+listed_utf8 : (needs_comma : Bool) (ds : List Data) → AllReadBack ds → IsUtf8 (comma_separated_texts needs_comma ds)
+listed_utf8 needs_comma [] h = IsUtf8-nil
+listed_utf8 needs_comma (d ∷ ds) h = IsUtf8-append (comma_if needs_comma) _ (utf8_comma needs_comma) (IsUtf8-append (compact_text d) _ h.0.utf8 (listed_utf8 true ds h.1))
 
 read_list : (ds : List Data) → AllReadBack ds → ReadsBack (array (items_of ds))
 read_list ds h = record {

@@ -3,7 +3,7 @@
 use Rattle.std.proofs.Common.{◌≡◌, ◌≤◌, ℤ, pos, negsuc, List, false, ℕ, arith, refl}
 use Rattle.serde_json.specs.Data.{Data, depth}
 use Rattle.serde_json.specs.Written.{has_float}
-use Rattle.ob0_rpc.specs.Seen.{id_data}
+use Rattle.ob0_rpc.specs.MessageViews.{id_data}
 use Rattle.ob0_rpc.specs.Shapes.{result_message, notification_message, whole_number}
 use Rattle.ob0_rpc.specs.declared.incoming.Id.{Id}
 use Rattle.ob0_rpc.specs.declared.incoming.Id.TheVariants.{Signed, Unsigned, Text}

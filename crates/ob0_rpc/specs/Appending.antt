@@ -19,11 +19,11 @@ abbrev pub AllReadBack : List Data → Type 0
 AllReadBack [] = ⊤
 AllReadBack (value ∷ values) = ReadsBack value × AllReadBack values
 
--- Returns the texts of the values, with commas between them. If `later` is true, a comma also
+-- Returns the texts of the values, with commas between them. If `needs_comma` is true, a comma also
 -- precedes the first text.
 abbrev pub comma_separated_texts : Bool → List Data → List ℕ
-comma_separated_texts later [] = []
-comma_separated_texts later (value ∷ values) = comma_if later ++ (compact_text value ++ comma_separated_texts true values)
+comma_separated_texts needs_comma [] = []
+comma_separated_texts needs_comma (value ∷ values) = comma_if needs_comma ++ (compact_text value ++ comma_separated_texts true values)
 
 -- States that `new` is `old` followed by the value's text, and that this text reads back as the
 -- value.
@@ -32,15 +32,15 @@ pub record Appends (value : Data) (old new : List ℕ) : Type 0 where
   pub reads : ReadsBack value
 
 -- States that `new` is `old` followed by the texts of these values, with commas between them. If
--- `later` is true, a comma also precedes the first text. Each text reads back as its value.
-pub record AppendsEach (later : Bool) (values : List Data) (old new : List ℕ) : Type 0 where
-  pub text : new ≡ old ++ comma_separated_texts later values
+-- `needs_comma` is true, a comma also precedes the first text. Each text reads back as its value.
+pub record AppendsEach (needs_comma : Bool) (values : List Data) (old new : List ℕ) : Type 0 where
+  pub text : new ≡ old ++ comma_separated_texts needs_comma values
   pub reads : AllReadBack values
 
--- States that `new` is `old` followed by the value's text, with a comma between the two if `later`
+-- States that `new` is `old` followed by the value's text, with a comma between the two if `needs_comma`
 -- is true. The value's text reads back as the value.
-pub record AppendsItem (later : Bool) (value : Data) (old new : List ℕ) : Type 0 where
-  pub text : new ≡ old ++ (comma_if later ++ compact_text value)
+pub record AppendsItem (needs_comma : Bool) (value : Data) (old new : List ℕ) : Type 0 where
+  pub text : new ≡ old ++ (comma_if needs_comma ++ compact_text value)
   pub reads : ReadsBack value
 
 -- States that one member of an object is appended to `old`: the byte `before` (a bracket or a

@@ -4,6 +4,6 @@ pub mod Faults
 pub mod Members
 pub mod Messages
 pub mod Notifications
-pub mod Seen
+pub mod MessageViews
 pub mod Shapes
 pub mod Writing

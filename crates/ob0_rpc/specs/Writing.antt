@@ -12,5 +12,5 @@ pub record Writes (message : Data) (bytes : List ℕ) : Type 0 where
 
 -- States that a message can contain this value. The value is nested at most 126 deep, because a
 -- message may be nested 127 deep and adds one level.
-pub record CanBeSent (value : Data) : Type 0 where
+pub record FitsInMessage (value : Data) : Type 0 where
   pub shallow : depth value ≤ 126

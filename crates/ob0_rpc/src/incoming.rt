@@ -3,7 +3,7 @@ ghost use Rattle.std.specs.Prelude.{◌≡◌, true, false, IfOk, MatchOption};
 ghost use Rattle.serde_json.specs.View.{view, number_view};
 ghost use Rattle.serde_json.specs.Data.{number};
 ghost use Rattle.ob0_rpc.specs.Messages.{is_id, params_of};
-ghost use Rattle.ob0_rpc.specs.Seen.{HasMeaning, ReadsMessage, id_data};
+ghost use Rattle.ob0_rpc.specs.MessageViews.{HasMeaning, ReadsMessage, id_data};
 
 use crate::members::into_member;
 use serde_json::{Number, Value};

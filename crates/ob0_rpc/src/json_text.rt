@@ -106,28 +106,28 @@ fn write_list_items<W: WriteJson>(out: &mut Vec<u8>, values: &[W]) -> Result<(),
     ensures { OnOk result
         (AppendsEach false (map W.value values.now) out.old.items out.new.items) }
 {
-    let mut later = false;
+    let mut needs_comma = false;
     for value in values {
-        write_item_and_reserve(out, values.len(), later, value)?;
-        later = true;
+        write_item_and_reserve(out, values.len(), needs_comma, value)?;
+        needs_comma = true;
     }
     Ok(())
 }
 
-/// Writes one item of a list of `count` items. If `later` is true, a comma is written before
-/// the item. If `later` is false, the item is the first, and capacity is reserved for the
+/// Writes one item of a list of `count` items. If `needs_comma` is true, a comma is written before
+/// the item. If `needs_comma` is false, the item is the first, and capacity is reserved for the
 /// other items, as if each were about as long as the first.
 fn write_item_and_reserve<W: WriteJson>(
     out: &mut Vec<u8>,
     count: usize,
-    later: bool,
+    needs_comma: bool,
     value: &W,
 ) -> Result<(), AllocError>
-    ensures { OnOk result (AppendsItem later (W.value value.now) out.old.items out.new.items) }
+    ensures { OnOk result (AppendsItem needs_comma (W.value value.now) out.old.items out.new.items) }
 {
     let before = out.len();
-    write_item(out, later, value)?;
-    if !later {
+    write_item(out, needs_comma, value)?;
+    if !needs_comma {
         out.reserve(capacity_for_rest(count, out.len().saturating_sub(before)))?;
     }
     Ok(())
@@ -151,13 +151,17 @@ pub fn begin_list(out: &mut Vec<u8>) -> Result<(), AllocError>
     write_piece(out, b"[")
 }
 
-/// Writes one item of a list. If `later` is true, the item isn't the first, and a comma is
+/// Writes one item of a list. If `needs_comma` is true, the item isn't the first, and a comma is
 /// written before it.
 #[inline(always)]
-pub fn write_item<W: WriteJson>(out: &mut Vec<u8>, later: bool, value: &W) -> Result<(), AllocError>
-    ensures { OnOk result (AppendsItem later (W.value value.now) out.old.items out.new.items) }
+pub fn write_item<W: WriteJson>(
+    out: &mut Vec<u8>,
+    needs_comma: bool,
+    value: &W,
+) -> Result<(), AllocError>
+    ensures { OnOk result (AppendsItem needs_comma (W.value value.now) out.old.items out.new.items) }
 {
-    if later {
+    if needs_comma {
         write_piece(out, b",")?;
     }
     value.write(out)

@@ -3,7 +3,7 @@ ghost use Rattle.std.specs.Prelude.{◌≡◌, IfOk};
 ghost use Rattle.serde_json.specs.View.{view};
 ghost use Rattle.ob0_rpc.specs.Members.{document_uri, document_version, document_text};
 ghost use Rattle.ob0_rpc.specs.Notifications.{open_or_unreadable, change_or_unreadable, close_or_unreadable, changes_of as changes_in};
-ghost use Rattle.ob0_rpc.specs.Seen.{ReadsNotification, notification_view};
+ghost use Rattle.ob0_rpc.specs.MessageViews.{ReadsNotification, notification_view};
 
 use crate::changes::read_changes;
 use crate::incoming::RpcFault;

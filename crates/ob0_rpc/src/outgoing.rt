@@ -2,8 +2,8 @@
 ghost use Rattle.std.specs.Prelude.{◌≤◌, IfOk, option_map};
 ghost use Rattle.serde_json.specs.Data.{depth};
 ghost use Rattle.ob0_rpc.specs.Shapes.{result_message, error_message, notification_message, error_value};
-ghost use Rattle.ob0_rpc.specs.Seen.{id_data, id_or_null};
-ghost use Rattle.ob0_rpc.specs.Writing.{CanBeSent, Writes};
+ghost use Rattle.ob0_rpc.specs.MessageViews.{id_data, id_or_null};
+ghost use Rattle.ob0_rpc.specs.Writing.{FitsInMessage, Writes};
 
 use crate::incoming::Id;
 use crate::json_text::WriteJson;
@@ -117,7 +117,7 @@ pub fn content_of<W: WriteJson>(alloc: Global, message: &W) -> Result<Vec<u8>, A
 /// Returns the JSON text of the answer to a request, with this result. If the result is nested at
 /// most 126 deep, the text reads back as that answer.
 pub fn answer_text<W: WriteJson>(alloc: Global, id: &Id, value: &W) -> Result<Vec<u8>, AllocError>
-    ensures { IfOk result (λ bytes. CanBeSent (W.value value.now)
+    ensures { IfOk result (λ bytes. FitsInMessage (W.value value.now)
         → Writes (result_message (id_data id.now) (W.value value.now)) bytes.items) }
 {
     content_of(alloc, &Response { id, result: value })
@@ -145,7 +145,7 @@ pub fn notification_of<W: WriteJson>(
     method: &str,
     params: &W,
 ) -> Result<Vec<u8>, AllocError>
-    ensures { IfOk result (λ bytes. CanBeSent (W.value params.now)
+    ensures { IfOk result (λ bytes. FitsInMessage (W.value params.now)
         → Writes (notification_message method.now (W.value params.now)) bytes.items) }
 {
     content_of(alloc, &Notification { method, params })

@@ -6,7 +6,7 @@ ghost use Rattle.ob0_text.specs.Indents.{level_spaces};
 ghost use Rattle.ob0_rpc.specs.Requesting as asks;
 ghost use Rattle.ob0_rpc.specs.Requesting.{document_place_of, request_by_method, references_request_of, rename_request_of, code_action_request_of, formatting_request_of, document_request_by_method, optional_texts, requested_kinds, texts_of as texts_in, indent_of as indent_in, or_bad_params, initialize_request_of};
 ghost use Rattle.ob0_rpc.specs.Members.{bool_member};
-ghost use Rattle.ob0_rpc.specs.Seen.{ReadsClientRequest, document_place_view, kinds_view};
+ghost use Rattle.ob0_rpc.specs.MessageViews.{ReadsClientRequest, document_place_view, kinds_view};
 
 use crate::clients::{ClientFeatures, client_features};
 use crate::incoming::RpcFault;
@@ -75,13 +75,13 @@ fn read_document_request(
     ensures { ReadsClientRequest (document_request_by_method method.now (view params.now)) result }
 {
     if method == "textDocument/hover" {
-        hover(alloc, params)
+        read_hover(alloc, params)
     } else if method == "textDocument/definition" {
-        definition(alloc, params)
+        read_definition(alloc, params)
     } else if method == "textDocument/references" {
         read_references(alloc, params)
     } else if method == "textDocument/prepareRename" {
-        prepare_rename(alloc, params)
+        read_prepare_rename(alloc, params)
     } else if method == "textDocument/rename" {
         read_rename(alloc, params)
     } else if method == "textDocument/codeAction" {
@@ -103,7 +103,7 @@ fn read_initialize(params: &Value) -> Result<ClientRequest, RpcFault>
     }
 }
 
-fn hover(alloc: Global, params: &Value) -> Result<ClientRequest, RpcFault>
+fn read_hover(alloc: Global, params: &Value) -> Result<ClientRequest, RpcFault>
     ensures { ReadsClientRequest (or_bad_params (option_map asks.hover (document_place_of (view params.now)))) result }
 {
     let Some(place) = document_position(alloc, params)? else {
@@ -112,7 +112,7 @@ fn hover(alloc: Global, params: &Value) -> Result<ClientRequest, RpcFault>
     Ok(ClientRequest::Hover(place))
 }
 
-fn definition(alloc: Global, params: &Value) -> Result<ClientRequest, RpcFault>
+fn read_definition(alloc: Global, params: &Value) -> Result<ClientRequest, RpcFault>
     ensures { ReadsClientRequest (or_bad_params (option_map asks.definition (document_place_of (view params.now)))) result }
 {
     let Some(place) = document_position(alloc, params)? else {
@@ -121,7 +121,7 @@ fn definition(alloc: Global, params: &Value) -> Result<ClientRequest, RpcFault>
     Ok(ClientRequest::Definition(place))
 }
 
-fn prepare_rename(alloc: Global, params: &Value) -> Result<ClientRequest, RpcFault>
+fn read_prepare_rename(alloc: Global, params: &Value) -> Result<ClientRequest, RpcFault>
     ensures { ReadsClientRequest (or_bad_params (option_map asks.prepare_rename (document_place_of (view params.now)))) result }
 {
     let Some(place) = document_position(alloc, params)? else {

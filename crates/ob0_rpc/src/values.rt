@@ -4,8 +4,8 @@ ghost use Rattle.serde_json.specs.Data.{depth};
 ghost use Rattle.serde_json.specs.View.{view};
 ghost use Rattle.serde_json.specs.Written.{has_float};
 ghost use Rattle.ob0_rpc.specs.Shapes.{result_message, notification_message};
-ghost use Rattle.ob0_rpc.specs.Seen.{id_data};
-ghost use Rattle.ob0_rpc.specs.Writing.{CanBeSent, Writes};
+ghost use Rattle.ob0_rpc.specs.MessageViews.{id_data};
+ghost use Rattle.ob0_rpc.specs.Writing.{FitsInMessage, Writes};
 
 use crate::incoming::Id;
 use serde_json::{Value, json};
@@ -15,7 +15,7 @@ use std::alloc::{AllocError, Global};
 /// back as that answer if `value` is nested at most 126 deep and has only whole numbers.
 pub fn result(alloc: Global, id: &Id, value: Value) -> Result<Vec<u8>, AllocError>
     ensures { IfOk result (λ bytes. has_float (view value) ≡ false
-        → CanBeSent (view value)
+        → FitsInMessage (view value)
         → Writes (result_message (id_data id.now) (view value)) bytes.items) }
 {
     let message = result_value(alloc, id, value)?;
@@ -26,7 +26,7 @@ pub fn result(alloc: Global, id: &Id, value: Value) -> Result<Vec<u8>, AllocErro
 /// are nested at most 126 deep and have only whole numbers.
 pub fn notification(alloc: Global, method: &str, params: Value) -> Result<Vec<u8>, AllocError>
     ensures { IfOk result (λ bytes. has_float (view params) ≡ false
-        → CanBeSent (view params)
+        → FitsInMessage (view params)
         → Writes (notification_message method.now (view params)) bytes.items) }
 {
     let message = notification_value(alloc, method, params)?;

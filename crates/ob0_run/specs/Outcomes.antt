@@ -9,16 +9,16 @@ use Rattle.ob0_run_machine.specs.declared.machine.Item.{Item}
 use Rattle.ob0_run_machine.specs.declared.running.End.{End}
 use Rattle.ob0_run_machine.specs.declared.running.Outcome.{Outcome}
 use Rattle.ob0_run_cells.specs.ActivationLaws as cells
-use Rattle.ob0_run_cells.specs.LoweredStatements.{written_of}
+use Rattle.ob0_run_cells.specs.LoweredStatements.{printed_item_of}
 use Rattle.ob0_run_cells.specs.Lowering.{end_of}
 
 -- converts an item that the machine returns to an item of a module's output
 abbrev pub item_of : Item → PrintedItem
-item_of i = written_of (machine.item_of i)
+item_of i = printed_item_of (machine.item_of i)
 
 -- converts the items that the machine returns to the output of a module
 abbrev pub output_items : List Item → List PrintedItem
-output_items is = map written_of (machine.output_items is)
+output_items is = map printed_item_of (machine.output_items is)
 
 -- converts an end that the machine returns to an end of a module's run
 abbrev pub meaning_of_end : End → values.End

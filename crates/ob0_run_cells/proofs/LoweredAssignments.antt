@@ -3,22 +3,22 @@ use Rattle.std.proofs.Common.{◌≡◌, ℕ, ◌+◌, ◌≤◌, true, ◌&&◌
 use Rattle.std.proofs.lemmas.Bool.{le-leb}
 use Rattle.ob0_tree.specs.Tree.{Tree, arguments, assigns, calls, expression, items, maybe, selector}
 use Rattle.ob0_language_types.specs.Arguments.{arguments_listed}
-use Rattle.ob0_language_types.specs.Expressions.{Object, StandardProcedure, a_standard, designate, evaluate, reads, writes, writes_line}
+use Rattle.ob0_language_types.specs.Expressions.{Object, StandardProcedure, a_standard, designate, evaluate, read_procedure, write_procedure, write_line_procedure}
 use Rattle.ob0_language_types.specs.WellTyped.{Mode, TypeMeanings, by_place, by_value}
-use Rattle.ob0_language_values.specs.Values.{Outcome, Place, Shape, Value, boolean_shape, ends, gives, integer_shape, number, or_stuck, read_place, truth, ◌>>=◌}
-use Rattle.ob0_language_runs.specs.Fitting.{ObjectFits, PlaceFits, StoreTyping}
+use Rattle.ob0_language_values.specs.Values.{Outcome, Place, Shape, Value, boolean_shape, ends_run_with, succeeds_with, integer_shape, number, or_stuck, read_place, truth, ◌>>=◌}
+use Rattle.ob0_language_runs.specs.TypeAgreement.{RunObjectAgrees, PlaceHasType, StoreTyping}
 use Rattle.ob0_language_runs.specs.Runs.{Argument, Progress, State, evaluate_arguments, execute, modes_of, perform_call, place_argument, read_number, running, store_at, use_result, value_argument}
 use Rattle.ob0_run_machine.specs.Evaluation as machine
 use Rattle.ob0_run_machine.specs.Execution as execution
 use Rattle.ob0_run_machine.specs.Lowered as lowered
 use Rattle.ob0_run_cells.specs.Cells.{address, all_cells, cells_of, overwritten_cells, size, store_size}
-use Rattle.ob0_run_cells.specs.LoweredStatements.{IsAt, ProgressRepresents, Represents, StatementMeans, Target}
+use Rattle.ob0_run_cells.specs.LoweredStatements.{IsAt, ProgressRepresents, Represents, CodeMeansStatement, Target}
 use Rattle.ob0_run_cells.specs.Lowering.{NumberMeans, PlaceMeans, Slot, TruthMeans, HoldsValue, place_of_designator, value_of_expression}
 use Rattle.ob0_run_cells.proofs.Parts.{cells-size}
 use Rattle.ob0_run_cells.proofs.Places.{HoldsSlice, WritesPlace, places_are_slices, store-size, writing_places_writes_slices}
 use Rattle.ob0_run_cells.proofs.Represented.{alone-cells, moment, moment-shown, number-in, number-read, number-stored, place-in, put-represents, truth-in, truth-stored, use-place, use-represents}
 
-pub standard-is : (typing : StoreTyping) (q : StandardProcedure) (a : Option (Object Place (List Mode))) → ObjectFits typing (Some (a_standard q)) a → a ≡ Some (a_standard q)
+pub standard-is : (typing : StoreTyping) (q : StandardProcedure) (a : Option (Object Place (List Mode))) → RunObjectAgrees typing (Some (a_standard q)) a → a ≡ Some (a_standard q)
 standard-is typing q (Some (a_standard p)) h = ap (λ q. Some (a_standard q)) (sym h)
 standard-is typing q _ h = absurd h
 
@@ -31,7 +31,7 @@ pub cells_after_copy-within : (cells : List ℤ) (to from n : ℕ) → to + n �
 cells_after_copy-within cells to from n h k =
     ap (λ b. if b then take to cells ++ (take n (drop from cells) ++ drop (to + n) cells) else cells) (both-within (to + n) (length cells) (from + n) (length cells) h k)
 
-pub cells-cells_after_copy : (typing : StoreTyping) (low : execution.MachineState) (s : State) (p q : Place) (shape : Shape) → Represents typing low s → PlaceFits typing p shape → PlaceFits typing q shape
+pub cells-cells_after_copy : (typing : StoreTyping) (low : execution.MachineState) (s : State) (p q : Place) (shape : Shape) → Represents typing low s → PlaceHasType typing p shape → PlaceHasType typing q shape
     → ProgressRepresents typing (execution.running record low { cells = execution.cells_after_copy low.cells (address typing p) (address typing q) (size shape) }) (use_result s (or_stuck (read_place s.store q)) (store_at s p))
 cells-cells_after_copy typing low s p q shape h fit_p fit_q =
     let at_q : HoldsSlice typing s.store q shape = places_are_slices typing s.store q shape h.store_fits fit_q in
@@ -56,19 +56,19 @@ cells-cells_after_copy typing low s p q shape h fit_p fit_q =
 -- uses of what is evaluated in steps
 
 pub use-then : {A B : Type 0} (s : State) (w : Outcome A) (f : A → Outcome B) (j : B → Progress) → use_result s (w >>= f) j ≡ use_result s w (λ a. use_result s (f a) j)
-use-then s (gives a) f j = refl
-use-then s (ends e) f j = refl
+use-then s (succeeds_with a) f j = refl
+use-then s (ends_run_with e) f j = refl
 
-pub use-place-argument : (s : State) (w : Outcome Place) (j : List Argument → Progress) → use_result s ((w >>= (λ p. gives (place_argument p))) >>= (λ a. gives (a ∷ []))) j ≡ use_result s w (λ p. j (place_argument p ∷ []))
-use-place-argument s (gives p) j = refl
-use-place-argument s (ends e) j = refl
+pub use-place-argument : (s : State) (w : Outcome Place) (j : List Argument → Progress) → use_result s ((w >>= (λ p. succeeds_with (place_argument p))) >>= (λ a. succeeds_with (a ∷ []))) j ≡ use_result s w (λ p. j (place_argument p ∷ []))
+use-place-argument s (succeeds_with p) j = refl
+use-place-argument s (ends_run_with e) j = refl
 
-pub use-value-argument : (s : State) (w : Outcome Value) (j : List Argument → Progress) → use_result s ((w >>= (λ v. gives (value_argument v))) >>= (λ a. gives (a ∷ []))) j ≡ use_result s w (λ v. j (value_argument v ∷ []))
-use-value-argument s (gives v) j = refl
-use-value-argument s (ends e) j = refl
+pub use-value-argument : (s : State) (w : Outcome Value) (j : List Argument → Progress) → use_result s ((w >>= (λ v. succeeds_with (value_argument v))) >>= (λ a. succeeds_with (a ∷ []))) j ≡ use_result s w (λ v. j (value_argument v ∷ []))
+use-value-argument s (succeeds_with v) j = refl
+use-value-argument s (ends_run_with e) j = refl
 
 module _ {N : Type 0} (checked : TypeMeanings N) (slots : N → Slot) (targets : N → Target) where
-  pub number-assigned : (x : N) (path : Tree N (items selector)) (e : Tree N expression) (q : lowered.Place) (n : lowered.Number) → PlaceMeans checked slots q integer_shape (place_of_designator x path) → NumberMeans checked slots n (value_of_expression e) → StatementMeans checked slots targets (lowered.stores_number q n) (assigns x path e)
+  pub number-assigned : (x : N) (path : Tree N (items selector)) (e : Tree N expression) (q : lowered.Place) (n : lowered.Number) → PlaceMeans checked slots q integer_shape (place_of_designator x path) → NumberMeans checked slots n (value_of_expression e) → CodeMeansStatement checked slots targets (lowered.stores_number q n) (assigns x path e)
   unfolding execution.execute execute
   number-assigned x path e q n hq hn b shown t low s h =
       let same = number-in checked slots targets b shown n (value_of_expression e) hn low s h in
@@ -77,7 +77,7 @@ module _ {N : Type 0} (checked : TypeMeanings N) (slots : N → Slot) (targets :
       (λ p fit. use-represents b.typing number low s (machine.number b.levels low.cells n) (evaluate b.active s.store e) (λ v. execution.running (execution.store_at low (address b.typing p) v)) (store_at s p) h same
       (λ v is. number-stored b.typing low s p v h fit))
 
-  pub truth-assigned : (x : N) (path : Tree N (items selector)) (e : Tree N expression) (q : lowered.Place) (u : lowered.Truth) → PlaceMeans checked slots q boolean_shape (place_of_designator x path) → TruthMeans checked slots u (value_of_expression e) → StatementMeans checked slots targets (lowered.stores_truth q u) (assigns x path e)
+  pub truth-assigned : (x : N) (path : Tree N (items selector)) (e : Tree N expression) (q : lowered.Place) (u : lowered.Truth) → PlaceMeans checked slots q boolean_shape (place_of_designator x path) → TruthMeans checked slots u (value_of_expression e) → CodeMeansStatement checked slots targets (lowered.stores_truth q u) (assigns x path e)
   unfolding execution.execute execute
   truth-assigned x path e q u hq hu b shown t low s h =
       use-place b.typing boolean_shape low s (machine.address b.levels low.cells q) (designate b.active s.store x path) (λ a. execution.use_result low (machine.truth b.levels low.cells u) (λ v. execution.running (execution.store_at low a (machine.as_cell v)))) (λ p. use_result s (evaluate b.active s.store e) (store_at s p)) h
@@ -85,7 +85,7 @@ module _ {N : Type 0} (checked : TypeMeanings N) (slots : N → Slot) (targets :
       (λ p fit. use-represents b.typing truth low s (machine.truth b.levels low.cells u) (evaluate b.active s.store e) (λ v. execution.running (execution.store_at low (address b.typing p) (machine.as_cell v))) (store_at s p) h (truth-in checked slots targets b shown u (value_of_expression e) hu low s h)
       (λ v is. truth-stored b.typing low s p v h fit))
 
-  pub block-assigned : (x : N) (path : Tree N (items selector)) (e : Tree N expression) (q r : lowered.Place) (shape : Shape) → PlaceMeans checked slots q shape (place_of_designator x path) → HoldsValue checked slots r shape (value_of_expression e) → StatementMeans checked slots targets (lowered.copies q r (size shape)) (assigns x path e)
+  pub block-assigned : (x : N) (path : Tree N (items selector)) (e : Tree N expression) (q r : lowered.Place) (shape : Shape) → PlaceMeans checked slots q shape (place_of_designator x path) → HoldsValue checked slots r shape (value_of_expression e) → CodeMeansStatement checked slots targets (lowered.copies q r (size shape)) (assigns x path e)
   unfolding execution.execute execute
   block-assigned x path e q r shape hq hr b shown t low s h =
       let (w, hw, same) = hr in
@@ -99,33 +99,33 @@ module _ {N : Type 0} (checked : TypeMeanings N) (slots : N → Slot) (targets :
       (place-in checked slots targets b shown r shape w hw low s h)
       (λ p' fit'. cells-cells_after_copy b.typing low s p p' shape h fit fit')))
 
-  pub reads-mean : (x : N) (es : Tree N (maybe arguments)) (e : Tree N expression) (q : lowered.Place) → checked.object_for x ≡ Some (a_standard reads) → arguments_listed es ≡ e ∷ [] → IsAt checked slots q integer_shape e → StatementMeans checked slots targets (lowered.reads q) (calls x es)
+  pub reads-mean : (x : N) (es : Tree N (maybe arguments)) (e : Tree N expression) (q : lowered.Place) → checked.object_for x ≡ Some (a_standard read_procedure) → arguments_listed es ≡ e ∷ [] → IsAt checked slots q integer_shape e → CodeMeansStatement checked slots targets (lowered.reads q) (calls x es)
   unfolding execution.execute execute evaluate_arguments
   reads-mean x es e q st one hq b shown t low s h =
       let y : N = hq.name in
       let others : Tree N (items selector) = hq.path in
-      let is_bound : b.active.object_for x ≡ Some (a_standard reads) = standard-is b.typing reads (b.active.object_for x) (subst (λ o. ObjectFits b.typing o (b.active.object_for x)) st (shown.names_fit.0 x)) in
+      let is_bound : b.active.object_for x ≡ Some (a_standard read_procedure) = standard-is b.typing read_procedure (b.active.object_for x) (subst (λ o. RunObjectAgrees b.typing o (b.active.object_for x)) st (shown.names_fit.0 x)) in
       subst (λ o. ProgressRepresents b.typing (execution.use_result low (machine.address b.levels low.cells q) (λ a. execution.read_number low a low.input)) (use_result s (modes_of o >>= (λ modes. evaluate_arguments b.active s.store modes (arguments_listed es))) (λ args. perform_call o (b.enters x) args s))) (sym is_bound)
-      (subst (λ l. ProgressRepresents b.typing (execution.use_result low (machine.address b.levels low.cells q) (λ a. execution.read_number low a low.input)) (use_result s (evaluate_arguments b.active s.store (by_place ∷ []) l) (λ args. perform_call (Some (a_standard reads)) (b.enters x) args s))) (sym one)
-      (subst (λ o. ProgressRepresents b.typing (execution.use_result low (machine.address b.levels low.cells q) (λ a. execution.read_number low a low.input)) (use_result s ((or_stuck o >>= (λ d. designate b.active s.store d.0 d.1 >>= (λ p. gives (place_argument p)))) >>= (λ a. gives (a ∷ []))) (λ args. perform_call (Some (a_standard reads)) (b.enters x) args s))) (sym hq.is_designator)
-      (subst (λ w. ProgressRepresents b.typing (execution.use_result low (machine.address b.levels low.cells q) (λ a. execution.read_number low a low.input)) w) (sym (use-place-argument s (designate b.active s.store y others) (λ args. perform_call (Some (a_standard reads)) (b.enters x) args s)))
+      (subst (λ l. ProgressRepresents b.typing (execution.use_result low (machine.address b.levels low.cells q) (λ a. execution.read_number low a low.input)) (use_result s (evaluate_arguments b.active s.store (by_place ∷ []) l) (λ args. perform_call (Some (a_standard read_procedure)) (b.enters x) args s))) (sym one)
+      (subst (λ o. ProgressRepresents b.typing (execution.use_result low (machine.address b.levels low.cells q) (λ a. execution.read_number low a low.input)) (use_result s ((or_stuck o >>= (λ d. designate b.active s.store d.0 d.1 >>= (λ p. succeeds_with (place_argument p)))) >>= (λ a. succeeds_with (a ∷ []))) (λ args. perform_call (Some (a_standard read_procedure)) (b.enters x) args s))) (sym hq.is_designator)
+      (subst (λ w. ProgressRepresents b.typing (execution.use_result low (machine.address b.levels low.cells q) (λ a. execution.read_number low a low.input)) w) (sym (use-place-argument s (designate b.active s.store y others) (λ args. perform_call (Some (a_standard read_procedure)) (b.enters x) args s)))
       (use-place b.typing integer_shape low s (machine.address b.levels low.cells q) (designate b.active s.store y others) (λ a. execution.read_number low a low.input) (λ p. read_number s p s.input) h (place-in checked slots targets b shown q integer_shape (place_of_designator y others) hq.place_means low s h)
       (λ p fit. subst (λ input. ProgressRepresents b.typing (execution.read_number low (address b.typing p) low.input) (read_number s p input)) h.same_input (number-read b.typing low s p low.input h fit))))))
 
-  pub writes-mean : (x : N) (es : Tree N (maybe arguments)) (e : Tree N expression) (n : lowered.Number) → checked.object_for x ≡ Some (a_standard writes) → arguments_listed es ≡ e ∷ [] → NumberMeans checked slots n (value_of_expression e) → StatementMeans checked slots targets (lowered.writes n) (calls x es)
+  pub writes-mean : (x : N) (es : Tree N (maybe arguments)) (e : Tree N expression) (n : lowered.Number) → checked.object_for x ≡ Some (a_standard write_procedure) → arguments_listed es ≡ e ∷ [] → NumberMeans checked slots n (value_of_expression e) → CodeMeansStatement checked slots targets (lowered.writes n) (calls x es)
   unfolding execution.execute execute evaluate_arguments
   writes-mean x es e n st one hn b shown t low s h =
-      let is_bound : b.active.object_for x ≡ Some (a_standard writes) = standard-is b.typing writes (b.active.object_for x) (subst (λ o. ObjectFits b.typing o (b.active.object_for x)) st (shown.names_fit.0 x)) in
+      let is_bound : b.active.object_for x ≡ Some (a_standard write_procedure) = standard-is b.typing write_procedure (b.active.object_for x) (subst (λ o. RunObjectAgrees b.typing o (b.active.object_for x)) st (shown.names_fit.0 x)) in
       subst (λ o. ProgressRepresents b.typing (execution.use_result low (machine.number b.levels low.cells n) (λ v. execution.running (execution.append_output low (execution.number_out v)))) (use_result s (modes_of o >>= (λ modes. evaluate_arguments b.active s.store modes (arguments_listed es))) (λ args. perform_call o (b.enters x) args s))) (sym is_bound)
-      (subst (λ l. ProgressRepresents b.typing (execution.use_result low (machine.number b.levels low.cells n) (λ v. execution.running (execution.append_output low (execution.number_out v)))) (use_result s (evaluate_arguments b.active s.store (by_value ∷ []) l) (λ args. perform_call (Some (a_standard writes)) (b.enters x) args s))) (sym one)
-      (subst (λ w. ProgressRepresents b.typing (execution.use_result low (machine.number b.levels low.cells n) (λ v. execution.running (execution.append_output low (execution.number_out v)))) w) (sym (use-value-argument s (evaluate b.active s.store e) (λ args. perform_call (Some (a_standard writes)) (b.enters x) args s)))
-      (use-represents b.typing number low s (machine.number b.levels low.cells n) (evaluate b.active s.store e) (λ v. execution.running (execution.append_output low (execution.number_out v))) (λ v. perform_call (Some (a_standard writes)) (b.enters x) (value_argument v ∷ []) s) h
+      (subst (λ l. ProgressRepresents b.typing (execution.use_result low (machine.number b.levels low.cells n) (λ v. execution.running (execution.append_output low (execution.number_out v)))) (use_result s (evaluate_arguments b.active s.store (by_value ∷ []) l) (λ args. perform_call (Some (a_standard write_procedure)) (b.enters x) args s))) (sym one)
+      (subst (λ w. ProgressRepresents b.typing (execution.use_result low (machine.number b.levels low.cells n) (λ v. execution.running (execution.append_output low (execution.number_out v)))) w) (sym (use-value-argument s (evaluate b.active s.store e) (λ args. perform_call (Some (a_standard write_procedure)) (b.enters x) args s)))
+      (use-represents b.typing number low s (machine.number b.levels low.cells n) (evaluate b.active s.store e) (λ v. execution.running (execution.append_output low (execution.number_out v))) (λ v. perform_call (Some (a_standard write_procedure)) (b.enters x) (value_argument v ∷ []) s) h
       (number-in checked slots targets b shown n (value_of_expression e) hn low s h) (λ v is. put-represents b.typing low s (execution.number_out v) h))))
 
-  pub line-means : (x : N) (es : Tree N (maybe arguments)) → checked.object_for x ≡ Some (a_standard writes_line) → arguments_listed es ≡ [] → StatementMeans checked slots targets lowered.writes_line (calls x es)
+  pub line-means : (x : N) (es : Tree N (maybe arguments)) → checked.object_for x ≡ Some (a_standard write_line_procedure) → arguments_listed es ≡ [] → CodeMeansStatement checked slots targets lowered.writes_line (calls x es)
   unfolding execution.execute execute evaluate_arguments
   line-means x es st empty_list b shown t low s h =
-      let is_bound : b.active.object_for x ≡ Some (a_standard writes_line) = standard-is b.typing writes_line (b.active.object_for x) (subst (λ o. ObjectFits b.typing o (b.active.object_for x)) st (shown.names_fit.0 x)) in
+      let is_bound : b.active.object_for x ≡ Some (a_standard write_line_procedure) = standard-is b.typing write_line_procedure (b.active.object_for x) (subst (λ o. RunObjectAgrees b.typing o (b.active.object_for x)) st (shown.names_fit.0 x)) in
       subst (λ o. ProgressRepresents b.typing (execution.running (execution.append_output low execution.line_out)) (use_result s (modes_of o >>= (λ modes. evaluate_arguments b.active s.store modes (arguments_listed es))) (λ args. perform_call o (b.enters x) args s))) (sym is_bound)
-      (subst (λ l. ProgressRepresents b.typing (execution.running (execution.append_output low execution.line_out)) (use_result s (evaluate_arguments b.active s.store [] l) (λ args. perform_call (Some (a_standard writes_line)) (b.enters x) args s))) (sym empty_list)
+      (subst (λ l. ProgressRepresents b.typing (execution.running (execution.append_output low execution.line_out)) (use_result s (evaluate_arguments b.active s.store [] l) (λ args. perform_call (Some (a_standard write_line_procedure)) (b.enters x) args s))) (sym empty_list)
       (put-represents b.typing low s execution.line_out h))

@@ -7,62 +7,62 @@ use Rattle.ob0_language_runs.specs.Runs.{execute, execute_all, execute_else, exe
 use Rattle.ob0_run_machine.specs.Evaluation as machine
 use Rattle.ob0_run_machine.specs.Execution as execution
 use Rattle.ob0_run_machine.specs.Lowered as lowered
-use Rattle.ob0_run_cells.specs.LoweredStatements.{ElseMeans, ElsifsMean, FurtherStatementsMean, SequenceMeans, StatementMeans, Target}
+use Rattle.ob0_run_cells.specs.LoweredStatements.{CodeMeansElse, CodeMeansElsifs, CodeMeansFurtherStatements, CodeMeansSequence, CodeMeansStatement, Target}
 use Rattle.ob0_run_cells.specs.Lowering.{Slot, TruthMeans, value_of_expression}
 use Rattle.ob0_run_cells.proofs.Represented.{choice-represents, going-on, truth-in, execute_while-represent, execute_repeat-represent}
 
 module _ {N : Type 0} (checked : TypeMeanings N) (slots : N → Slot) (targets : N → Target) where
   pub branches-mean : (e : Tree N expression) (a : Tree N sequence) (rest : Tree N (items elsif_part)) (last : Tree N (maybe else_part)) (t : lowered.Truth) (body : lowered.Instructions) (bs : lowered.Branches) (otherwise : lowered.Instructions)
-      → TruthMeans checked slots t (value_of_expression e) → SequenceMeans checked slots targets body a → ElsifsMean checked slots targets bs otherwise rest last → StatementMeans checked slots targets (lowered.chooses (lowered.branch t body bs) otherwise) (branches e a rest last)
+      → TruthMeans checked slots t (value_of_expression e) → CodeMeansSequence checked slots targets body a → CodeMeansElsifs checked slots targets bs otherwise rest last → CodeMeansStatement checked slots targets (lowered.chooses (lowered.branch t body bs) otherwise) (branches e a rest last)
   unfolding execution.execute execute
   branches-mean e a rest last t body bs otherwise ht ha hr b shown n low s h =
       choice-represents b.typing low s (machine.truth b.levels low.cells t) (evaluate b.active s.store e) (execution.execute_all b.lowered_enters n b.levels body) (execution.execute_branches b.lowered_enters n b.levels bs (execution.execute_all b.lowered_enters n b.levels otherwise))
       (execute_all b.active b.enters n a) (execute_elsifs b.active b.enters n rest (execute_else b.active b.enters n last)) h (truth-in checked slots targets b shown t (value_of_expression e) ht low s h) (ha b shown n low s h) (hr b shown n low s h)
 
   pub elsif-means : (e : Tree N expression) (a : Tree N sequence) (rest : Tree N (items elsif_part)) (last : Tree N (maybe else_part)) (t : lowered.Truth) (body : lowered.Instructions) (bs : lowered.Branches) (otherwise : lowered.Instructions)
-      → TruthMeans checked slots t (value_of_expression e) → SequenceMeans checked slots targets body a → ElsifsMean checked slots targets bs otherwise rest last → ElsifsMean checked slots targets (lowered.branch t body bs) otherwise (more (elsif_branch e a) rest) last
+      → TruthMeans checked slots t (value_of_expression e) → CodeMeansSequence checked slots targets body a → CodeMeansElsifs checked slots targets bs otherwise rest last → CodeMeansElsifs checked slots targets (lowered.branch t body bs) otherwise (more (elsif_branch e a) rest) last
   unfolding execution.execute execute
   elsif-means e a rest last t body bs otherwise ht ha hr b shown n low s h =
       choice-represents b.typing low s (machine.truth b.levels low.cells t) (evaluate b.active s.store e) (execution.execute_all b.lowered_enters n b.levels body) (execution.execute_branches b.lowered_enters n b.levels bs (execution.execute_all b.lowered_enters n b.levels otherwise))
       (execute_all b.active b.enters n a) (execute_elsifs b.active b.enters n rest (execute_else b.active b.enters n last)) h (truth-in checked slots targets b shown t (value_of_expression e) ht low s h) (ha b shown n low s h) (hr b shown n low s h)
 
-  pub no-elsif : (last : Tree N (maybe else_part)) (cs : lowered.Instructions) → ElseMeans checked slots targets cs last → ElsifsMean checked slots targets lowered.no_branch cs end last
+  pub no-elsif : (last : Tree N (maybe else_part)) (cs : lowered.Instructions) → CodeMeansElse checked slots targets cs last → CodeMeansElsifs checked slots targets lowered.no_branch cs end last
   unfolding execution.execute execute
   no-elsif last cs hc b shown n low s h = hc b shown n low s h
 
-  pub else-means : (a : Tree N sequence) (cs : lowered.Instructions) → SequenceMeans checked slots targets cs a → ElseMeans checked slots targets cs (one (else_branch a))
+  pub else-means : (a : Tree N sequence) (cs : lowered.Instructions) → CodeMeansSequence checked slots targets cs a → CodeMeansElse checked slots targets cs (one (else_branch a))
   unfolding execute
   else-means a cs hc b shown n low s h = hc b shown n low s h
 
-  pub no-else : ElseMeans checked slots targets lowered.no_statement none
+  pub no-else : CodeMeansElse checked slots targets lowered.no_statement none
   unfolding execution.execute execute
   no-else b shown n low s h = h
 
-  pub while-means : (e : Tree N expression) (a : Tree N sequence) (t : lowered.Truth) (body : lowered.Instructions) → TruthMeans checked slots t (value_of_expression e) → SequenceMeans checked slots targets body a → StatementMeans checked slots targets (lowered.while_loop t body) (while_loop e a)
+  pub while-means : (e : Tree N expression) (a : Tree N sequence) (t : lowered.Truth) (body : lowered.Instructions) → TruthMeans checked slots t (value_of_expression e) → CodeMeansSequence checked slots targets body a → CodeMeansStatement checked slots targets (lowered.while_loop t body) (while_loop e a)
   unfolding execution.execute execute
   while-means e a t body ht ha b shown n low s h =
       execute_while-represent n b.typing (λ s'. machine.truth b.levels s'.cells t) (λ s'. evaluate b.active s'.store e) (execution.execute_all b.lowered_enters n b.levels body) (execute_all b.active b.enters n a)
       (λ low s h. truth-in checked slots targets b shown t (value_of_expression e) ht low s h) (λ low s h. ha b shown n low s h) low s h
 
-  pub repeat-means : (e : Tree N expression) (a : Tree N sequence) (t : lowered.Truth) (body : lowered.Instructions) → TruthMeans checked slots t (value_of_expression e) → SequenceMeans checked slots targets body a → StatementMeans checked slots targets (lowered.repeat_loop body t) (repeat_loop a e)
+  pub repeat-means : (e : Tree N expression) (a : Tree N sequence) (t : lowered.Truth) (body : lowered.Instructions) → TruthMeans checked slots t (value_of_expression e) → CodeMeansSequence checked slots targets body a → CodeMeansStatement checked slots targets (lowered.repeat_loop body t) (repeat_loop a e)
   unfolding execution.execute execute
   repeat-means e a t body ht ha b shown n low s h =
       execute_repeat-represent (n - 1) b.typing (λ s'. machine.truth b.levels s'.cells t) (λ s'. evaluate b.active s'.store e) (execution.execute_all b.lowered_enters n b.levels body) (execute_all b.active b.enters n a)
       (λ low s h. truth-in checked slots targets b shown t (value_of_expression e) ht low s h) (λ low s h. ha b shown n low s h) low s h
 
-  pub further-means : (a : Tree N statement) (c : lowered.Instruction) (rest : Tree N (items further_statement)) (cs : lowered.Instructions) → StatementMeans checked slots targets c a → FurtherStatementsMean checked slots targets cs rest → FurtherStatementsMean checked slots targets (lowered.before c cs) (more (then_statement a) rest)
+  pub further-means : (a : Tree N statement) (c : lowered.Instruction) (rest : Tree N (items further_statement)) (cs : lowered.Instructions) → CodeMeansStatement checked slots targets c a → CodeMeansFurtherStatements checked slots targets cs rest → CodeMeansFurtherStatements checked slots targets (lowered.next_statement c cs) (more (then_statement a) rest)
   unfolding execution.execute execute
   further-means a c rest cs hc hr b shown n low s h =
       going-on b.typing (execution.execute b.lowered_enters n b.levels c low) (execute b.active b.enters n a s) (execution.execute_all b.lowered_enters n b.levels cs) (execute_further b.active b.enters n rest) (hc b shown n low s h) (λ low s h. hr b shown n low s h)
 
-  pub first-empty : (rest : Tree N (items further_statement)) (cs : lowered.Instructions) → FurtherStatementsMean checked slots targets cs rest → SequenceMeans checked slots targets cs (runs empty rest)
+  pub first-empty : (rest : Tree N (items further_statement)) (cs : lowered.Instructions) → CodeMeansFurtherStatements checked slots targets cs rest → CodeMeansSequence checked slots targets cs (runs empty rest)
   unfolding execute
   first-empty rest cs hr b shown n low s h = hr b shown n low s h
 
-  pub further-empty : (rest : Tree N (items further_statement)) (cs : lowered.Instructions) → FurtherStatementsMean checked slots targets cs rest → FurtherStatementsMean checked slots targets cs (more (then_statement empty) rest)
+  pub further-empty : (rest : Tree N (items further_statement)) (cs : lowered.Instructions) → CodeMeansFurtherStatements checked slots targets cs rest → CodeMeansFurtherStatements checked slots targets cs (more (then_statement empty) rest)
   unfolding execute
   further-empty rest cs hr b shown n low s h = hr b shown n low s h
 
-  pub sequence-ends : FurtherStatementsMean checked slots targets lowered.no_statement end
+  pub sequence-ends : CodeMeansFurtherStatements checked slots targets lowered.no_statement end
   unfolding execution.execute execute
   sequence-ends b shown n low s h = h

@@ -6,21 +6,21 @@ use Rattle.ob0_tree.specs.declared.tree.MultiplyOperator.{MultiplyOperator}
 use Rattle.ob0_tree.specs.Tree.{Tree, addend, adds, factor, integer, items, more, multiplier, multiplies, product, sum, term}
 use Rattle.ob0_language_types.specs.Expressions.{evaluate}
 use Rattle.ob0_language_types.specs.WellTyped.{TypeMeanings}
-use Rattle.ob0_language_values.specs.Values.{Outcome, Value, add, add_short_circuits, ends, gives, multiply, multiply_short_circuits, number, apply_sign, ◌>>=◌}
+use Rattle.ob0_language_values.specs.Values.{Outcome, Value, add, add_short_circuits, ends_run_with, succeeds_with, multiply, multiply_short_circuits, number, apply_sign, ◌>>=◌}
 use Rattle.ob0_run_machine.specs.Evaluation as machine
 use Rattle.ob0_run_machine.specs.Lowered as lowered
 use Rattle.ob0_run_cells.specs.Lowering.{OutcomeByMoment, Moment, NumberStartsChain, NumberMeans, RestOfChain, Slot, remaining_addends, cells_in, remaining_multipliers, value_of_factor, value_of_simple, value_of_term}
 use Rattle.ob0_run_cells.proofs.LoweredOutcomes.{Operates, gives-then, grouped-then, checked_number-same, outcome-then, plus-same, followed_by}
 
 pub each-then : {A B : Type 0} (o : Outcome A) (f g : A → Outcome B) → ((a : A) → f a ≡ g a) → (o >>= f) ≡ (o >>= g)
-each-then (gives a) f g each = each a
-each-then (ends e) f g each = refl
+each-then (succeeds_with a) f g each = each a
+each-then (ends_run_with e) f g each = refl
 
 -- an operator that its left side doesn't settle, and what follows it
 pub unsettled : {A : Type 0} (o : Outcome Value) (is_settled : Value → Bool) (step : Value → Outcome Value) (next : Value → Outcome A) → ((x : Value) → is_settled x ≡ false)
-    → ((o >>= step) >>= next) ≡ (o >>= (λ x. elim (is_settled x) [ true ↦ gives x | false ↦ step x ] >>= next))
+    → ((o >>= step) >>= next) ≡ (o >>= (λ x. elim (is_settled x) [ true ↦ succeeds_with x | false ↦ step x ] >>= next))
 unsettled o is_settled step next never =
-    grouped-then o step next ∙ each-then o (λ x. step x >>= next) (λ x. elim (is_settled x) [ true ↦ gives x | false ↦ step x ] >>= next) (λ x. ap (λ b. elim b [ true ↦ gives x | false ↦ step x ] >>= next) (sym (never x)))
+    grouped-then o step next ∙ each-then o (λ x. step x >>= next) (λ x. elim (is_settled x) [ true ↦ succeeds_with x | false ↦ step x ] >>= next) (λ x. ap (λ b. elim b [ true ↦ succeeds_with x | false ↦ step x ] >>= next) (sym (never x)))
 
 module _ {N : Type 0} (checked : TypeMeanings N) (slots : N → Slot) where
   pub operation-means : (o : lowered.Operator) (op : Value → Value → Outcome Value) → Operates o op → (m n : lowered.Number) (v w : OutcomeByMoment N Value) → NumberMeans checked slots m v → NumberMeans checked slots n w
@@ -36,10 +36,10 @@ module _ {N : Type 0} (checked : TypeMeanings N) (slots : N → Slot) where
   negative-means n v hn z shown = outcome-then number number (machine.number z.levels (cells_in z) n) (v z) (λ a. machine.checked_number (neg_ℤ a)) (apply_sign (Some sign.Minus)) (hn z shown) (λ a. checked_number-same (neg_ℤ a))
 
   -- where nothing is left
-  pub number-whole : (n : lowered.Number) (rest : RestOfChain N Value) (whole : OutcomeByMoment N Value) → ((z : Moment N) (v : Value) → rest z v ≡ gives v) → NumberStartsChain checked slots n rest whole → NumberMeans checked slots n whole
+  pub number-whole : (n : lowered.Number) (rest : RestOfChain N Value) (whole : OutcomeByMoment N Value) → ((z : Moment N) (v : Value) → rest z v ≡ succeeds_with v) → NumberStartsChain checked slots n rest whole → NumberMeans checked slots n whole
   number-whole n rest whole ends_here h z shown =
       let (v, hv, ev) = h in
-      let same : v z ≡ whole z = sym (gives-then (v z)) ∙ (each-then (v z) gives (rest z) (λ x. sym (ends_here z x)) ∙ ev z shown) in
+      let same : v z ≡ whole z = sym (gives-then (v z)) ∙ (each-then (v z) succeeds_with (rest z) (λ x. sym (ends_here z x)) ∙ ev z shown) in
       hv z shown ∙ same
 
   pub addend-leads : (o : AddOperator) (op : lowered.Operator) → Operates op (add o) → ((x : Value) → add_short_circuits o x ≡ false) → (m n : lowered.Number) (e : Tree N term) (rest : Tree N (items addend)) (whole : OutcomeByMoment N Value)

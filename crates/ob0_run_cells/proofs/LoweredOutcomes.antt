@@ -7,8 +7,8 @@ use Rattle.ob0_tree.specs.declared.tree.Relation.TheVariants as relation
 use Rattle.ob0_tree.specs.declared.tree.Sign.TheVariants as sign
 use Rattle.ob0_tree.specs.declared.tree.AddOperator.TheVariants as add_operator
 use Rattle.ob0_tree.specs.declared.tree.MultiplyOperator.TheVariants as multiply_operator
-use Rattle.ob0_language_values.specs.Values.{End, Outcome, Overflow, Place, Shape, Value, add, checked_division, division_outcome, ends, fits, gives, checked_number, multiply, number, or_stuck, quotient, relate, remainder, apply_sign, truth, ◌>>=◌}
-use Rattle.ob0_language_runs.specs.Fitting.{PlaceFits, StoreTyping}
+use Rattle.ob0_language_values.specs.Values.{End, Outcome, Overflow, Place, Shape, Value, add, checked_division, division_outcome, ends_run_with, fits_in_32_bits, succeeds_with, checked_number, multiply, number, or_stuck, quotient, apply_relation, remainder, apply_sign, truth, ◌>>=◌}
+use Rattle.ob0_language_runs.specs.TypeAgreement.{PlaceHasType, StoreTyping}
 use Rattle.ob0_run_machine.specs.Evaluation as machine
 use Rattle.ob0_run_machine.specs.Lowered as lowered
 use Rattle.ob0_run_cells.specs.Cells.{address}
@@ -18,12 +18,12 @@ abbrev pub followed_by : {A B : Type 0} → machine.StepResult A → (A → mach
 followed_by = machine.◌>>=◌
 
 pub grouped-then : {A B C : Type 0} (o : Outcome A) (f : A → Outcome B) (g : B → Outcome C) → ((o >>= f) >>= g) ≡ (o >>= (λ a. f a >>= g))
-grouped-then (gives a) f g = refl
-grouped-then (ends e) f g = refl
+grouped-then (succeeds_with a) f g = refl
+grouped-then (ends_run_with e) f g = refl
 
-pub gives-then : {A : Type 0} (o : Outcome A) → (o >>= gives) ≡ o
-gives-then (gives a) = refl
-gives-then (ends e) = refl
+pub gives-then : {A : Type 0} (o : Outcome A) → (o >>= succeeds_with) ≡ o
+gives-then (succeeds_with a) = refl
+gives-then (ends_run_with e) = refl
 
 pub stuck-then : {A B C : Type 0} (o : Option A) (f : A → Option B) (k : B → Outcome C) → (or_stuck (option_and_then f o) >>= k) ≡ (or_stuck o >>= (λ a. or_stuck (f a) >>= k))
 stuck-then None f k = refl
@@ -37,12 +37,12 @@ outcome-then f g (machine.ends x) w k j e each = ap (λ w. w >>= j) e
 
 -- numbers of 32 bits
 
-range-same : (n : ℤ) (b : Bool) → outcome_of number (if b then machine.gives n else machine.ends machine.Overflow) ≡ (if b then gives (number n) else ends Overflow)
+range-same : (n : ℤ) (b : Bool) → outcome_of number (if b then machine.gives n else machine.ends machine.Overflow) ≡ (if b then succeeds_with (number n) else ends_run_with Overflow)
 range-same n true = refl
 range-same n false = refl
 
 pub checked_number-same : (n : ℤ) → outcome_of number (machine.checked_number n) ≡ checked_number n
-checked_number-same n = range-same n (fits n)
+checked_number-same n = range-same n (fits_in_32_bits n)
 
 pub checked_division-same : (result : Option ℤ) → outcome_of number (machine.division_outcome result) ≡ division_outcome result
 checked_division-same None = refl
@@ -71,7 +71,7 @@ remainder-operates a b = checked_division-same (checked_division remainder a b)
 pub plus-same : (a : ℤ) → outcome_of number (machine.operate lowered.sum a (pos 0)) ≡ apply_sign (Some sign.Plus) (number a)
 plus-same a = let same : a +ℤ pos 0 ≡ a = omega (arith, ints) in checked_number-same (a +ℤ pos 0) ∙ ap checked_number same
 
-pub compare-same : (r : Relation) (a b : ℤ) → gives (truth (machine.compare (relation_of r) a b)) ≡ relate r (number a) (number b)
+pub compare-same : (r : Relation) (a b : ℤ) → succeeds_with (truth (machine.compare (relation_of r) a b)) ≡ apply_relation r (number a) (number b)
 compare-same relation.Equal a b = refl
 compare-same _ a b = refl
 
@@ -81,7 +81,7 @@ pub add_offset-same : (a offset : ℕ) → a + offset < 2 ^ 64 → machine.add_o
 add_offset-same a offset h = mod-eq_of_lt h
 
 abbrev pub addresses : StoreTyping → Outcome Place → Outcome ℕ
-addresses typing w = w >>= (λ p. gives (address typing p))
+addresses typing w = w >>= (λ p. succeeds_with (address typing p))
 
 abbrev pub same : ℕ → ℕ
 same a = a
@@ -91,20 +91,20 @@ pub record Led (typing : StoreTyping) (s : Shape) (o : machine.StepResult ℕ) (
   pub is_same : outcome_of same o ≡ addresses typing w
   pub is_place : PlaceOutcomeFits typing s w
 
-pub given-same : {A : Type 0} (a b : A) → gives a ≡ gives b → a ≡ b
-given-same {A} a b e = ap (λ o. elim o [ gives x ↦ x | ends x ↦ a ]) e
+pub given-same : {A : Type 0} (a b : A) → succeeds_with a ≡ succeeds_with b → a ≡ b
+given-same {A} a b e = ap (λ o. elim o [ succeeds_with x ↦ x | ends_run_with x ↦ a ]) e
 
 abbrev pub ended : End → Outcome ℕ
-ended x = ends x
+ended x = ends_run_with x
 
 pub ended-same : (x y : End) → ended x ≡ ended y → x ≡ y
-ended-same x y e = ap (λ o. elim o [ gives a ↦ y | ends z ↦ z ]) e
+ended-same x y e = ap (λ o. elim o [ succeeds_with a ↦ y | ends_run_with z ↦ z ]) e
 
 -- one step further from a place
 pub led-then : (typing : StoreTyping) (s t : Shape) (o : machine.StepResult ℕ) (w : Outcome Place) (k : ℕ → machine.StepResult ℕ) (j : Place → Outcome Place)
-    → Led typing s o w → ((p : Place) → PlaceFits typing p s → Led typing t (k (address typing p)) (j p)) → Led typing t (followed_by o k) (w >>= j)
-led-then typing s t (machine.gives a) (gives p) k j h each =
+    → Led typing s o w → ((p : Place) → PlaceHasType typing p s → Led typing t (k (address typing p)) (j p)) → Led typing t (followed_by o k) (w >>= j)
+led-then typing s t (machine.gives a) (succeeds_with p) k j h each =
     let e : a ≡ address typing p = given-same a (address typing p) h.is_same in
     subst (λ a. Led typing t (k a) (j p)) (sym e) (each p h.is_place)
-led-then typing s t (machine.ends x) (ends y) k j h each = record { is_same = h.is_same; is_place = tt }
+led-then typing s t (machine.ends x) (ends_run_with y) k j h each = record { is_same = h.is_same; is_place = tt }
 led-then typing s t _ _ k j h each = let e = h.is_same in absurd (cc)

@@ -5,18 +5,18 @@ use Rattle.ob0_tree.specs.Tree.{Tree, is_module, module_text}
 use Rattle.ob0_language_names.specs.Names.{Naming, naming_by_label}
 use Rattle.ob0_language_names.specs.Parts.{block_statements}
 use Rattle.ob0_language_names.specs.Scopes.{numbered}
-use Rattle.ob0_language_types.specs.Environments.{outermost}
+use Rattle.ob0_language_types.specs.Environments.{outermost_environment}
 use Rattle.ob0_language_types.specs.WellTyped.{WellTyped, passes_type_check}
 use Rattle.ob0_language_types.proofs.Proved.{numbering_keeps_type_check-holds}
-use Rattle.ob0_language_runs.specs.Fitting.{StoreTyping}
+use Rattle.ob0_language_runs.specs.TypeAgreement.{StoreTyping}
 use Rattle.ob0_language_runs.specs.Freed.{call_freeing, run_freeing}
-use Rattle.ob0_language_runs.specs.Runs.{Frame, Progress, Run, State, execute_body, run_result, continue_in_frame, run_numbered, run_over, running, stopped}
+use Rattle.ob0_language_runs.specs.Runs.{Frame, Progress, Run, State, execute_body, run_result, continue_in_frame, run_numbered, run_with_naming, running, stopped}
 use Rattle.ob0_language_runs.proofs.KeptVariables.{freeing-keeps}
 use Rattle.ob0_language_runs.proofs.Proved.{numbering_keeps_runs-holds}
 use Rattle.ob0_run_machine.specs.Execution as execution
 use Rattle.ob0_run_machine.specs.Lowered as lowered
 use Rattle.ob0_run_cells.specs.ActivationLaws.{LoweringKeepsRuns, run_of}
-use Rattle.ob0_run_cells.specs.Activations.{FitsFirst, Placed, ProgramMeans, RoutineTable, outermost_placement}
+use Rattle.ob0_run_cells.specs.Activations.{FitsFirst, PlacementState, ProgramMeans, RoutineTable, outermost_placement}
 use Rattle.ob0_run_cells.specs.Cells.{store_size}
 use Rattle.ob0_run_cells.specs.LoweredStatements.{ProgressRepresents, Represents}
 use Rattle.ob0_run_cells.specs.Lowering.{of_module}
@@ -42,18 +42,18 @@ unfolding execution.run run_freeing passes_type_check
 run-freed {N} naming (is_module x b closing) program c t input fits means =
     let start : State = record { store = []; input = input; output = [] } in
     let low : execution.MachineState = record { cells = execution.zeros program.cells; input = input; output = [] } in
-    let p : Placed N = record { placement = outermost_placement naming; cells = 0; reference_places = 0 } in
-    let f : Frame N = record { env = outermost naming; store = [] } in
+    let p : PlacementState N = record { placement = outermost_placement naming; cells = 0; reference_places = 0 } in
+    let f : Frame N = record { env = outermost_environment naming; store = [] } in
     let table : RoutineTable N = record { routines = program.procedures; naming = naming } in
-    let frame : FramePlaced table [] execution.outermost 0 (outermost naming) p f = record {
+    let frame : FramePlaced table [] execution.module_levels 0 (outermost_environment naming) p f = record {
       store_fits = tt;
       environment_fits = (refl, refl, (refl, refl, (refl, refl, (refl, refl, (refl, refl, (refl, refl, (refl, refl, tt)))))));
       placing_fits = predeclared (predeclared (predeclared (predeclared (predeclared (predeclared (predeclared tt))))));
       cells_counted = refl;
     } in
-    let (g, after, q, eg, total, body_means, part) = block-placed table [] execution.outermost 0 of_module (λ c. omega arith) 0 program.cells program.body b (outermost naming) p f frame fits means in
+    let (g, after, q, eg, total, body_means, part) = block-placed table [] execution.module_levels 0 of_module (λ c. omega arith) 0 program.cells program.body b (outermost_environment naming) p f frame fits means in
     let counted : 0 + q.cells ≡ store_size part.typing_now = part.frame.cells_counted in
-    let runs_body = execution.execute_all (execution.call program.procedures c t) t execution.outermost program.body in
+    let runs_body = execution.execute_all (execution.call program.procedures c t) t execution.module_levels program.body in
     let statements = execute_body naming g.env (call_freeing naming c t g.env) t (block_statements b) record start { store = g.store } in
     let represents : Represents part.typing_now low record start { store = g.store } = record {
       store_fits = part.frame.store_fits;
@@ -64,10 +64,10 @@ run-freed {N} naming (is_module x b closing) program c t input fits means =
     subst (λ o. ComesTo (execution.run_with_cells program.cells runs_body record { cells = []; input = input; output = [] }) (run_result (continue_in_frame start o (λ f. execute_body naming f.env (call_freeing naming c t f.env) t (block_statements b))))) (sym eg)
     (with-cells (λ p. ComesTo p (run_result statements)) program.cells runs_body (record { cells = []; input = input; output = [] }) tt
     (λ room. run_result-same part.typing_now (runs_body low) statements
-    (body-represents table c t (calls-known table c t) part.typing_now execution.outermost after q.placement g.env part.frame.environment_fits part.frame.placing_fits (omega (arith, counted, total, room)) program.body (block_statements b) body_means low record start { store = g.store } represents)))
+    (body-represents table c t (calls-known table c t) part.typing_now execution.module_levels after q.placement g.env part.frame.environment_fits part.frame.placing_fits (omega (arith, counted, total, room)) program.body (block_statements b) body_means low record start { store = g.store } represents)))
 
 -- of the store that keeps every variable too: no run reads again what a call failed
-pub run-lowered : {N : Type 0} (naming : Naming N) (m : Tree N module_text) (program : lowered.LoweredCode) (c t : ℕ) (input : List ℤ) → passes_type_check naming m ≡ true → ProgramMeans naming m program → IfSome (execution.run program input c t) (λ r. run_of r ≡ run_over naming m input c t)
+pub run-lowered : {N : Type 0} (naming : Naming N) (m : Tree N module_text) (program : lowered.LoweredCode) (c t : ℕ) (input : List ℤ) → passes_type_check naming m ≡ true → ProgramMeans naming m program → IfSome (execution.run program input c t) (λ r. run_of r ≡ run_with_naming naming m input c t)
 run-lowered naming m program c t input fits means =
     subst (λ whole. IfSome (execution.run program input c t) (λ r. run_of r ≡ whole)) (freeing-keeps naming m input c t) (run-freed naming m program c t input fits means)
 

@@ -3,7 +3,7 @@ use Rattle.std.proofs.Common.{◌≡◌, ℕ, zero, suc, ◌+◌, ◌*◌, ◌<�
 use Rattle.ob0_language_names.specs.Names.{Name, same_name}
 use Rattle.ob0_language_types.specs.Typing.{shape_of_field}
 use Rattle.ob0_language_values.specs.Values.{FieldShapes, Members, Shape, Step, Value, Values, array_shape, at_field, at_index, value_at_path, boolean_shape, count_values, elements, integer_shape, members, named_member, next_field_shape, next_member, next_value, no_field_shape, no_member, no_value, nth_value, number, part, record_shape, truth, with_value_at_path, with_named_member, with_nth_value, with_part}
-use Rattle.ob0_language_runs.specs.Fitting.{EachHasShape, HasShape, HaveShapes, part_shape, shape_at_path}
+use Rattle.ob0_language_runs.specs.TypeAgreement.{EachHasShape, HasShape, HaveShapes, part_shape, shape_at_path}
 use Rattle.ob0_language_types.proofs.Conditions.{of_some}
 use Rattle.ob0_language_types.proofs.TypedElsewhere.{then_some}
 use Rattle.ob0_language_runs.proofs.Sound.{below_of}

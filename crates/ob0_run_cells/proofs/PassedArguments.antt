@@ -7,15 +7,15 @@ use Rattle.ob0_tree.specs.Tree.{Tree, arguments, calls, expression, items, maybe
 use Rattle.ob0_language_types.specs.Arguments.{arguments_listed}
 use Rattle.ob0_language_types.specs.Expressions.{Object, a_procedure, designate, evaluate}
 use Rattle.ob0_language_types.specs.WellTyped.{FormalParameter, Mode, Signature, TypeMeanings}
-use Rattle.ob0_language_values.specs.Values.{Outcome, Place, Shape, Store, Value, ends, gives, number, or_stuck, read_place, truth, ◌>>=◌}
-use Rattle.ob0_language_runs.specs.Fitting.{ArgumentsFit, HasShape, ObjectFits, PlaceFits, StoreFits, StoreTyping, signature_modes}
+use Rattle.ob0_language_values.specs.Values.{Outcome, Place, Shape, Store, Value, ends_run_with, succeeds_with, number, or_stuck, read_place, truth, ◌>>=◌}
+use Rattle.ob0_language_runs.specs.TypeAgreement.{ArgumentsMatchSignature, HasShape, RunObjectAgrees, PlaceHasType, StoreHasTypes, StoreTyping, signature_modes}
 use Rattle.ob0_language_runs.specs.Runs.{Argument, Progress, State, evaluate_argument, evaluate_arguments, execute, modes_of, perform_call, place_argument, use_result, value_argument}
 use Rattle.ob0_language_runs.proofs.SoundStatements.{first-argument}
 use Rattle.ob0_run_machine.specs.Evaluation as machine
 use Rattle.ob0_run_machine.specs.Execution as execution
 use Rattle.ob0_run_machine.specs.Lowered as lowered
 use Rattle.ob0_run_cells.specs.Cells.{address, all_cells, cells_of, size, store_size}
-use Rattle.ob0_run_cells.specs.LoweredStatements.{ArgumentMeans, ArgumentsMean, Body, ProgressRepresents, Represents, ShowsBody, StatementMeans, Target, argument_addresses, argument_cells}
+use Rattle.ob0_run_cells.specs.LoweredStatements.{CodeMeansArgument, CodeMeansArguments, Body, ProgressRepresents, Represents, ShowsBody, CodeMeansStatement, Target, argument_addresses, argument_cells}
 use Rattle.ob0_run_cells.specs.Lowering.{Slot, end_of, outcome_of, place_of_designator, value_of_expression}
 use Rattle.ob0_run_cells.proofs.LoweredOutcomes.{Led, ended-same, given-same, grouped-then}
 use Rattle.ob0_run_cells.proofs.Places.{HoldsSlice, places_are_slices, store-size}
@@ -23,23 +23,23 @@ use Rattle.ob0_run_cells.proofs.Represented.{alone-cells, as_cell-same, moment, 
 
 -- both give what is related, or both end alike
 abbrev pub Both : {A B : Type 0} → (A → B → Type 0) → machine.StepResult A → Outcome B → Type 0
-Both R (machine.gives a) (gives b) = R a b
-Both R (machine.ends x) (ends y) = end_of x ≡ y
+Both R (machine.gives a) (succeeds_with b) = R a b
+Both R (machine.ends x) (ends_run_with y) = end_of x ≡ y
 Both R _ _ = ⊥
 
 pub both-then : {A B C D : Type 0} (R : A → B → Type 0) (Q : C → D → Type 0) (o : machine.StepResult A) (w : Outcome B) (k : A → machine.StepResult C) (j : B → Outcome D) → Both R o w → ((a : A) (b : B) → R a b → Both Q (k a) (j b)) → Both Q (machine.◌>>=◌ o k) (w >>= j)
-both-then R Q (machine.gives a) (gives b) k j h each = each a b h
-both-then R Q (machine.ends x) (ends y) k j h each = h
+both-then R Q (machine.gives a) (succeeds_with b) k j h each = each a b h
+both-then R Q (machine.ends x) (ends_run_with y) k j h each = h
 both-then R Q _ _ k j h each = absurd h
 
-pub both-made : {A B D : Type 0} (R : A → B → Type 0) (Q : A → D → Type 0) (o : machine.StepResult A) (w : Outcome B) (g : B → D) → Both R o w → ((a : A) (b : B) → R a b → Q a (g b)) → Both Q o (w >>= (λ b. gives (g b)))
-both-made R Q (machine.gives a) (gives b) g h each = each a b h
-both-made R Q (machine.ends x) (ends y) g h each = h
+pub both-made : {A B D : Type 0} (R : A → B → Type 0) (Q : A → D → Type 0) (o : machine.StepResult A) (w : Outcome B) (g : B → D) → Both R o w → ((a : A) (b : B) → R a b → Q a (g b)) → Both Q o (w >>= (λ b. succeeds_with (g b)))
+both-made R Q (machine.gives a) (succeeds_with b) g h each = each a b h
+both-made R Q (machine.ends x) (ends_run_with y) g h each = h
 both-made R Q _ _ g h each = absurd h
 
-pub both-led : (typing : StoreTyping) (shape : Shape) (o : machine.StepResult ℕ) (w : Outcome Place) → Led typing shape o w → Both (λ a p. (a ≡ address typing p) × PlaceFits typing p shape) o w
-both-led typing shape (machine.gives a) (gives p) h = (given-same a (address typing p) h.is_same, h.is_place)
-both-led typing shape (machine.ends x) (ends y) h = ended-same (end_of x) y h.is_same
+pub both-led : (typing : StoreTyping) (shape : Shape) (o : machine.StepResult ℕ) (w : Outcome Place) → Led typing shape o w → Both (λ a p. (a ≡ address typing p) × PlaceHasType typing p shape) o w
+both-led typing shape (machine.gives a) (succeeds_with p) h = (given-same a (address typing p) h.is_same, h.is_place)
+both-led typing shape (machine.ends x) (ends_run_with y) h = ended-same (end_of x) y h.is_same
 both-led typing shape _ _ h = let e = h.is_same in absurd (cc)
 
 pub both-number : (o : machine.StepResult ℤ) (w : Outcome Value) → outcome_of number o ≡ w → Both (λ n v. number n ≡ v) o w
@@ -52,13 +52,13 @@ both-truth (machine.ends x) w e = subst (λ w. Both (λ b v. truth b ≡ v) (mac
 
 pub use-both : {A B : Type 0} (typing : StoreTyping) (R : A → B → Type 0) (low : execution.MachineState) (s : State) (o : machine.StepResult A) (w : Outcome B) (k : A → execution.MachineProgress) (j : B → Progress) → Represents typing low s → Both R o w
     → ((a : A) (b : B) → R a b → ProgressRepresents typing (k a) (j b)) → ProgressRepresents typing (execution.use_result low o k) (use_result s w j)
-use-both typing R low s (machine.gives a) (gives b) k j h r each = each a b r
-use-both typing R low s (machine.ends x) (ends y) k j h r each = (r, h.same_output)
+use-both typing R low s (machine.gives a) (succeeds_with b) k j h r each = each a b r
+use-both typing R low s (machine.ends x) (ends_run_with y) k j h r each = (r, h.same_output)
 use-both typing R low s _ _ k j h r each = absurd r
 
 -- what was passed before, and what is after arguments
 pub record Passes (typing : StoreTyping) (fs : Signature) (done p : execution.CallArguments) (args : List Argument) : Type 0 where
-  pub arguments_fit : ArgumentsFit typing fs args
+  pub arguments_match : ArgumentsMatchSignature typing fs args
   pub cells_passed : p.cells ≡ done.cells ++ argument_cells args
   pub addresses_passed : p.addresses ≡ done.addresses ++ argument_addresses typing args
 
@@ -72,7 +72,7 @@ addresses-joined typing (value_argument v) args = refl
 
 pub passes-on : (typing : StoreTyping) (f : FormalParameter) (fs : Signature) (done p q : execution.CallArguments) (a : Argument) (args : List Argument) → Passes typing (f ∷ []) done p (a ∷ []) → Passes typing fs p q args → Passes typing (f ∷ fs) done q (a ∷ args)
 passes-on typing f fs done p q a args h k = record {
-  arguments_fit = first-argument typing f fs a args h.arguments_fit k.arguments_fit;
+  arguments_match = first-argument typing f fs a args h.arguments_match k.arguments_match;
   cells_passed = k.cells_passed ∙ (ap (λ l. l ++ argument_cells args) h.cells_passed ∙ (append_assoc done.cells (argument_cells (a ∷ [])) (argument_cells args) ∙ ap (λ l. done.cells ++ l) (cells-joined a args)));
   addresses_passed = k.addresses_passed ∙ (ap (λ l. l ++ argument_addresses typing args) h.addresses_passed ∙ (append_assoc done.addresses (argument_addresses typing (a ∷ [])) (argument_addresses typing args) ∙ ap (λ l. done.addresses ++ l) (addresses-joined typing a args)));
 }
@@ -88,38 +88,38 @@ block-there cells others from n h =
     ap (λ b. if b then take n (drop from (cells ++ others)) else execution.zeros n) (le-leb (from + n) (length (cells ++ others)) within)
     ∙ (ap (take n) (drop-append-le from cells others start) ∙ take-append-le n (drop from cells) others left)
 
-module _ {N : Type 0} (checked : TypeMeanings N) (slots : N → Slot) (targets : N → Target) (b : Body N) (shown : ShowsBody checked slots targets b) (store : Store) (fits : StoreFits b.typing store) where
-  pub argument-passed : (f : FormalParameter) (c : lowered.LoweredArgument) (e : Tree N expression) → ArgumentMeans checked slots f c e → (done : execution.CallArguments) (passed : List ℤ) → done.cells ≡ all_cells store ++ passed
-      → Both (λ p a. Passes b.typing (f ∷ []) done p (a ∷ [])) (execution.pass b.levels c done) (evaluate_argument b.active store f.mode e)
+module _ {N : Type 0} (checked : TypeMeanings N) (slots : N → Slot) (targets : N → Target) (b : Body N) (shown : ShowsBody checked slots targets b) (store : Store) (fits : StoreHasTypes b.typing store) where
+  pub argument-passed : (f : FormalParameter) (c : lowered.LoweredArgument) (e : Tree N expression) → CodeMeansArgument checked slots f c e → (done : execution.CallArguments) (passed : List ℤ) → done.cells ≡ all_cells store ++ passed
+      → Both (λ p a. Passes b.typing (f ∷ []) done p (a ∷ [])) (execution.pass_argument b.levels c done) (evaluate_argument b.active store f.mode e)
   unfolding evaluate_argument
   argument-passed f (lowered.by_place q) e h done passed same =
       let x : N = h.1.name in
       let path : Tree N (items selector) = h.1.path in
-      subst (λ m. Both (λ p a. Passes b.typing (f ∷ []) done p (a ∷ [])) (execution.pass b.levels (lowered.by_place q) done) (evaluate_argument b.active store m e)) (sym h.0)
-      (subst (λ o. Both (λ p a. Passes b.typing (f ∷ []) done p (a ∷ [])) (execution.pass b.levels (lowered.by_place q) done) (or_stuck o >>= (λ d. designate b.active store d.0 d.1 >>= (λ p. gives (place_argument p))))) (sym h.1.is_designator)
-      (both-then (λ a p. (a ≡ address b.typing p) × PlaceFits b.typing p f.shape) (λ p a. Passes b.typing (f ∷ []) done p (a ∷ [])) (machine.address b.levels done.cells q) (designate b.active store x path) (λ a. machine.gives (record done { addresses = done.addresses ++ a ∷ [] })) (λ p. gives (place_argument p))
+      subst (λ m. Both (λ p a. Passes b.typing (f ∷ []) done p (a ∷ [])) (execution.pass_argument b.levels (lowered.by_place q) done) (evaluate_argument b.active store m e)) (sym h.0)
+      (subst (λ o. Both (λ p a. Passes b.typing (f ∷ []) done p (a ∷ [])) (execution.pass_argument b.levels (lowered.by_place q) done) (or_stuck o >>= (λ d. designate b.active store d.0 d.1 >>= (λ p. succeeds_with (place_argument p))))) (sym h.1.is_designator)
+      (both-then (λ a p. (a ≡ address b.typing p) × PlaceHasType b.typing p f.shape) (λ p a. Passes b.typing (f ∷ []) done p (a ∷ [])) (machine.address b.levels done.cells q) (designate b.active store x path) (λ a. machine.gives (record done { addresses = done.addresses ++ a ∷ [] })) (λ p. succeeds_with (place_argument p))
       (both-led b.typing f.shape (machine.address b.levels done.cells q) (designate b.active store x path) (place-at checked slots targets b shown q f.shape (place_of_designator x path) h.1.place_means store passed done.cells fits same))
       (λ a p r. record {
-        arguments_fit = (h.0, r.1, tt);
+        arguments_match = (h.0, r.1, tt);
         cells_passed = sym (append-nil done.cells);
         addresses_passed = ap (λ a. done.addresses ++ a ∷ []) r.0;
       })))
   argument-passed f (lowered.by_number n) e h done passed same =
       let is = number-at checked slots targets b shown n (value_of_expression e) h.2 store passed done.cells fits same in
-      subst (λ m. Both (λ p a. Passes b.typing (f ∷ []) done p (a ∷ [])) (execution.pass b.levels (lowered.by_number n) done) (evaluate_argument b.active store m e)) (sym h.0)
-      (both-then (λ n v. number n ≡ v) (λ p a. Passes b.typing (f ∷ []) done p (a ∷ [])) (machine.number b.levels done.cells n) (evaluate b.active store e) (λ a. machine.gives (execution.pass_cells done (a ∷ []))) (λ v. gives (value_argument v))
+      subst (λ m. Both (λ p a. Passes b.typing (f ∷ []) done p (a ∷ [])) (execution.pass_argument b.levels (lowered.by_number n) done) (evaluate_argument b.active store m e)) (sym h.0)
+      (both-then (λ n v. number n ≡ v) (λ p a. Passes b.typing (f ∷ []) done p (a ∷ [])) (machine.number b.levels done.cells n) (evaluate b.active store e) (λ a. machine.gives (execution.pass_cells done (a ∷ []))) (λ v. succeeds_with (value_argument v))
       (both-number (machine.number b.levels done.cells n) (evaluate b.active store e) is)
       (λ a v r. record {
-        arguments_fit = (h.0, subst (λ v. HasShape v f.shape) r (subst (λ s. HasShape (number a) s) (sym h.1) tt), tt);
+        arguments_match = (h.0, subst (λ v. HasShape v f.shape) r (subst (λ s. HasShape (number a) s) (sym h.1) tt), tt);
         cells_passed = ap (λ v. done.cells ++ (cells_of v ++ [])) r;
         addresses_passed = sym (append-nil done.addresses);
       }))
   argument-passed f (lowered.by_truth t) e h done passed same =
-      subst (λ m. Both (λ p a. Passes b.typing (f ∷ []) done p (a ∷ [])) (execution.pass b.levels (lowered.by_truth t) done) (evaluate_argument b.active store m e)) (sym h.0)
-      (both-then (λ b v. truth b ≡ v) (λ p a. Passes b.typing (f ∷ []) done p (a ∷ [])) (machine.truth b.levels done.cells t) (evaluate b.active store e) (λ a. machine.gives (execution.pass_cells done (machine.as_cell a ∷ []))) (λ v. gives (value_argument v))
+      subst (λ m. Both (λ p a. Passes b.typing (f ∷ []) done p (a ∷ [])) (execution.pass_argument b.levels (lowered.by_truth t) done) (evaluate_argument b.active store m e)) (sym h.0)
+      (both-then (λ b v. truth b ≡ v) (λ p a. Passes b.typing (f ∷ []) done p (a ∷ [])) (machine.truth b.levels done.cells t) (evaluate b.active store e) (λ a. machine.gives (execution.pass_cells done (machine.as_cell a ∷ []))) (λ v. succeeds_with (value_argument v))
       (both-truth (machine.truth b.levels done.cells t) (evaluate b.active store e) (truth-at checked slots targets b shown t (value_of_expression e) h.2 store passed done.cells fits same))
       (λ a v r. record {
-        arguments_fit = (h.0, subst (λ v. HasShape v f.shape) r (subst (λ s. HasShape (truth a) s) (sym h.1) tt), tt);
+        arguments_match = (h.0, subst (λ v. HasShape v f.shape) r (subst (λ s. HasShape (truth a) s) (sym h.1) tt), tt);
         cells_passed = ap (λ n. done.cells ++ n ∷ []) (as_cell-same a) ∙ ap (λ v. done.cells ++ (cells_of v ++ [])) r;
         addresses_passed = sym (append-nil done.addresses);
       }))
@@ -127,46 +127,46 @@ module _ {N : Type 0} (checked : TypeMeanings N) (slots : N → Slot) (targets :
       let (place, hq, reads_it) = h.2 in
       let here = moment b store passed in
       let value : evaluate b.active store e ≡ (place here >>= (λ p. or_stuck (read_place store p))) = reads_it here (moment-shown checked slots targets b shown store passed fits) in
-      subst (λ m. Both (λ p a. Passes b.typing (f ∷ []) done p (a ∷ [])) (execution.pass b.levels (lowered.by_block q n) done) (evaluate_argument b.active store m e)) (sym h.0)
-      (subst (λ w. Both (λ p a. Passes b.typing (f ∷ []) done p (a ∷ [])) (execution.pass b.levels (lowered.by_block q n) done) (w >>= (λ v. gives (value_argument v)))) (sym value)
-      (subst (λ w. Both (λ p a. Passes b.typing (f ∷ []) done p (a ∷ [])) (execution.pass b.levels (lowered.by_block q n) done) w) (sym (grouped-then (place here) (λ p. or_stuck (read_place store p)) (λ v. gives (value_argument v))))
-      (both-then (λ a p. (a ≡ address b.typing p) × PlaceFits b.typing p f.shape) (λ p a. Passes b.typing (f ∷ []) done p (a ∷ [])) (machine.address b.levels done.cells q) (place here) (λ a. machine.gives (execution.pass_cells done (execution.block_at done.cells a n))) (λ p. or_stuck (read_place store p) >>= (λ v. gives (value_argument v)))
+      subst (λ m. Both (λ p a. Passes b.typing (f ∷ []) done p (a ∷ [])) (execution.pass_argument b.levels (lowered.by_block q n) done) (evaluate_argument b.active store m e)) (sym h.0)
+      (subst (λ w. Both (λ p a. Passes b.typing (f ∷ []) done p (a ∷ [])) (execution.pass_argument b.levels (lowered.by_block q n) done) (w >>= (λ v. succeeds_with (value_argument v)))) (sym value)
+      (subst (λ w. Both (λ p a. Passes b.typing (f ∷ []) done p (a ∷ [])) (execution.pass_argument b.levels (lowered.by_block q n) done) w) (sym (grouped-then (place here) (λ p. or_stuck (read_place store p)) (λ v. succeeds_with (value_argument v))))
+      (both-then (λ a p. (a ≡ address b.typing p) × PlaceHasType b.typing p f.shape) (λ p a. Passes b.typing (f ∷ []) done p (a ∷ [])) (machine.address b.levels done.cells q) (place here) (λ a. machine.gives (execution.pass_cells done (execution.block_at done.cells a n))) (λ p. or_stuck (read_place store p) >>= (λ v. succeeds_with (value_argument v)))
       (both-led b.typing f.shape (machine.address b.levels done.cells q) (place here) (place-at checked slots targets b shown q f.shape place hq store passed done.cells fits same))
       (λ a p r. let at_p : HoldsSlice b.typing store p f.shape = places_are_slices b.typing store p f.shape fits r.1 in
       let w : Value = at_p.value in
       let m : store_size b.typing ≡ length (all_cells store) = sym (store-size b.typing store fits) in
       let block : execution.block_at done.cells a n ≡ cells_of w =
       (λ i. execution.block_at (same i) (r.0 i) (h.1 i)) ∙ (block-there (all_cells store) passed (address b.typing p) (size f.shape) (subst (λ k. address b.typing p + size f.shape ≤ k) m at_p.within) ∙ sym at_p.same_cells) in
-      subst (λ o. Both (λ p a. Passes b.typing (f ∷ []) done p (a ∷ [])) (machine.gives (execution.pass_cells done (execution.block_at done.cells a n))) (or_stuck o >>= (λ v. gives (value_argument v)))) (sym at_p.is_read) record {
-        arguments_fit = (h.0, at_p.has_shape, tt);
+      subst (λ o. Both (λ p a. Passes b.typing (f ∷ []) done p (a ∷ [])) (machine.gives (execution.pass_cells done (execution.block_at done.cells a n))) (or_stuck o >>= (λ v. succeeds_with (value_argument v)))) (sym at_p.is_read) record {
+        arguments_match = (h.0, at_p.has_shape, tt);
         cells_passed = ap (λ l. done.cells ++ l) (block ∙ sym (append-nil (cells_of w)));
         addresses_passed = sym (append-nil done.addresses);
       }))))
 
-  pub arguments-passed : (fs : Signature) (cs : List lowered.LoweredArgument) (es : List (Tree N expression)) → ArgumentsMean checked slots fs cs es → (done : execution.CallArguments) (passed : List ℤ) → done.cells ≡ all_cells store ++ passed
+  pub arguments-passed : (fs : Signature) (cs : List lowered.LoweredArgument) (es : List (Tree N expression)) → CodeMeansArguments checked slots fs cs es → (done : execution.CallArguments) (passed : List ℤ) → done.cells ≡ all_cells store ++ passed
       → Both (λ p args. Passes b.typing fs done p args) (execution.pass_all b.levels cs done) (evaluate_arguments b.active store (signature_modes fs) es)
   unfolding evaluate_arguments
-  arguments-passed [] [] [] h done passed same = record { arguments_fit = tt; cells_passed = sym (append-nil done.cells); addresses_passed = sym (append-nil done.addresses) }
+  arguments-passed [] [] [] h done passed same = record { arguments_match = tt; cells_passed = sym (append-nil done.cells); addresses_passed = sym (append-nil done.addresses) }
   arguments-passed (f ∷ fs) (c ∷ cs) (e ∷ es) h done passed same =
-      both-then (λ p a. Passes b.typing (f ∷ []) done p (a ∷ [])) (λ p args. Passes b.typing (f ∷ fs) done p args) (execution.pass b.levels c done) (evaluate_argument b.active store f.mode e) (execution.pass_all b.levels cs) (λ a. evaluate_arguments b.active store (signature_modes fs) es >>= (λ rest. gives (a ∷ rest)))
+      both-then (λ p a. Passes b.typing (f ∷ []) done p (a ∷ [])) (λ p args. Passes b.typing (f ∷ fs) done p args) (execution.pass_argument b.levels c done) (evaluate_argument b.active store f.mode e) (execution.pass_all b.levels cs) (λ a. evaluate_arguments b.active store (signature_modes fs) es >>= (λ rest. succeeds_with (a ∷ rest)))
       (argument-passed f c e h.0 done passed same)
       (λ p a one. both-made (λ q args. Passes b.typing fs p q args) (λ q args. Passes b.typing (f ∷ fs) done q args) (execution.pass_all b.levels cs p) (evaluate_arguments b.active store (signature_modes fs) es) (λ rest. a ∷ rest)
       (arguments-passed fs cs es h.1 p (passed ++ argument_cells (a ∷ [])) (one.cells_passed ∙ (ap (λ l. l ++ argument_cells (a ∷ [])) same ∙ append_assoc (all_cells store) passed (argument_cells (a ∷ [])))))
       (λ q args more_passed. passes-on b.typing f fs done p q a args one more_passed))
   arguments-passed _ _ _ h done passed same = absurd h
 
-pub procedure-is : (typing : StoreTyping) (signature : Signature) (a : Option (Object Place (List Mode))) → ObjectFits typing (Some (a_procedure signature)) a → a ≡ Some (a_procedure (signature_modes signature))
+pub procedure-is : (typing : StoreTyping) (signature : Signature) (a : Option (Object Place (List Mode))) → RunObjectAgrees typing (Some (a_procedure signature)) a → a ≡ Some (a_procedure (signature_modes signature))
 procedure-is typing signature (Some (a_procedure modes)) h = ap (λ m. Some (a_procedure m)) h
 procedure-is typing signature _ h = absurd h
 
-pub call-means : {N : Type 0} (checked : TypeMeanings N) (slots : N → Slot) (targets : N → Target) (x : N) (es : Tree N (maybe arguments)) (signature : Signature) (cs : List lowered.LoweredArgument) → checked.object_for x ≡ Some (a_procedure signature) → ArgumentsMean checked slots signature cs (arguments_listed es)
-    → StatementMeans checked slots targets (lowered.calls (targets x).procedure (targets x).up cs) (calls x es)
+pub call-means : {N : Type 0} (checked : TypeMeanings N) (slots : N → Slot) (targets : N → Target) (x : N) (es : Tree N (maybe arguments)) (signature : Signature) (cs : List lowered.LoweredArgument) → checked.object_for x ≡ Some (a_procedure signature) → CodeMeansArguments checked slots signature cs (arguments_listed es)
+    → CodeMeansStatement checked slots targets (lowered.calls (targets x).procedure (targets x).up cs) (calls x es)
 unfolding execution.execute execute
 call-means {N} checked slots targets x es signature cs st ha b shown t low s h =
-    let is_bound : b.active.object_for x ≡ Some (a_procedure (signature_modes signature)) = procedure-is b.typing signature (b.active.object_for x) (subst (λ o. ObjectFits b.typing o (b.active.object_for x)) st (shown.names_fit.0 x)) in
+    let is_bound : b.active.object_for x ≡ Some (a_procedure (signature_modes signature)) = procedure-is b.typing signature (b.active.object_for x) (subst (λ o. RunObjectAgrees b.typing o (b.active.object_for x)) st (shown.names_fit.0 x)) in
     let enter = λ (p : execution.CallArguments). b.lowered_enters (targets x).procedure (execution.levels_in_call b.levels (length low.cells) (targets x).up p) (record low { cells = p.cells }) in
     let start : execution.CallArguments = record { cells = low.cells; addresses = [] } in
     subst (λ o. ProgressRepresents b.typing (execution.use_result low (execution.pass_all b.levels cs start) enter) (use_result s (modes_of o >>= (λ modes. evaluate_arguments b.active s.store modes (arguments_listed es))) (λ args. perform_call o (b.enters x) args s))) (sym is_bound)
     (use-both b.typing (λ p args. Passes b.typing signature start p args) low s (execution.pass_all b.levels cs start) (evaluate_arguments b.active s.store (signature_modes signature) (arguments_listed es)) enter (λ args. b.enters x args s) h
     (arguments-passed checked slots targets b shown s.store h.store_fits signature cs (arguments_listed es) ha start [] (alone-cells checked slots targets b shown low s h))
-    (λ p args r. shown.calls_represent x signature st args low s p h r.arguments_fit r.cells_passed r.addresses_passed))
+    (λ p args r. shown.calls_represent x signature st args low s p h r.arguments_match r.cells_passed r.addresses_passed))

@@ -3,26 +3,26 @@
 -- declarations and parameters are each one step and the rest.
 use Rattle.std.proofs.Common.{◌≡◌, ℕ, zero, suc, ◌+◌, ◌≤◌, true, ◌&&◌, List, [], ◌∷◌, ◌++◌, drop, length, map, replicate, ℤ, pos, slice_index_or, Some, option_and_then, option_map, sym, refl, ap, ◌∙◌, subst, arith, append-nil, append_assoc}
 use Rattle.std.proofs.lemmas.List.{replicate-append-replicate}
-use Rattle.ob0_tree.specs.Tree.{Tree, block, body, constant, declares, declares_constant, declares_type, declares_variable, end, has_body, items, maybe, more, procedure, type_name, variable}
+use Rattle.ob0_tree.specs.Tree.{Tree, block, body, constant, declares, declares_constant, declares_type, declares_variable, end, forms_block, items, maybe, more, procedure, type_definition, variable}
 use Rattle.ob0_language_names.specs.Parts.{block_statements, constant_names, declared_type_names, names_in_list, procedure_name, section_constants, section_types, section_variables}
-use Rattle.ob0_language_types.specs.Declarations.{constructors_before_variables, constructor_after_variables, declare_constants, declare_types, procedure_constructor_count}
+use Rattle.ob0_language_types.specs.Declarations.{constructors_before_variables, constructors_before_procedures, declare_constants, declare_types, procedure_constructor_count}
 use Rattle.ob0_language_types.specs.Environments.{meanings}
 use Rattle.ob0_language_types.specs.Expressions.{a_constant, a_procedure, a_type, a_variable}
-use Rattle.ob0_language_types.specs.Typing.{constant_value, constructor_count, denoted}
-use Rattle.ob0_language_types.specs.WellTyped.{Signature, TypeEnvironment, TypedParameter, bind_names, bind_typed_parameters, block_fits, declare_typed, bind_procedure, some_satisfies, procedure_fits, procedures_fit}
+use Rattle.ob0_language_types.specs.Typing.{constant_value, constructor_count, denoted_type}
+use Rattle.ob0_language_types.specs.WellTyped.{Signature, TypeEnvironment, TypedParameter, bind_names, bind_typed_parameters, block_is_well_typed, declare_typed_variables, bind_procedure, option_satisfies, procedure_is_well_typed, procedures_are_well_typed}
 use Rattle.ob0_language_types.proofs.Literals.{some_inverse}
-use Rattle.ob0_language_values.specs.Values.{Shape, Store, Value, initial}
-use Rattle.ob0_language_runs.specs.Fitting.{ArgumentsFit, EnvironmentsFit, HasShape, StoreFits, StoreTyping}
+use Rattle.ob0_language_values.specs.Values.{Shape, Store, Value, initial_value}
+use Rattle.ob0_language_runs.specs.TypeAgreement.{ArgumentsMatchSignature, RunEnvironmentAgrees, HasShape, StoreHasTypes, StoreTyping}
 use Rattle.ob0_language_runs.specs.Runs.{Activation, Argument, Frame, allocate, bind_parameter, bind_parameters, declare_block, declare_procedures, declare_variables, place_argument, value_argument, declare_procedures_in_frame}
-use Rattle.ob0_language_runs.proofs.SoundCalls.{ArgumentsFit-grows, as_parameter, constants-run, denoted-same, environments-grow, types-run}
+use Rattle.ob0_language_runs.proofs.SoundCalls.{ArgumentsMatchSignature-grows, as_parameter, constants-run, denoted_type-same, environments-grow, types-run}
 use Rattle.ob0_language_types.proofs.Conditions.{both_true}
 use Rattle.ob0_language_types.proofs.TypedElsewhere.{then_some}
 use Rattle.ob0_run_machine.specs.Evaluation.{Level, Levels}
 use Rattle.ob0_run_machine.specs.Lowered as lowered
-use Rattle.ob0_run_cells.specs.Activations.{RoutineTable, BlockMeans, BodyMeans, Placed, Placement, PlacementFits, ProceduresMean, bind_to_nowhere, in_slot, nowhere, local_target, place_names, place_name, place_parameters, place_variables}
+use Rattle.ob0_run_cells.specs.Activations.{RoutineTable, CodeMeansBlock, CodeMeansBody, PlacementState, Placement, PlacementFits, RoutinesMeanProcedures, bind_to_nowhere, in_slot, nowhere, local_target, place_names, place_name, place_parameters, place_variables}
 use Rattle.ob0_run_cells.specs.Cells.{address, all_cells, cells_of, size, store_size}
 use Rattle.ob0_run_cells.specs.LoweredStatements.{argument_addresses, argument_cells}
-use Rattle.ob0_run_cells.specs.Lowering.{Slot, held, by_reference, slot_address}
+use Rattle.ob0_run_cells.specs.Lowering.{Slot, in_activation, by_reference, slot_address}
 use Rattle.ob0_run_cells.proofs.PlacedEnvironments.{placement-grows}
 use Rattle.ob0_run_cells.proofs.Places.{addresses_stay}
 use Rattle.ob0_run_cells.proofs.Variables.{initial_cells_are_zero, variables_are_added}
@@ -32,14 +32,14 @@ store_size-append [] s = omega arith
 store_size-append (t ∷ typing) s = let h = store_size-append typing s in omega (arith, h)
 
 -- a frame whose variables are placed: the cells of an activation are those from its base on
-pub record FramePlaced {N : Type 0} (table : RoutineTable N) (typing : StoreTyping) (ls : Levels) (base : ℕ) (checked : TypeEnvironment N) (p : Placed N) (f : Frame N) : Type 0 where
-  pub store_fits : StoreFits typing f.store
-  pub environment_fits : EnvironmentsFit table.naming typing checked f.env
+pub record FramePlaced {N : Type 0} (table : RoutineTable N) (typing : StoreTyping) (ls : Levels) (base : ℕ) (checked : TypeEnvironment N) (p : PlacementState N) (f : Frame N) : Type 0 where
+  pub store_fits : StoreHasTypes typing f.store
+  pub environment_fits : RunEnvironmentAgrees table.naming typing checked f.env
   pub placing_fits : PlacementFits table typing ls checked p.placement f.env
   pub cells_counted : base + p.cells ≡ store_size typing
 
 -- a frame with more variables, and their cells after those before
-pub record Extends {N : Type 0} (table : RoutineTable N) (typing : StoreTyping) (ls : Levels) (base : ℕ) (checked : TypeEnvironment N) (p : Placed N) (before : Store) (added : List ℤ) (g : Frame N) : Type 0 where
+pub record Extends {N : Type 0} (table : RoutineTable N) (typing : StoreTyping) (ls : Levels) (base : ℕ) (checked : TypeEnvironment N) (p : PlacementState N) (before : Store) (added : List ℤ) (g : Frame N) : Type 0 where
   pub typing_now : StoreTyping
   pub others : StoreTyping
   pub is_grown : typing_now ≡ typing ++ others
@@ -47,10 +47,10 @@ pub record Extends {N : Type 0} (table : RoutineTable N) (typing : StoreTyping) 
   pub cells_added : all_cells g.store ≡ all_cells before ++ added
 
 module _ {N : Type 0} (table : RoutineTable N) where
-  pub extends-here : (typing : StoreTyping) (ls : Levels) (base : ℕ) (checked : TypeEnvironment N) (p : Placed N) (f : Frame N) → FramePlaced table typing ls base checked p f → Extends table typing ls base checked p f.store [] f
+  pub extends-here : (typing : StoreTyping) (ls : Levels) (base : ℕ) (checked : TypeEnvironment N) (p : PlacementState N) (f : Frame N) → FramePlaced table typing ls base checked p f → Extends table typing ls base checked p f.store [] f
   extends-here typing ls base checked p f h = record { typing_now = typing; others = []; is_grown = sym (append-nil typing); frame = h; cells_added = sym (append-nil (all_cells f.store)) }
 
-  pub extends-then : (typing middle : StoreTyping) (s : StoreTyping) (ls : Levels) (base : ℕ) (checked : TypeEnvironment N) (p : Placed N) (before between : Store) (first added : List ℤ) (g : Frame N)
+  pub extends-then : (typing middle : StoreTyping) (s : StoreTyping) (ls : Levels) (base : ℕ) (checked : TypeEnvironment N) (p : PlacementState N) (before between : Store) (first added : List ℤ) (g : Frame N)
       → middle ≡ typing ++ s → all_cells between ≡ all_cells before ++ first → Extends table middle ls base checked p between added g → Extends table typing ls base checked p before (first ++ added) g
   extends-then typing middle s ls base checked p before between first added g e cells h = record {
     typing_now = h.typing_now;
@@ -60,7 +60,7 @@ module _ {N : Type 0} (table : RoutineTable N) where
     cells_added = h.cells_added ∙ (ap (λ l. l ++ added) cells ∙ append_assoc (all_cells before) first added);
   }
 
-  pub extends-by : (typing : StoreTyping) (ls : Levels) (base : ℕ) (checked : TypeEnvironment N) (p : Placed N) (before : Store) (a b : List ℤ) (g : Frame N) → a ≡ b → Extends table typing ls base checked p before a g → Extends table typing ls base checked p before b g
+  pub extends-by : (typing : StoreTyping) (ls : Levels) (base : ℕ) (checked : TypeEnvironment N) (p : PlacementState N) (before : Store) (a b : List ℤ) (g : Frame N) → a ≡ b → Extends table typing ls base checked p before a g → Extends table typing ls base checked p before b g
   extends-by typing ls base checked p before a b g e h = subst (λ l. Extends table typing ls base checked p before l g) e h
 
   -- constants and types
@@ -75,18 +75,18 @@ module _ {N : Type 0} (table : RoutineTable N) where
       let (w, ew, e₂) = then_some (constant_value (meanings table.naming active) c) (λ v. declare_constants table.naming ((x, a_constant v) ∷ active) cs) d e' in
       constants-placed typing ls cs ((x, a_constant v) ∷ checked) after ((x, nowhere) ∷ placement) ((x, a_constant w) ∷ active) d e₁ e₂ record { same_active = refl; same_placed = refl; here = tt; further = h }
 
-  pub types-placed : (typing : StoreTyping) (ls : Levels) (k : ℕ) (ds : Tree N (items type_name)) (checked after : TypeEnvironment N) (placement : Placement N) (active d : Activation N) → declare_types table.naming checked k ds ≡ Some after → declare_types table.naming active k ds ≡ Some d
+  pub types-placed : (typing : StoreTyping) (ls : Levels) (k : ℕ) (ds : Tree N (items type_definition)) (checked after : TypeEnvironment N) (placement : Placement N) (active d : Activation N) → declare_types table.naming checked k ds ≡ Some after → declare_types table.naming active k ds ≡ Some d
       → PlacementFits table typing ls checked placement active → PlacementFits table typing ls after (bind_to_nowhere (declared_type_names ds) placement) d
   unfolding declare_types
   types-placed typing ls k end checked after placement active d e e' h =
       subst (λ a. PlacementFits table typing ls a placement d) (some_inverse {a = checked} {b = after} e) (subst (λ d. PlacementFits table typing ls checked placement d) (some_inverse {a = active} {b = d} e') h)
   types-placed typing ls k (more (declares_type x u) ds) checked after placement active d e e' h =
-      let (v, ev, e₁) = then_some (denoted (meanings table.naming checked) k u) (λ s. declare_types table.naming ((x, a_type s) ∷ checked) (k + constructor_count u) ds) after e in
-      let (w, ew, e₂) = then_some (denoted (meanings table.naming active) k u) (λ s. declare_types table.naming ((x, a_type s) ∷ active) (k + constructor_count u) ds) d e' in
+      let (v, ev, e₁) = then_some (denoted_type (meanings table.naming checked) k u) (λ s. declare_types table.naming ((x, a_type s) ∷ checked) (k + constructor_count u) ds) after e in
+      let (w, ew, e₂) = then_some (denoted_type (meanings table.naming active) k u) (λ s. declare_types table.naming ((x, a_type s) ∷ active) (k + constructor_count u) ds) d e' in
       types-placed typing ls (k + constructor_count u) ds ((x, a_type v) ∷ checked) after ((x, nowhere) ∷ placement) ((x, a_type w) ∷ active) d e₁ e₂ record { same_active = refl; same_placed = refl; here = tt; further = h }
 
   -- one variable more, at the end of the store
-  pub variable-placed : (typing : StoreTyping) (ls : Levels) (base : ℕ) (checked : TypeEnvironment N) (p : Placed N) (f : Frame N) (x : N) (slot : Slot) (s : Shape) (v : Value) → slot_address ls slot ≡ base + p.cells → HasShape v s → FramePlaced table typing ls base checked p f
+  pub variable-placed : (typing : StoreTyping) (ls : Levels) (base : ℕ) (checked : TypeEnvironment N) (p : PlacementState N) (f : Frame N) (x : N) (slot : Slot) (s : Shape) (v : Value) → slot_address ls slot ≡ base + p.cells → HasShape v s → FramePlaced table typing ls base checked p f
       → FramePlaced table (typing ++ s ∷ []) ls base ((x, a_variable s) ∷ checked) (record p { placement = (x, in_slot slot) ∷ p.placement; cells = p.cells + size s }) (record { env = (x, a_variable record { variable = length f.store; path = [] }) ∷ f.env; store = f.store ++ v ∷ [] })
       × (all_cells (f.store ++ v ∷ []) ≡ all_cells f.store ++ cells_of v)
   variable-placed typing ls base checked p f x slot s v at hv h =
@@ -102,84 +102,84 @@ module _ {N : Type 0} (table : RoutineTable N) where
         added.cells_added,
       )
 
-  pub names-placed : (typing : StoreTyping) (ls : Levels) (base : ℕ) (at : ℕ → Slot) → ((c : ℕ) → slot_address ls (at c) ≡ base + c) → (xs : List N) (s : Shape) (checked : TypeEnvironment N) (p : Placed N) (f : Frame N) → FramePlaced table typing ls base checked p f
-      → (n : ℕ) × ((place_names at xs (size s) p).cells ≡ p.cells + n) × Extends table typing ls base (bind_names xs (a_variable s) checked) (place_names at xs (size s) p) f.store (replicate n (pos 0)) (allocate xs (initial s) f)
+  pub names-placed : (typing : StoreTyping) (ls : Levels) (base : ℕ) (at : ℕ → Slot) → ((c : ℕ) → slot_address ls (at c) ≡ base + c) → (xs : List N) (s : Shape) (checked : TypeEnvironment N) (p : PlacementState N) (f : Frame N) → FramePlaced table typing ls base checked p f
+      → (n : ℕ) × ((place_names at xs (size s) p).cells ≡ p.cells + n) × Extends table typing ls base (bind_names xs (a_variable s) checked) (place_names at xs (size s) p) f.store (replicate n (pos 0)) (allocate xs (initial_value s) f)
   names-placed typing ls base at is [] s checked p f h = (0, omega arith, extends-here typing ls base checked p f h)
   names-placed typing ls base at is (x ∷ xs) s checked p f h =
       let (fits, zero_cells) = initial_cells_are_zero s in
-      let (one, cells) = variable-placed typing ls base checked p f x (at p.cells) s (initial s) (is p.cells) fits h in
-      let (n, count, more_of) = names-placed (typing ++ s ∷ []) ls base at is xs s ((x, a_variable s) ∷ checked) (record p { placement = (x, in_slot (at p.cells)) ∷ p.placement; cells = p.cells + size s }) (record { env = (x, a_variable record { variable = length f.store; path = [] }) ∷ f.env; store = f.store ++ initial s ∷ [] }) one in (
+      let (one, cells) = variable-placed typing ls base checked p f x (at p.cells) s (initial_value s) (is p.cells) fits h in
+      let (n, count, more_of) = names-placed (typing ++ s ∷ []) ls base at is xs s ((x, a_variable s) ∷ checked) (record p { placement = (x, in_slot (at p.cells)) ∷ p.placement; cells = p.cells + size s }) (record { env = (x, a_variable record { variable = length f.store; path = [] }) ∷ f.env; store = f.store ++ initial_value s ∷ [] }) one in (
         size s + n,
         omega (arith, count),
-        extends-by typing ls base (bind_names xs (a_variable s) ((x, a_variable s) ∷ checked)) (place_names at (x ∷ xs) (size s) p) f.store (replicate (size s) (pos 0) ++ replicate n (pos 0)) (replicate (size s + n) (pos 0)) (allocate (x ∷ xs) (initial s) f) (replicate-append-replicate (size s) n (pos 0))
-            (extends-then typing (typing ++ s ∷ []) (s ∷ []) ls base (bind_names xs (a_variable s) ((x, a_variable s) ∷ checked)) (place_names at (x ∷ xs) (size s) p) f.store (f.store ++ initial s ∷ []) (replicate (size s) (pos 0)) (replicate n (pos 0)) (allocate (x ∷ xs) (initial s) f) refl (cells ∙ ap (λ l. all_cells f.store ++ l) zero_cells) more_of),
+        extends-by typing ls base (bind_names xs (a_variable s) ((x, a_variable s) ∷ checked)) (place_names at (x ∷ xs) (size s) p) f.store (replicate (size s) (pos 0) ++ replicate n (pos 0)) (replicate (size s + n) (pos 0)) (allocate (x ∷ xs) (initial_value s) f) (replicate-append-replicate (size s) n (pos 0))
+            (extends-then typing (typing ++ s ∷ []) (s ∷ []) ls base (bind_names xs (a_variable s) ((x, a_variable s) ∷ checked)) (place_names at (x ∷ xs) (size s) p) f.store (f.store ++ initial_value s ∷ []) (replicate (size s) (pos 0)) (replicate n (pos 0)) (allocate (x ∷ xs) (initial_value s) f) refl (cells ∙ ap (λ l. all_cells f.store ++ l) zero_cells) more_of),
       )
 
-  pub variables-placed : (typing : StoreTyping) (ls : Levels) (base : ℕ) (at : ℕ → Slot) → ((c : ℕ) → slot_address ls (at c) ≡ base + c) → (k : ℕ) (gs : Tree N (items variable)) (checked inner : TypeEnvironment N) (p q : Placed N) (f : Frame N) → FramePlaced table typing ls base checked p f
-      → declare_typed table.naming k gs checked ≡ Some inner → place_variables table.naming at checked k gs p ≡ Some q
+  pub variables-placed : (typing : StoreTyping) (ls : Levels) (base : ℕ) (at : ℕ → Slot) → ((c : ℕ) → slot_address ls (at c) ≡ base + c) → (k : ℕ) (gs : Tree N (items variable)) (checked inner : TypeEnvironment N) (p q : PlacementState N) (f : Frame N) → FramePlaced table typing ls base checked p f
+      → declare_typed_variables table.naming k gs checked ≡ Some inner → place_variables table.naming at checked k gs p ≡ Some q
       → (g : Frame N) × (n : ℕ) × (declare_variables table.naming k gs f ≡ Some g) × (q.cells ≡ p.cells + n) × Extends table typing ls base inner q f.store (replicate n (pos 0)) g
-  unfolding declare_typed declare_variables place_variables
+  unfolding declare_typed_variables declare_variables place_variables
   variables-placed typing ls base at is k end checked inner p q f h e e' =
       let same : p ≡ q = some_inverse e' in
       (f, 0, refl, ap (λ q. q.cells) (sym same) ∙ omega arith, subst (λ q. Extends table typing ls base inner q f.store [] f) same (subst (λ c. Extends table typing ls base c p f.store [] f) (some_inverse {a = checked} {b = inner} e) (extends-here typing ls base checked p f h)))
   variables-placed typing ls base at is k (more (declares_variable ns u) gs) checked inner p q f h e e' =
-      let (s, es, e₁) = then_some (denoted (meanings table.naming checked) k u) (λ s. declare_typed table.naming (k + constructor_count u) gs (bind_names (names_in_list ns) (a_variable s) checked)) inner e in
+      let (s, es, e₁) = then_some (denoted_type (meanings table.naming checked) k u) (λ s. declare_typed_variables table.naming (k + constructor_count u) gs (bind_names (names_in_list ns) (a_variable s) checked)) inner e in
       let e₂ : place_variables table.naming at (bind_names (names_in_list ns) (a_variable s) checked) (k + constructor_count u) gs (place_names at (names_in_list ns) (size s) p) ≡ Some q =
       sym (ap (option_and_then (λ s. place_variables table.naming at (bind_names (names_in_list ns) (a_variable s) checked) (k + constructor_count u) gs (place_names at (names_in_list ns) (size s) p))) es) ∙ e' in
       let (m, count, part) = names-placed typing ls base at is (names_in_list ns) s checked p f h in
-      let (g, n, eg, counts, rest) = variables-placed part.typing_now ls base at is (k + constructor_count u) gs (bind_names (names_in_list ns) (a_variable s) checked) inner (place_names at (names_in_list ns) (size s) p) q (allocate (names_in_list ns) (initial s) f) part.frame e₁ e₂ in (
+      let (g, n, eg, counts, rest) = variables-placed part.typing_now ls base at is (k + constructor_count u) gs (bind_names (names_in_list ns) (a_variable s) checked) inner (place_names at (names_in_list ns) (size s) p) q (allocate (names_in_list ns) (initial_value s) f) part.frame e₁ e₂ in (
         g,
         m + n,
-        ap (option_and_then (λ s. declare_variables table.naming (k + constructor_count u) gs (allocate (names_in_list ns) (initial s) f))) (denoted-same table.naming typing checked f.env h.environment_fits k u ∙ es) ∙ eg,
+        ap (option_and_then (λ s. declare_variables table.naming (k + constructor_count u) gs (allocate (names_in_list ns) (initial_value s) f))) (denoted_type-same table.naming typing checked f.env h.environment_fits k u ∙ es) ∙ eg,
         omega (arith, count, counts),
         extends-by typing ls base inner q f.store (replicate m (pos 0) ++ replicate n (pos 0)) (replicate (m + n) (pos 0)) g (replicate-append-replicate m n (pos 0))
-            (extends-then typing part.typing_now part.others ls base inner q f.store (allocate (names_in_list ns) (initial s) f).store (replicate m (pos 0)) (replicate n (pos 0)) g part.is_grown part.cells_added rest),
+            (extends-then typing part.typing_now part.others ls base inner q f.store (allocate (names_in_list ns) (initial_value s) f).store (replicate m (pos 0)) (replicate n (pos 0)) g part.is_grown part.cells_added rest),
       )
 
   -- procedures
 
-  pub procedures-placed : (typing : StoreTyping) (ls : Levels) (k : ℕ) (code : lowered.Instructions) (statements : Tree N (maybe body)) (ps : Tree N (items procedure)) (checked : TypeEnvironment N) (placement : Placement N) (active : Activation N) → EnvironmentsFit table.naming typing checked active
-      → PlacementFits table typing ls checked placement active → procedures_fit table.naming checked k statements ps ≡ true → ProceduresMean table checked placement k code statements ps
-      → (after : TypeEnvironment N) × (placed : Placement N) × EnvironmentsFit table.naming typing after (declare_procedures k ps active) × PlacementFits table typing ls after placed (declare_procedures k ps active) × BodyMeans table.naming after placed code statements
-  unfolding block_fits
+  pub procedures-placed : (typing : StoreTyping) (ls : Levels) (k : ℕ) (code : lowered.Instructions) (statements : Tree N (maybe body)) (ps : Tree N (items procedure)) (checked : TypeEnvironment N) (placement : Placement N) (active : Activation N) → RunEnvironmentAgrees table.naming typing checked active
+      → PlacementFits table typing ls checked placement active → procedures_are_well_typed table.naming checked k statements ps ≡ true → RoutinesMeanProcedures table checked placement k code statements ps
+      → (after : TypeEnvironment N) × (placed : Placement N) × RunEnvironmentAgrees table.naming typing after (declare_procedures k ps active) × PlacementFits table typing ls after placed (declare_procedures k ps active) × CodeMeansBody table.naming after placed code statements
+  unfolding block_is_well_typed
   procedures-placed typing ls k code statements end checked placement active env h e means = (checked, placement, env, h, means)
   procedures-placed typing ls k code statements (more p rest) checked placement active env h e means =
       let (i, first, others) = means in
       let ps : List (TypedParameter N) = first.parameters in
-      let fits : (procedure_fits table.naming (bind_typed_parameters ps (bind_procedure (procedure_name p) ps checked)) k p && procedures_fit table.naming (bind_procedure (procedure_name p) ps checked) (k + procedure_constructor_count p) statements rest) ≡ true =
-      subst (λ o. some_satisfies o (λ ps. procedure_fits table.naming (bind_typed_parameters ps (bind_procedure (procedure_name p) ps checked)) k p && procedures_fit table.naming (bind_procedure (procedure_name p) ps checked) (k + procedure_constructor_count p) statements rest) ≡ true) first.are_typed e in
-      let both = both_true (procedure_fits table.naming (bind_typed_parameters ps (bind_procedure (procedure_name p) ps checked)) k p) (procedures_fit table.naming (bind_procedure (procedure_name p) ps checked) (k + procedure_constructor_count p) statements rest) fits in
+      let fits : (procedure_is_well_typed table.naming (bind_typed_parameters ps (bind_procedure (procedure_name p) ps checked)) k p && procedures_are_well_typed table.naming (bind_procedure (procedure_name p) ps checked) (k + procedure_constructor_count p) statements rest) ≡ true =
+      subst (λ o. option_satisfies o (λ ps. procedure_is_well_typed table.naming (bind_typed_parameters ps (bind_procedure (procedure_name p) ps checked)) k p && procedures_are_well_typed table.naming (bind_procedure (procedure_name p) ps checked) (k + procedure_constructor_count p) statements rest) ≡ true) first.are_typed e in
+      let both = both_true (procedure_is_well_typed table.naming (bind_typed_parameters ps (bind_procedure (procedure_name p) ps checked)) k p) (procedures_are_well_typed table.naming (bind_procedure (procedure_name p) ps checked) (k + procedure_constructor_count p) statements rest) fits in
       procedures-placed typing ls (k + procedure_constructor_count p) code statements rest (bind_procedure (procedure_name p) ps checked) ((procedure_name p, local_target i) ∷ placement) ((procedure_name p, a_procedure record { first_constructor = k; text = p }) ∷ active)
       (refl, (ps, first.are_typed, refl, both.0), env) record { same_active = refl; same_placed = refl; here = (placement, h, first); further = h } both.1 others
 
   -- a block: its frame, and its body
 
-  pub block-placed : (typing : StoreTyping) (ls : Levels) (base : ℕ) (at : ℕ → Slot) → ((c : ℕ) → slot_address ls (at c) ≡ base + c) → (k cells : ℕ) (code : lowered.Instructions) (b : Tree N block) (checked : TypeEnvironment N) (p : Placed N) (f : Frame N) → FramePlaced table typing ls base checked p f
-      → block_fits table.naming checked k b ≡ true → BlockMeans table at checked p k cells code b
-      → (g : Frame N) × (after : TypeEnvironment N) × (q : Placed N) × (declare_block table.naming k b f ≡ Some g) × (p.cells + cells ≡ q.cells) × BodyMeans table.naming after q.placement code (block_statements b) × Extends table typing ls base after q f.store (replicate cells (pos 0)) g
-  unfolding block_fits declare_block
-  block-placed typing ls base at is k cells code (has_body (declares cs ts vs ps) statements) checked p f h e means =
-      let b : Tree N block = has_body (declares cs ts vs ps) statements in
+  pub block-placed : (typing : StoreTyping) (ls : Levels) (base : ℕ) (at : ℕ → Slot) → ((c : ℕ) → slot_address ls (at c) ≡ base + c) → (k cells : ℕ) (code : lowered.Instructions) (b : Tree N block) (checked : TypeEnvironment N) (p : PlacementState N) (f : Frame N) → FramePlaced table typing ls base checked p f
+      → block_is_well_typed table.naming checked k b ≡ true → CodeMeansBlock table at checked p k cells code b
+      → (g : Frame N) × (after : TypeEnvironment N) × (q : PlacementState N) × (declare_block table.naming k b f ≡ Some g) × (p.cells + cells ≡ q.cells) × CodeMeansBody table.naming after q.placement code (block_statements b) × Extends table typing ls base after q f.store (replicate cells (pos 0)) g
+  unfolding block_is_well_typed declare_block
+  block-placed typing ls base at is k cells code (forms_block (declares cs ts vs ps) statements) checked p f h e means =
+      let b : Tree N block = forms_block (declares cs ts vs ps) statements in
       let first : TypeEnvironment N = means.first in
       let inner : TypeEnvironment N = means.inner in
-      let q : Placed N = means.placed in
+      let q : PlacementState N = means.placed in
       let total : p.cells + cells ≡ q.cells = means.cells_counted in
-      let fits : procedures_fit table.naming inner (constructor_after_variables k b) statements ps ≡ true =
-      subst (λ o. some_satisfies o (λ inner. procedures_fit table.naming inner (constructor_after_variables k b) statements ps) ≡ true) (ap (option_and_then (declare_typed table.naming (constructors_before_variables k b) (section_variables vs))) means.first_declared ∙ means.variables_declared) e in
+      let fits : procedures_are_well_typed table.naming inner (constructors_before_procedures k b) statements ps ≡ true =
+      subst (λ o. option_satisfies o (λ inner. procedures_are_well_typed table.naming inner (constructors_before_procedures k b) statements ps) ≡ true) (ap (option_and_then (declare_typed_variables table.naming (constructors_before_variables k b) (section_variables vs))) means.first_declared ∙ means.variables_declared) e in
       let (consts, ec, e₄) = then_some (declare_constants table.naming checked (section_constants cs)) (λ env. declare_types table.naming env k (section_types ts)) first means.first_declared in
       let (d₁, ed₁, fit₁) = constants-run table.naming typing checked f.env (section_constants cs) consts h.environment_fits ec in
       let placed₁ = constants-placed typing ls (section_constants cs) checked consts p.placement f.env d₁ ec ed₁ h.placing_fits in
       let (d₂, ed₂, fit₂) = types-run table.naming typing consts d₁ k (section_types ts) first fit₁ e₄ in
       let placed₂ = types-placed typing ls k (section_types ts) consts first (bind_to_nowhere (constant_names (section_constants cs)) p.placement) d₁ d₂ e₄ ed₂ placed₁ in
-      let p₂ : Placed N = record p { placement = bind_to_nowhere (declared_type_names (section_types ts)) (bind_to_nowhere (constant_names (section_constants cs)) p.placement) } in
+      let p₂ : PlacementState N = record p { placement = bind_to_nowhere (declared_type_names (section_types ts)) (bind_to_nowhere (constant_names (section_constants cs)) p.placement) } in
       let f₂ : Frame N = record { env = d₂; store = f.store } in
       let (g, n, eg, counts, part) = variables-placed typing ls base at is (constructors_before_variables k b) (section_variables vs) first inner p₂ q f₂ record { store_fits = h.store_fits; environment_fits = fit₂; placing_fits = placed₂; cells_counted = h.cells_counted } means.variables_declared means.variables_placed in
-      let (after, placed, fit₄, placed₄, body_means) = procedures-placed part.typing_now ls (constructor_after_variables k b) code statements ps inner q.placement g.env part.frame.environment_fits part.frame.placing_fits fits means.inside in
+      let (after, placed, fit₄, placed₄, body_means) = procedures-placed part.typing_now ls (constructors_before_procedures k b) code statements ps inner q.placement g.env part.frame.environment_fits part.frame.placing_fits fits means.inside in
       let n_is : n ≡ cells = omega (arith, counts, total) in (
-        declare_procedures_in_frame (constructor_after_variables k b) ps g,
+        declare_procedures_in_frame (constructors_before_procedures k b) ps g,
         after,
         record q { placement = placed },
-        ap (option_and_then (λ env. option_map (declare_procedures_in_frame (constructor_after_variables k b) ps) (declare_variables table.naming (constructors_before_variables k b) (section_variables vs) record { env = env; store = f.store }))) (ap (option_and_then (λ env. declare_types table.naming env k (section_types ts))) ed₁ ∙ ed₂) ∙ ap (option_map (declare_procedures_in_frame (constructor_after_variables k b) ps)) eg,
+        ap (option_and_then (λ env. option_map (declare_procedures_in_frame (constructors_before_procedures k b) ps) (declare_variables table.naming (constructors_before_variables k b) (section_variables vs) record { env = env; store = f.store }))) (ap (option_and_then (λ env. declare_types table.naming env k (section_types ts))) ed₁ ∙ ed₂) ∙ ap (option_map (declare_procedures_in_frame (constructors_before_procedures k b) ps)) eg,
         total,
         body_means,
         record {
@@ -199,7 +199,7 @@ index-of_drop (x ∷ xs) (suc j) y ys e = index-of_drop xs j y ys e
 index-of_drop [] zero y ys e = absurd (cc)
 index-of_drop [] (suc j) y ys e = absurd (cc)
 
-pub arguments-stay : (typing others : StoreTyping) (fs : Signature) (args : List Argument) → ArgumentsFit typing fs args → argument_addresses (typing ++ others) args ≡ argument_addresses typing args
+pub arguments-stay : (typing others : StoreTyping) (fs : Signature) (args : List Argument) → ArgumentsMatchSignature typing fs args → argument_addresses (typing ++ others) args ≡ argument_addresses typing args
 arguments-stay typing others [] [] h = refl
 arguments-stay typing others (f ∷ fs) (place_argument p ∷ args) h =
     let (fit, stays) = addresses_stay typing others p f.shape h.1 in λ i. stays i ∷ arguments-stay typing others fs args h.2 i
@@ -207,28 +207,28 @@ arguments-stay typing others (f ∷ fs) (value_argument v ∷ args) h = argument
 arguments-stay typing others _ _ h = absurd h
 
 module _ {N : Type 0} (table : RoutineTable N) where
-  pub parameters-placed : (typing : StoreTyping) (l : Level) (ls : Levels) (ps : List (TypedParameter N)) (args : List Argument) (checked : TypeEnvironment N) (p : Placed N) (f : Frame N) → FramePlaced table typing (l ∷ ls) l.base checked p f
-      → ArgumentsFit typing (map (λ p. p.formal) ps) args → drop p.reference_places l.addresses ≡ argument_addresses typing args
+  pub parameters-placed : (typing : StoreTyping) (l : Level) (ls : Levels) (ps : List (TypedParameter N)) (args : List Argument) (checked : TypeEnvironment N) (p : PlacementState N) (f : Frame N) → FramePlaced table typing (l ∷ ls) l.base checked p f
+      → ArgumentsMatchSignature typing (map (λ p. p.formal) ps) args → drop p.reference_places l.addresses ≡ argument_addresses typing args
       → (g : Frame N) × (bind_parameters (map as_parameter ps) args f ≡ Some g) × Extends table typing (l ∷ ls) l.base (bind_typed_parameters ps checked) (place_parameters ps p) f.store (argument_cells args) g
   parameters-placed typing l ls [] [] checked p f h fit there = (f, refl, extends-here table typing (l ∷ ls) l.base checked p f h)
   parameters-placed typing l ls (q ∷ ps) (place_argument place ∷ args) checked p f h fit there =
       let (first, rest) = index-of_drop l.addresses p.reference_places (address typing place) (argument_addresses typing args) there in
-      let p₁ : Placed N = record p { placement = (q.name, in_slot (by_reference 0 p.reference_places)) ∷ p.placement; reference_places = suc p.reference_places } in
+      let p₁ : PlacementState N = record p { placement = (q.name, in_slot (by_reference 0 p.reference_places)) ∷ p.placement; reference_places = suc p.reference_places } in
       let f₁ : Frame N = record { env = (q.name, a_variable place) ∷ f.env; store = f.store } in
       let (g, eg, part) = parameters-placed typing l ls ps args ((q.name, a_variable q.formal.shape) ∷ checked) p₁ f₁ record { store_fits = h.store_fits; environment_fits = (refl, fit.1, h.environment_fits); placing_fits = record { same_active = refl; same_placed = refl; here = (fit.1, first); further = h.placing_fits }; cells_counted = h.cells_counted } fit.2 rest in (
         g,
         ap (λ m. option_and_then (bind_parameters (map as_parameter ps) args) (bind_parameter m q.name (place_argument place) f)) fit.0 ∙ eg,
-        subst (λ m. Extends table typing (l ∷ ls) l.base (bind_typed_parameters ps ((q.name, a_variable q.formal.shape) ∷ checked)) (place_parameters ps (place_name (held 0) m q.name (size q.formal.shape) p)) f.store (argument_cells args) g) (sym fit.0) part,
+        subst (λ m. Extends table typing (l ∷ ls) l.base (bind_typed_parameters ps ((q.name, a_variable q.formal.shape) ∷ checked)) (place_parameters ps (place_name (in_activation 0) m q.name (size q.formal.shape) p)) f.store (argument_cells args) g) (sym fit.0) part,
       )
   parameters-placed typing l ls (q ∷ ps) (value_argument v ∷ args) checked p f h fit there =
       let s = q.formal.shape in
-      let (one, cells) = variable-placed table typing (l ∷ ls) l.base checked p f q.name (held 0 p.cells) s v refl fit.1 h in
-      let p₁ : Placed N = record p { placement = (q.name, in_slot (held 0 p.cells)) ∷ p.placement; cells = p.cells + size s } in
+      let (one, cells) = variable-placed table typing (l ∷ ls) l.base checked p f q.name (in_activation 0 p.cells) s v refl fit.1 h in
+      let p₁ : PlacementState N = record p { placement = (q.name, in_slot (in_activation 0 p.cells)) ∷ p.placement; cells = p.cells + size s } in
       let f₁ : Frame N = record { env = (q.name, a_variable record { variable = length f.store; path = [] }) ∷ f.env; store = f.store ++ v ∷ [] } in
-      let (g, eg, part) = parameters-placed (typing ++ s ∷ []) l ls ps args ((q.name, a_variable s) ∷ checked) p₁ f₁ one (ArgumentsFit-grows typing (s ∷ []) (map (λ p. p.formal) ps) args fit.2) (there ∙ sym (arguments-stay typing (s ∷ []) (map (λ p. p.formal) ps) args fit.2)) in (
+      let (g, eg, part) = parameters-placed (typing ++ s ∷ []) l ls ps args ((q.name, a_variable s) ∷ checked) p₁ f₁ one (ArgumentsMatchSignature-grows typing (s ∷ []) (map (λ p. p.formal) ps) args fit.2) (there ∙ sym (arguments-stay typing (s ∷ []) (map (λ p. p.formal) ps) args fit.2)) in (
         g,
         ap (λ m. option_and_then (bind_parameters (map as_parameter ps) args) (bind_parameter m q.name (value_argument v) f)) fit.0 ∙ eg,
-        subst (λ m. Extends table typing (l ∷ ls) l.base (bind_typed_parameters ps ((q.name, a_variable s) ∷ checked)) (place_parameters ps (place_name (held 0) m q.name (size s) p)) f.store (cells_of v ++ argument_cells args) g) (sym fit.0)
+        subst (λ m. Extends table typing (l ∷ ls) l.base (bind_typed_parameters ps ((q.name, a_variable s) ∷ checked)) (place_parameters ps (place_name (in_activation 0) m q.name (size s) p)) f.store (cells_of v ++ argument_cells args) g) (sym fit.0)
             (extends-then table typing (typing ++ s ∷ []) (s ∷ []) (l ∷ ls) l.base (bind_typed_parameters ps ((q.name, a_variable s) ∷ checked)) (place_parameters ps p₁) f.store (f.store ++ v ∷ []) (cells_of v) (argument_cells args) g refl cells part),
       )
   parameters-placed typing l ls _ _ checked p f h fit there = absurd fit

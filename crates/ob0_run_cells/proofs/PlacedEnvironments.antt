@@ -4,10 +4,10 @@ use Rattle.ob0_language_types.specs.Environments.{environment_from_binding, newe
 use Rattle.ob0_language_types.specs.Expressions.{Object, a_constant, a_procedure, a_standard, a_type, a_variable}
 use Rattle.ob0_language_types.specs.WellTyped.{Signature, TypeEnvironment}
 use Rattle.ob0_language_values.specs.Values.{Place, Shape}
-use Rattle.ob0_language_runs.specs.Fitting.{StoreTyping}
+use Rattle.ob0_language_runs.specs.TypeAgreement.{StoreTyping}
 use Rattle.ob0_language_runs.specs.Runs.{Activation, ProcedureText, statement_object}
 use Rattle.ob0_run_machine.specs.Evaluation.{Level, Levels}
-use Rattle.ob0_run_cells.specs.Activations.{IsPlaced, RoutineTable, Placement, PlacementFits, BindingPlace, at_target, first_slot, suffix_from_name, in_slot, inward_placement, inward_slot, inward_binding_place, nowhere}
+use Rattle.ob0_run_cells.specs.Activations.{BindingIsPlaced, RoutineTable, Placement, PlacementFits, BindingPlace, at_target, first_slot, suffix_from_name, in_slot, inward_placement, inward_slot, inward_binding_place, nowhere}
 use Rattle.ob0_run_cells.specs.Cells.{address}
 use Rattle.ob0_run_cells.specs.Lowering.{Slot, of_module, slot_address}
 use Rattle.ob0_run_cells.proofs.Places.{addresses_stay}
@@ -25,7 +25,7 @@ module _ {N : Type 0} (table : RoutineTable N) where
   from-placed typing ls _ _ _ x h = absurd h
 
   slot-here : (typing : StoreTyping) (ls : Levels) (checked : TypeEnvironment N) (Fits : Levels → Placement N → Type 0) (x : N) (o : Object Shape Signature) (w : BindingPlace) (r : Object Place (ProcedureText N)) (p : Place)
-      → IsPlaced table typing ls checked Fits x o w r → statement_object (Some r) ≡ Some (a_variable p) → (rest : Placement N) → slot_address ls (first_slot ((x, w) ∷ rest)) ≡ address typing p
+      → BindingIsPlaced table typing ls checked Fits x o w r → statement_object (Some r) ≡ Some (a_variable p) → (rest : Placement N) → slot_address ls (first_slot ((x, w) ∷ rest)) ≡ address typing p
   slot-here typing ls checked Fits x (a_variable s) (in_slot slot) (a_variable q) p h e rest = h.1 ∙ ap (λ o. address typing (elim o [ None ↦ q | Some v ↦ elim v [ a_variable p ↦ p | _ ↦ q ] ])) e
   slot-here typing ls checked Fits x (a_procedure s) (at_target t) (a_procedure c) p h e rest = absurd (cc)
   slot-here typing ls checked Fits x (a_type s) nowhere (a_type u) p h e rest = absurd (cc)
@@ -41,7 +41,7 @@ module _ {N : Type 0} (table : RoutineTable N) where
   -- stores grow
 
   grows-here : (typing others : StoreTyping) (ls : Levels) (checked : TypeEnvironment N) (Fits Grown : Levels → Placement N → Type 0) → ((ls : Levels) (placement : Placement N) → Fits ls placement → Grown ls placement) → (x : N) (o : Object Shape Signature) (w : BindingPlace) (r : Object Place (ProcedureText N))
-      → IsPlaced table typing ls checked Fits x o w r → IsPlaced table (typing ++ others) ls checked Grown x o w r
+      → BindingIsPlaced table typing ls checked Fits x o w r → BindingIsPlaced table (typing ++ others) ls checked Grown x o w r
   grows-here typing others ls checked Fits Grown grow x (a_variable s) (in_slot slot) (a_variable p) h =
       let (fit, stays) = addresses_stay typing others p s h.0 in (fit, h.1 ∙ sym stays)
   grows-here typing others ls checked Fits Grown grow x (a_procedure s) (at_target t) (a_procedure c) h = (h.0, grow (drop t.up ls) h.0 h.1, h.2)
@@ -70,7 +70,7 @@ module _ {N : Type 0} (table : RoutineTable N) where
   slot-inward_placement l ls _ = refl
 
   inward_placement-here : (typing : StoreTyping) (l : Level) (ls : Levels) (checked : TypeEnvironment N) (Fits : Levels → Placement N → Type 0) (x : N) (o : Object Shape Signature) (w : BindingPlace) (r : Object Place (ProcedureText N))
-      → IsPlaced table typing ls checked Fits x o w r → IsPlaced table typing (l ∷ ls) checked Fits x o (inward_binding_place w) r
+      → BindingIsPlaced table typing ls checked Fits x o w r → BindingIsPlaced table typing (l ∷ ls) checked Fits x o (inward_binding_place w) r
   inward_placement-here typing l ls checked Fits x (a_variable s) (in_slot slot) (a_variable p) h = (h.0, slot-inward_placement l ls slot ∙ h.1)
   inward_placement-here typing l ls checked Fits x (a_procedure s) (at_target t) (a_procedure c) h = h
   inward_placement-here typing l ls checked Fits x (a_type s) nowhere (a_type u) h = tt

@@ -1,23 +1,23 @@
 -- What places hold lies in the cells of the store.
 use Rattle.std.proofs.Common.{◌≡◌, ℕ, zero, suc, ◌+◌, ◌≤◌, Bool, List, [], ◌∷◌, ◌++◌, length, take, ℤ, slice_get, slice_set, Some, option_map, option_and_then, unwrap_or, sym, refl, ap, ◌∙◌, subst, arith, length-append}
 use Rattle.ob0_language_values.specs.Values.{Place, Shape, Step, Store, Value, value_at_path, boolean_shape, integer_shape, number, read_place, truth, with_value_at_path, write_place}
-use Rattle.ob0_language_runs.specs.Fitting.{HasShape, PlaceFits, StoreFits, StoreTyping, part_shape, shape_at_path}
+use Rattle.ob0_language_runs.specs.TypeAgreement.{HasShape, PlaceHasType, StoreHasTypes, StoreTyping, part_shape, shape_at_path}
 use Rattle.ob0_language_types.proofs.Conditions.{of_some}
 use Rattle.ob0_language_types.proofs.TypedElsewhere.{then_some}
 use Rattle.ob0_language_runs.proofs.Sound.{is_number, is_truth}
-use Rattle.ob0_language_runs.proofs.SoundStatements.{PlaceFits-grows, set-fits, slice_get-grows, with_path-fits}
+use Rattle.ob0_language_runs.proofs.SoundStatements.{PlaceHasType-grows, set-fits, slice_get-grows, with_path-fits}
 use Rattle.ob0_run_cells.specs.Cells.{address, all_cells, cells_at, cells_of, overwritten_cells, offset, size, store_size, truth_cell}
 use Rattle.ob0_run_cells.proofs.Parts.{cells-size, lies-inside, path-lies}
 use Rattle.ob0_run_cells.proofs.Splits.{Lies, lies-following, lies-first, lies-within, split-at, split-get, split-set, split-with}
 
-pub store-size : (typing : StoreTyping) (store : Store) → StoreFits typing store → length (all_cells store) ≡ store_size typing
+pub store-size : (typing : StoreTyping) (store : Store) → StoreHasTypes typing store → length (all_cells store) ≡ store_size typing
 store-size [] [] h = refl
 store-size (s ∷ typing) (v ∷ store) h =
     length-append (cells_of v) (all_cells store) ∙ (ap (λ n. n + length (all_cells store)) (cells-size v s h.0) ∙ ap (λ n. size s + n) (store-size typing store h.1))
 store-size _ _ h = absurd h
 
 -- a variable lies after the older ones
-pub variable-lies : (typing : StoreTyping) (store : Store) (n : ℕ) (s : Shape) → StoreFits typing store → slice_get typing n ≡ Some s
+pub variable-lies : (typing : StoreTyping) (store : Store) (n : ℕ) (s : Shape) → StoreHasTypes typing store → slice_get typing n ≡ Some s
     → (v : Value) × (slice_get store n ≡ Some v) × HasShape v s × Lies all_cells store v (slice_set store n) (store_size (take n typing))
 variable-lies [] [] n s h e = absurd (cc)
 variable-lies (t ∷ typing) (v ∷ store) zero s h e =
@@ -30,10 +30,10 @@ variable-lies _ _ n s h e = absurd h
 -- what lies at a place, and what writing it makes of the store
 abbrev pub PlaceLies : StoreTyping → Store → Place → Shape → Type 0
 PlaceLies typing store p s =
-    (v : Value) × (read_place store p ≡ Some v) × HasShape v s × (write : Value → Store) × ((new : Value) → write_place store p new ≡ Some (write new)) × ((new : Value) → HasShape new s → StoreFits typing (write new))
+    (v : Value) × (read_place store p ≡ Some v) × HasShape v s × (write : Value → Store) × ((new : Value) → write_place store p new ≡ Some (write new)) × ((new : Value) → HasShape new s → StoreHasTypes typing (write new))
     × Lies all_cells store v write (address typing p)
 
-pub place-lies : (typing : StoreTyping) (store : Store) (p : Place) (s : Shape) → StoreFits typing store → PlaceFits typing p s → PlaceLies typing store p s
+pub place-lies : (typing : StoreTyping) (store : Store) (p : Place) (s : Shape) → StoreHasTypes typing store → PlaceHasType typing p s → PlaceLies typing store p s
 place-lies typing store p s h e =
     let (t, et, e₁) = then_some (slice_get typing p.variable) (shape_at_path p.path) s e in
     let (v, ev, hv, l) = variable-lies typing store p.variable t h et in
@@ -58,7 +58,7 @@ pub record HoldsSlice (typing : StoreTyping) (store : Store) (p : Place) (s : Sh
   pub has_shape : HasShape value s
   pub same_cells : cells_of value ≡ cells_at (address typing p) (size s) (all_cells store)
 
-pub places_are_slices : (typing : StoreTyping) (store : Store) (p : Place) (s : Shape) → StoreFits typing store → PlaceFits typing p s → HoldsSlice typing store p s
+pub places_are_slices : (typing : StoreTyping) (store : Store) (p : Place) (s : Shape) → StoreHasTypes typing store → PlaceHasType typing p s → HoldsSlice typing store p s
 places_are_slices typing store p s h e =
     let (v, ev, hv, write, made, fits, l) = place-lies typing store p s h e in record {
       within = lies-inside all_cells store v write (address typing p) (size s) (store_size typing) l (cells-size v s hv) (store-size typing store h);
@@ -72,10 +72,10 @@ places_are_slices typing store p s h e =
 pub record WritesPlace (typing : StoreTyping) (store : Store) (p : Place) (new : Value) (cells : List ℤ) : Type 0 where
   pub after : Store
   pub is_written : write_place store p new ≡ Some after
-  pub store_fits : StoreFits typing after
+  pub store_fits : StoreHasTypes typing after
   pub same_cells : all_cells after ≡ cells
 
-pub writing_places_writes_slices : (typing : StoreTyping) (store : Store) (p : Place) (s : Shape) (new : Value) → StoreFits typing store → PlaceFits typing p s → HasShape new s → WritesPlace typing store p new (overwritten_cells (address typing p) (cells_of new) (all_cells store))
+pub writing_places_writes_slices : (typing : StoreTyping) (store : Store) (p : Place) (s : Shape) (new : Value) → StoreHasTypes typing store → PlaceHasType typing p s → HasShape new s → WritesPlace typing store p new (overwritten_cells (address typing p) (cells_of new) (all_cells store))
 writing_places_writes_slices typing store p s new h e hn =
     let (v, ev, hv, write, made, fits, l) = place-lies typing store p s h e in record {
       after = write new;
@@ -93,7 +93,7 @@ pub one-written : (store : Store) (v new : Value) (write : Value → Store) (a :
 one-written store v new write a m n l e en =
     l.is_written new ∙ (ap (λ mine. l.before ++ (mine ++ l.after)) en ∙ (split-set l.before m n l.after a l.begins ∙ ap (λ cells. slice_set cells a n) (sym (l.is_split ∙ ap (λ mine. l.before ++ (mine ++ l.after)) e))))
 
-pub numbers_are_cells : (typing : StoreTyping) (store : Store) (p : Place) → StoreFits typing store → PlaceFits typing p integer_shape
+pub numbers_are_cells : (typing : StoreTyping) (store : Store) (p : Place) → StoreHasTypes typing store → PlaceHasType typing p integer_shape
     → ((n : ℤ) × (read_place store p ≡ Some (number n)) × (slice_get (all_cells store) (address typing p) ≡ Some n)) × ((n : ℤ) → WritesPlace typing store p (number n) (slice_set (all_cells store) (address typing p) n))
 numbers_are_cells typing store p h e =
     let (v, ev, hv, write, made, fits, l) = place-lies typing store p integer_shape h e in
@@ -102,7 +102,7 @@ numbers_are_cells typing store p h e =
       λ n. record { after = write (number n); is_written = made (number n); store_fits = fits (number n) tt; same_cells = one-written store v (number n) write (address typing p) m n l (ap cells_of em) refl },
     )
 
-pub truths_are_cells : (typing : StoreTyping) (store : Store) (p : Place) → StoreFits typing store → PlaceFits typing p boolean_shape
+pub truths_are_cells : (typing : StoreTyping) (store : Store) (p : Place) → StoreHasTypes typing store → PlaceHasType typing p boolean_shape
     → ((b : Bool) × (read_place store p ≡ Some (truth b)) × (slice_get (all_cells store) (address typing p) ≡ Some (truth_cell b))) × ((b : Bool) → WritesPlace typing store p (truth b) (slice_set (all_cells store) (address typing p) (truth_cell b)))
 truths_are_cells typing store p h e =
     let (v, ev, hv, write, made, fits, l) = place-lies typing store p boolean_shape h e in
@@ -126,8 +126,8 @@ shape-append (step ∷ path) more s t u e e' =
     (ap (option_and_then (shape_at_path (path ++ more))) er ∙ is, omega (arith, adds, here, there))
 
 -- a part of what a place holds has its offset after the place's address
-pub parts_have_addresses : (typing : StoreTyping) (p : Place) (path : List Step) (s t : Shape) → PlaceFits typing p s → shape_at_path path s ≡ Some t
-    → PlaceFits typing record { variable = p.variable; path = p.path ++ path } t × (address typing record { variable = p.variable; path = p.path ++ path } ≡ address typing p + offset path s)
+pub parts_have_addresses : (typing : StoreTyping) (p : Place) (path : List Step) (s t : Shape) → PlaceHasType typing p s → shape_at_path path s ≡ Some t
+    → PlaceHasType typing record { variable = p.variable; path = p.path ++ path } t × (address typing record { variable = p.variable; path = p.path ++ path } ≡ address typing p + offset path s)
 parts_have_addresses typing p path s t fit e =
     let (v, ev, e₁) = then_some (slice_get typing p.variable) (shape_at_path p.path) s fit in
     let (is, adds) = shape-append p.path path v s t e₁ e in
@@ -141,10 +141,10 @@ taken-stays (t ∷ typing) others zero s e = refl
 taken-stays (t ∷ typing) others (suc n) s e = ap (λ l. t ∷ l) (taken-stays typing others n s e)
 
 -- an address stays where later variables are added
-pub addresses_stay : (typing others : StoreTyping) (p : Place) (s : Shape) → PlaceFits typing p s → PlaceFits (typing ++ others) p s × (address (typing ++ others) p ≡ address typing p)
+pub addresses_stay : (typing others : StoreTyping) (p : Place) (s : Shape) → PlaceHasType typing p s → PlaceHasType (typing ++ others) p s × (address (typing ++ others) p ≡ address typing p)
 addresses_stay typing others p s fit =
     let (t, et, e₁) = then_some (slice_get typing p.variable) (shape_at_path p.path) s fit in (
-      PlaceFits-grows typing others p s fit,
+      PlaceHasType-grows typing others p s fit,
       ap (λ l. store_size l + unwrap_or (option_map (offset p.path) (slice_get (typing ++ others) p.variable)) 0) (taken-stays typing others p.variable t et)
           ∙ ap (λ o. store_size (take p.variable typing) + unwrap_or (option_map (offset p.path) o) 0) (slice_get-grows typing others p.variable t et ∙ sym et),
     )

@@ -2,14 +2,14 @@
 use Rattle.std.proofs.Common.{◌≡◌, ℕ, zero, suc, Bool, true, false, List, [], ◌∷◌, ◌++◌, take, drop, ℤ, slice_set, sym, refl, ap, ◌∙◌, subst, append-nil}
 use Rattle.std.proofs.lemmas.List.{map-append}
 use Rattle.ob0_language_types.specs.WellTyped.{TypeMeanings}
-use Rattle.ob0_language_values.specs.Values.{Outcome, Place, Shape, Store, TurnBound, Value, boolean_shape, ends, gives, integer_shape, number, or_stuck, truth}
-use Rattle.ob0_language_runs.specs.Fitting.{PlaceFits, StoreFits, StoreTyping}
+use Rattle.ob0_language_values.specs.Values.{Outcome, Place, Shape, Store, TurnBound, Value, boolean_shape, ends_run_with, succeeds_with, integer_shape, number, or_stuck, truth}
+use Rattle.ob0_language_runs.specs.TypeAgreement.{PlaceHasType, StoreHasTypes, StoreTyping}
 use Rattle.ob0_language_runs.specs.Runs.{Progress, State, choose, continue_with, append_output, read_number, running, stopped, store_at, execute_while, execute_repeat, use_result}
 use Rattle.ob0_run_machine.specs.Evaluation as machine
 use Rattle.ob0_run_machine.specs.Execution as execution
 use Rattle.ob0_run_machine.specs.Lowered as lowered
 use Rattle.ob0_run_cells.specs.Cells.{address, all_cells, truth_cell}
-use Rattle.ob0_run_cells.specs.LoweredStatements.{Body, ProgressRepresents, Represents, ShowsBody, Target, written_of}
+use Rattle.ob0_run_cells.specs.LoweredStatements.{Body, ProgressRepresents, Represents, ShowsBody, Target, printed_item_of}
 use Rattle.ob0_run_cells.specs.Lowering.{OutcomeByMoment, Moment, NumberMeans, PlaceMeans, Shows, Slot, TruthMeans, end_of, outcome_of}
 use Rattle.ob0_run_cells.proofs.LoweredOutcomes.{Led, ended-same, given-same}
 use Rattle.ob0_run_cells.proofs.Places.{numbers_are_cells, truths_are_cells}
@@ -22,11 +22,11 @@ use-represents typing f low s (machine.gives a) w k j h e each = subst (λ w. Pr
 use-represents typing f low s (machine.ends x) w k j h e each = subst (λ w. ProgressRepresents typing (execution.stopped x low.output) (use_result s w j)) e (refl, h.same_output)
 
 pub use-place : (typing : StoreTyping) (shape : Shape) (low : execution.MachineState) (s : State) (o : machine.StepResult ℕ) (w : Outcome Place) (k : ℕ → execution.MachineProgress) (j : Place → Progress) → Represents typing low s → Led typing shape o w
-    → ((p : Place) → PlaceFits typing p shape → ProgressRepresents typing (k (address typing p)) (j p)) → ProgressRepresents typing (execution.use_result low o k) (use_result s w j)
-use-place typing shape low s (machine.gives a) (gives p) k j h led each =
+    → ((p : Place) → PlaceHasType typing p shape → ProgressRepresents typing (k (address typing p)) (j p)) → ProgressRepresents typing (execution.use_result low o k) (use_result s w j)
+use-place typing shape low s (machine.gives a) (succeeds_with p) k j h led each =
     let e : a ≡ address typing p = given-same a (address typing p) led.is_same in
     subst (λ a. ProgressRepresents typing (k a) (j p)) (sym e) (each p led.is_place)
-use-place typing shape low s (machine.ends x) (ends y) k j h led each = (ended-same (end_of x) y led.is_same, h.same_output)
+use-place typing shape low s (machine.ends x) (ends_run_with y) k j h led each = (ended-same (end_of x) y led.is_same, h.same_output)
 use-place typing shape low s _ _ k j h led each = let e = led.is_same in absurd (cc)
 
 pub choice-represents : (typing : StoreTyping) (low : execution.MachineState) (s : State) (o : machine.StepResult Bool) (w : Outcome Value) (k l : execution.MachineState → execution.MachineProgress) (i j : State → Progress) → Represents typing low s → outcome_of truth o ≡ w
@@ -72,7 +72,7 @@ as_cell-same false = refl
 
 -- what is stored
 
-pub number-stored : (typing : StoreTyping) (low : execution.MachineState) (s : State) (p : Place) (n : ℤ) → Represents typing low s → PlaceFits typing p integer_shape
+pub number-stored : (typing : StoreTyping) (low : execution.MachineState) (s : State) (p : Place) (n : ℤ) → Represents typing low s → PlaceHasType typing p integer_shape
     → ProgressRepresents typing (execution.running (execution.store_at low (address typing p) n)) (store_at s p (number n))
 number-stored typing low s p n h fit =
     let (found, writes) = numbers_are_cells typing s.store p h.store_fits fit in
@@ -84,7 +84,7 @@ number-stored typing low s p n h fit =
       same_output = h.same_output;
     }
 
-pub truth-stored : (typing : StoreTyping) (low : execution.MachineState) (s : State) (p : Place) (b : Bool) → Represents typing low s → PlaceFits typing p boolean_shape
+pub truth-stored : (typing : StoreTyping) (low : execution.MachineState) (s : State) (p : Place) (b : Bool) → Represents typing low s → PlaceHasType typing p boolean_shape
     → ProgressRepresents typing (execution.running (execution.store_at low (address typing p) (machine.as_cell b))) (store_at s p (truth b))
 truth-stored typing low s p b h fit =
     let (found, writes) = truths_are_cells typing s.store p h.store_fits fit in
@@ -96,28 +96,28 @@ truth-stored typing low s p b h fit =
       same_output = h.same_output;
     }
 
-pub number-read : (typing : StoreTyping) (low : execution.MachineState) (s : State) (p : Place) (input : List ℤ) → Represents typing low s → PlaceFits typing p integer_shape
+pub number-read : (typing : StoreTyping) (low : execution.MachineState) (s : State) (p : Place) (input : List ℤ) → Represents typing low s → PlaceHasType typing p integer_shape
     → ProgressRepresents typing (execution.read_number low (address typing p) input) (read_number s p input)
 number-read typing low s p [] h fit = (refl, h.same_output)
 number-read typing low s p (n ∷ rest) h fit =
     number-stored typing (record low { input = rest }) (record s { input = rest }) p n
     record { store_fits = h.store_fits; same_cells = h.same_cells; same_input = refl; same_output = h.same_output } fit
 
-pub put-represents : (typing : StoreTyping) (low : execution.MachineState) (s : State) (i : execution.OutputItem) → Represents typing low s → ProgressRepresents typing (execution.running (execution.append_output low i)) (running (append_output s (written_of i)))
+pub put-represents : (typing : StoreTyping) (low : execution.MachineState) (s : State) (i : execution.OutputItem) → Represents typing low s → ProgressRepresents typing (execution.running (execution.append_output low i)) (running (append_output s (printed_item_of i)))
 put-represents typing low s i h = record {
   store_fits = h.store_fits;
   same_cells = h.same_cells;
   same_input = h.same_input;
-  same_output = map-append written_of low.output (i ∷ []) ∙ ap (λ l. l ++ written_of i ∷ []) h.same_output;
+  same_output = map-append printed_item_of low.output (i ∷ []) ∙ ap (λ l. l ++ printed_item_of i ∷ []) h.same_output;
 }
 
 -- moments of a body
 
 abbrev pub moment : {N : Type 0} → Body N → Store → List ℤ → Moment N
-moment b store passed = record { typing = b.typing; store = store; passed = passed; active = b.active; levels = b.levels }
+moment b store passed = record { typing = b.typing; store = store; passed_cells = passed; active = b.active; levels = b.levels }
 
 module _ {N : Type 0} (checked : TypeMeanings N) (slots : N → Slot) (targets : N → Target) (b : Body N) (shown : ShowsBody checked slots targets b) where
-  pub moment-shown : (store : Store) (passed : List ℤ) → StoreFits b.typing store → Shows checked slots (moment b store passed)
+  pub moment-shown : (store : Store) (passed : List ℤ) → StoreHasTypes b.typing store → Shows checked slots (moment b store passed)
   moment-shown store passed fits = record {
     store_fits = fits;
     names_fit = shown.names_fit;
@@ -125,17 +125,17 @@ module _ {N : Type 0} (checked : TypeMeanings N) (slots : N → Slot) (targets :
     has_addresses = shown.has_addresses;
   }
 
-  pub number-at : (n : lowered.Number) (w : OutcomeByMoment N Value) → NumberMeans checked slots n w → (store : Store) (passed cells : List ℤ) → StoreFits b.typing store → cells ≡ all_cells store ++ passed
+  pub number-at : (n : lowered.Number) (w : OutcomeByMoment N Value) → NumberMeans checked slots n w → (store : Store) (passed cells : List ℤ) → StoreHasTypes b.typing store → cells ≡ all_cells store ++ passed
       → outcome_of number (machine.number b.levels cells n) ≡ w (moment b store passed)
   number-at n w hn store passed cells fits e =
       subst (λ l. outcome_of number (machine.number b.levels l n) ≡ w (moment b store passed)) (sym e) (hn (moment b store passed) (moment-shown store passed fits))
 
-  pub truth-at : (t : lowered.Truth) (w : OutcomeByMoment N Value) → TruthMeans checked slots t w → (store : Store) (passed cells : List ℤ) → StoreFits b.typing store → cells ≡ all_cells store ++ passed
+  pub truth-at : (t : lowered.Truth) (w : OutcomeByMoment N Value) → TruthMeans checked slots t w → (store : Store) (passed cells : List ℤ) → StoreHasTypes b.typing store → cells ≡ all_cells store ++ passed
       → outcome_of truth (machine.truth b.levels cells t) ≡ w (moment b store passed)
   truth-at t w ht store passed cells fits e =
       subst (λ l. outcome_of truth (machine.truth b.levels l t) ≡ w (moment b store passed)) (sym e) (ht (moment b store passed) (moment-shown store passed fits))
 
-  pub place-at : (q : lowered.Place) (shape : Shape) (w : OutcomeByMoment N Place) → PlaceMeans checked slots q shape w → (store : Store) (passed cells : List ℤ) → StoreFits b.typing store → cells ≡ all_cells store ++ passed
+  pub place-at : (q : lowered.Place) (shape : Shape) (w : OutcomeByMoment N Place) → PlaceMeans checked slots q shape w → (store : Store) (passed cells : List ℤ) → StoreHasTypes b.typing store → cells ≡ all_cells store ++ passed
       → Led b.typing shape (machine.address b.levels cells q) (w (moment b store passed))
   place-at q shape w hq store passed cells fits e =
       let m = hq (moment b store passed) (moment-shown store passed fits) in

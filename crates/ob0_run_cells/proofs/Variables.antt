@@ -1,8 +1,8 @@
 -- Variables that begin, are added, and are dropped.
 use Rattle.std.proofs.Common.{◌≡◌, ℕ, zero, suc, ◌+◌, ◌*◌, List, [], ◌∷◌, ◌++◌, length, replicate, take, ℤ, pos, slice_get, Some, option_and_then, option_map, unwrap_or, sym, refl, ap, ◌∙◌, arith, append_assoc, append-nil}
 use Rattle.std.proofs.lemmas.List.{replicate-append-replicate, take_at}
-use Rattle.ob0_language_values.specs.Values.{FieldShapes, Shape, Store, Value, array_shape, copies, initial, initial_members, next_field_shape, no_field_shape, record_shape}
-use Rattle.ob0_language_runs.specs.Fitting.{HasShape, PlaceFits, StoreFits, StoreTyping, shape_at_path}
+use Rattle.ob0_language_values.specs.Values.{FieldShapes, Shape, Store, Value, array_shape, copies, initial_value, initial_members, next_field_shape, no_field_shape, record_shape}
+use Rattle.ob0_language_runs.specs.TypeAgreement.{HasShape, PlaceHasType, StoreHasTypes, StoreTyping, shape_at_path}
 use Rattle.ob0_language_runs.proofs.SoundCalls.{initial-fits, last-shape, store-appends}
 use Rattle.ob0_run_cells.specs.Cells.{address, all_cells, cells_of, element_cells, field_sizes, member_cells, offset, size, store_size}
 use Rattle.ob0_run_cells.proofs.Places.{store-size}
@@ -17,16 +17,16 @@ copies-zero (suc n) m v e =
     zeros-join m (n * m) (cells_of v) (element_cells (copies n v)) e (copies-zero n m v e) ∙ ap (λ n. replicate n (pos 0)) s
 
 mutual
-  pub initial-zero : (s : Shape) → cells_of (initial s) ≡ replicate (size s) (pos 0)
-  initial-zero (array_shape k n s) = copies-zero n (size s) (initial s) (initial-zero s)
+  pub initial-zero : (s : Shape) → cells_of (initial_value s) ≡ replicate (size s) (pos 0)
+  initial-zero (array_shape k n s) = copies-zero n (size s) (initial_value s) (initial-zero s)
   initial-zero (record_shape k fs) = initial_members-zero fs
   initial-zero _ = refl
 
   pub initial_members-zero : (fs : FieldShapes) → member_cells (initial_members fs) ≡ replicate (field_sizes fs) (pos 0)
   initial_members-zero no_field_shape = refl
-  initial_members-zero (next_field_shape x s rest) = zeros-join (size s) (field_sizes rest) (cells_of (initial s)) (member_cells (initial_members rest)) (initial-zero s) (initial_members-zero rest)
+  initial_members-zero (next_field_shape x s rest) = zeros-join (size s) (field_sizes rest) (cells_of (initial_value s)) (member_cells (initial_members rest)) (initial-zero s) (initial_members-zero rest)
 
-pub initial_cells_are_zero : (s : Shape) → HasShape (initial s) s × (cells_of (initial s) ≡ replicate (size s) (pos 0))
+pub initial_cells_are_zero : (s : Shape) → HasShape (initial_value s) s × (cells_of (initial_value s) ≡ replicate (size s) (pos 0))
 initial_cells_are_zero s = (initial-fits s, initial-zero s)
 
 pub cells-append : (a b : Store) → all_cells (a ++ b) ≡ all_cells a ++ all_cells b
@@ -34,19 +34,19 @@ cells-append [] b = refl
 cells-append (v ∷ a) b = ap (λ l. cells_of v ++ l) (cells-append a b) ∙ sym (append_assoc (cells_of v) (all_cells a) (all_cells b))
 
 -- a type added is the one at the place of a variable added
-pub taken-all : (typing : StoreTyping) (store : Store) (s : Shape) → StoreFits typing store → store_size (take (length store) (typing ++ s ∷ [])) ≡ store_size typing
+pub taken-all : (typing : StoreTyping) (store : Store) (s : Shape) → StoreHasTypes typing store → store_size (take (length store) (typing ++ s ∷ [])) ≡ store_size typing
 taken-all [] [] s h = refl
 taken-all (t ∷ typing) (v ∷ store) s h = ap (λ n. size t + n) (taken-all typing store s h.1)
 taken-all _ _ s h = absurd h
 
 -- a store with a variable more, whose cells come after those of all others, from the size of their types on
 pub record AddsVariable (typing : StoreTyping) (store : Store) (s : Shape) (v : Value) : Type 0 where
-  pub store_fits : StoreFits (typing ++ s ∷ []) (store ++ v ∷ [])
+  pub store_fits : StoreHasTypes (typing ++ s ∷ []) (store ++ v ∷ [])
   pub cells_added : all_cells (store ++ v ∷ []) ≡ all_cells store ++ cells_of v
-  pub place_fits : PlaceFits (typing ++ s ∷ []) record { variable = length store; path = [] } s
+  pub place_fits : PlaceHasType (typing ++ s ∷ []) record { variable = length store; path = [] } s
   pub address_is : address (typing ++ s ∷ []) record { variable = length store; path = [] } ≡ store_size typing
 
-pub variables_are_added : (typing : StoreTyping) (store : Store) (s : Shape) (v : Value) → StoreFits typing store → HasShape v s → AddsVariable typing store s v
+pub variables_are_added : (typing : StoreTyping) (store : Store) (s : Shape) (v : Value) → StoreHasTypes typing store → HasShape v s → AddsVariable typing store s v
 variables_are_added typing store s v h hv =
     let e : slice_get (typing ++ s ∷ []) (length store) ≡ Some s = last-shape typing store s h in
     let b : store_size (take (length store) (typing ++ s ∷ [])) ≡ store_size typing = taken-all typing store s h in
@@ -57,13 +57,13 @@ variables_are_added typing store s v h hv =
       address_is = omega (arith, b, o);
     }
 
-pub cut-fits : (typing others : StoreTyping) (old new : Store) → StoreFits typing old → StoreFits (typing ++ others) new → StoreFits typing (take (length old) new)
+pub cut-fits : (typing others : StoreTyping) (old new : Store) → StoreHasTypes typing old → StoreHasTypes (typing ++ others) new → StoreHasTypes typing (take (length old) new)
 cut-fits [] others [] new h k = tt
 cut-fits (t ∷ typing) others (v ∷ old) [] h k = absurd k
 cut-fits (t ∷ typing) others (v ∷ old) (w ∷ new) h k = (k.0, cut-fits typing others old new h.1 k.1)
 cut-fits _ others _ new h k = absurd h
 
-pub cut-split : (typing others : StoreTyping) (old new : Store) → StoreFits typing old → StoreFits (typing ++ others) new → (rest : Store) × (new ≡ take (length old) new ++ rest)
+pub cut-split : (typing others : StoreTyping) (old new : Store) → StoreHasTypes typing old → StoreHasTypes (typing ++ others) new → (rest : Store) × (new ≡ take (length old) new ++ rest)
 cut-split [] others [] new h k = (new, refl)
 cut-split (t ∷ typing) others (v ∷ old) [] h k = absurd k
 cut-split (t ∷ typing) others (v ∷ old) (w ∷ new) h k =
@@ -71,10 +71,10 @@ cut-split (t ∷ typing) others (v ∷ old) (w ∷ new) h k =
 cut-split _ others _ new h k = absurd h
 
 -- a store cut back to the variables of an older one has as many cells as that
-pub variables_are_dropped : (typing others : StoreTyping) (old new : Store) → StoreFits typing old → StoreFits (typing ++ others) new
-    → StoreFits typing (take (length old) new) × (all_cells (take (length old) new) ≡ take (length (all_cells old)) (all_cells new))
+pub variables_are_dropped : (typing others : StoreTyping) (old new : Store) → StoreHasTypes typing old → StoreHasTypes (typing ++ others) new
+    → StoreHasTypes typing (take (length old) new) × (all_cells (take (length old) new) ≡ take (length (all_cells old)) (all_cells new))
 variables_are_dropped typing others old new h k =
-    let fit : StoreFits typing (take (length old) new) = cut-fits typing others old new h k in
+    let fit : StoreHasTypes typing (take (length old) new) = cut-fits typing others old new h k in
     let (rest, e) = cut-split typing others old new h k in
     let n : length (all_cells (take (length old) new)) ≡ length (all_cells old) = store-size typing (take (length old) new) fit ∙ sym (store-size typing old h) in
     (fit, sym (ap (λ l. take (length (all_cells old)) (all_cells l)) e ∙ (ap (take (length (all_cells old))) (cells-append (take (length old) new) rest) ∙ take_at (all_cells (take (length old) new)) (all_cells rest) (length (all_cells old)) n)))

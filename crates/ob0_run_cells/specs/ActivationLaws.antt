@@ -9,12 +9,12 @@ use Rattle.ob0_language_runs.specs.Runs.{Run, run}
 use Rattle.ob0_run_machine.specs.Execution as execution
 use Rattle.ob0_run_machine.specs.Lowered as lowered
 use Rattle.ob0_run_cells.specs.Activations.{ProgramMeans}
-use Rattle.ob0_run_cells.specs.LoweredStatements.{written_of}
+use Rattle.ob0_run_cells.specs.LoweredStatements.{printed_item_of}
 use Rattle.ob0_run_cells.specs.Lowering.{end_of}
 
 -- converts a run of the machine to a run of a module, with the same output and the same end
 abbrev pub run_of : execution.MachineRun → Run
-run_of r = record { output = map written_of r.output; ending = end_of r.ending }
+run_of r = record { output = map printed_item_of r.output; ending = end_of r.ending }
 
 -- States that a program that means a well-typed module (`ProgramMeans`) has the run of the module.
 -- This holds for each input and for all bounds `c` on open calls and `t` on iterations. Nothing is

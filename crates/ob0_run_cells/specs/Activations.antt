@@ -2,32 +2,32 @@
 -- means a module. A placement has the place of each name of an environment: a slot for a variable,
 -- a target for a procedure. `BlockIsPlaced` states the meaning of a block, and `HasRoutine` the
 -- meaning of a procedure. Each has a parameter for the facts about the procedures inside. A
--- procedure's binding keeps the placement at the procedure's declaration (`IsPlaced`).
+-- procedure's binding keeps the placement at the procedure's declaration (`BindingIsPlaced`).
 -- `PlacementFits` recurses over the bindings of an activation, and uses this placement for the
 -- activations further out. So no slot has to be translated back to an outer level. The code of a
 -- module has to meet `ProgramMeans` for the module's numbered tree. A procedure may have any index,
 -- if the entry of the routine table at this index means the procedure's block. Variables of the
--- module are `of_module`, at offsets that begin with 0. Variables of a procedure are `held 0`,
+-- module are `of_module`, at offsets that begin with 0. Variables of a procedure are `in_activation 0`,
 -- after its value parameters. VAR parameters are `by_reference 0`, by their index among the VAR
 -- parameters.
 -- Rule: none; for contracts of lowering, against docs/LANGUAGE.md, Runs 6.
 use Rattle.std.specs.Prelude.{◌≡◌, ℕ, suc, ◌+◌, ◌≤◌, true, false, List, [], ◌∷◌, drop, slice_get, Some, Option, option_and_then}
-use Rattle.ob0_tree.specs.Tree.{Tree, begins, block, body, declares, declares_procedure, declares_variable, end, has_body, item, items, maybe, module_text, more, none, one, procedure, variable}
+use Rattle.ob0_tree.specs.Tree.{Tree, begins, block, body, declares, declares_procedure, declares_variable, end, forms_block, item, items, maybe, module_text, more, none, one, procedure, variable}
 use Rattle.ob0_language_names.specs.Names.{Label, Naming, naming_by_label}
 use Rattle.ob0_language_names.specs.Parts.{block_constants, block_types, block_variables, constant_names, formal_sections, module_block, declared_type_names, names_in_list, procedure_formals, procedure_name}
-use Rattle.ob0_language_types.specs.Declarations.{constructors_before_variables, constructor_after_variables, declare_first, formals_constructor_count, procedure_constructor_count}
-use Rattle.ob0_language_types.specs.Environments.{meanings, outermost}
+use Rattle.ob0_language_types.specs.Declarations.{constructors_before_variables, constructors_before_procedures, declare_constants_and_types, formals_constructor_count, procedure_constructor_count}
+use Rattle.ob0_language_types.specs.Environments.{meanings, outermost_environment}
 use Rattle.ob0_language_types.specs.Expressions.{Object, a_constant, a_procedure, a_standard, a_type, a_variable}
-use Rattle.ob0_language_types.specs.Typing.{constructor_count, denoted}
-use Rattle.ob0_language_types.specs.WellTyped.{Mode, Signature, TypeEnvironment, TypedParameter, bind_names, bind_typed_parameters, by_place, by_value, declare_typed, bind_procedure, typed_parameters}
+use Rattle.ob0_language_types.specs.Typing.{constructor_count, denoted_type}
+use Rattle.ob0_language_types.specs.WellTyped.{Mode, Signature, TypeEnvironment, TypedParameter, bind_names, bind_typed_parameters, by_place, by_value, declare_typed_variables, bind_procedure, typed_parameters}
 use Rattle.ob0_language_values.specs.Values.{Place, Shape}
-use Rattle.ob0_language_runs.specs.Fitting.{PlaceFits, StoreTyping}
+use Rattle.ob0_language_runs.specs.TypeAgreement.{PlaceHasType, StoreTyping}
 use Rattle.ob0_language_runs.specs.Runs.{Activation, ProcedureText}
 use Rattle.ob0_run_machine.specs.Evaluation.{Levels}
 use Rattle.ob0_run_machine.specs.Lowered as lowered
 use Rattle.ob0_run_cells.specs.Cells.{address, size}
-use Rattle.ob0_run_cells.specs.LoweredStatements.{SequenceMeans, Target}
-use Rattle.ob0_run_cells.specs.Lowering.{Slot, held, by_reference, of_module, slot_address}
+use Rattle.ob0_run_cells.specs.LoweredStatements.{CodeMeansSequence, Target}
+use Rattle.ob0_run_cells.specs.Lowering.{Slot, in_activation, by_reference, of_module, slot_address}
 
 -- The place of a declaration in lowered code: a slot for a variable, a target for a procedure, or
 -- `nowhere` for any other declaration.
@@ -84,7 +84,7 @@ target_in_placement naming placement x = first_target (suffix_from_name naming p
 -- returns the same slot, as seen from an activation one level further in
 abbrev pub inward_slot : Slot → Slot
 inward_slot (of_module at) = of_module at
-inward_slot (held up at) = held (suc up) at
+inward_slot (in_activation up at) = in_activation (suc up) at
 inward_slot (by_reference up at) = by_reference (suc up) at
 
 -- returns the same place of a declaration, as seen from an activation one level further in
@@ -100,14 +100,14 @@ inward_placement (b ∷ placement) = (b.0, inward_binding_place b.1) ∷ inward_
 
 -- The state while the names of an activation are placed: the placement so far, the number of cells
 -- so far, and the number of VAR parameters so far.
-pub record Placed (N : Type 0) : Type 0 where
+pub record PlacementState (N : Type 0) : Type 0 where
   pub placement : Placement N
   pub cells : ℕ
   pub reference_places : ℕ
 
 -- Adds the name `x` to a placement. A variable or a value parameter gets `n` cells, a VAR parameter
 -- gets the next index.
-abbrev pub place_name : {N : Type 0} → (ℕ → Slot) → Mode → N → ℕ → Placed N → Placed N
+abbrev pub place_name : {N : Type 0} → (ℕ → Slot) → Mode → N → ℕ → PlacementState N → PlacementState N
 place_name at by_value x n p =
     record p { placement = (x, in_slot (at p.cells)) ∷ p.placement; cells = p.cells + n }
 place_name at by_place x n p =
@@ -117,7 +117,7 @@ place_name at by_place x n p =
     }
 
 -- Adds the names of variables with one type to a placement. Each variable gets `n` cells.
-abbrev pub place_names : {N : Type 0} → (ℕ → Slot) → List N → ℕ → Placed N → Placed N
+abbrev pub place_names : {N : Type 0} → (ℕ → Slot) → List N → ℕ → PlacementState N → PlacementState N
 place_names at [] n p = p
 place_names at (x ∷ xs) n p = place_names at xs n (place_name at by_value x n p)
 
@@ -129,20 +129,20 @@ unfoldable pub place_variables : {N : Type 0}
     → TypeEnvironment N
     → ℕ
     → Tree N (items variable)
-    → Placed N
-    → Option (Placed N)
-unfolding denoted
+    → PlacementState N
+    → Option (PlacementState N)
+unfolding denoted_type
 place_variables naming at checked k end p = Some p
 place_variables naming at checked k (more (declares_variable ns u) gs) p =
     option_and_then (λ s. place_variables naming at
     (bind_names (names_in_list ns) (a_variable s) checked) (k + constructor_count u) gs
-    (place_names at (names_in_list ns) (size s) p)) (denoted (meanings naming checked) k u)
+    (place_names at (names_in_list ns) (size s) p)) (denoted_type (meanings naming checked) k u)
 
 -- Adds the parameters of a procedure to a placement.
-abbrev pub place_parameters : {N : Type 0} → List (TypedParameter N) → Placed N → Placed N
+abbrev pub place_parameters : {N : Type 0} → List (TypedParameter N) → PlacementState N → PlacementState N
 place_parameters [] p = p
 place_parameters (q ∷ ps) p =
-    place_parameters ps (place_name (held 0) q.formal.mode q.name (size q.formal.shape) p)
+    place_parameters ps (place_name (in_activation 0) q.formal.mode q.name (size q.formal.shape) p)
 
 -- Adds names that have no place to a placement, such as the names of constants and types.
 abbrev pub bind_to_nowhere : {N : Type 0} → List N → Placement N → Placement N
@@ -156,22 +156,22 @@ local_target i = at_target record { procedure = i; up = 0 }
 
 -- returns the placement in a procedure: its parameters, then the names around the procedure, as
 -- seen from one level further in
-abbrev pub parameter_placement : {N : Type 0} → List (TypedParameter N) → Placement N → Placed N
+abbrev pub parameter_placement : {N : Type 0} → List (TypedParameter N) → Placement N → PlacementState N
 parameter_placement ps placement =
     place_parameters ps record { placement = inward_placement placement; cells = 0; reference_places = 0 }
 
 -- States that code means a body, in the environment in which the body's statements are checked. If
 -- there is no body, the code has to be empty.
-abbrev pub BodyMeans : {N : Type 0}
+abbrev pub CodeMeansBody : {N : Type 0}
     → Naming N
     → TypeEnvironment N
     → Placement N
     → lowered.Instructions
     → Tree N (maybe body)
     → Type 0
-BodyMeans naming checked placement code none = code ≡ lowered.no_statement
-BodyMeans naming checked placement code (one (begins statements)) =
-    SequenceMeans (meanings naming checked) (slot_in_placement naming placement) (target_in_placement naming placement)
+CodeMeansBody naming checked placement code none = code ≡ lowered.no_statement
+CodeMeansBody naming checked placement code (one (begins statements)) =
+    CodeMeansSequence (meanings naming checked) (slot_in_placement naming placement) (target_in_placement naming placement)
     code statements
 
 -- The lowered procedures of a module, and the naming, which decides whether two names are the same.
@@ -187,7 +187,7 @@ label_table routines = record { routines = routines; naming = naming_by_label }
 -- declared in the environment `checked`, with the placement `placement`.
 pub record HasRoutine {N : Type 0} (table : RoutineTable N) (checked : TypeEnvironment N)
     (placement : Placement N) (x : N) (k : ℕ) (text : Tree N (item procedure)) (index : ℕ)
-    (Means : TypeEnvironment N → Placed N → lowered.Routine → Type 0) : Type 0 where
+    (Means : TypeEnvironment N → PlacementState N → lowered.Routine → Type 0) : Type 0 where
   pub parameters : List (TypedParameter N)
   pub routine : lowered.Routine
   pub are_typed : typed_parameters table.naming checked k (procedure_formals text)
@@ -200,13 +200,13 @@ pub record HasRoutine {N : Type 0} (table : RoutineTable N) (checked : TypeEnvir
 -- cells of `p`. `Inside` is the fact that has to hold for the procedures and statements of the
 -- block.
 pub record BlockIsPlaced {N : Type 0} (table : RoutineTable N) (at : ℕ → Slot)
-    (checked : TypeEnvironment N) (p : Placed N) (k cells : ℕ) (b : Tree N block)
+    (checked : TypeEnvironment N) (p : PlacementState N) (k cells : ℕ) (b : Tree N block)
     (Inside : TypeEnvironment N → Placement N → Type 0) : Type 0 where
   pub first : TypeEnvironment N
   pub inner : TypeEnvironment N
-  pub placed : Placed N
-  pub first_declared : declare_first table.naming checked k b ≡ Some first
-  pub variables_declared : declare_typed table.naming (constructors_before_variables k b) (block_variables b) first
+  pub placed : PlacementState N
+  pub first_declared : declare_constants_and_types table.naming checked k b ≡ Some first
+  pub variables_declared : declare_typed_variables table.naming (constructors_before_variables k b) (block_variables b) first
       ≡ Some inner
   pub variables_placed : place_variables table.naming at first (constructors_before_variables k b)
       (block_variables b) record p {
@@ -224,24 +224,24 @@ abbrev mutual
   -- Runs 1 and 6: states that the variables of a block are placed after the cells of `p`. Also
   -- states that the table has the code of the block's procedures, and that `code` means the block's
   -- statements.
-  pub BlockMeans : {N : Type 0}
+  pub CodeMeansBlock : {N : Type 0}
       → RoutineTable N
       → (ℕ → Slot)
       → TypeEnvironment N
-      → Placed N
+      → PlacementState N
       → ℕ
       → ℕ
       → lowered.Instructions
       → Tree N block
       → Type 0
-  BlockMeans {N} table at checked p k cells code (has_body (declares cs ts vs ps) statements) =
-      BlockIsPlaced table at checked p k cells (has_body (declares cs ts vs ps) statements)
-      (λ inner placement. ProceduresMean table inner placement
-      (constructor_after_variables k (has_body (declares cs ts vs ps) statements)) code statements ps)
+  CodeMeansBlock {N} table at checked p k cells code (forms_block (declares cs ts vs ps) statements) =
+      BlockIsPlaced table at checked p k cells (forms_block (declares cs ts vs ps) statements)
+      (λ inner placement. RoutinesMeanProcedures table inner placement
+      (constructors_before_procedures k (forms_block (declares cs ts vs ps) statements)) code statements ps)
 
   -- Runs 6: states that the table has the code of each of these procedures, and that `code` means
   -- the statements of the block in which they are declared
-  pub ProceduresMean : {N : Type 0}
+  pub RoutinesMeanProcedures : {N : Type 0}
       → RoutineTable N
       → TypeEnvironment N
       → Placement N
@@ -250,33 +250,33 @@ abbrev mutual
       → Tree N (maybe body)
       → Tree N (items procedure)
       → Type 0
-  ProceduresMean table checked placement k code statements end =
-      BodyMeans table.naming checked placement code statements
-  ProceduresMean {N} table checked placement k code statements (more p rest) =
+  RoutinesMeanProcedures table checked placement k code statements end =
+      CodeMeansBody table.naming checked placement code statements
+  RoutinesMeanProcedures {N} table checked placement k code statements (more p rest) =
       (index : ℕ)
       × (here : HasRoutine table checked placement (procedure_name p) k p index
-      (λ checked placed routine. ProcedureMeans table checked placed k routine p))
-      × ProceduresMean table (bind_procedure (procedure_name p) here.parameters checked)
+      (λ checked placed routine. RoutineMeansProcedure table checked placed k routine p))
+      × RoutinesMeanProcedures table (bind_procedure (procedure_name p) here.parameters checked)
       ((procedure_name p, local_target index) ∷ placement) (k + procedure_constructor_count p) code
       statements rest
 
   -- Runs 6: states that a routine means the block of a procedure
-  pub ProcedureMeans : {N : Type 0}
+  pub RoutineMeansProcedure : {N : Type 0}
       → RoutineTable N
       → TypeEnvironment N
-      → Placed N
+      → PlacementState N
       → ℕ
       → lowered.Routine
       → Tree N (item procedure)
       → Type 0
-  ProcedureMeans table checked p k routine (declares_procedure x fs b closing) =
-      BlockMeans table (held 0) checked p (k + formals_constructor_count (formal_sections fs))
+  RoutineMeansProcedure table checked p k routine (declares_procedure x fs b closing) =
+      CodeMeansBlock table (in_activation 0) checked p (k + formals_constructor_count (formal_sections fs))
       routine.cells routine.body b
 
 -- States that one binding is placed right, as seen from the activations `ls`. A variable's slot has
 -- the address of the variable's place (Runs 1). A procedure's routine means the procedure's block
 -- at the place of its declaration (Runs 6). Other bindings have no place.
-abbrev pub IsPlaced : {N : Type 0}
+abbrev pub BindingIsPlaced : {N : Type 0}
     → RoutineTable N
     → StoreTyping
     → Levels
@@ -287,20 +287,20 @@ abbrev pub IsPlaced : {N : Type 0}
     → BindingPlace
     → Object Place (ProcedureText N)
     → Type 0
-IsPlaced table typing ls checked Fits x (a_variable s) (in_slot slot) (a_variable p) =
-    PlaceFits typing p s × (slot_address ls slot ≡ address typing p)
-IsPlaced {N} table typing ls checked Fits x (a_procedure signature) (at_target t)
+BindingIsPlaced table typing ls checked Fits x (a_variable s) (in_slot slot) (a_variable p) =
+    PlaceHasType typing p s × (slot_address ls slot ≡ address typing p)
+BindingIsPlaced {N} table typing ls checked Fits x (a_procedure signature) (at_target t)
     (a_procedure code)
     =
     (outer : Placement N)
     × Fits (drop t.up ls) outer
     × HasRoutine table checked outer x code.first_constructor code.text t.procedure
-    (λ checked placed routine. ProcedureMeans table checked placed code.first_constructor routine
+    (λ checked placed routine. RoutineMeansProcedure table checked placed code.first_constructor routine
     code.text)
-IsPlaced table typing ls checked Fits x (a_type s) nowhere (a_type u) = Unit {0}
-IsPlaced table typing ls checked Fits x (a_constant v) nowhere (a_constant w) = Unit {0}
-IsPlaced table typing ls checked Fits x (a_standard p) nowhere (a_standard q) = Unit {0}
-IsPlaced table typing ls checked Fits x _ _ _ = ⊥
+BindingIsPlaced table typing ls checked Fits x (a_type s) nowhere (a_type u) = Unit {0}
+BindingIsPlaced table typing ls checked Fits x (a_constant v) nowhere (a_constant w) = Unit {0}
+BindingIsPlaced table typing ls checked Fits x (a_standard p) nowhere (a_standard q) = Unit {0}
+BindingIsPlaced table typing ls checked Fits x _ _ _ = ⊥
 
 -- States that the first bindings of an environment, a placement and an activation have the same
 -- name. `Here` is the fact about these bindings, and `Further` is the fact about the older
@@ -312,7 +312,7 @@ pub record FitsFirst {N : Type 0} (checked placed active : N) (Here Further : Ty
   pub here : Here
   pub further : Further
 
--- Runs 1 and 6: states that each binding of an activation is placed right (`IsPlaced`), as seen
+-- Runs 1 and 6: states that each binding of an activation is placed right (`BindingIsPlaced`), as seen
 -- from the activations `ls`. The environment, the placement and the activation have to bind the
 -- same names.
 abbrev pub PlacementFits : {N : Type 0}
@@ -326,7 +326,7 @@ abbrev pub PlacementFits : {N : Type 0}
 PlacementFits table typing ls [] [] [] = Unit {0}
 PlacementFits table typing ls (b ∷ checked) (w ∷ placement) (d ∷ active) =
     FitsFirst b.0 w.0 d.0
-    (IsPlaced table typing ls checked
+    (BindingIsPlaced table typing ls checked
     (λ ls placement. PlacementFits table typing ls checked placement active) b.0 b.1 w.1 d.1)
     (PlacementFits table typing ls checked placement active)
 PlacementFits table typing ls _ _ _ = ⊥
@@ -351,7 +351,7 @@ abbrev pub ProgramMeans : {N : Type 0}
     → lowered.LoweredCode
     → Type 0
 ProgramMeans naming m program =
-    BlockMeans record { routines = program.procedures; naming = naming } of_module
-    (outermost naming) record
+    CodeMeansBlock record { routines = program.procedures; naming = naming } of_module
+    (outermost_environment naming) record
     { placement = outermost_placement naming; cells = 0; reference_places = 0 } 0 program.cells
     program.body (module_block m)

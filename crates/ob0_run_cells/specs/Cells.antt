@@ -4,7 +4,7 @@
 use Rattle.std.specs.Prelude.{ℕ, ◌+◌, ◌*◌, Bool, true, false, List, [], ◌∷◌, ◌++◌, length, take, drop, ℤ, pos, if◌then◌else◌, slice_get, option_map, unwrap_or}
 use Rattle.ob0_language_names.specs.Names.{Name, same_name}
 use Rattle.ob0_language_values.specs.Values.{FieldShapes, Members, Place, Shape, Step, Store, Value, Values, array_shape, at_field, at_index, boolean_shape, elements, integer_shape, members, next_field_shape, next_member, next_value, no_field_shape, no_member, no_value, number, record_shape, truth}
-use Rattle.ob0_language_runs.specs.Fitting.{StoreTyping, part_shape}
+use Rattle.ob0_language_runs.specs.TypeAgreement.{StoreTyping, part_shape}
 
 -- returns the cell of a truth value: 0 for FALSE, 1 for TRUE
 abbrev pub truth_cell : Bool → ℤ

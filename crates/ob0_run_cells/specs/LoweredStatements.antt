@@ -7,7 +7,7 @@ use Rattle.ob0_language_types.specs.Expressions.{Meanings, a_procedure, a_variab
 use Rattle.ob0_language_types.specs.Typing.{lone_designator}
 use Rattle.ob0_language_types.specs.WellTyped.{FormalParameter, Mode, Signature, TypeMeanings, by_place, by_value}
 use Rattle.ob0_language_values.specs.Values.{Place, Shape, boolean_shape, integer_shape}
-use Rattle.ob0_language_runs.specs.Fitting.{ArgumentsFit, MeaningsFit, StoreFits, StoreTyping}
+use Rattle.ob0_language_runs.specs.TypeAgreement.{ArgumentsMatchSignature, RunMeaningsAgree, StoreHasTypes, StoreTyping}
 use Rattle.ob0_language_runs.specs.Runs.{Argument, CallFunction, Progress, State, PrintedItem, execute, execute_all, execute_else, execute_elsifs, execute_further, line_out, number_out, place_argument, running, stopped, value_argument}
 use Rattle.ob0_run_machine.specs.Evaluation as machine
 use Rattle.ob0_run_machine.specs.Evaluation.{Levels}
@@ -17,18 +17,18 @@ use Rattle.ob0_run_cells.specs.Cells.{address, all_cells, cells_of, size, store_
 use Rattle.ob0_run_cells.specs.Lowering.{NumberMeans, PlaceMeans, Slot, TruthMeans, HoldsValue, end_of, place_of_designator, slot_address, value_of_expression}
 
 -- converts an item of the machine's output to an item of a module's output
-abbrev pub written_of : execution.OutputItem → PrintedItem
-written_of (execution.number_out n) = number_out n
-written_of execution.line_out = line_out
+abbrev pub printed_item_of : execution.OutputItem → PrintedItem
+printed_item_of (execution.number_out n) = number_out n
+printed_item_of execution.line_out = line_out
 
 -- States that the state `low` of the machine represents the state `s` of the module. It has the
 -- cells of the store of `s`, whose variables have these types, and the same input and output.
 pub record Represents (typing : StoreTyping) (low : execution.MachineState) (s : State)
     : Type 0 where
-  pub store_fits : StoreFits typing s.store
+  pub store_fits : StoreHasTypes typing s.store
   pub same_cells : low.cells ≡ all_cells s.store
   pub same_input : low.input ≡ s.input
-  pub same_output : map written_of low.output ≡ s.output
+  pub same_output : map printed_item_of low.output ≡ s.output
 
 -- States that a run of the machine and a run of the module agree. They continue in states that
 -- represent each other, or have ended with the same end and output. If the machine has no room for
@@ -37,7 +37,7 @@ abbrev pub ProgressRepresents : StoreTyping → execution.MachineProgress → Pr
 ProgressRepresents typing execution.no_room q = Unit {0}
 ProgressRepresents typing (execution.running low) (running s) = Represents typing low s
 ProgressRepresents typing (execution.stopped e out) (stopped f written) =
-    (end_of e ≡ f) × (map written_of out ≡ written)
+    (end_of e ≡ f) × (map printed_item_of out ≡ written)
 ProgressRepresents typing _ _ = ⊥
 
 -- returns the cells of the arguments that are passed by value
@@ -75,7 +75,7 @@ CallsRepresent {N} checked targets b =
     → checked.object_for x ≡ Some (a_procedure signature)
     → (args : List Argument) (low : execution.MachineState) (s : State) (p : execution.CallArguments)
     → Represents b.typing low s
-    → ArgumentsFit b.typing signature args
+    → ArgumentsMatchSignature b.typing signature args
     → p.cells ≡ low.cells ++ argument_cells args
     → p.addresses ≡ argument_addresses b.typing args
     → ProgressRepresents b.typing (b.lowered_enters (targets x).procedure
@@ -86,7 +86,7 @@ CallsRepresent {N} checked targets b =
 -- have their targets, and its store has fewer than 2^64 cells.
 pub record ShowsBody {N : Type 0} (checked : TypeMeanings N) (slots : N → Slot) (targets : N → Target)
     (b : Body N) : Type 0 where
-  pub names_fit : MeaningsFit b.typing checked b.active
+  pub names_fit : RunMeaningsAgree b.typing checked b.active
   pub variables_in_slots : (x : N) (p : Place)
       → b.active.object_for x ≡ Some (a_variable p)
       → slot_address b.levels (slots x) ≡ address b.typing p
@@ -110,57 +110,57 @@ StepRepresents {N} checked slots targets low_step step =
     → ProgressRepresents b.typing (low_step b t low) (step b t s)
 
 -- states that an instruction has the effect of a statement
-abbrev pub StatementMeans : {N : Type 0}
+abbrev pub CodeMeansStatement : {N : Type 0}
     → TypeMeanings N
     → (N → Slot)
     → (N → Target)
     → lowered.Instruction
     → Tree N statement
     → Type 0
-StatementMeans checked slots targets c a =
+CodeMeansStatement checked slots targets c a =
     StepRepresents checked slots targets (λ b t. execution.execute b.lowered_enters t b.levels c)
     (λ b t. execute b.active b.enters t a)
 
 -- states that instructions have the effect of a sequence of statements
-abbrev pub SequenceMeans : {N : Type 0}
+abbrev pub CodeMeansSequence : {N : Type 0}
     → TypeMeanings N
     → (N → Slot)
     → (N → Target)
     → lowered.Instructions
     → Tree N sequence
     → Type 0
-SequenceMeans checked slots targets cs a =
+CodeMeansSequence checked slots targets cs a =
     StepRepresents checked slots targets (λ b t. execution.execute_all b.lowered_enters t b.levels cs)
     (λ b t. execute_all b.active b.enters t a)
 
 -- States that instructions have the effect of the statements after the first one of a sequence.
-abbrev pub FurtherStatementsMean : {N : Type 0}
+abbrev pub CodeMeansFurtherStatements : {N : Type 0}
     → TypeMeanings N
     → (N → Slot)
     → (N → Target)
     → lowered.Instructions
     → Tree N (items further_statement)
     → Type 0
-FurtherStatementsMean checked slots targets cs rest =
+CodeMeansFurtherStatements checked slots targets cs rest =
     StepRepresents checked slots targets (λ b t. execution.execute_all b.lowered_enters t b.levels cs)
     (λ b t. execute_further b.active b.enters t rest)
 
 -- States that instructions have the effect of an ELSE part. If there is no ELSE part, the
 -- instructions have no effect.
-abbrev pub ElseMeans : {N : Type 0}
+abbrev pub CodeMeansElse : {N : Type 0}
     → TypeMeanings N
     → (N → Slot)
     → (N → Target)
     → lowered.Instructions
     → Tree N (maybe else_part)
     → Type 0
-ElseMeans checked slots targets cs last =
+CodeMeansElse checked slots targets cs last =
     StepRepresents checked slots targets (λ b t. execution.execute_all b.lowered_enters t b.levels cs)
     (λ b t. execute_else b.active b.enters t last)
 
 -- States that branches have the effect of ELSIF parts, followed by an ELSE part. The instructions
 -- `cs` run if no condition is TRUE.
-abbrev pub ElsifsMean : {N : Type 0}
+abbrev pub CodeMeansElsifs : {N : Type 0}
     → TypeMeanings N
     → (N → Slot)
     → (N → Target)
@@ -169,7 +169,7 @@ abbrev pub ElsifsMean : {N : Type 0}
     → Tree N (items elsif_part)
     → Tree N (maybe else_part)
     → Type 0
-ElsifsMean checked slots targets bs cs rest last =
+CodeMeansElsifs checked slots targets bs cs rest last =
     StepRepresents checked slots targets (λ b t. execution.execute_branches b.lowered_enters t b.levels bs
     (execution.execute_all b.lowered_enters t b.levels cs))
     (λ b t. execute_elsifs b.active b.enters t rest (execute_else b.active b.enters t last))
@@ -188,38 +188,38 @@ pub record IsAt {N : Type 0} (checked : TypeMeanings N) (slots : N → Slot) (q 
 -- States that a lowered argument means an argument for a parameter. The lowered argument is a place
 -- for a VAR parameter. For any other parameter, it is a number, a truth, or the cells of an array
 -- or a record.
-abbrev pub ArgumentMeans : {N : Type 0}
+abbrev pub CodeMeansArgument : {N : Type 0}
     → TypeMeanings N
     → (N → Slot)
     → FormalParameter
     → lowered.LoweredArgument
     → Tree N expression
     → Type 0
-ArgumentMeans checked slots f (lowered.by_place q) e =
+CodeMeansArgument checked slots f (lowered.by_place q) e =
     (f.mode ≡ by_place) × IsAt checked slots q f.shape e
-ArgumentMeans checked slots f (lowered.by_number n) e =
+CodeMeansArgument checked slots f (lowered.by_number n) e =
     (f.mode ≡ by_value)
     × (f.shape ≡ integer_shape)
     × NumberMeans checked slots n (value_of_expression e)
-ArgumentMeans checked slots f (lowered.by_truth t) e =
+CodeMeansArgument checked slots f (lowered.by_truth t) e =
     (f.mode ≡ by_value)
     × (f.shape ≡ boolean_shape)
     × TruthMeans checked slots t (value_of_expression e)
-ArgumentMeans checked slots f (lowered.by_block q n) e =
+CodeMeansArgument checked slots f (lowered.by_block q n) e =
     (f.mode ≡ by_value)
     × (n ≡ size f.shape)
     × HoldsValue checked slots q f.shape (value_of_expression e)
 
 -- States that lowered arguments mean the arguments of a call, one by one. The numbers of
 -- parameters, of lowered arguments and of arguments have to be the same.
-abbrev pub ArgumentsMean : {N : Type 0}
+abbrev pub CodeMeansArguments : {N : Type 0}
     → TypeMeanings N
     → (N → Slot)
     → Signature
     → List lowered.LoweredArgument
     → List (Tree N expression)
     → Type 0
-ArgumentsMean checked slots [] [] [] = Unit {0}
-ArgumentsMean checked slots (f ∷ fs) (c ∷ cs) (e ∷ es) =
-    ArgumentMeans checked slots f c e × ArgumentsMean checked slots fs cs es
-ArgumentsMean checked slots _ _ _ = ⊥
+CodeMeansArguments checked slots [] [] [] = Unit {0}
+CodeMeansArguments checked slots (f ∷ fs) (c ∷ cs) (e ∷ es) =
+    CodeMeansArgument checked slots f c e × CodeMeansArguments checked slots fs cs es
+CodeMeansArguments checked slots _ _ _ = ⊥

@@ -5,17 +5,17 @@
 -- number. Only places and variables need types. The value of an array or a record is in the cells
 -- at a place (`HoldsValue`), even if its expression is in parentheses. Only a VAR argument has to
 -- be a designator without operators (`IsAt`). While arguments are passed, their cells follow the
--- cells of the store (`passed` of a moment). So a meaning also holds while arguments are passed. A
+-- cells of the store (`passed_cells` of a moment). So a meaning also holds while arguments are passed. A
 -- sign `+` is lowered to a sum with 0, which is in range exactly if the number is.
 -- Rule: none; for contracts of lowering, against docs/LANGUAGE.md, Runs 2 to 4.
 use Rattle.std.specs.Prelude.{◌≡◌, ℕ, zero, suc, ◌+◌, ◌^◌, ◌<◌, true, List, ◌++◌, ℤ, slice_index_or, Some}
 use Rattle.ob0_tree.specs.declared.tree.Relation.{Relation}
 use Rattle.ob0_tree.specs.declared.tree.Relation.TheVariants as relation
 use Rattle.ob0_tree.specs.Tree.{Tree, addend, expression, factor, items, multiplier, selector, simple, term}
-use Rattle.ob0_language_types.specs.Expressions.{Meanings, a_variable, designate, evaluate, evaluate_addends, evaluate_factor, evaluate_multipliers, evaluate_simple, evaluate_term, follow}
+use Rattle.ob0_language_types.specs.Expressions.{Meanings, a_variable, designate, evaluate, evaluate_addends, evaluate_factor, evaluate_multipliers, evaluate_simple, evaluate_term, evaluate_selectors}
 use Rattle.ob0_language_types.specs.WellTyped.{Mode, TypeMeanings}
-use Rattle.ob0_language_values.specs.Values.{CallBound, Divisor, Done, End, Index, InputEnd, Outcome, Overflow, Place, Shape, Step, Store, TurnBound, Value, ends, gives, number, or_stuck, read_place, truth, ◌>>=◌}
-use Rattle.ob0_language_runs.specs.Fitting.{MeaningsFit, PlaceFits, StoreFits, StoreTyping}
+use Rattle.ob0_language_values.specs.Values.{CallBound, Divisor, Done, End, Index, InputEnd, Outcome, Overflow, Place, Shape, Step, Store, TurnBound, Value, ends_run_with, succeeds_with, number, or_stuck, read_place, truth, ◌>>=◌}
+use Rattle.ob0_language_runs.specs.TypeAgreement.{RunMeaningsAgree, PlaceHasType, StoreHasTypes, StoreTyping}
 use Rattle.ob0_run_machine.specs.Evaluation as machine
 use Rattle.ob0_run_machine.specs.Evaluation.{Levels, level_at}
 use Rattle.ob0_run_machine.specs.Lowered as lowered
@@ -26,27 +26,27 @@ use Rattle.ob0_run_cells.specs.Cells.{address, all_cells, store_size}
 -- VAR parameters.
 pub data Slot : Type 0 where
   of_module : (offset : ℕ) → Slot
-  held : (up offset : ℕ) → Slot
+  in_activation : (up offset : ℕ) → Slot
   by_reference : (up index : ℕ) → Slot
 
 -- returns the address of the variable in a slot, as seen from the running activation
 abbrev pub slot_address : Levels → Slot → ℕ
 slot_address ls (of_module offset) = offset
-slot_address ls (held up offset) = (level_at ls up).base + offset
+slot_address ls (in_activation up offset) = (level_at ls up).base + offset
 slot_address ls (by_reference up index) = slice_index_or (level_at ls up).addresses index 0
 
 -- returns the place in lowered code of the variable in a slot
 abbrev pub slot_place : Slot → lowered.Place
 slot_place (of_module offset) = lowered.in_module offset
-slot_place (held zero offset) = lowered.here offset
-slot_place (held (suc up) offset) = lowered.outside (suc up) offset
+slot_place (in_activation zero offset) = lowered.in_own_activation offset
+slot_place (in_activation (suc up) offset) = lowered.outside (suc up) offset
 slot_place (by_reference up index) = lowered.passed up index 0
 
 -- Returns the place that is `k` cells after the start of a place. The sum of the offsets wraps at
 -- 64 bits.
 abbrev pub part_at : lowered.Place → ℕ → lowered.Place
 part_at (lowered.in_module at) k = lowered.in_module (machine.add_offset at k)
-part_at (lowered.here at) k = lowered.here (machine.add_offset at k)
+part_at (lowered.in_own_activation at) k = lowered.in_own_activation (machine.add_offset at k)
 part_at (lowered.outside up at) k = lowered.outside up (machine.add_offset at k)
 part_at (lowered.passed up index at) k = lowered.passed up index (machine.add_offset at k)
 part_at (lowered.element q i n s at) k = lowered.element q i n s (machine.add_offset at k)
@@ -56,20 +56,20 @@ part_at (lowered.element q i n s at) k = lowered.element q i n s (machine.add_of
 pub record Moment (N : Type 0) : Type 0 where
   pub typing : StoreTyping
   pub store : Store
-  pub passed : List ℤ
+  pub passed_cells : List ℤ
   pub active : Meanings N Place (List Mode)
   pub levels : Levels
 
 -- returns all cells at a moment: the cells of the store, then the cells of the arguments that are
 -- being passed
 abbrev pub cells_in : {N : Type 0} → Moment N → List ℤ
-cells_in m = all_cells m.store ++ m.passed
+cells_in m = all_cells m.store ++ m.passed_cells
 
 -- States that a moment belongs to a checked module. Its store and names fit, its variables are in
 -- their slots, and its store has fewer than 2^64 cells.
 pub record Shows {N : Type 0} (checked : TypeMeanings N) (slots : N → Slot) (m : Moment N) : Type 0 where
-  pub store_fits : StoreFits m.typing m.store
-  pub names_fit : MeaningsFit m.typing checked m.active
+  pub store_fits : StoreHasTypes m.typing m.store
+  pub names_fit : RunMeaningsAgree m.typing checked m.active
   pub variables_in_slots : (x : N) (p : Place)
       → m.active.object_for x ≡ Some (a_variable p)
       → slot_address m.levels (slots x) ≡ address m.typing p
@@ -87,8 +87,8 @@ end_of machine.TurnBound = TurnBound
 
 -- Converts an outcome of the machine to an outcome of a module. `f` converts the value.
 abbrev pub outcome_of : {A B : Type 0} → (A → B) → machine.StepResult A → Outcome B
-outcome_of f (machine.gives a) = gives (f a)
-outcome_of f (machine.ends e) = ends (end_of e)
+outcome_of f (machine.gives a) = succeeds_with (f a)
+outcome_of f (machine.ends e) = ends_run_with (end_of e)
 
 -- The type of an evaluation: a function that returns the outcome at each moment.
 abbrev pub OutcomeByMoment : Type 0 → Type 0 → Type 0
@@ -122,8 +122,8 @@ TruthMeans {N} checked slots t value =
 
 -- States that an outcome is an end of the run, or a place that holds values of a type.
 abbrev pub PlaceOutcomeFits : StoreTyping → Shape → Outcome Place → Type 0
-PlaceOutcomeFits typing s (gives p) = PlaceFits typing p s
-PlaceOutcomeFits typing s (ends e) = Unit {0}
+PlaceOutcomeFits typing s (succeeds_with p) = PlaceHasType typing p s
+PlaceOutcomeFits typing s (ends_run_with e) = Unit {0}
 
 -- States that a place of lowered code and the evaluation `value` agree at each moment of the
 -- module. Both have the same address, or end the run with the same end. Also states that the place
@@ -138,7 +138,7 @@ abbrev pub PlaceMeans : {N : Type 0}
 PlaceMeans {N} checked slots q s value =
     (m : Moment N) → Shows checked slots m
     → (outcome_of (λ a. a) (machine.address m.levels (cells_in m) q)
-    ≡ (value m >>= (λ p. gives (address m.typing p))))
+    ≡ (value m >>= (λ p. succeeds_with (address m.typing p))))
     × PlaceOutcomeFits m.typing s (value m)
 
 -- States that the evaluation `value` returns the value that is stored at a place, at each moment of
@@ -199,7 +199,7 @@ extended_place p steps = record { variable = p.variable; path = p.path ++ steps 
 abbrev pub remaining_selectors : {N : Type 0} → Tree N (items selector) → RestOfChain N Place
 remaining_selectors rest m p =
     or_stuck (read_place m.store p) >>=
-    (λ v. follow m.active m.store v rest >>= (λ steps. gives (extended_place p steps)))
+    (λ v. evaluate_selectors m.active m.store v rest >>= (λ steps. succeeds_with (extended_place p steps)))
 
 -- States that there is an evaluation `so_far` for which `Means` holds. Followed by the rest of a
 -- chain, it is the evaluation of the whole chain.

@@ -14,14 +14,14 @@ use Rattle.ob0_language_types.specs.Expressions.{evaluate}
 use Rattle.ob0_language_types.specs.Typing.{addition_type, negation_type, multiplication_type, relation_type, sign_type}
 use Rattle.ob0_language_types.specs.WellTyped.{TypeMeanings}
 use Rattle.ob0_language_types.proofs.Literals.{some_inverse}
-use Rattle.ob0_language_values.specs.Values.{Outcome, Shape, Value, array_shape, boolean_shape, ends, gives, integer_shape, record_shape, ◌>>=◌}
+use Rattle.ob0_language_values.specs.Values.{Outcome, Shape, Value, array_shape, boolean_shape, ends_run_with, succeeds_with, integer_shape, record_shape, ◌>>=◌}
 use Rattle.ob0_run_machine.specs.Lowered as lowered
 use Rattle.ob0_run_cells.specs.Cells.{size}
 use Rattle.ob0_run_cells.specs.Lowering.{OutcomeByMoment, StartsChain, NumberStartsChain, NumberMeans, RestOfChain, Slot, TruthStartsChain, TruthMeans, HoldsValue, remaining_addends, remaining_multipliers, value_of_expression, value_of_factor, value_of_simple, value_of_term}
 use Rattle.ob0_run_cells.proofs.LoweredNumbers as numbers
 use Rattle.ob0_run_cells.proofs.LoweredOutcomes.{difference-operates, product-operates, quotient-operates, remainder-operates, sum-operates}
 use Rattle.ob0_run_cells.proofs.LoweredTruths as truths
-use Rattle.ob0_run_lowering.specs.Codes.{ExpressionCode, CodeMeans, a_block, a_number, a_truth, addition_code, multiplication_code, negation_code, related, signed_code}
+use Rattle.ob0_run_lowering.specs.Codes.{ExpressionCode, CodeMeans, a_block, a_number, a_truth, addition_code, multiplication_code, negation_code, relation_code, signed_code}
 
 -- a code so far, and what is left of a chain
 abbrev pub CodeLeads : TypeMeanings Label → (Label → Slot) → ExpressionCode → Shape → RestOfChain Label Value → OutcomeByMoment Label Value → Type 0
@@ -133,16 +133,16 @@ module _ (checked : TypeMeanings Label) (slots : Label → Slot) where
 
   -- where nothing is left, what was found is the whole
 
-  value-whole : (q : lowered.Place) (s : Shape) (rest : RestOfChain Label Value) (whole : OutcomeByMoment Label Value) → ((z : _) (v : Value) → rest z v ≡ gives v) → StartsChain checked slots (HoldsValue checked slots q s) rest whole → HoldsValue checked slots q s whole
+  value-whole : (q : lowered.Place) (s : Shape) (rest : RestOfChain Label Value) (whole : OutcomeByMoment Label Value) → ((z : _) (v : Value) → rest z v ≡ succeeds_with v) → StartsChain checked slots (HoldsValue checked slots q s) rest whole → HoldsValue checked slots q s whole
   value-whole q s rest whole ends_here h =
       let (v, hv, ev) = h in
       (hv.0, hv.1, λ z shown. sym (ev z shown) ∙ given-end (v z) (rest z) (ends_here z) ∙ hv.2 z shown)
     where
-      given-end : (o : Outcome Value) (k : Value → Outcome Value) → ((v : Value) → k v ≡ gives v) → (o >>= k) ≡ o
-      given-end (gives v) k h = h v
-      given-end (ends x) k h = refl
+      given-end : (o : Outcome Value) (k : Value → Outcome Value) → ((v : Value) → k v ≡ succeeds_with v) → (o >>= k) ≡ o
+      given-end (succeeds_with v) k h = h v
+      given-end (ends_run_with x) k h = refl
 
-  pub leads-end : (c : ExpressionCode) (x : Shape) (rest : RestOfChain Label Value) (whole : OutcomeByMoment Label Value) → ((z : _) (v : Value) → rest z v ≡ gives v) → CodeLeads checked slots c x rest whole → CodeMeans checked slots c x whole
+  pub leads-end : (c : ExpressionCode) (x : Shape) (rest : RestOfChain Label Value) (whole : OutcomeByMoment Label Value) → ((z : _) (v : Value) → rest z v ≡ succeeds_with v) → CodeLeads checked slots c x rest whole → CodeMeans checked slots c x whole
   leads-end (a_number n) integer_shape rest whole ends_here h = numbers.number-whole checked slots n rest whole ends_here h
   leads-end (a_truth t) boolean_shape rest whole ends_here h = truths.truth-whole checked slots t rest whole ends_here h
   leads-end (a_block q n) (array_shape k m s) rest whole ends_here h = (h.0, value-whole q (array_shape k m s) rest whole ends_here h.1)
@@ -175,7 +175,7 @@ module _ (checked : TypeMeanings Label) (slots : Label → Slot) where
 
   module _ (a b : Tree Label simple) where
     abbrev RelatedMeans : Relation → ExpressionCode → ExpressionCode → Shape → Type 0
-    RelatedMeans r c d z = CodeMeans checked slots (related r c d) z (value_of_expression (compares a (one (relates r b))))
+    RelatedMeans r c d z = CodeMeans checked slots (relation_code r c d) z (value_of_expression (compares a (one (relates r b))))
 
     truths-related : (r : Relation) (c d : ExpressionCode) (z : Shape) → ((t u : lowered.Truth) → TruthMeans checked slots t (value_of_simple a) → TruthMeans checked slots u (value_of_simple b) → RelatedMeans r (a_truth t) (a_truth u) boolean_shape)
         → Some boolean_shape ≡ Some z → CodeMeans checked slots c boolean_shape (value_of_simple a) → CodeMeans checked slots d boolean_shape (value_of_simple b) → RelatedMeans r c d z

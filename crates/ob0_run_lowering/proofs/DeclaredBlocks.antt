@@ -5,7 +5,7 @@ use Rattle.ob0_language_names.specs.Names.{Label, Name, naming_by_label, declare
 use Rattle.ob0_language_names.specs.Parts.{module_block}
 use Rattle.ob0_language_names.specs.Scopes.{numbered}
 use Rattle.ob0_language_types.specs.Bindings.{module_bindings, object_of_ordinal}
-use Rattle.ob0_language_types.specs.Environments.{environment_from_binding, outermost}
+use Rattle.ob0_language_types.specs.Environments.{environment_from_binding, outermost_environment}
 use Rattle.ob0_language_types.specs.Expressions.{Object}
 use Rattle.ob0_language_types.specs.WellTyped.{Signature, TypeEnvironment, WellTyped}
 use Rattle.ob0_language_values.specs.Values.{Shape}
@@ -36,5 +36,5 @@ noted-declared all n (b ∷ noted) below st = (
 )
 
 -- all that a well-typed module binds
-pub module-declared : (m : Tree Name module_text) → WellTyped m → BlockIsDeclared (object_of_ordinal (module_bindings naming_by_label (numbered m))) (outermost naming_by_label) 0 (module_block (numbered m))
+pub module-declared : (m : Tree Name module_text) → WellTyped m → BlockIsDeclared (object_of_ordinal (module_bindings naming_by_label (numbered m))) (outermost_environment naming_by_label) 0 (module_block (numbered m))
 module-declared m = module-has (AreDeclared (object_of_ordinal (module_bindings naming_by_label (numbered m)))) m (noted-declared (module_bindings naming_by_label (numbered m)))

@@ -3,7 +3,7 @@ use Rattle.std.proofs.Common.{◌≡◌, ℕ, suc, ◌+◌, ◌-◌, ◌<◌, �
 use Rattle.std.proofs.Math.ListN.{set}
 use Rattle.std.proofs.lemmas.List.{append-nil, drop_all, drop_more, get_or-set_other, get_or-set_same, length-set}
 use Rattle.ob0_types_table.proofs.Sighted.{last_of}
-use Rattle.ob0_run_cells.specs.Activations.{Placed, in_slot, place_name}
+use Rattle.ob0_run_cells.specs.Activations.{PlacementState, in_slot, place_name}
 use Rattle.ob0_run_cells.specs.Lowering.{Slot, by_reference}
 use Rattle.ob0_run_lowering.specs.Scenes.{place_seen_from, site_at}
 use Rattle.ob0_run_lowering.specs.declared.scene.Site.{Site}
@@ -19,7 +19,7 @@ use Rattle.ob0_types_table.specs.Tables.{mode_of}
 use Rattle.ob0_language_names.specs.Names.{Label, Name, naming_by_spelling}
 use Rattle.ob0_language_names.specs.Scopes.{label_from_ordinal}
 use Rattle.ob0_language_types.specs.WellTyped.{by_place, by_value}
-use Rattle.ob0_run_lowering.specs.Placed.{OrdinalsAreBelow, Follows, IsRestored, LocatesAll, IsFrame, IsNextSite, Places, LocatesAs, sites_before_hiding, place_each, place_sections, sites_with_binding, sites_with, variable_slot}
+use Rattle.ob0_run_lowering.specs.PlacedNames.{OrdinalsAreBelow, Follows, IsRestored, LocatesAll, IsFrame, IsNextSite, PlacesNames, LocatesAs, sites_before_hiding, place_each, place_sections, sites_with_binding, sites_with, variable_slot}
 use Rattle.ob0_run_lowering.specs.declared.visible_sites.Frame.{Frame}
 use Rattle.ob0_run_lowering.specs.declared.visible_sites.HiddenSite.{HiddenSite}
 use Rattle.ob0_run_lowering.specs.declared.visible_sites.VisibleSites.{VisibleSites}
@@ -43,7 +43,7 @@ within-back n (x ∷ xs) ys a = within-back n xs ys a.1
 
 sites_before_hiding-append : (xs ys : List HiddenSite) (f : ℕ → Site) → sites_before_hiding (xs ++ ys) f ≡ sites_before_hiding xs (sites_before_hiding ys f)
 sites_before_hiding-append [] ys f = refl
-sites_before_hiding-append (x ∷ xs) ys f = ap (sites_with x.ordinal x.before) (sites_before_hiding-append xs ys f)
+sites_before_hiding-append (x ∷ xs) ys f = ap (sites_with x.ordinal x.earlier_site) (sites_before_hiding-append xs ys f)
 
 -- tables that are the same at each ordinal
 sites_before_hiding-same : (xs : List HiddenSite) (f g : ℕ → Site) → ((k : ℕ) → f k ≡ g k) → (k : ℕ) → sites_before_hiding xs f k ≡ sites_before_hiding xs g k
@@ -87,21 +87,21 @@ site-set xs j s k room = by (k == j) refl
 abbrev pub AllBack : VisibleSites → ℕ → VisibleSites → Type 0
 AllBack start mark now = (w : VisibleSites) → Follows w start → mark ≡ length w.hidden.items → Follows w now × (length now.sites.items ≡ length start.sites.items)
 
-pub back_on : (start now v : VisibleSites) (mark : ℕ) (last : HiddenSite) → AllBack start mark now → mark < length now.hidden.items → now.hidden.items ≡ v.hidden.items ++ last ∷ [] → v.sites.items ≡ set now.sites.items last.ordinal last.before → AllBack start mark v
+pub back_on : (start now v : VisibleSites) (mark : ℕ) (last : HiddenSite) → AllBack start mark now → mark < length now.hidden.items → now.hidden.items ≡ v.hidden.items ++ last ∷ [] → v.sites.items ≡ set now.sites.items last.ordinal last.earlier_site → AllBack start mark v
 back_on start now v mark last back less popped put = λ w f is.
     let so_far = back w f is in
     let a : Follows w now = so_far.0 in
     let left = last_of w.hidden.items a.more v.hidden.items last (sym a.added ∙ popped) (omega (arith, ap length a.added, is, less)) in
     let parts : OrdinalsAreBelow (length now.sites.items) (left.0 ++ last ∷ []) = subst (OrdinalsAreBelow (length now.sites.items)) left.1 a.within in
     let room : suc last.ordinal ≤ length now.sites.items = (within-back (length now.sites.items) left.0 (last ∷ []) parts).0 in
-    let long : length v.sites.items ≡ length now.sites.items = ap length put ∙ length-set now.sites.items last.ordinal last.before in (
+    let long : length v.sites.items ≡ length now.sites.items = ap length put ∙ length-set now.sites.items last.ordinal last.earlier_site in (
       record {
         more = left.0;
         added = left.2;
         within = within-weaken (length now.sites.items) (length v.sites.items) left.0 (omega (arith, long)) (within-front (length now.sites.items) left.0 (last ∷ []) parts);
         longer = omega (arith, long, a.longer);
         goes_back = λ k.
-            sites_before_hiding-same left.0 (site_at v.sites.items) (sites_before_hiding (last ∷ []) (site_at now.sites.items)) (λ j. ap (λ xs. site_at xs j) put ∙ site-set now.sites.items last.ordinal last.before j room) k
+            sites_before_hiding-same left.0 (site_at v.sites.items) (sites_before_hiding (last ∷ []) (site_at now.sites.items)) (λ j. ap (λ xs. site_at xs j) put ∙ site-set now.sites.items last.ordinal last.earlier_site j room) k
             ∙ ap (λ f. f k) (sym (sites_before_hiding-append left.0 (last ∷ []) (site_at now.sites.items)))
             ∙ ap (λ hs. sites_before_hiding hs (site_at now.sites.items) k) (sym left.1)
             ∙ a.goes_back k;
@@ -125,19 +125,19 @@ back_ends start now mark back all w f is =
 
 -- steps of placing
 
-pub places_as : (w v : VisibleSites) (f g : Frame) (first second : Placed Label → Placed Label) → ((p : Placed Label) → first p ≡ second p) → Places w v f first g → Places w v f second g
-places_as w v f g first second same a = subst (λ (step : Placed Label → Placed Label). Places w v f step g) (λ i p. same p i) a
+pub places_as : (w v : VisibleSites) (f g : Frame) (first second : PlacementState Label → PlacementState Label) → ((p : PlacementState Label) → first p ≡ second p) → PlacesNames w v f first g → PlacesNames w v f second g
+places_as w v f g first second same a = subst (λ (step : PlacementState Label → PlacementState Label). PlacesNames w v f step g) (λ i p. same p i) a
 
 -- one name
-pub place-by_reference : (w v : VisibleSites) (f g : Frame) (size_of : Label → ℕ) (o : Option ℕ) (name : Name) → ((k : ℕ) → site_at v.sites.items k ≡ sites_with_binding o (site.ByReference f.depth f.references) (site_at w.sites.items) k) → Follows w v → g ≡ record f { references = f.references + 1 }
-    → Places w v f (place_name (variable_slot f.depth) by_place (label_from_ordinal naming_by_spelling o name) (size_of (label_from_ordinal naming_by_spelling o name))) g
+pub place-by_reference : (w v : VisibleSites) (f g : Frame) (size_of : Label → ℕ) (o : Option ℕ) (name : Name) → ((k : ℕ) → site_at v.sites.items k ≡ sites_with_binding o (site.ByReference f.depth f.var_parameter_count) (site_at w.sites.items) k) → Follows w v → g ≡ record f { var_parameter_count = f.var_parameter_count + 1 }
+    → PlacesNames w v f (place_name (variable_slot f.depth) by_place (label_from_ordinal naming_by_spelling o name) (size_of (label_from_ordinal naming_by_spelling o name))) g
 place-by_reference w v f g size_of o name put follows is =
     let none : f.depth - f.depth ≡ 0 = omega arith in
-    let seen : place_seen_from f.depth (site.ByReference f.depth f.references) ≡ in_slot (by_reference 0 f.references) = ap (λ up. in_slot (by_reference up f.references)) none in
-    subst (λ (z : Frame). Places w v f (place_name (variable_slot f.depth) by_place (label_from_ordinal naming_by_spelling o name) (size_of (label_from_ordinal naming_by_spelling o name))) z) (sym is)
+    let seen : place_seen_from f.depth (site.ByReference f.depth f.var_parameter_count) ≡ in_slot (by_reference 0 f.var_parameter_count) = ap (λ up. in_slot (by_reference up f.var_parameter_count)) none in
+    subst (λ (z : Frame). PlacesNames w v f (place_name (variable_slot f.depth) by_place (label_from_ordinal naming_by_spelling o name) (size_of (label_from_ordinal naming_by_spelling o name))) z) (sym is)
     record {
       placed = λ p h. record {
-        holds = holds_bound w.sites.items v.sites.items f.depth p.placement o name (site.ByReference f.depth f.references) (in_slot (by_reference 0 p.reference_places)) (le_refl f.depth, seen ∙ ap (λ n. in_slot (by_reference 0 n)) h.reference_places) put h.holds;
+        holds = holds_bound w.sites.items v.sites.items f.depth p.placement o name (site.ByReference f.depth f.var_parameter_count) (in_slot (by_reference 0 p.reference_places)) (le_refl f.depth, seen ∙ ap (λ n. in_slot (by_reference 0 n)) h.reference_places) put h.holds;
         cells = h.cells;
         reference_places = ap (λ n. n + 1) h.reference_places ∙ omega arith;
       };
@@ -149,16 +149,16 @@ place-by_reference w v f g size_of o name put follows is =
 next-reports : (f : Frame) (s : Site) (n : ℕ) → IsNextSite f s → f.cells ≡ n → LocatesAs f.depth s (in_slot (variable_slot f.depth n))
 next-reports f s n next e = (next.0, next.1 ∙ ap (λ m. in_slot (variable_slot f.depth m)) e)
 
-pub place-held : (w v : VisibleSites) (f g : Frame) (size_of : Label → ℕ) (o : Option ℕ) (name : Name) (s : Site) (n : ℕ) → IsNextSite f s → ((k : ℕ) → site_at v.sites.items k ≡ sites_with_binding o s (site_at w.sites.items) k) → Follows w v → g ≡ record f { cells = f.cells + n }
-    → n ≡ size_of (label_from_ordinal naming_by_spelling o name) → Places w v f (place_name (variable_slot f.depth) by_value (label_from_ordinal naming_by_spelling o name) (size_of (label_from_ordinal naming_by_spelling o name))) g
-place-held w v f g size_of o name s n next put follows is size =
+pub place-in_activation : (w v : VisibleSites) (f g : Frame) (size_of : Label → ℕ) (o : Option ℕ) (name : Name) (s : Site) (n : ℕ) → IsNextSite f s → ((k : ℕ) → site_at v.sites.items k ≡ sites_with_binding o s (site_at w.sites.items) k) → Follows w v → g ≡ record f { cells = f.cells + n }
+    → n ≡ size_of (label_from_ordinal naming_by_spelling o name) → PlacesNames w v f (place_name (variable_slot f.depth) by_value (label_from_ordinal naming_by_spelling o name) (size_of (label_from_ordinal naming_by_spelling o name))) g
+place-in_activation w v f g size_of o name s n next put follows is size =
     let cells : g.cells ≡ f.cells + n = ap (λ (z : Frame). z.cells) is in
     record {
       placed = λ p h. record {
         holds = subst (λ d. LocatesAll v.sites.items d ((label_from_ordinal naming_by_spelling o name, in_slot (variable_slot f.depth p.cells)) ∷ p.placement)) (sym (ap (λ (z : Frame). z.depth) is))
             (holds_bound w.sites.items v.sites.items f.depth p.placement o name s (in_slot (variable_slot f.depth p.cells)) (next-reports f s p.cells next h.cells) put h.holds);
         cells = cells ∙ (λ i. h.cells i + size i);
-        reference_places = ap (λ (z : Frame). z.references) is ∙ h.reference_places;
+        reference_places = ap (λ (z : Frame). z.var_parameter_count) is ∙ h.reference_places;
       };
       follows = follows;
       depth = ap (λ (z : Frame). z.depth) is;
@@ -166,17 +166,17 @@ place-held w v f g size_of o name s n next put follows is size =
     }
 
 -- names one after the other: what is left to place, over what is placed so far, gives what all give
-pub record InPlaces {A : Type 0} (fold : List A → Placed Label → Placed Label) (xs : List A) (w v : VisibleSites) (f g : Frame) (done : ℕ) : Type 0 where
-  pub on : (p : Placed Label) → IsFrame w.sites.items f p → (now : Placed Label) × IsFrame v.sites.items g now × (fold (drop done xs) now ≡ fold xs p)
+pub record InPlaces {A : Type 0} (fold : List A → PlacementState Label → PlacementState Label) (xs : List A) (w v : VisibleSites) (f g : Frame) (done : ℕ) : Type 0 where
+  pub on : (p : PlacementState Label) → IsFrame w.sites.items f p → (now : PlacementState Label) × IsFrame v.sites.items g now × (fold (drop done xs) now ≡ fold xs p)
   pub follows : Follows w v
   pub depth : g.depth ≡ f.depth
   pub more_cells : f.cells ≤ g.cells
 
-pub in_begins : {A : Type 0} (fold : List A → Placed Label → Placed Label) (xs : List A) (w : VisibleSites) (f : Frame) → InPlaces fold xs w w f f 0
+pub in_begins : {A : Type 0} (fold : List A → PlacementState Label → PlacementState Label) (xs : List A) (w : VisibleSites) (f : Frame) → InPlaces fold xs w w f f 0
 in_begins fold xs w f = record { on = λ p h. (p, h, refl); follows = follows_itself w; depth = refl; more_cells = le_refl f.cells }
 
-pub in_on : {A : Type 0} {fold : List A → Placed Label → Placed Label} {xs : List A} {w v : VisibleSites} {f g : Frame} {done : ℕ} (step : A → Placed Label → Placed Label) (u : VisibleSites) (h : Frame) (x d : A)
-    → ((x : A) (xs : List A) (p : Placed Label) → fold (x ∷ xs) p ≡ fold xs (step x p)) → InPlaces fold xs w v f g done → done < length xs → x ≡ get_or xs done d → Places v u g (step x) h → InPlaces fold xs w u f h (done + 1)
+pub in_on : {A : Type 0} {fold : List A → PlacementState Label → PlacementState Label} {xs : List A} {w v : VisibleSites} {f g : Frame} {done : ℕ} (step : A → PlacementState Label → PlacementState Label) (u : VisibleSites) (h : Frame) (x d : A)
+    → ((x : A) (xs : List A) (p : PlacementState Label) → fold (x ∷ xs) p ≡ fold xs (step x p)) → InPlaces fold xs w v f g done → done < length xs → x ≡ get_or xs done d → PlacesNames v u g (step x) h → InPlaces fold xs w u f h (done + 1)
 in_on {fold = fold} {xs = xs} {w = w} {v = v} {f = f} {g = g} {done = done} step u h x d folds a less here b =
     let cut : drop done xs ≡ x ∷ drop (done + 1) xs = drop_more xs done d less ∙ ap (λ y. y ∷ drop (done + 1) xs) (sym here) in
     record {
@@ -187,7 +187,7 @@ in_on {fold = fold} {xs = xs} {w = w} {v = v} {f = f} {g = g} {done = done} step
       more_cells = omega (arith, a.more_cells, b.more_cells);
     }
 
-pub in_ends : {A : Type 0} {fold : List A → Placed Label → Placed Label} {xs : List A} {w v : VisibleSites} {f g : Frame} {done : ℕ} → ((p : Placed Label) → fold [] p ≡ p) → InPlaces fold xs w v f g done → length xs ≤ done → Places w v f (fold xs) g
+pub in_ends : {A : Type 0} {fold : List A → PlacementState Label → PlacementState Label} {xs : List A} {w v : VisibleSites} {f g : Frame} {done : ℕ} → ((p : PlacementState Label) → fold [] p ≡ p) → InPlaces fold xs w v f g done → length xs ≤ done → PlacesNames w v f (fold xs) g
 in_ends {fold = fold} {xs = xs} {v = v} {g = g} {done = done} ended a all = record {
   placed = λ p is.
       let at = a.on p is in
@@ -198,10 +198,10 @@ in_ends {fold = fold} {xs = xs} {v = v} {g = g} {done = done} ended a all = reco
 }
 
 -- a step of an activation as deep
-pub as_deep : (w v : VisibleSites) (f g : Frame) (m n : ℕ) (step : ℕ → Placed Label → Placed Label) → m ≡ n → Places w v f (step m) g → Places w v f (step n) g
-as_deep w v f g m n step same a = subst (λ k. Places w v f (step k) g) same a
+pub as_deep : (w v : VisibleSites) (f g : Frame) (m n : ℕ) (step : ℕ → PlacementState Label → PlacementState Label) → m ≡ n → PlacesNames w v f (step m) g → PlacesNames w v f (step n) g
+as_deep w v f g m n step same a = subst (λ k. PlacesNames w v f (step k) g) same a
 
 -- the names of a section, by how it is written
-pub section_step : (r : Resolution) (at : ℕ → Slot) (size_of : Label → ℕ) (s : ParameterSection) (fs : Tree Label (items further_section)) (p : Placed Label)
+pub section_step : (r : Resolution) (at : ℕ → Slot) (size_of : Label → ℕ) (s : ParameterSection) (fs : Tree Label (items further_section)) (p : PlacementState Label)
     → place_sections at size_of (more (then_section (tree_with_labels r (section_of s))) fs) p ≡ place_sections at size_of fs (place_each at size_of (mode_of s.by_reference) (names_in_list (tree_with_labels r (names_of s.names))) p)
 section_step r at size_of s fs p = λ i. place_sections at size_of fs (place_each at size_of (section-mode mode_of refl refl r s i) (section-names r s i) p)

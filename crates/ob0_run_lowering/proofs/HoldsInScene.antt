@@ -7,7 +7,7 @@ use Rattle.ob0_language_names.specs.Names.{Label, naming_by_label}
 use Rattle.ob0_scope_table.specs.LabelledTrees.{tree_with_labels}
 use Rattle.ob0_language_types.specs.Environments.{meanings}
 use Rattle.ob0_language_types.specs.Typing.{type_of}
-use Rattle.ob0_language_types.specs.WellTyped.{body_fits, condition_fits, else_fits, elsifs_fit, sequence_fits, statement_fits, statements_fit}
+use Rattle.ob0_language_types.specs.WellTyped.{body_is_well_typed, condition_is_boolean, else_is_well_typed, elsifs_are_well_typed, sequence_is_well_typed, statement_is_well_typed, further_statements_are_well_typed}
 use Rattle.ob0_language_values.specs.Values.{boolean_shape}
 use Rattle.ob0_language_runs.specs.Runs.{execute}
 use Rattle.ob0_language_types.proofs.Conditions.{same_known_shape-true, both_true}
@@ -18,57 +18,57 @@ use Rattle.ob0_run_cells.specs.Activations.{slot_in_placement, target_in_placeme
 use Rattle.ob0_run_cells.proofs.LoweredControl as control
 use Rattle.ob0_run_lowering.specs.LoweredMeans.{LowersTruth}
 use Rattle.ob0_run_lowering.specs.declared.scene.Scene.{Scene}
-use Rattle.ob0_run_lowering.specs.LoweredBodies.{BodyLowers, ConditionLowers, ElseLowers, ElsifsLower, FurtherStatementsLower, SequenceLowers, StatementLowers}
+use Rattle.ob0_run_lowering.specs.LoweredBodies.{LowersBody, LowersCondition, LowersElse, LowersElsifs, LowersFurtherStatements, LowersSequence, LowersStatement}
 
 module _ (scene : Scene) where
   -- sequences, from the beginning
-  pub none-left : FurtherStatementsLower scene lowered.no_statement end
+  pub none-left : LowersFurtherStatements scene lowered.no_statement end
   none-left checked slots targets sees fits = control.sequence-ends checked slots targets
 
-  pub one-more : (a : Tree Label statement) (c : lowered.Instruction) (rest : Tree Label (items further_statement)) (cs : lowered.Instructions) → StatementLowers scene c a → FurtherStatementsLower scene cs rest → FurtherStatementsLower scene (lowered.before c cs) (more (then_statement a) rest)
-  unfolding statement_fits
+  pub one-more : (a : Tree Label statement) (c : lowered.Instruction) (rest : Tree Label (items further_statement)) (cs : lowered.Instructions) → LowersStatement scene c a → LowersFurtherStatements scene cs rest → LowersFurtherStatements scene (lowered.next_statement c cs) (more (then_statement a) rest)
+  unfolding statement_is_well_typed
   one-more a c rest cs hc hr checked slots targets sees fits =
-      let both = both_true (statement_fits checked a) (statements_fit checked rest) fits in
+      let both = both_true (statement_is_well_typed checked a) (further_statements_are_well_typed checked rest) fits in
       control.further-means checked slots targets a c rest cs (hc checked slots targets sees both.0) (hr checked slots targets sees both.1)
 
-  pub empty-more : (rest : Tree Label (items further_statement)) (cs : lowered.Instructions) → FurtherStatementsLower scene cs rest → FurtherStatementsLower scene cs (more (then_statement empty) rest)
-  unfolding statement_fits
+  pub empty-more : (rest : Tree Label (items further_statement)) (cs : lowered.Instructions) → LowersFurtherStatements scene cs rest → LowersFurtherStatements scene cs (more (then_statement empty) rest)
+  unfolding statement_is_well_typed
   empty-more rest cs hr checked slots targets sees fits = control.further-empty checked slots targets rest cs (hr checked slots targets sees fits)
 
-  pub empty-alone : (cs : lowered.Instructions) → FurtherStatementsLower scene cs end → SequenceLowers scene cs (runs empty end)
-  unfolding statement_fits
+  pub empty-alone : (cs : lowered.Instructions) → LowersFurtherStatements scene cs end → LowersSequence scene cs (runs empty end)
+  unfolding statement_is_well_typed
   empty-alone cs hr checked slots targets sees fits = control.first-empty checked slots targets end cs (hr checked slots targets sees fits)
 
-  pub from-first : (a : Tree Label statement) (rest : Tree Label (items further_statement)) (cs : lowered.Instructions) → FurtherStatementsLower scene cs (more (then_statement a) rest) → SequenceLowers scene cs (runs a rest)
-  unfolding statement_fits execute
+  pub from-first : (a : Tree Label statement) (rest : Tree Label (items further_statement)) (cs : lowered.Instructions) → LowersFurtherStatements scene cs (more (then_statement a) rest) → LowersSequence scene cs (runs a rest)
+  unfolding statement_is_well_typed execute
   from-first a rest cs h checked slots targets sees fits = h checked slots targets sees fits
 
   -- conditions
-  pub condition-lowers : (e : Expression) (t : Truth) → LowersTruth scene (expression_of e) t → ConditionLowers scene (truth_of t) (tree_with_labels scene.resolved.now (expression_of e))
-  unfolding condition_fits
+  pub condition-lowers : (e : Expression) (t : Truth) → LowersTruth scene (expression_of e) t → LowersCondition scene (truth_of t) (tree_with_labels scene.resolved.now (expression_of e))
+  unfolding condition_is_boolean
   condition-lowers e t h checked slots targets sees fits =
       let (s, hs, ht) = same_known_shape-true (Some boolean_shape) (type_of checked (tree_with_labels scene.resolved.now (expression_of e))) fits in h checked slots targets sees (ht ∙ sym hs)
 
   -- loops
-  pub while-lowers : (e : Tree Label expression) (a : Tree Label sequence) (t : lowered.Truth) (body : lowered.Instructions) → ConditionLowers scene t e → SequenceLowers scene body a → StatementLowers scene (lowered.while_loop t body) (while_loop e a)
-  unfolding statement_fits
+  pub while-lowers : (e : Tree Label expression) (a : Tree Label sequence) (t : lowered.Truth) (body : lowered.Instructions) → LowersCondition scene t e → LowersSequence scene body a → LowersStatement scene (lowered.while_loop t body) (while_loop e a)
+  unfolding statement_is_well_typed
   while-lowers e a t body ht ha checked slots targets sees fits =
-      let both = both_true (condition_fits checked e) (sequence_fits checked a) fits in
+      let both = both_true (condition_is_boolean checked e) (sequence_is_well_typed checked a) fits in
       control.while-means checked slots targets e a t body (ht checked slots targets sees both.0) (ha checked slots targets sees both.1)
 
-  pub repeat-lowers : (e : Tree Label expression) (a : Tree Label sequence) (t : lowered.Truth) (body : lowered.Instructions) → ConditionLowers scene t e → SequenceLowers scene body a → StatementLowers scene (lowered.repeat_loop body t) (repeat_loop a e)
-  unfolding statement_fits
+  pub repeat-lowers : (e : Tree Label expression) (a : Tree Label sequence) (t : lowered.Truth) (body : lowered.Instructions) → LowersCondition scene t e → LowersSequence scene body a → LowersStatement scene (lowered.repeat_loop body t) (repeat_loop a e)
+  unfolding statement_is_well_typed
   repeat-lowers e a t body ht ha checked slots targets sees fits =
-      let both = both_true (sequence_fits checked a) (condition_fits checked e) fits in
+      let both = both_true (sequence_is_well_typed checked a) (condition_is_boolean checked e) fits in
       control.repeat-means checked slots targets e a t body (ht checked slots targets sees both.1) (ha checked slots targets sees both.0)
 
   -- branches
   pub branches-lower : (e : Tree Label expression) (a : Tree Label sequence) (rest : Tree Label (items elsif_part)) (last : Tree Label (maybe else_part)) (t : lowered.Truth) (body : lowered.Instructions) (bs : lowered.Branches) (otherwise : lowered.Instructions)
-      → ConditionLowers scene t e → SequenceLowers scene body a → ElsifsLower scene bs otherwise rest last → StatementLowers scene (lowered.chooses (lowered.branch t body bs) otherwise) (branches e a rest last)
-  unfolding statement_fits
+      → LowersCondition scene t e → LowersSequence scene body a → LowersElsifs scene bs otherwise rest last → LowersStatement scene (lowered.chooses (lowered.branch t body bs) otherwise) (branches e a rest last)
+  unfolding statement_is_well_typed
   branches-lower e a rest last t body bs otherwise ht ha hr checked slots targets sees fits =
-      let first = both_true (condition_fits checked e) (sequence_fits checked a && (elsifs_fit checked rest && else_fits checked last)) fits in
-      let second = both_true (sequence_fits checked a) (elsifs_fit checked rest && else_fits checked last) first.1 in
+      let first = both_true (condition_is_boolean checked e) (sequence_is_well_typed checked a && (elsifs_are_well_typed checked rest && else_is_well_typed checked last)) fits in
+      let second = both_true (sequence_is_well_typed checked a) (elsifs_are_well_typed checked rest && else_is_well_typed checked last) first.1 in
       control.branches-mean checked slots targets e a rest last t body bs otherwise (ht checked slots targets sees first.0) (ha checked slots targets sees second.0) (hr checked slots targets sees second.1)
 
   and-joins : (p q r s : _) → ((p && (q && r)) && s) ≡ true → (p ≡ true) × (q ≡ true) × ((r && s) ≡ true)
@@ -79,27 +79,27 @@ module _ (scene : Scene) where
       (first.0, second.0, ap (λ b. b && s) second.1 ∙ whole.1)
 
   pub elsif-lowers : (e : Tree Label expression) (a : Tree Label sequence) (rest : Tree Label (items elsif_part)) (last : Tree Label (maybe else_part)) (t : lowered.Truth) (body : lowered.Instructions) (bs : lowered.Branches) (otherwise : lowered.Instructions)
-      → ConditionLowers scene t e → SequenceLowers scene body a → ElsifsLower scene bs otherwise rest last → ElsifsLower scene (lowered.branch t body bs) otherwise (more (elsif_branch e a) rest) last
-  unfolding statement_fits
+      → LowersCondition scene t e → LowersSequence scene body a → LowersElsifs scene bs otherwise rest last → LowersElsifs scene (lowered.branch t body bs) otherwise (more (elsif_branch e a) rest) last
+  unfolding statement_is_well_typed
   elsif-lowers e a rest last t body bs otherwise ht ha hr checked slots targets sees fits =
-      let parts = and-joins (condition_fits checked e) (sequence_fits checked a) (elsifs_fit checked rest) (else_fits checked last) fits in
+      let parts = and-joins (condition_is_boolean checked e) (sequence_is_well_typed checked a) (elsifs_are_well_typed checked rest) (else_is_well_typed checked last) fits in
       control.elsif-means checked slots targets e a rest last t body bs otherwise (ht checked slots targets sees parts.0) (ha checked slots targets sees parts.1) (hr checked slots targets sees parts.2)
 
-  pub no-elsif : (last : Tree Label (maybe else_part)) (cs : lowered.Instructions) → ElseLowers scene cs last → ElsifsLower scene lowered.no_branch cs end last
-  unfolding statement_fits
+  pub no-elsif : (last : Tree Label (maybe else_part)) (cs : lowered.Instructions) → LowersElse scene cs last → LowersElsifs scene lowered.no_branch cs end last
+  unfolding statement_is_well_typed
   no-elsif last cs h checked slots targets sees fits = control.no-elsif checked slots targets last cs (h checked slots targets sees fits)
 
-  pub else-lowers : (a : Tree Label sequence) (cs : lowered.Instructions) → SequenceLowers scene cs a → ElseLowers scene cs (one (else_branch a))
-  unfolding statement_fits
+  pub else-lowers : (a : Tree Label sequence) (cs : lowered.Instructions) → LowersSequence scene cs a → LowersElse scene cs (one (else_branch a))
+  unfolding statement_is_well_typed
   else-lowers a cs h checked slots targets sees fits = control.else-means checked slots targets a cs (h checked slots targets sees fits)
 
-  pub no-else : ElseLowers scene lowered.no_statement none
+  pub no-else : LowersElse scene lowered.no_statement none
   no-else checked slots targets sees fits = control.no-else checked slots targets
 
   -- bodies
-  pub no-body : (cs : lowered.Instructions) → cs ≡ lowered.no_statement → BodyLowers scene cs none
+  pub no-body : (cs : lowered.Instructions) → cs ≡ lowered.no_statement → LowersBody scene cs none
   no-body cs e env placement sees fits = e
 
-  pub some-body : (a : Tree Label sequence) (cs : lowered.Instructions) → SequenceLowers scene cs a → BodyLowers scene cs (one (begins a))
-  unfolding body_fits
+  pub some-body : (a : Tree Label sequence) (cs : lowered.Instructions) → LowersSequence scene cs a → LowersBody scene cs (one (begins a))
+  unfolding body_is_well_typed
   some-body a cs h env placement sees fits = h (meanings naming_by_label env) (slot_in_placement naming_by_label placement) (target_in_placement naming_by_label placement) sees fits

@@ -8,7 +8,7 @@ use Rattle.ob0_language_names.specs.Names.{Name, same_name}
 use Rattle.ob0_run_machine.specs.Evaluation as machine
 use Rattle.ob0_language_types.specs.Expressions.{a_constant}
 use Rattle.ob0_types_table.specs.KnownTables.{Tables, declared_object_in, shapes_of}
-use Rattle.ob0_types_table.specs.FieldPlaces.{field_selected, position_of_field}
+use Rattle.ob0_types_table.specs.FieldPlaces.{selected_field, position_of_field}
 use Rattle.ob0_types_table.specs.Tables.{field_shapes, entry_shape, faulty_shape, object_view, array_or_faulty, record_or_faulty, extended_shapes, type_shape}
 use Rattle.ob0_types_table.proofs.Tables.{extended_shapes-push}
 use Rattle.ob0_types_table.specs.declared.known.FieldId.{FieldId}
@@ -137,10 +137,10 @@ missing : (k : ℕ) (o : Option ℕ) → ◌≡◌ {A = Option FieldId} None (op
 missing k None h = refl
 missing k (Some i) h = absurd (cc)
 
-pub offset-found : (k : ℕ) (fs : FieldShapes) (x : Name) (r : RecordLayout) (f : FieldId) → AreLaidOut fs r → Some f ≡ field_selected (record_shape k fs) x → slice_index_or r.offsets.items f.index 0 ≡ field_offset fs x
+pub offset-found : (k : ℕ) (fs : FieldShapes) (x : Name) (r : RecordLayout) (f : FieldId) → AreLaidOut fs r → Some f ≡ selected_field (record_shape k fs) x → slice_index_or r.offsets.items f.index 0 ≡ field_offset fs x
 offset-found k fs x r f laid h = ap (λ os. slice_index_or os f.index 0) laid.offsets ∙ offset-listed fs 0 x f.index (placed k f (position_of_field fs x) h) ∙ zero-add (field_offset fs x)
 
-pub offset-missing : (k : ℕ) (fs : FieldShapes) (x : Name) (r : RecordLayout) → AreLaidOut fs r → ◌≡◌ {A = Option FieldId} None (field_selected (record_shape k fs) x) → r.cells ≡ field_offset fs x
+pub offset-missing : (k : ℕ) (fs : FieldShapes) (x : Name) (r : RecordLayout) → AreLaidOut fs r → ◌≡◌ {A = Option FieldId} None (selected_field (record_shape k fs) x) → r.cells ≡ field_offset fs x
 offset-missing k fs x r laid h = laid.cells ∙ sym (offset-past fs x (missing k (position_of_field fs x) h))
 
 -- what a look-up reads

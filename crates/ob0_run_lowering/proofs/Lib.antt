@@ -6,7 +6,7 @@ pub mod LaidOut
 pub mod CodeChains
 pub mod Lowerings
 pub mod Longer
-pub mod Rows
+pub mod TruthDepths
 pub mod HoldsInScene
 pub mod Made
 pub mod Assigned

@@ -3,11 +3,11 @@ use Rattle.std.proofs.Common.{◌≡◌, List, [], ◌∷◌, ◌++◌, refl}
 use Rattle.ob0_run_machine.specs.Lowered as lowered
 use Rattle.ob0_run_machine.specs.declared.code.Link.{Link}
 use Rattle.ob0_run_machine.specs.declared.code.Truth.{Truth}
-use Rattle.ob0_run_machine.specs.View.{conjunction_from, disjunction_from, applied, chain_on_operand, truth_of}
+use Rattle.ob0_run_machine.specs.View.{conjunction_from, disjunction_from, operation_with_link, chain_on_operand, truth_of}
 
-pub chained_more : (left : lowered.Number) (links : List Link) (l : Link) → chain_on_operand left (links ++ l ∷ []) ≡ applied l (chain_on_operand left links)
+pub chained_more : (left : lowered.Number) (links : List Link) (l : Link) → chain_on_operand left (links ++ l ∷ []) ≡ operation_with_link l (chain_on_operand left links)
 chained_more left [] l = refl
-chained_more left (k ∷ links) l = chained_more (applied k left) links l
+chained_more left (k ∷ links) l = chained_more (operation_with_link k left) links l
 
 pub all_more : (left : lowered.Truth) (ts : List Truth) (t : Truth) → conjunction_from left (ts ++ t ∷ []) ≡ lowered.both (conjunction_from left ts) (truth_of t)
 all_more left [] t = refl

@@ -3,8 +3,8 @@ use Rattle.std.proofs.Common.{◌≡◌, ℕ, zero, suc, ◌+◌, ◌-◌, ◌<�
 use Rattle.std.proofs.Math.ListN.{set}
 use Rattle.std.proofs.lemmas.List.{drop_all, length-set}
 use Rattle.std.proofs.lemmas.Option.{slice_get-map, slice_get_within}
-use Rattle.ob0_tree.specs.Tree.{Tree, block, body, constants, declares, declares_procedure, end, formals, has_body, items, maybe, module_text, more, procedure, type_names, variables}
-use Rattle.ob0_tree.specs.Places.{text_at}
+use Rattle.ob0_tree.specs.Tree.{Tree, block, body, constants, declares, declares_procedure, end, formals, forms_block, items, maybe, module_text, more, procedure, type_definitions, variables}
+use Rattle.ob0_tree.specs.Places.{token_text_at}
 use Rattle.ob0_tree.specs.View.{block_of, body_of, constants_of, formals_of, items_of, types_of, variables_of}
 use Rattle.ob0_tree.specs.View.{procedure_of as tree_procedure_of}
 use Rattle.ob0_tree.specs.declared.tree.Block as tree_block
@@ -19,9 +19,9 @@ use Rattle.ob0_language_names.specs.Scopes.{label_from_ordinal, numbered}
 use Rattle.ob0_types_table.specs.KnownTables.{Tables, declared_object_in}
 use Rattle.ob0_language_types.specs.Bindings.{declared_object}
 use Rattle.ob0_language_types.proofs.ConstantsDeclared.{FitParts, block-parts, procedure-parts}
-use Rattle.ob0_language_types.specs.Declarations.{constructors_before_variables, constructor_after_variables, declare_first, formals_constructor_count, procedure_constructor_count}
-use Rattle.ob0_language_types.specs.Environments.{outermost}
-use Rattle.ob0_language_types.specs.WellTyped.{TypeEnvironment, TypedParameter, WellTyped, bind_typed_parameters, block_fits, body_fits, declare_typed, passes_type_check, bind_procedure, procedures_fit}
+use Rattle.ob0_language_types.specs.Declarations.{constructors_before_variables, constructors_before_procedures, declare_constants_and_types, formals_constructor_count, procedure_constructor_count}
+use Rattle.ob0_language_types.specs.Environments.{outermost_environment}
+use Rattle.ob0_language_types.specs.WellTyped.{TypeEnvironment, TypedParameter, WellTyped, bind_typed_parameters, block_is_well_typed, body_is_well_typed, declare_typed_variables, passes_type_check, bind_procedure, procedures_are_well_typed}
 use Rattle.ob0_language_types.proofs.Proved.{numbering_keeps_type_check-holds}
 use Rattle.ob0_language_types.proofs.Literals.{some_inverse}
 use Rattle.ob0_language_types.proofs.TypedElsewhere.{then_some}
@@ -29,15 +29,15 @@ use Rattle.ob0_run_machine.specs.Lowered as lowered
 use Rattle.ob0_run_machine.specs.View.{procedure_of, program_of, sequence_of}
 use Rattle.ob0_run_machine.specs.declared.code.Routine.{Routine}
 use Rattle.ob0_run_machine.specs.declared.code.LoweredCode.{LoweredCode}
-use Rattle.ob0_run_cells.specs.Activations.{BlockMeans, Placed, Placement, ProceduresMean, ProgramMeans, at_target, parameter_placement, bind_to_nowhere, inward_placement, label_table, outermost_placement, local_target, place_parameters, place_variables}
-use Rattle.ob0_run_cells.specs.Lowering.{held, of_module}
-use Rattle.ob0_run_lowering.specs.LoweredBodies.{BodyLowers}
+use Rattle.ob0_run_cells.specs.Activations.{CodeMeansBlock, PlacementState, Placement, RoutinesMeanProcedures, ProgramMeans, at_target, parameter_placement, bind_to_nowhere, inward_placement, label_table, outermost_placement, local_target, place_parameters, place_variables}
+use Rattle.ob0_run_cells.specs.Lowering.{in_activation, of_module}
+use Rattle.ob0_run_lowering.specs.LoweredBodies.{LowersBody}
 use Rattle.ob0_run_lowering.specs.Scenes.{place_seen_from, site_at}
 use Rattle.ob0_run_lowering.specs.declared.scene.Scene.{Scene}
 use Rattle.ob0_run_lowering.specs.declared.scene.Site.TheVariants as site
-use Rattle.ob0_run_lowering.specs.KnownBlocks.{AreDeclared, BlockIsDeclared, Objects}
+use Rattle.ob0_run_lowering.specs.KnownBlocks.{AreDeclared, BlockIsDeclared, ObjectByOrdinal}
 use Rattle.ob0_run_lowering.specs.Blocks.{LowersProcedures, KeepsRoutines, HasRoutinesFrom, LowersBlock, MeansBlock, Ready, BlockState}
-use Rattle.ob0_run_lowering.specs.Placed.{Follows, IsRestored, LocatesAll, IsFrame, PlacementMatches, Places, declared_size, place_groups, place_sections, sites_with_binding, variable_slot}
+use Rattle.ob0_run_lowering.specs.PlacedNames.{Follows, IsRestored, LocatesAll, IsFrame, PlacementMatches, PlacesNames, declared_size, place_variable_declarations, place_sections, sites_with_binding, variable_slot}
 use Rattle.ob0_run_lowering.specs.declared.programs.Lowering.{Lowering}
 use Rattle.ob0_run_lowering.specs.declared.visible_sites.Frame.{Frame}
 use Rattle.ob0_run_lowering.specs.declared.visible_sites.VisibleSites.{VisibleSites}
@@ -116,8 +116,8 @@ pub record IsProcedure (t : Tables) (w v u after : Lowering) (depth index : ℕ)
   pub sites : (k : ℕ) → site_at v.visible.sites.items k ≡ sites_with_binding o (site.Procedure depth index) (site_at w.visible.sites.items) k
   pub announced : Follows w.visible v.visible
   pub pushed : (e : Routine) × (v.procedures.items ≡ w.procedures.items ++ e ∷ [])
-  pub first_is : first ≡ record { depth = suc depth; cells = 0; references = 0 }
-  pub placed : (inside : VisibleSites) × Places v.visible inside first (place_sections (variable_slot first.depth) (declared_size t) (formal_sections fs)) f × LowersBlock t (record { visible = inside; procedures = v.procedures }) u f b entry
+  pub first_is : first ≡ record { depth = suc depth; cells = 0; var_parameter_count = 0 }
+  pub placed : (inside : VisibleSites) × PlacesNames v.visible inside first (place_sections (variable_slot first.depth) (declared_size t) (formal_sections fs)) f × LowersBlock t (record { visible = inside; procedures = v.procedures }) u f b entry
   pub back : IsRestored v.visible u.visible after.visible
   pub kept : after.procedures.items ≡ set u.procedures.items index entry
 
@@ -146,17 +146,17 @@ procedure_goes t w v u after depth index o name fs b closing rest first f entry 
           let held_there : LocatesAll v.visible.sites.items depth outer = holds_bound w.visible.sites.items v.visible.sites.items depth s.placement o name (site.Procedure depth index) (local_target index) (le_refl depth, seen) is.sites ready.holds in
           let matched : PlacementMatches headed outer = (refl, (record { procedure = index; up = 0 }, refl), ready.matches) in
           let now : BlockState = record { env = headed; placement = outer; next = s.next + procedure_constructor_count (declares_procedure x fs b closing) } in
-          let empty : Placed Label = record { placement = inward_placement outer; cells = 0; reference_places = 0 } in
+          let empty : PlacementState Label = record { placement = inward_placement outer; cells = 0; reference_places = 0 } in
           let begun : IsFrame v.visible.sites.items first empty = record {
             holds = subst (λ d. LocatesAll v.visible.sites.items d (inward_placement outer)) (sym deep) (holds_inward v.visible.sites.items depth outer held_there);
             cells = ap (λ (z : Frame). z.cells) is.first_is;
-            reference_places = ap (λ (z : Frame). z.references) is.first_is;
+            reference_places = ap (λ (z : Frame). z.var_parameter_count) is.first_is;
           } in
           let all_placed : place_parameters ps empty ≡ place_sections (variable_slot first.depth) (declared_size t) (formal_sections fs) empty =
           sections_placed t (formal_sections fs) s.next s.env headed ps empty parts.typed known.0 ∙ ap (λ d. place_sections (variable_slot d) (declared_size t) (formal_sections fs) empty) (sym deep) in
           let entered : IsFrame is.placed.0.sites.items f (parameter_placement ps outer) = subst (IsFrame is.placed.0.sites.items f) (sym all_placed) (places.placed empty begun) in
           let inner_matches : PlacementMatches (bind_typed_parameters ps headed) (parameter_placement ps outer).placement = parameters_match ps headed empty (matches_inward headed outer matched) in
-          let slots : variable_slot f.depth ≡ held 0 = ap variable_slot (places.depth ∙ deep) in
+          let slots : variable_slot f.depth ≡ in_activation 0 = ap variable_slot (places.depth ∙ deep) in
           let at : ℕ = s.next + formals_constructor_count (formal_sections fs) in
           let lowers : MeansBlock inside u f b entry (bind_typed_parameters ps headed) (parameter_placement ps outer) at = block_is.on (bind_typed_parameters ps headed) (parameter_placement ps outer) at inner_matches entered parts.block_right known.1 in record {
             now = now;
@@ -174,7 +174,7 @@ procedure_goes t w v u after depth index o name fs b closing rest first f entry 
                 routine = procedure_of entry;
                 are_typed = parts.typed;
                 in_table = later index entry (omega (arith, is.index_is)) (kept-entry w.procedures.items v.procedures.items u.procedures.items after.procedures.items index entry kept);
-                means = subst (λ at. BlockMeans (label_table table) at (bind_typed_parameters ps headed) (parameter_placement ps outer) (s.next + formals_constructor_count (formal_sections fs)) entry.cells (sequence_of entry.body.items) b) slots
+                means = subst (λ at. CodeMeansBlock (label_table table) at (bind_typed_parameters ps headed) (parameter_placement ps outer) (s.next + formals_constructor_count (formal_sections fs)) entry.cells (sequence_of entry.body.items) b) slots
                     (lowers.means table (kept-later table w.procedures.items v.procedures.items u.procedures.items after.procedures.items index entry kept later));
               },
               means,
@@ -187,36 +187,36 @@ procedure_goes t w v u after depth index o name fs b closing rest first f entry 
 
 -- blocks
 
-body-fits : (env : TypeEnvironment Label) (k : ℕ) (statements : Tree Label (maybe body)) → procedures_fit naming_by_label env k statements end ≡ true → IsTrue (body_fits naming_by_label env statements)
-unfolding block_fits
+body-fits : (env : TypeEnvironment Label) (k : ℕ) (statements : Tree Label (maybe body)) → procedures_are_well_typed naming_by_label env k statements end ≡ true → IsTrue (body_is_well_typed naming_by_label env statements)
+unfolding block_is_well_typed
 body-fits env k statements h = h
 
-pub block_lowers : (t : Tables) (w v : Lowering) (inside : VisibleSites) (cs : Tree Label (maybe constants)) (ts : Tree Label (maybe type_names)) (vs : Tree Label (maybe variables)) (ps : Tree Label (items procedure)) (statements : Tree Label (maybe body)) (f own : Frame) (scene : Scene) (entry : Routine)
-    → Places w.visible inside f (place_groups (variable_slot f.depth) (declared_size t) (section_variables vs)) own → LowersProcedures t (record { visible = inside; procedures = w.procedures }) v own.depth ps end
-    → scene.types.now ≡ t → scene.sites.now ≡ v.visible.sites.items → scene.depth ≡ own.depth → BodyLowers scene (sequence_of entry.body.items) statements → entry.cells ≡ own.cells - f.cells
-    → LowersBlock t w v f (has_body (declares cs ts vs ps) statements) entry
+pub block_lowers : (t : Tables) (w v : Lowering) (inside : VisibleSites) (cs : Tree Label (maybe constants)) (ts : Tree Label (maybe type_definitions)) (vs : Tree Label (maybe variables)) (ps : Tree Label (items procedure)) (statements : Tree Label (maybe body)) (f own : Frame) (scene : Scene) (entry : Routine)
+    → PlacesNames w.visible inside f (place_variable_declarations (variable_slot f.depth) (declared_size t) (section_variables vs)) own → LowersProcedures t (record { visible = inside; procedures = w.procedures }) v own.depth ps end
+    → scene.types.now ≡ t → scene.sites.now ≡ v.visible.sites.items → scene.depth ≡ own.depth → LowersBody scene (sequence_of entry.body.items) statements → entry.cells ≡ own.cells - f.cells
+    → LowersBlock t w v f (forms_block (declares cs ts vs ps) statements) entry
 block_lowers t w v inside cs ts vs ps statements f own scene entry places goes types sites deep lowers cells = record {
   on = λ env p k matches frame fits known.
-      let b : Tree Label block = has_body (declares cs ts vs ps) statements in
+      let b : Tree Label block = forms_block (declares cs ts vs ps) statements in
       let parts = block-parts env k b fits in
       let inner : TypeEnvironment Label = parts.0 in
-      let declared_parts = then_some (declare_first naming_by_label env k b) (declare_typed naming_by_label (constructors_before_variables k b) (section_variables vs)) inner parts.1 in
+      let declared_parts = then_some (declare_constants_and_types naming_by_label env k b) (declare_typed_variables naming_by_label (constructors_before_variables k b) (section_variables vs)) inner parts.1 in
       let first : TypeEnvironment Label = declared_parts.0 in
       let known_parts = known inner parts.1 in
       let at = variable_slot f.depth in
       let hidden : Placement Label = bind_to_nowhere (declared_type_names (section_types ts)) (bind_to_nowhere (constant_names (section_constants cs)) p.placement) in
-      let start : Placed Label = record p { placement = hidden } in
-      let q : Placed Label = place_groups at (declared_size t) (section_variables vs) start in
+      let start : PlacementState Label = record p { placement = hidden } in
+      let q : PlacementState Label = place_variable_declarations at (declared_size t) (section_variables vs) start in
       let begun : IsFrame w.visible.sites.items f start = record { holds = holds_hidden w.visible.sites.items f.depth (declared_type_names (section_types ts)) (bind_to_nowhere (constant_names (section_constants cs)) p.placement) (holds_hidden w.visible.sites.items f.depth (constant_names (section_constants cs)) p.placement frame.holds); cells = frame.cells; reference_places = frame.reference_places } in
       let laid : IsFrame inside.sites.items own q = places.placed start begun in
-      let ready : Ready t inside.sites.items own.depth (record { env = inner; placement = q.placement; next = constructor_after_variables k b }) statements ps = record {
+      let ready : Ready t inside.sites.items own.depth (record { env = inner; placement = q.placement; next = constructors_before_procedures k b }) statements ps = record {
         declared_there = known_parts.0;
         matches = groups_match at (declared_size t) (section_variables vs) (constructors_before_variables k b) first inner start declared_parts.2 (first_match b k env first p.placement declared_parts.1 matches);
         holds = laid.holds;
         fits = parts.2;
         declared_following = known_parts.1;
       } in
-      let gone = goes.on (record { env = inner; placement = q.placement; next = constructor_after_variables k b }) statements ready in
+      let gone = goes.on (record { env = inner; placement = q.placement; next = constructors_before_procedures k b }) statements ready in
       let now : BlockState = gone.now in
       let last = gone.ready in
       let seen = sees scene now.env now.placement (subst (λ z. AreDeclared (declared_object_in z) now.env) (sym types) last.declared_there) last.matches
@@ -247,9 +247,9 @@ goes_on t w v u d r xs done x all a less here b =
     (subst (λ ys. LowersProcedures t v u d (tree_with_labels r (items_of tree_procedure_of ys)) rest) (sym (split done xs x less here)) (b rest))
 
 pub block_means : (t : Tables) (w v : Lowering) (inside : VisibleSites) (b : tree_block.Block) (xs : List tree.Procedure) (done : ℕ) (f own : Frame) (scene : Scene) (entry : Routine) (r : Resolution)
-    → Places w.visible inside f (place_groups (variable_slot f.depth) (declared_size t) (section_variables (tree_with_labels r (variables_of (tree_block.out-Block b).variables)))) own
+    → PlacesNames w.visible inside f (place_variable_declarations (variable_slot f.depth) (declared_size t) (section_variables (tree_with_labels r (variables_of (tree_block.out-Block b).variables)))) own
     → LowersProcedures t (record { visible = inside; procedures = w.procedures }) v own.depth (tree_with_labels r (items_of tree_procedure_of xs)) (tree_with_labels r (items_of tree_procedure_of (drop done xs))) → length xs ≤ done → xs ≡ (tree_block.out-Block b).procedures.items
-    → scene.types.now ≡ t → scene.sites.now ≡ v.visible.sites.items → scene.depth ≡ own.depth → BodyLowers scene (sequence_of entry.body.items) (tree_with_labels r (body_of (tree_block.out-Block b).body)) → entry.cells ≡ own.cells - f.cells
+    → scene.types.now ≡ t → scene.sites.now ≡ v.visible.sites.items → scene.depth ≡ own.depth → LowersBody scene (sequence_of entry.body.items) (tree_with_labels r (body_of (tree_block.out-Block b).body)) → entry.cells ≡ own.cells - f.cells
     → LowersBlock t w v f (tree_with_labels r (block_of b)) entry
 block_means t w v inside b xs done f own scene entry r places goes all same types sites deep lowers cells =
     let o = tree_block.out-Block b in
@@ -260,16 +260,16 @@ block_means t w v inside b xs done f own scene entry r places goes all same type
     types sites deep lowers cells)
 
 pub procedure_means : (t : Tables) (w v u after : Lowering) (depth index : ℕ) (p : tree.Procedure) (r : Resolution) (first f : Frame) (entry : Routine) (rest : Tree Label (items procedure))
-    → IsProcedure t w v u after depth index (ordinal_in r.ordinals (tree.out-Procedure p).name) (text_at r.module_read.source (tree.out-Procedure p).name) (tree_with_labels r (formals_of (tree.out-Procedure p).formals)) (tree_with_labels r (block_of (tree.out-Procedure p).block)) first f entry
+    → IsProcedure t w v u after depth index (ordinal_in r.ordinals (tree.out-Procedure p).name) (token_text_at r.module_read.source (tree.out-Procedure p).name) (tree_with_labels r (formals_of (tree.out-Procedure p).formals)) (tree_with_labels r (block_of (tree.out-Procedure p).block)) first f entry
     → LowersProcedures t w after depth (more (tree_with_labels r (tree_procedure_of p)) rest) rest
 procedure_means t w v u after depth index p r first f entry rest is =
     let o = tree.out-Procedure p in
     subst (λ z. LowersProcedures t w after depth (more (tree_with_labels r z) rest) rest) (sym (procedure_parts p))
-    (procedure_goes t w v u after depth index (ordinal_in r.ordinals o.name) (text_at r.module_read.source o.name) (tree_with_labels r (formals_of o.formals)) (tree_with_labels r (block_of o.block)) (label_at_token r o.closing) rest first f entry is)
+    (procedure_goes t w v u after depth index (ordinal_in r.ordinals o.name) (token_text_at r.module_read.source o.name) (tree_with_labels r (formals_of o.formals)) (tree_with_labels r (block_of o.block)) (label_at_token r o.closing) rest first f entry is)
 
 -- the program of a module
 
-outermost-matches : PlacementMatches (outermost naming_by_label) (outermost_placement naming_by_label)
+outermost-matches : PlacementMatches (outermost_environment naming_by_label) (outermost_placement naming_by_label)
 outermost-matches = (refl, tt, (refl, tt, (refl, tt, (refl, tt, (refl, tt, (refl, tt, (refl, tt, tt)))))))
 
 outermost-holds : LocatesAll [] 0 (outermost_placement naming_by_label)
@@ -278,26 +278,26 @@ outermost-holds = holds_hidden [] 0 (naming_by_label.predeclared 0 ∷ naming_by
 all-later : (ps : List Routine) → HasRoutinesFrom (map procedure_of ps) 0 ps
 all-later ps = λ i e le get. slice_get-map procedure_of ps i ∙ ap (option_map procedure_of) get
 
-module-fits : (m : Tree Name module_text) → WellTyped m → block_fits naming_by_label (outermost naming_by_label) 0 (module_block (numbered m)) ≡ true
+module-fits : (m : Tree Name module_text) → WellTyped m → block_is_well_typed naming_by_label (outermost_environment naming_by_label) 0 (module_block (numbered m)) ≡ true
 unfolding WellTyped passes_type_check
 module-fits m well = sym (numbering_keeps_type_check-holds m) ∙ well.1
 
-abbrev outermost_placed : Placed Label
+abbrev outermost_placed : PlacementState Label
 outermost_placed = record { placement = outermost_placement naming_by_label; cells = 0; reference_places = 0 }
 
 module_means : (t : Tables) (m : Tree Name module_text) (w v : Lowering) (b : Tree Label block) (entry : Routine) → WellTyped m → ((k : ℕ) → declared_object_in t k ≡ declared_object m k) → module_block (numbered m) ≡ b
-    → w.visible.sites.items ≡ [] → LowersBlock t w v (record { depth = 0; cells = 0; references = 0 }) b entry → MeansBlock w v (record { depth = 0; cells = 0; references = 0 }) b entry (outermost naming_by_label) outermost_placed 0
+    → w.visible.sites.items ≡ [] → LowersBlock t w v (record { depth = 0; cells = 0; var_parameter_count = 0 }) b entry → MeansBlock w v (record { depth = 0; cells = 0; var_parameter_count = 0 }) b entry (outermost_environment naming_by_label) outermost_placed 0
 module_means t m w v b entry well known is sites lowers =
-    let known_blocks : BlockIsDeclared (declared_object_in t) (outermost naming_by_label) 0 (module_block (numbered m)) = subst (λ (objects : Objects). BlockIsDeclared objects (outermost naming_by_label) 0 (module_block (numbered m))) (λ i k. sym (known k) i) (module-declared m well) in
-    lowers.on (outermost naming_by_label) outermost_placed 0 outermost-matches
+    let known_blocks : BlockIsDeclared (declared_object_in t) (outermost_environment naming_by_label) 0 (module_block (numbered m)) = subst (λ (objects : ObjectByOrdinal). BlockIsDeclared objects (outermost_environment naming_by_label) 0 (module_block (numbered m))) (λ i k. sym (known k) i) (module-declared m well) in
+    lowers.on (outermost_environment naming_by_label) outermost_placed 0 outermost-matches
     (record { holds = subst (λ xs. LocatesAll xs 0 (outermost_placement naming_by_label)) (sym sites) outermost-holds; cells = refl; reference_places = refl })
-    (subst (λ z. block_fits naming_by_label (outermost naming_by_label) 0 z ≡ true) is (module-fits m well)) (subst (λ z. BlockIsDeclared (declared_object_in t) (outermost naming_by_label) 0 z) is known_blocks)
+    (subst (λ z. block_is_well_typed naming_by_label (outermost_environment naming_by_label) 0 z ≡ true) is (module-fits m well)) (subst (λ z. BlockIsDeclared (declared_object_in t) (outermost_environment naming_by_label) 0 z) is known_blocks)
 
 pub program_means : (t : Tables) (m : Tree Name module_text) (w v : Lowering) (b : Tree Label block) (entry : Routine) (program : LoweredCode) → WellTyped m → ((k : ℕ) → declared_object_in t k ≡ declared_object m k) → module_block (numbered m) ≡ b
-    → w.visible.sites.items ≡ [] → LowersBlock t w v (record { depth = 0; cells = 0; references = 0 }) b entry
+    → w.visible.sites.items ≡ [] → LowersBlock t w v (record { depth = 0; cells = 0; var_parameter_count = 0 }) b entry
     → program_of program ≡ record { cells = entry.cells; body = sequence_of entry.body.items; procedures = map procedure_of v.procedures.items } → ProgramMeans naming_by_label (numbered m) (program_of program)
 program_means t m w v b entry program well known is sites lowers made =
-    let means : MeansBlock w v (record { depth = 0; cells = 0; references = 0 }) b entry (outermost naming_by_label) outermost_placed 0 = module_means t m w v b entry well known is sites lowers in
+    let means : MeansBlock w v (record { depth = 0; cells = 0; var_parameter_count = 0 }) b entry (outermost_environment naming_by_label) outermost_placed 0 = module_means t m w v b entry well known is sites lowers in
     let table : List lowered.Routine = map procedure_of v.procedures.items in
     subst (ProgramMeans naming_by_label (numbered m)) (sym made)
-    (subst (λ z. BlockMeans (label_table table) of_module (outermost naming_by_label) outermost_placed 0 entry.cells (sequence_of entry.body.items) z) (sym is) (means.means table (λ i e le get. all-later v.procedures.items i e (omega arith) get)))
+    (subst (λ z. CodeMeansBlock (label_table table) of_module (outermost_environment naming_by_label) outermost_placed 0 entry.cells (sequence_of entry.body.items) z) (sym is) (means.means table (λ i e le get. all-later v.procedures.items i e (omega arith) get)))

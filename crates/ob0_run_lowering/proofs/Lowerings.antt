@@ -3,7 +3,7 @@ use Rattle.std.proofs.Common.{◌≡◌, ℕ, zero, suc, ◌<◌, ◌≤◌, tru
 use Rattle.std.proofs.lemmas.Bool.Decides.{nat_tests}
 use Rattle.ob0_scan.specs.TextWithTokens.{IsScan, TextWithTokens}
 use Rattle.ob0_scan.specs.declared.lexeme.Token.{Token}
-use Rattle.ob0_tree.specs.Places.{value_at, token_value_or_zero, kind_value_or_zero}
+use Rattle.ob0_tree.specs.Places.{token_value_at, token_value_or_zero, kind_value_or_zero}
 use Rattle.ob0_tree.specs.Tree.{Tree, expression, items, selector}
 use Rattle.ob0_language_names.specs.Names.{Label, as_written, declared}
 use Rattle.ob0_types_table.specs.KnownTables.{declared_object_in, shapes_of}
@@ -12,9 +12,9 @@ use Rattle.ob0_types_table.specs.declared.known.FormalParameter.{FormalParameter
 use Rattle.ob0_scope_table.specs.LabelledTrees.{tree_with_labels, label_at_token}
 use Rattle.ob0_types_table.proofs.TokenNumbers.{small_number}
 use Rattle.ob0_language_types.specs.Expressions.{Object, a_constant, a_variable}
-use Rattle.ob0_language_types.specs.Typing.{lone_designator, type_at, type_of}
+use Rattle.ob0_language_types.specs.Typing.{lone_designator, type_after_selectors, type_of}
 use Rattle.ob0_language_types.specs.WellTyped as typing
-use Rattle.ob0_language_types.specs.WellTyped.{Mode, Signature, TypeMeanings, same_known_shape, argument_fits, by_place, by_value, variable_type}
+use Rattle.ob0_language_types.specs.WellTyped.{Mode, Signature, TypeMeanings, same_known_shape, argument_matches, by_place, by_value, variable_type}
 use Rattle.ob0_language_types.proofs.Conditions.{same_shape-true}
 use Rattle.ob0_language_types.proofs.Literals.{some_inverse}
 use Rattle.ob0_language_values.specs.Values.{Shape, array_shape, boolean_shape, integer_shape, number, record_shape}
@@ -26,49 +26,49 @@ use Rattle.ob0_run_machine.specs.declared.code.Argument.TheVariants as argument
 use Rattle.ob0_run_machine.specs.declared.code.Number.{Number}
 use Rattle.ob0_run_machine.specs.declared.code.Truth.{Truth}
 use Rattle.ob0_run_cells.specs.Cells.{size}
-use Rattle.ob0_run_cells.specs.LoweredStatements.{ArgumentMeans}
+use Rattle.ob0_run_cells.specs.LoweredStatements.{CodeMeansArgument}
 use Rattle.ob0_run_cells.specs.Lowering.{NumberMeans, PlaceMeans, Slot, TruthMeans, HoldsValue, place_of_designator, value_of_expression}
 use Rattle.ob0_run_lowering.specs.Codes.{CodeMeans, FoundPlace}
-use Rattle.ob0_run_lowering.specs.LoweredMeans.{Locates, LocatesLoneDesignator, Lowers, LowersArgument, LowersNumber, LowersTruth}
-use Rattle.ob0_run_lowering.specs.Parts.{IsNumberOf, IsTypedPlaceOf, IsTruthOf, IsValueOf}
+use Rattle.ob0_run_lowering.specs.LoweredMeans.{LocatesDesignator, LocatesLoneDesignator, LowersExpression, LowersArgument, LowersNumber, LowersTruth}
+use Rattle.ob0_run_lowering.specs.Parts.{KeepsNumber, KeepsFoundPlace, KeepsTruth, PassesCode}
 use Rattle.ob0_run_lowering.specs.Scenes.{object_at}
 use Rattle.ob0_run_lowering.specs.Trees.{base_place, code_of, expression_code, found_place_of, selected_place}
 use Rattle.ob0_run_lowering.specs.declared.lowered.TypedPlace.{TypedPlace}
-use Rattle.ob0_run_lowering.specs.declared.lowered.Lowered.{Lowered}
-use Rattle.ob0_run_lowering.specs.declared.lowered.Lowered.TheVariants as code
+use Rattle.ob0_run_lowering.specs.declared.lowered.LoweredExpression.{LoweredExpression}
+use Rattle.ob0_run_lowering.specs.declared.lowered.LoweredExpression.TheVariants as code
 use Rattle.ob0_run_lowering.specs.declared.scene.Scene.{Scene}
 use Rattle.ob0_run_lowering.proofs.TreesMean.{expression-means, located-means}
 
 -- expressions
 
-pub lowers-by : (scene : Scene) (e : Tree ℕ expression) (l : Lowered) → code_of l ≡ expression_code scene (tree_with_labels scene.resolved.now e) → Lowers scene e l
+pub lowers-by : (scene : Scene) (e : Tree ℕ expression) (l : LoweredExpression) → code_of l ≡ expression_code scene (tree_with_labels scene.resolved.now e) → LowersExpression scene e l
 lowers-by scene e l same checked slots targets sees s h =
     subst (λ c. CodeMeans checked slots c s (value_of_expression (tree_with_labels scene.resolved.now e))) (sym same) (expression-means scene checked slots targets sees e s h)
 
-pub number-by : (scene : Scene) (e : Tree ℕ expression) (l : Lowered) (n : Number) → IsNumberOf l n → Lowers scene e l → LowersNumber scene e n
+pub number-by : (scene : Scene) (e : Tree ℕ expression) (l : LoweredExpression) (n : Number) → KeepsNumber l n → LowersExpression scene e l → LowersNumber scene e n
 number-by scene e (code.Number m) n same h checked slots targets sees typed = subst (λ n. NumberMeans checked slots (number_of n) (value_of_expression (tree_with_labels scene.resolved.now e))) same (h checked slots targets sees integer_shape typed)
 number-by scene e _ n same h checked slots targets sees typed = absurd (h checked slots targets sees integer_shape typed)
 
-pub truth-by : (scene : Scene) (e : Tree ℕ expression) (l : Lowered) (t : Truth) → IsTruthOf l t → Lowers scene e l → LowersTruth scene e t
+pub truth-by : (scene : Scene) (e : Tree ℕ expression) (l : LoweredExpression) (t : Truth) → KeepsTruth l t → LowersExpression scene e l → LowersTruth scene e t
 truth-by scene e (code.Truth u) t same h checked slots targets sees typed = subst (λ t. TruthMeans checked slots (truth_of t) (value_of_expression (tree_with_labels scene.resolved.now e))) same (h checked slots targets sees boolean_shape typed)
 truth-by scene e _ t same h checked slots targets sees typed = absurd (h checked slots targets sees boolean_shape typed)
 
 -- places
 
 variable-typed : (checked : TypeMeanings Label) (x : Label) (path : Tree Label (items selector)) (s : Shape) (o : Option (Object Shape Signature)) → checked.object_for x ≡ o → variable_type checked (Some (x, path)) ≡ Some s
-    → (v : Shape) × (checked.object_for x ≡ Some (a_variable v)) × (type_at checked v path ≡ Some s)
+    → (v : Shape) × (checked.object_for x ≡ Some (a_variable v)) × (type_after_selectors checked v path ≡ Some s)
 unfolding variable_type
-variable-typed checked x path s (Some (a_variable v)) e h = (v, e, sym (ap (λ (o : Option (Object Shape Signature)). elim o [ Some (a_variable s) ↦ type_at checked s path | _ ↦ None ]) e) ∙ h)
-variable-typed checked x path s _ e h = let none : None ≡ Some s = sym (ap (λ (o : Option (Object Shape Signature)). elim o [ Some (a_variable s) ↦ type_at checked s path | _ ↦ None ]) e) ∙ h in absurd (cc)
+variable-typed checked x path s (Some (a_variable v)) e h = (v, e, sym (ap (λ (o : Option (Object Shape Signature)). elim o [ Some (a_variable s) ↦ type_after_selectors checked s path | _ ↦ None ]) e) ∙ h)
+variable-typed checked x path s _ e h = let none : None ≡ Some s = sym (ap (λ (o : Option (Object Shape Signature)). elim o [ Some (a_variable s) ↦ type_after_selectors checked s path | _ ↦ None ]) e) ∙ h in absurd (cc)
 
-there : (shapes : List Shape) (found : Option TypedPlace) (l : TypedPlace) (q : lowered.Place) (s : Shape) → IsTypedPlaceOf found l → option_map (found_place_of shapes) found ≡ Some (record { place = q; shape = s }) → (place_of l.place ≡ q) × (type_shape shapes l.of ≡ s)
+there : (shapes : List Shape) (found : Option TypedPlace) (l : TypedPlace) (q : lowered.Place) (s : Shape) → KeepsFoundPlace found l → option_map (found_place_of shapes) found ≡ Some (record { place = q; shape = s }) → (place_of l.place ≡ q) × (type_shape shapes l.type_id ≡ s)
 there shapes None l q s same h = absurd (cc)
 there shapes (Some m) l q s same h =
     let both : found_place_of shapes l ≡ record { place = q; shape = s } = ap (found_place_of shapes) (sym same) ∙ some_inverse h in
     (ap (λ (f : FoundPlace). f.place) both, ap (λ (f : FoundPlace). f.shape) both)
 
-pub locates-by : (scene : Scene) (x : ℕ) (path : Tree ℕ (items selector)) (found : Option TypedPlace) (l : TypedPlace) → IsTypedPlaceOf found l
-    → option_map (found_place_of (shapes_of scene.types.now)) found ≡ selected_place scene (base_place scene (label_at_token scene.resolved.now x)) (tree_with_labels scene.resolved.now path) → Locates scene x path l
+pub locates-by : (scene : Scene) (x : ℕ) (path : Tree ℕ (items selector)) (found : Option TypedPlace) (l : TypedPlace) → KeepsFoundPlace found l
+    → option_map (found_place_of (shapes_of scene.types.now)) found ≡ selected_place scene (base_place scene (label_at_token scene.resolved.now x)) (tree_with_labels scene.resolved.now path) → LocatesDesignator scene x path l
 locates-by scene x path found l same h checked slots targets sees s typed =
     let y = label_at_token scene.resolved.now x in
     let (v, e, at) = variable-typed checked y (tree_with_labels scene.resolved.now path) s (checked.object_for y) refl typed in
@@ -76,7 +76,7 @@ locates-by scene x path found l same h checked slots targets sees s typed =
     let (place, shape) = there (shapes_of scene.types.now) found l q s same (h ∙ eq) in
     (shape, subst (λ q. PlaceMeans checked slots q s (place_of_designator y (tree_with_labels scene.resolved.now path))) (sym place) hq)
 
-pub alone-by : (scene : Scene) (e : Tree ℕ expression) (x : ℕ) (path : Tree ℕ (items selector)) (l : TypedPlace) → lone_designator (tree_with_labels scene.resolved.now e) ≡ Some (label_at_token scene.resolved.now x, tree_with_labels scene.resolved.now path) → Locates scene x path l → LocatesLoneDesignator scene e l
+pub alone-by : (scene : Scene) (e : Tree ℕ expression) (x : ℕ) (path : Tree ℕ (items selector)) (l : TypedPlace) → lone_designator (tree_with_labels scene.resolved.now e) ≡ Some (label_at_token scene.resolved.now x, tree_with_labels scene.resolved.now path) → LocatesDesignator scene x path l → LocatesLoneDesignator scene e l
 alone-by scene e x path l is h checked slots targets sees s typed =
     let y = label_at_token scene.resolved.now x in
     let there = ap (variable_type checked) (sym is) ∙ typed in
@@ -97,12 +97,12 @@ agreed : (s : Shape) (o : Option Shape) → same_known_shape (Some s) o ≡ true
 agreed s None h = absurd (cc)
 agreed s (Some t) h = ap Some (sym (same_shape-true s t h))
 
-fits-value : (checked : TypeMeanings Label) (f : typing.FormalParameter) (e : Tree Label expression) → f.mode ≡ by_value → argument_fits checked f e ≡ true → type_of checked e ≡ Some f.shape
-unfolding argument_fits
+fits-value : (checked : TypeMeanings Label) (f : typing.FormalParameter) (e : Tree Label expression) → f.mode ≡ by_value → argument_matches checked f e ≡ true → type_of checked e ≡ Some f.shape
+unfolding argument_matches
 fits-value checked f e mode h = agreed f.shape (type_of checked e) (sym (ap (λ (m : Mode). same_known_shape (Some f.shape) (elim m [ by_value ↦ type_of checked e | by_place ↦ variable_type checked (lone_designator e) ])) mode) ∙ h)
 
-fits-place : (checked : TypeMeanings Label) (f : typing.FormalParameter) (e : Tree Label expression) → f.mode ≡ by_place → argument_fits checked f e ≡ true → variable_type checked (lone_designator e) ≡ Some f.shape
-unfolding argument_fits
+fits-place : (checked : TypeMeanings Label) (f : typing.FormalParameter) (e : Tree Label expression) → f.mode ≡ by_place → argument_matches checked f e ≡ true → variable_type checked (lone_designator e) ≡ Some f.shape
+unfolding argument_matches
 fits-place checked f e mode h = agreed f.shape (variable_type checked (lone_designator e)) (sym (ap (λ (m : Mode). same_known_shape (Some f.shape) (elim m [ by_value ↦ type_of checked e | by_place ↦ variable_type checked (lone_designator e) ])) mode) ∙ h)
 
 pub place-argument : (scene : Scene) (f : FormalParameter) (e : Tree ℕ expression) (l : TypedPlace) → f.by_place ≡ true → LocatesLoneDesignator scene e l → LowersArgument scene f e (argument.Place l.place)
@@ -111,18 +111,18 @@ place-argument scene f e l by h checked slots targets sees fits =
     let mode : formal.mode ≡ by_place = ap mode_of by in
     (mode, (h checked slots targets sees formal.shape (fits-place checked formal (tree_with_labels scene.resolved.now e) mode fits)).1)
 
-value-means : (checked : TypeMeanings Label) (slots : Label → Slot) (f : typing.FormalParameter) (e : Tree Label expression) (s : Shape) (l : Lowered) → f.mode ≡ by_value → f.shape ≡ s → CodeMeans checked slots (code_of l) s (value_of_expression e) → (a : Argument) → IsValueOf l a → ArgumentMeans checked slots f (argument_of a) e
-value-means checked slots f e integer_shape (code.Number n) mode shape h a same = subst (λ a. ArgumentMeans checked slots f (argument_of a) e) same (mode, shape, h)
-value-means checked slots f e boolean_shape (code.Truth t) mode shape h a same = subst (λ a. ArgumentMeans checked slots f (argument_of a) e) same (mode, shape, h)
+value-means : (checked : TypeMeanings Label) (slots : Label → Slot) (f : typing.FormalParameter) (e : Tree Label expression) (s : Shape) (l : LoweredExpression) → f.mode ≡ by_value → f.shape ≡ s → CodeMeans checked slots (code_of l) s (value_of_expression e) → (a : Argument) → PassesCode l a → CodeMeansArgument checked slots f (argument_of a) e
+value-means checked slots f e integer_shape (code.Number n) mode shape h a same = subst (λ a. CodeMeansArgument checked slots f (argument_of a) e) same (mode, shape, h)
+value-means checked slots f e boolean_shape (code.Truth t) mode shape h a same = subst (λ a. CodeMeansArgument checked slots f (argument_of a) e) same (mode, shape, h)
 value-means checked slots f e (array_shape k m s) (code.Block q n) mode shape h a same =
     let there : (n ≡ size f.shape) × HoldsValue checked slots (place_of q) f.shape (value_of_expression e) = subst (λ z. (n ≡ size z) × HoldsValue checked slots (place_of q) z (value_of_expression e)) (sym shape) h in
-    subst (λ a. ArgumentMeans checked slots f (argument_of a) e) same (mode, there.0, there.1)
+    subst (λ a. CodeMeansArgument checked slots f (argument_of a) e) same (mode, there.0, there.1)
 value-means checked slots f e (record_shape k fs) (code.Block q n) mode shape h a same =
     let there : (n ≡ size f.shape) × HoldsValue checked slots (place_of q) f.shape (value_of_expression e) = subst (λ z. (n ≡ size z) × HoldsValue checked slots (place_of q) z (value_of_expression e)) (sym shape) h in
-    subst (λ a. ArgumentMeans checked slots f (argument_of a) e) same (mode, there.0, there.1)
+    subst (λ a. CodeMeansArgument checked slots f (argument_of a) e) same (mode, there.0, there.1)
 value-means checked slots f e _ _ mode shape h a same = absurd h
 
-pub value-argument : (scene : Scene) (f : FormalParameter) (e : Tree ℕ expression) (l : Lowered) (a : Argument) → f.by_place ≡ false → IsValueOf l a → Lowers scene e l → LowersArgument scene f e a
+pub value-argument : (scene : Scene) (f : FormalParameter) (e : Tree ℕ expression) (l : LoweredExpression) (a : Argument) → f.by_place ≡ false → PassesCode l a → LowersExpression scene e l → LowersArgument scene f e a
 value-argument scene f e l a by same h checked slots targets sees fits =
     let formal = formal_view (shapes_of scene.types.now) f in
     let mode : formal.mode ≡ by_value = ap mode_of by in

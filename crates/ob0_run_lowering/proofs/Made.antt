@@ -18,17 +18,17 @@ use Rattle.ob0_run_machine.specs.Lowered as lowered
 use Rattle.ob0_run_machine.specs.View.{all_branches, conditional_of, if_of, sequence_of, statement_of, truth_of}
 use Rattle.ob0_run_machine.proofs.Viewed.{if_made}
 use Rattle.ob0_run_lowering.specs.declared.scene.Scene.{Scene}
-use Rattle.ob0_run_lowering.specs.LoweredBodies.{OptionalStatementLowers, ConditionLowers, ElseLowers, ElsifsLower, FurtherStatementsLower, SequenceLowers, StatementLowers}
+use Rattle.ob0_run_lowering.specs.LoweredBodies.{LowersOptionalStatement, LowersCondition, LowersElse, LowersElsifs, LowersFurtherStatements, LowersSequence, LowersStatement}
 use Rattle.ob0_run_lowering.proofs.HoldsInScene.{branches-lower, else-lowers, elsif-lowers, empty-alone, empty-more, from-first, no-else, no-elsif, none-left, one-more}
 
 -- statements, with code after them
 abbrev pub joined : List code.Instruction → lowered.Instructions → lowered.Instructions
 joined [] cs = cs
-joined (s ∷ ss) cs = lowered.before (statement_of s) (joined ss cs)
+joined (s ∷ ss) cs = lowered.next_statement (statement_of s) (joined ss cs)
 
 joined-alone : (ss : List code.Instruction) → joined ss lowered.no_statement ≡ sequence_of ss
 joined-alone [] = refl
-joined-alone (x ∷ ss) = ap (lowered.before (statement_of x)) (joined-alone ss)
+joined-alone (x ∷ ss) = ap (lowered.next_statement (statement_of x)) (joined-alone ss)
 
 -- branches, with branches after them
 abbrev pub all_joined : List branch.Branch → lowered.Branches → lowered.Branches
@@ -45,12 +45,12 @@ all_joined-alone (x ∷ made) = ap (lowered.branch (truth_of x.condition) (seque
 
 -- the first statements of a sequence have code
 pub record SequenceMade (scene : Scene) (r : Resolution) (ss : List Statement) (n : ℕ) (made : List code.Instruction) : Type 0 where
-  pub so_far : (cs : lowered.Instructions) → FurtherStatementsLower scene cs (tree_with_labels r (items_of further_statement_of (drop n ss))) → SequenceLowers scene (joined made cs) (tree_with_labels r (sequence_of_list ss))
+  pub so_far : (cs : lowered.Instructions) → LowersFurtherStatements scene cs (tree_with_labels r (items_of further_statement_of (drop n ss))) → LowersSequence scene (joined made cs) (tree_with_labels r (sequence_of_list ss))
 
 -- the first branches of IF have code
 pub record BranchesMade (scene : Scene) (r : Resolution) (e : Tree Label expression) (a : Tree Label sequence) (parts : List Elsif) (n : ℕ) (made : List branch.Branch) : Type 0 where
-  pub so_far : (bs : lowered.Branches) (otherwise : lowered.Instructions) (last : Tree Label (maybe else_part)) → ElsifsLower scene bs otherwise (tree_with_labels r (items_of elsif_of (drop n parts))) last
-      → StatementLowers scene (lowered.chooses (all_joined made bs) otherwise) (branches e a (tree_with_labels r (items_of elsif_of parts)) last)
+  pub so_far : (bs : lowered.Branches) (otherwise : lowered.Instructions) (last : Tree Label (maybe else_part)) → LowersElsifs scene bs otherwise (tree_with_labels r (items_of elsif_of (drop n parts))) last
+      → LowersStatement scene (lowered.chooses (all_joined made bs) otherwise) (branches e a (tree_with_labels r (items_of elsif_of parts)) last)
 
 split_at : {A : Type 0} (xs : List A) (n : ℕ) (x : A) → n < length xs → x ≡ get_or xs n x → drop n xs ≡ x ∷ drop (n + 1) xs
 split_at xs n x less here = drop_more xs n x less ∙ ap (λ y. y ∷ drop (n + 1) xs) (sym here)
@@ -59,69 +59,69 @@ pub sequence_begins : (scene : Scene) (r : Resolution) (ss : List Statement) →
 sequence_begins scene r [] = record { so_far = λ cs h. empty-alone scene cs h }
 sequence_begins scene r (s ∷ ss) = record { so_far = λ cs h. from-first scene (tree_with_labels r (view.statement_of s)) (tree_with_labels r (items_of further_statement_of ss)) cs h }
 
-one_made : (scene : Scene) (r : Resolution) (s : Statement) (o : Option code.Instruction) (rest : List Statement) (cs : lowered.Instructions) → OptionalStatementLowers scene (option_map statement_of o) (tree_with_labels r (view.statement_of s))
-    → FurtherStatementsLower scene cs (tree_with_labels r (items_of further_statement_of rest)) → FurtherStatementsLower scene (joined (option_to_list o) cs) (tree_with_labels r (items_of further_statement_of (s ∷ rest)))
+one_made : (scene : Scene) (r : Resolution) (s : Statement) (o : Option code.Instruction) (rest : List Statement) (cs : lowered.Instructions) → LowersOptionalStatement scene (option_map statement_of o) (tree_with_labels r (view.statement_of s))
+    → LowersFurtherStatements scene cs (tree_with_labels r (items_of further_statement_of rest)) → LowersFurtherStatements scene (joined (option_to_list o) cs) (tree_with_labels r (items_of further_statement_of (s ∷ rest)))
 one_made scene r s None rest cs h hr =
     let left = tree_with_labels r (items_of further_statement_of rest) in
-    let P : Tree Label statement → Type 0 = λ a. FurtherStatementsLower scene cs (more (then_statement a) left) in
+    let P : Tree Label statement → Type 0 = λ a. LowersFurtherStatements scene cs (more (then_statement a) left) in
     subst P (sym h) (empty-more scene left cs hr)
 one_made scene r s (Some c) rest cs h hr = one-more scene (tree_with_labels r (view.statement_of s)) (statement_of c) (tree_with_labels r (items_of further_statement_of rest)) cs h hr
 
 joined-both : (made more_made : List code.Instruction) (cs : lowered.Instructions) → joined (made ++ more_made) cs ≡ joined made (joined more_made cs)
 joined-both [] more_made cs = refl
-joined-both (x ∷ made) more_made cs = ap (lowered.before (statement_of x)) (joined-both made more_made cs)
+joined-both (x ∷ made) more_made cs = ap (lowered.next_statement (statement_of x)) (joined-both made more_made cs)
 
 pub sequence_goes_on : {scene : Scene} {r : Resolution} {ss : List Statement} {n : ℕ} {made : List code.Instruction} (s : Statement) (o : Option code.Instruction)
-    → SequenceMade scene r ss n made → n < length ss → s ≡ get_or ss n s → OptionalStatementLowers scene (option_map statement_of o) (tree_with_labels r (view.statement_of s)) → SequenceMade scene r ss (n + 1) (made ++ option_to_list o)
+    → SequenceMade scene r ss n made → n < length ss → s ≡ get_or ss n s → LowersOptionalStatement scene (option_map statement_of o) (tree_with_labels r (view.statement_of s)) → SequenceMade scene r ss (n + 1) (made ++ option_to_list o)
 sequence_goes_on {scene = scene} {r = r} {ss = ss} {n = n} {made = made} s o f less here h = record {
   so_far = λ cs hr.
-      let P : List Statement → Type 0 = λ left. FurtherStatementsLower scene (joined (option_to_list o) cs) (tree_with_labels r (items_of further_statement_of left)) in
-      let Q : lowered.Instructions → Type 0 = λ code. SequenceLowers scene code (tree_with_labels r (sequence_of_list ss)) in
+      let P : List Statement → Type 0 = λ left. LowersFurtherStatements scene (joined (option_to_list o) cs) (tree_with_labels r (items_of further_statement_of left)) in
+      let Q : lowered.Instructions → Type 0 = λ code. LowersSequence scene code (tree_with_labels r (sequence_of_list ss)) in
       let whole = f.so_far (joined (option_to_list o) cs) (subst P (sym (split_at ss n s less here)) (one_made scene r s o (drop (n + 1) ss) cs h hr)) in
       subst Q (sym (joined-both made (option_to_list o) cs)) whole;
 }
 
-pub sequence_ends : {scene : Scene} {r : Resolution} {ss : List Statement} {n : ℕ} {made : List code.Instruction} → SequenceMade scene r ss n made → length ss ≤ n → SequenceLowers scene (sequence_of made) (tree_with_labels r (sequence_of_list ss))
+pub sequence_ends : {scene : Scene} {r : Resolution} {ss : List Statement} {n : ℕ} {made : List code.Instruction} → SequenceMade scene r ss n made → length ss ≤ n → LowersSequence scene (sequence_of made) (tree_with_labels r (sequence_of_list ss))
 sequence_ends {scene = scene} {r = r} {ss = ss} {n = n} {made = made} f all =
-    let P : List Statement → Type 0 = λ left. FurtherStatementsLower scene lowered.no_statement (tree_with_labels r (items_of further_statement_of left)) in
-    let Q : lowered.Instructions → Type 0 = λ code. SequenceLowers scene code (tree_with_labels r (sequence_of_list ss)) in
+    let P : List Statement → Type 0 = λ left. LowersFurtherStatements scene lowered.no_statement (tree_with_labels r (items_of further_statement_of left)) in
+    let Q : lowered.Instructions → Type 0 = λ code. LowersSequence scene code (tree_with_labels r (sequence_of_list ss)) in
     subst Q (joined-alone made) (f.so_far lowered.no_statement (subst P (sym (drop_all n ss all)) (none-left scene)))
 
-pub branches_begin : (scene : Scene) (r : Resolution) (e : Tree Label expression) (a : Tree Label sequence) (parts : List Elsif) (b : branch.Branch) → ConditionLowers scene (truth_of b.condition) e → SequenceLowers scene (sequence_of b.body.items) a → BranchesMade scene r e a parts 0 (b ∷ [])
+pub branches_begin : (scene : Scene) (r : Resolution) (e : Tree Label expression) (a : Tree Label sequence) (parts : List Elsif) (b : branch.Branch) → LowersCondition scene (truth_of b.condition) e → LowersSequence scene (sequence_of b.body.items) a → BranchesMade scene r e a parts 0 (b ∷ [])
 branches_begin scene r e a parts b ht ha = record {
   so_far = λ bs otherwise last h. branches-lower scene e a (tree_with_labels r (items_of elsif_of parts)) last (truth_of b.condition) (sequence_of b.body.items) bs otherwise ht ha h;
 }
 
 pub branches_go_on : {scene : Scene} {r : Resolution} {e : Tree Label expression} {a : Tree Label sequence} {parts : List Elsif} {n : ℕ} {made : List branch.Branch} (part : Elsif) (b : branch.Branch)
-    → BranchesMade scene r e a parts n made → n < length parts → part ≡ get_or parts n part → ConditionLowers scene (truth_of b.condition) (tree_with_labels r (expression_of part.condition)) → SequenceLowers scene (sequence_of b.body.items) (tree_with_labels r (sequence_of_list part.then.items))
+    → BranchesMade scene r e a parts n made → n < length parts → part ≡ get_or parts n part → LowersCondition scene (truth_of b.condition) (tree_with_labels r (expression_of part.condition)) → LowersSequence scene (sequence_of b.body.items) (tree_with_labels r (sequence_of_list part.then.items))
     → BranchesMade scene r e a parts (n + 1) (made ++ b ∷ [])
 branches_go_on {scene = scene} {r = r} {e = e} {a = a} {parts = parts} {n = n} {made = made} part b f less here ht ha = record {
   so_far = λ bs otherwise last h.
       let next = lowered.branch (truth_of b.condition) (sequence_of b.body.items) bs in
       let rest = tree_with_labels r (items_of elsif_of (drop (n + 1) parts)) in
-      let P : List Elsif → Type 0 = λ left. ElsifsLower scene next otherwise (tree_with_labels r (items_of elsif_of left)) last in
-      let Q : lowered.Branches → Type 0 = λ code. StatementLowers scene (lowered.chooses code otherwise) (branches e a (tree_with_labels r (items_of elsif_of parts)) last) in
+      let P : List Elsif → Type 0 = λ left. LowersElsifs scene next otherwise (tree_with_labels r (items_of elsif_of left)) last in
+      let Q : lowered.Branches → Type 0 = λ code. LowersStatement scene (lowered.chooses code otherwise) (branches e a (tree_with_labels r (items_of elsif_of parts)) last) in
       let one = elsif-lowers scene (tree_with_labels r (expression_of part.condition)) (tree_with_labels r (sequence_of_list part.then.items)) rest last (truth_of b.condition) (sequence_of b.body.items) bs otherwise ht ha h in
       subst Q (sym (all_joined-last made b bs)) (f.so_far next otherwise last (subst P (sym (split_at parts n part less here)) one));
 }
 
 pub branches_end : {scene : Scene} {r : Resolution} {e : Tree Label expression} {a : Tree Label sequence} {parts : List Elsif} {n : ℕ} {made : List branch.Branch} (otherwise : lowered.Instructions) (last : Tree Label (maybe else_part))
-    → BranchesMade scene r e a parts n made → length parts ≤ n → ElseLowers scene otherwise last → StatementLowers scene (lowered.chooses (all_branches made) otherwise) (branches e a (tree_with_labels r (items_of elsif_of parts)) last)
+    → BranchesMade scene r e a parts n made → length parts ≤ n → LowersElse scene otherwise last → LowersStatement scene (lowered.chooses (all_branches made) otherwise) (branches e a (tree_with_labels r (items_of elsif_of parts)) last)
 branches_end {scene = scene} {r = r} {e = e} {a = a} {parts = parts} {n = n} {made = made} otherwise last f all h =
-    let P : List Elsif → Type 0 = λ left. ElsifsLower scene lowered.no_branch otherwise (tree_with_labels r (items_of elsif_of left)) last in
-    let Q : lowered.Branches → Type 0 = λ code. StatementLowers scene (lowered.chooses code otherwise) (branches e a (tree_with_labels r (items_of elsif_of parts)) last) in
+    let P : List Elsif → Type 0 = λ left. LowersElsifs scene lowered.no_branch otherwise (tree_with_labels r (items_of elsif_of left)) last in
+    let Q : lowered.Branches → Type 0 = λ code. LowersStatement scene (lowered.chooses code otherwise) (branches e a (tree_with_labels r (items_of elsif_of parts)) last) in
     subst Q (all_joined-alone made) (f.so_far lowered.no_branch otherwise last (subst P (sym (drop_all n parts all)) (no-elsif scene last otherwise h)))
 
 -- ELSE, where there is one
-pub none_otherwise : (scene : Scene) (r : Resolution) (o : Option (Vec Statement Global)) (made : List code.Instruction) → o ≡ None → made ≡ [] → ElseLowers scene (sequence_of made) (tree_with_labels r (else_part_of o))
+pub none_otherwise : (scene : Scene) (r : Resolution) (o : Option (Vec Statement Global)) (made : List code.Instruction) → o ≡ None → made ≡ [] → LowersElse scene (sequence_of made) (tree_with_labels r (else_part_of o))
 none_otherwise scene r o made none_there none_made =
-    let P : Option (Vec Statement Global) → Type 0 = λ o. ElseLowers scene (sequence_of made) (tree_with_labels r (else_part_of o)) in
-    let Q : List code.Instruction → Type 0 = λ made. ElseLowers scene (sequence_of made) none in
+    let P : Option (Vec Statement Global) → Type 0 = λ o. LowersElse scene (sequence_of made) (tree_with_labels r (else_part_of o)) in
+    let Q : List code.Instruction → Type 0 = λ made. LowersElse scene (sequence_of made) none in
     subst P (sym none_there) (subst Q (sym none_made) (no-else scene))
 
-pub some_otherwise : (scene : Scene) (r : Resolution) (o : Option (Vec Statement Global)) (ss : Vec Statement Global) (made : List code.Instruction) → o ≡ Some ss → SequenceLowers scene (sequence_of made) (tree_with_labels r (sequence_of_list ss.items)) → ElseLowers scene (sequence_of made) (tree_with_labels r (else_part_of o))
+pub some_otherwise : (scene : Scene) (r : Resolution) (o : Option (Vec Statement Global)) (ss : Vec Statement Global) (made : List code.Instruction) → o ≡ Some ss → LowersSequence scene (sequence_of made) (tree_with_labels r (sequence_of_list ss.items)) → LowersElse scene (sequence_of made) (tree_with_labels r (else_part_of o))
 some_otherwise scene r o ss made there h =
-    let P : Option (Vec Statement Global) → Type 0 = λ o. ElseLowers scene (sequence_of made) (tree_with_labels r (else_part_of o)) in
+    let P : Option (Vec Statement Global) → Type 0 = λ o. LowersElse scene (sequence_of made) (tree_with_labels r (else_part_of o)) in
     subst P (sym there) (else-lowers scene (tree_with_labels r (sequence_of_list ss.items)) (sequence_of made) h)
 
 -- IF, made of its branches

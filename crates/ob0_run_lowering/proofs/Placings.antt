@@ -1,28 +1,28 @@
 -- Where what is in scope is placed, and what the code's table has of it.
 use Rattle.std.proofs.Common.{◌≡◌, ℕ, suc, ◌+◌, ◌-◌, ◌≤◌, ◌==◌, Bool, true, false, List, [], ◌∷◌, ◌++◌, map, Some, None, Option, option_and_then, if◌then◌else◌, refl, sym, ap, ◌∙◌, subst, arith, eqb-true, true≢false}
-use Rattle.ob0_tree.specs.Tree.{Tree, block, constant, declares_constant, declares_type, declares_variable, end, further_section, items, more, section, then_section, type_name, variable}
+use Rattle.ob0_tree.specs.Tree.{Tree, block, constant, declares_constant, declares_type, declares_variable, end, further_section, items, more, section, then_section, type_definition, variable}
 use Rattle.ob0_language_names.specs.Names.{Label, Name, naming_by_label, naming_by_spelling, as_written, declared, same_label}
 use Rattle.ob0_language_names.specs.Parts.{block_constants, block_types, constant_names, declared_type_names, names_in_list, section_names, section_type}
 use Rattle.ob0_language_names.specs.Scopes.{label_from_ordinal}
 use Rattle.ob0_types_table.specs.KnownTables.{Tables, declared_object_in}
-use Rattle.ob0_language_types.specs.Declarations.{declare_constants, declare_first, declare_types}
+use Rattle.ob0_language_types.specs.Declarations.{declare_constants, declare_constants_and_types, declare_types}
 use Rattle.ob0_language_types.specs.Environments.{environment_from_binding, meanings, newest_object}
 use Rattle.ob0_language_types.specs.Expressions.{Object, a_constant, a_procedure, a_type, a_variable}
-use Rattle.ob0_language_types.specs.Typing.{constant_value, constructor_count, denoted, type_of_object}
-use Rattle.ob0_language_types.specs.WellTyped.{Mode, Signature, TypeEnvironment, TypedParameter, bind_names, bind_typed_parameters, by_place, by_value, declare_typed, section_mode, typed_parameters}
+use Rattle.ob0_language_types.specs.Typing.{constant_value, constructor_count, denoted_type, type_of_object}
+use Rattle.ob0_language_types.specs.WellTyped.{Mode, Signature, TypeEnvironment, TypedParameter, bind_names, bind_typed_parameters, by_place, by_value, declare_typed_variables, section_mode, typed_parameters}
 use Rattle.ob0_language_types.proofs.Literals.{some_inverse}
 use Rattle.ob0_language_types.proofs.TypedElsewhere.{then_some}
 use Rattle.ob0_language_values.specs.Values.{Shape}
-use Rattle.ob0_run_cells.specs.Activations.{Placed, Placement, BindingPlace, at_target, first_slot, first_target, suffix_from_name, bind_to_nowhere, in_slot, inward_placement, inward_slot, inward_binding_place, nowhere, place_names, place_parameters, place_variables, slot_of, slot_in_placement, target_of, target_in_placement, place_name}
+use Rattle.ob0_run_cells.specs.Activations.{PlacementState, Placement, BindingPlace, at_target, first_slot, first_target, suffix_from_name, bind_to_nowhere, in_slot, inward_placement, inward_slot, inward_binding_place, nowhere, place_names, place_parameters, place_variables, slot_of, slot_in_placement, target_of, target_in_placement, place_name}
 use Rattle.ob0_run_cells.specs.Cells.{size}
 use Rattle.ob0_run_cells.specs.LoweredStatements.{Target}
-use Rattle.ob0_run_cells.specs.Lowering.{Slot, held, by_reference}
+use Rattle.ob0_run_cells.specs.Lowering.{Slot, in_activation, by_reference}
 use Rattle.ob0_run_lowering.specs.Scenes.{Sees, object_at, place_seen_from, site_at, slot_at, target_at}
 use Rattle.ob0_run_lowering.specs.declared.scene.Scene.{Scene}
 use Rattle.ob0_run_lowering.specs.declared.scene.Site.{Site}
 use Rattle.ob0_run_lowering.specs.declared.scene.Site.TheVariants as site
-use Rattle.ob0_run_lowering.specs.KnownBlocks.{AreDeclared, Objects}
-use Rattle.ob0_run_lowering.specs.Placed.{LocatesAll, PlacementMatches, PlaceSuits, LocatesAs, declared_size, first_binding_place, binding_place_in, place_each, place_groups, place_sections, sites_with_binding, optional_shape_size, site_depth}
+use Rattle.ob0_run_lowering.specs.KnownBlocks.{AreDeclared, ObjectByOrdinal}
+use Rattle.ob0_run_lowering.specs.PlacedNames.{LocatesAll, PlacementMatches, PlaceSuits, LocatesAs, declared_size, first_binding_place, binding_place_in, place_each, place_variable_declarations, place_sections, sites_with_binding, optional_shape_size, site_depth}
 
 -- bindings
 
@@ -54,7 +54,7 @@ holds_hidden sites d (x ∷ xs) placement h = holds_hidden sites d xs ((x, nowhe
 -- one activation further in
 
 seen_inward : (d : ℕ) (s : Site) → site_depth s ≤ d → place_seen_from (suc d) s ≡ inward_binding_place (place_seen_from d s)
-seen_inward d (site.Held at offset) le = let e : suc d - at ≡ suc (d - at) = omega arith in ap (λ up. in_slot (held up offset)) e
+seen_inward d (site.InActivation at offset) le = let e : suc d - at ≡ suc (d - at) = omega arith in ap (λ up. in_slot (in_activation up offset)) e
 seen_inward d (site.ByReference at index) le = let e : suc d - at ≡ suc (d - at) = omega arith in ap (λ up. in_slot (by_reference up index)) e
 seen_inward d (site.Procedure at index) le = let e : suc d - at ≡ suc (d - at) = omega arith in ap (λ up. at_target (record { procedure = index; up = up })) e
 seen_inward d _ le = refl
@@ -98,7 +98,7 @@ same_declared : (x : Label) (k : ℕ) → same_label x (declared k) ≡ true →
 same_declared (declared j) k h = ap declared (eqb-true j k h)
 same_declared (as_written n) k h = absurd (true≢false (sym h))
 
-declared_found : (objects : Objects) (env : TypeEnvironment Label) → AreDeclared objects env → (x : Label) (o : Object Shape Signature) → newest_object (environment_from_binding naming_by_label env x) ≡ Some o → (k : ℕ) × (x ≡ declared k) × (objects k ≡ Some o)
+declared_found : (objects : ObjectByOrdinal) (env : TypeEnvironment Label) → AreDeclared objects env → (x : Label) (o : Object Shape Signature) → newest_object (environment_from_binding naming_by_label env x) ≡ Some o → (k : ℕ) × (x ≡ declared k) × (objects k ≡ Some o)
 declared_found objects [] a x o h = absurd (cc)
 declared_found objects (b ∷ env) a x o h =
     (elim (same_label x b.0) as (λ t. same_label x b.0 ≡ t → newest_object (elim t [ true ↦ b ∷ env | false ↦ environment_from_binding naming_by_label env x ]) ≡ Some o → (k : ℕ) × (x ≡ declared k) × (objects k ≡ Some o)) [
@@ -146,102 +146,102 @@ constants_match (more (declares_constant x e) cs) env inner placement h m =
     let f = then_some (constant_value (meanings naming_by_label env) e) (λ v. declare_constants naming_by_label ((x, a_constant v) ∷ env) cs) inner h in
     constants_match cs ((x, a_constant f.0) ∷ env) inner ((x, nowhere) ∷ placement) f.2 (refl, tt, m)
 
-types_match : (ds : Tree Label (items type_name)) (k : ℕ) (env inner : TypeEnvironment Label) (placement : Placement Label) → declare_types naming_by_label env k ds ≡ Some inner → PlacementMatches env placement → PlacementMatches inner (bind_to_nowhere (declared_type_names ds) placement)
+types_match : (ds : Tree Label (items type_definition)) (k : ℕ) (env inner : TypeEnvironment Label) (placement : Placement Label) → declare_types naming_by_label env k ds ≡ Some inner → PlacementMatches env placement → PlacementMatches inner (bind_to_nowhere (declared_type_names ds) placement)
 unfolding declare_types
 types_match end k env inner placement h m = subst (λ e. PlacementMatches e placement) (some_inverse h) m
 types_match (more (declares_type x u) ds) k env inner placement h m =
-    let f = then_some (denoted (meanings naming_by_label env) k u) (λ s. declare_types naming_by_label ((x, a_type s) ∷ env) (k + constructor_count u) ds) inner h in
+    let f = then_some (denoted_type (meanings naming_by_label env) k u) (λ s. declare_types naming_by_label ((x, a_type s) ∷ env) (k + constructor_count u) ds) inner h in
     types_match ds (k + constructor_count u) ((x, a_type f.0) ∷ env) inner ((x, nowhere) ∷ placement) f.2 (refl, tt, m)
 
-pub first_match : (b : Tree Label block) (k : ℕ) (env first : TypeEnvironment Label) (placement : Placement Label) → declare_first naming_by_label env k b ≡ Some first → PlacementMatches env placement → PlacementMatches first (bind_to_nowhere (declared_type_names (block_types b)) (bind_to_nowhere (constant_names (block_constants b)) placement))
-unfolding declare_first
+pub first_match : (b : Tree Label block) (k : ℕ) (env first : TypeEnvironment Label) (placement : Placement Label) → declare_constants_and_types naming_by_label env k b ≡ Some first → PlacementMatches env placement → PlacementMatches first (bind_to_nowhere (declared_type_names (block_types b)) (bind_to_nowhere (constant_names (block_constants b)) placement))
+unfolding declare_constants_and_types
 first_match b k env first placement h m =
     let f = then_some (declare_constants naming_by_label env (block_constants b)) (λ e. declare_types naming_by_label e k (block_types b)) first h in
     types_match (block_types b) k f.0 first (bind_to_nowhere (constant_names (block_constants b)) placement) f.2 (constants_match (block_constants b) env f.0 placement f.1 m)
 
 -- names of one type
 
-pub names_before : (objects : Objects) (xs : List Label) (o : Object Shape Signature) (env : TypeEnvironment Label) → AreDeclared objects (bind_names xs o env) → AreDeclared objects env
+pub names_before : (objects : ObjectByOrdinal) (xs : List Label) (o : Object Shape Signature) (env : TypeEnvironment Label) → AreDeclared objects (bind_names xs o env) → AreDeclared objects env
 names_before objects [] o env a = a
 names_before objects (x ∷ xs) o env a = (names_before objects xs o ((x, o) ∷ env) a).1
 
 one_size : (t : Tables) (x : Label) (s : Shape) → ((k : ℕ) × (x ≡ declared k) × (declared_object_in t k ≡ Some (a_variable s))) → declared_size t x ≡ size s
 one_size t x s f = ap (declared_size t) f.1 ∙ ap (λ o. optional_shape_size (type_of_object o)) f.2
 
-names_placed : (t : Tables) (at : ℕ → Slot) (xs : List Label) (s : Shape) (env : TypeEnvironment Label) (p : Placed Label) → AreDeclared (declared_object_in t) (bind_names xs (a_variable s) env) → place_names at xs (size s) p ≡ place_each at (declared_size t) by_value xs p
+names_placed : (t : Tables) (at : ℕ → Slot) (xs : List Label) (s : Shape) (env : TypeEnvironment Label) (p : PlacementState Label) → AreDeclared (declared_object_in t) (bind_names xs (a_variable s) env) → place_names at xs (size s) p ≡ place_each at (declared_size t) by_value xs p
 names_placed t at [] s env p a = refl
 names_placed t at (x ∷ xs) s env p a =
     let head = names_before (declared_object_in t) xs (a_variable s) ((x, a_variable s) ∷ env) a in
     ap (λ n. place_names at xs (size s) (place_name at by_value x n p)) (sym (one_size t x s head.0))
     ∙ names_placed t at xs s ((x, a_variable s) ∷ env) (place_name at by_value x (declared_size t x) p) a
 
-one_matches : (at : ℕ → Slot) (mode : Mode) (x : Label) (n : ℕ) (s : Shape) (env : TypeEnvironment Label) (p : Placed Label) → PlacementMatches env p.placement → PlacementMatches ((x, a_variable s) ∷ env) (place_name at mode x n p).placement
+one_matches : (at : ℕ → Slot) (mode : Mode) (x : Label) (n : ℕ) (s : Shape) (env : TypeEnvironment Label) (p : PlacementState Label) → PlacementMatches env p.placement → PlacementMatches ((x, a_variable s) ∷ env) (place_name at mode x n p).placement
 one_matches at by_value x n s env p m = (refl, (at p.cells, refl), m)
 one_matches at by_place x n s env p m = (refl, (by_reference 0 p.reference_places, refl), m)
 
-names_match : (at : ℕ → Slot) (size_of : Label → ℕ) (mode : Mode) (xs : List Label) (s : Shape) (env : TypeEnvironment Label) (p : Placed Label) → PlacementMatches env p.placement → PlacementMatches (bind_names xs (a_variable s) env) (place_each at size_of mode xs p).placement
+names_match : (at : ℕ → Slot) (size_of : Label → ℕ) (mode : Mode) (xs : List Label) (s : Shape) (env : TypeEnvironment Label) (p : PlacementState Label) → PlacementMatches env p.placement → PlacementMatches (bind_names xs (a_variable s) env) (place_each at size_of mode xs p).placement
 names_match at size_of mode [] s env p m = m
 names_match at size_of mode (x ∷ xs) s env p m = names_match at size_of mode xs s ((x, a_variable s) ∷ env) (place_name at mode x (size_of x) p) (one_matches at mode x (size_of x) s env p m)
 
 -- the variables of a block
 
-groups_before : (objects : Objects) (gs : Tree Label (items variable)) (k : ℕ) (env inner : TypeEnvironment Label) → declare_typed naming_by_label k gs env ≡ Some inner → AreDeclared objects inner → AreDeclared objects env
-unfolding declare_typed
+groups_before : (objects : ObjectByOrdinal) (gs : Tree Label (items variable)) (k : ℕ) (env inner : TypeEnvironment Label) → declare_typed_variables naming_by_label k gs env ≡ Some inner → AreDeclared objects inner → AreDeclared objects env
+unfolding declare_typed_variables
 groups_before objects end k env inner h a = subst (AreDeclared objects) (sym (some_inverse h)) a
 groups_before objects (more (declares_variable ns u) gs) k env inner h a =
-    let f = then_some (denoted (meanings naming_by_label env) k u) (λ s. declare_typed naming_by_label (k + constructor_count u) gs (bind_names (names_in_list ns) (a_variable s) env)) inner h in
+    let f = then_some (denoted_type (meanings naming_by_label env) k u) (λ s. declare_typed_variables naming_by_label (k + constructor_count u) gs (bind_names (names_in_list ns) (a_variable s) env)) inner h in
     names_before objects (names_in_list ns) (a_variable f.0) env (groups_before objects gs (k + constructor_count u) (bind_names (names_in_list ns) (a_variable f.0) env) inner f.2 a)
 
-pub groups_placed : (t : Tables) (at : ℕ → Slot) (gs : Tree Label (items variable)) (k : ℕ) (env inner : TypeEnvironment Label) (p : Placed Label) → declare_typed naming_by_label k gs env ≡ Some inner → AreDeclared (declared_object_in t) inner
-    → place_variables naming_by_label at env k gs p ≡ Some (place_groups at (declared_size t) gs p)
-unfolding declare_typed place_variables
+pub groups_placed : (t : Tables) (at : ℕ → Slot) (gs : Tree Label (items variable)) (k : ℕ) (env inner : TypeEnvironment Label) (p : PlacementState Label) → declare_typed_variables naming_by_label k gs env ≡ Some inner → AreDeclared (declared_object_in t) inner
+    → place_variables naming_by_label at env k gs p ≡ Some (place_variable_declarations at (declared_size t) gs p)
+unfolding declare_typed_variables place_variables
 groups_placed t at end k env inner p h a = refl
 groups_placed t at (more (declares_variable ns u) gs) k env inner p h a =
-    let f = then_some (denoted (meanings naming_by_label env) k u) (λ s. declare_typed naming_by_label (k + constructor_count u) gs (bind_names (names_in_list ns) (a_variable s) env)) inner h in
+    let f = then_some (denoted_type (meanings naming_by_label env) k u) (λ s. declare_typed_variables naming_by_label (k + constructor_count u) gs (bind_names (names_in_list ns) (a_variable s) env)) inner h in
     let env' : TypeEnvironment Label = bind_names (names_in_list ns) (a_variable f.0) env in
     ap (option_and_then (λ s. place_variables naming_by_label at (bind_names (names_in_list ns) (a_variable s) env) (k + constructor_count u) gs (place_names at (names_in_list ns) (size s) p))) f.1
     ∙ ap (place_variables naming_by_label at env' (k + constructor_count u) gs) (names_placed t at (names_in_list ns) f.0 env p (groups_before (declared_object_in t) gs (k + constructor_count u) env' inner f.2 a))
     ∙ groups_placed t at gs (k + constructor_count u) env' inner (place_each at (declared_size t) by_value (names_in_list ns) p) f.2 a
 
-pub groups_match : (at : ℕ → Slot) (size_of : Label → ℕ) (gs : Tree Label (items variable)) (k : ℕ) (env inner : TypeEnvironment Label) (p : Placed Label) → declare_typed naming_by_label k gs env ≡ Some inner → PlacementMatches env p.placement → PlacementMatches inner (place_groups at size_of gs p).placement
-unfolding declare_typed
+pub groups_match : (at : ℕ → Slot) (size_of : Label → ℕ) (gs : Tree Label (items variable)) (k : ℕ) (env inner : TypeEnvironment Label) (p : PlacementState Label) → declare_typed_variables naming_by_label k gs env ≡ Some inner → PlacementMatches env p.placement → PlacementMatches inner (place_variable_declarations at size_of gs p).placement
+unfolding declare_typed_variables
 groups_match at size_of end k env inner p h m = subst (λ e. PlacementMatches e p.placement) (some_inverse h) m
 groups_match at size_of (more (declares_variable ns u) gs) k env inner p h m =
-    let f = then_some (denoted (meanings naming_by_label env) k u) (λ s. declare_typed naming_by_label (k + constructor_count u) gs (bind_names (names_in_list ns) (a_variable s) env)) inner h in
+    let f = then_some (denoted_type (meanings naming_by_label env) k u) (λ s. declare_typed_variables naming_by_label (k + constructor_count u) gs (bind_names (names_in_list ns) (a_variable s) env)) inner h in
     groups_match at size_of gs (k + constructor_count u) (bind_names (names_in_list ns) (a_variable f.0) env) inner (place_each at size_of by_value (names_in_list ns) p) f.2 (names_match at size_of by_value (names_in_list ns) f.0 env p m)
 
 -- parameters
 
-pub typed_before : (objects : Objects) (ps : List (TypedParameter Label)) (env : TypeEnvironment Label) → AreDeclared objects (bind_typed_parameters ps env) → AreDeclared objects env
+pub typed_before : (objects : ObjectByOrdinal) (ps : List (TypedParameter Label)) (env : TypeEnvironment Label) → AreDeclared objects (bind_typed_parameters ps env) → AreDeclared objects env
 typed_before objects [] env a = a
 typed_before objects (p ∷ ps) env a = (typed_before objects ps ((p.name, a_variable p.formal.shape) ∷ env) a).1
 
 abbrev of_section : Tree Label section → Shape → List Label → List (TypedParameter Label)
 of_section f s xs = map (λ x. record { name = x; formal = record { mode = section_mode f; shape = s } }) xs
 
-section_placed : (t : Tables) (f : Tree Label section) (s : Shape) (xs : List Label) (rest : List (TypedParameter Label)) (env : TypeEnvironment Label) (p : Placed Label) → AreDeclared (declared_object_in t) (bind_typed_parameters (of_section f s xs ++ rest) env)
-    → (place_parameters (of_section f s xs ++ rest) p ≡ place_parameters rest (place_each (held 0) (declared_size t) (section_mode f) xs p)) × AreDeclared (declared_object_in t) (bind_typed_parameters rest (bind_names xs (a_variable s) env))
+section_placed : (t : Tables) (f : Tree Label section) (s : Shape) (xs : List Label) (rest : List (TypedParameter Label)) (env : TypeEnvironment Label) (p : PlacementState Label) → AreDeclared (declared_object_in t) (bind_typed_parameters (of_section f s xs ++ rest) env)
+    → (place_parameters (of_section f s xs ++ rest) p ≡ place_parameters rest (place_each (in_activation 0) (declared_size t) (section_mode f) xs p)) × AreDeclared (declared_object_in t) (bind_typed_parameters rest (bind_names xs (a_variable s) env))
 section_placed t f s [] rest env p a = (refl, a)
 section_placed t f s (x ∷ xs) rest env p a =
     let head = typed_before (declared_object_in t) (of_section f s xs ++ rest) ((x, a_variable s) ∷ env) a in
-    let following = section_placed t f s xs rest ((x, a_variable s) ∷ env) (place_name (held 0) (section_mode f) x (declared_size t x) p) a in
-    (ap (λ n. place_parameters (of_section f s xs ++ rest) (place_name (held 0) (section_mode f) x n p)) (sym (one_size t x s head.0)) ∙ following.0, following.1)
+    let following = section_placed t f s xs rest ((x, a_variable s) ∷ env) (place_name (in_activation 0) (section_mode f) x (declared_size t x) p) a in
+    (ap (λ n. place_parameters (of_section f s xs ++ rest) (place_name (in_activation 0) (section_mode f) x n p)) (sym (one_size t x s head.0)) ∙ following.0, following.1)
 
-pub sections_placed : (t : Tables) (fs : Tree Label (items further_section)) (k : ℕ) (env outer : TypeEnvironment Label) (ps : List (TypedParameter Label)) (p : Placed Label) → typed_parameters naming_by_label env k fs ≡ Some ps → AreDeclared (declared_object_in t) (bind_typed_parameters ps outer)
-    → place_parameters ps p ≡ place_sections (held 0) (declared_size t) fs p
+pub sections_placed : (t : Tables) (fs : Tree Label (items further_section)) (k : ℕ) (env outer : TypeEnvironment Label) (ps : List (TypedParameter Label)) (p : PlacementState Label) → typed_parameters naming_by_label env k fs ≡ Some ps → AreDeclared (declared_object_in t) (bind_typed_parameters ps outer)
+    → place_parameters ps p ≡ place_sections (in_activation 0) (declared_size t) fs p
 unfolding typed_parameters
 sections_placed t end k env outer ps p h a = ap (λ qs. place_parameters qs p) (sym (some_inverse h))
 sections_placed t (more (then_section f) fs) k env outer ps p h a =
     let xs : List Label = section_names f in
-    let one = then_some (denoted (meanings naming_by_label env) k (section_type f))
+    let one = then_some (denoted_type (meanings naming_by_label env) k (section_type f))
     (λ s. option_and_then (λ rest. Some (of_section f s xs ++ rest)) (typed_parameters naming_by_label (bind_names xs (a_variable s) env) (k + constructor_count (section_type f)) fs)) ps h in
     let two = then_some (typed_parameters naming_by_label (bind_names xs (a_variable one.0) env) (k + constructor_count (section_type f)) fs) (λ rest. Some (of_section f one.0 xs ++ rest)) ps one.2 in
     let whole : of_section f one.0 xs ++ two.0 ≡ ps = some_inverse two.2 in
     let r = section_placed t f one.0 xs two.0 outer p (subst (λ qs. AreDeclared (declared_object_in t) (bind_typed_parameters qs outer)) (sym whole) a) in
     ap (λ qs. place_parameters qs p) (sym whole) ∙ r.0
-    ∙ sections_placed t fs (k + constructor_count (section_type f)) (bind_names xs (a_variable one.0) env) (bind_names xs (a_variable one.0) outer) two.0 (place_each (held 0) (declared_size t) (section_mode f) xs p) two.1 r.1
+    ∙ sections_placed t fs (k + constructor_count (section_type f)) (bind_names xs (a_variable one.0) env) (bind_names xs (a_variable one.0) outer) two.0 (place_each (in_activation 0) (declared_size t) (section_mode f) xs p) two.1 r.1
 
-pub parameters_match : (ps : List (TypedParameter Label)) (env : TypeEnvironment Label) (p : Placed Label) → PlacementMatches env p.placement → PlacementMatches (bind_typed_parameters ps env) (place_parameters ps p).placement
+pub parameters_match : (ps : List (TypedParameter Label)) (env : TypeEnvironment Label) (p : PlacementState Label) → PlacementMatches env p.placement → PlacementMatches (bind_typed_parameters ps env) (place_parameters ps p).placement
 parameters_match [] env p m = m
 parameters_match (q ∷ ps) env p m =
-    parameters_match ps ((q.name, a_variable q.formal.shape) ∷ env) (place_name (held 0) q.formal.mode q.name (size q.formal.shape) p) (one_matches (held 0) q.formal.mode q.name (size q.formal.shape) q.formal.shape env p m)
+    parameters_match ps ((q.name, a_variable q.formal.shape) ∷ env) (place_name (in_activation 0) q.formal.mode q.name (size q.formal.shape) p) (one_matches (in_activation 0) q.formal.mode q.name (size q.formal.shape) q.formal.shape env p m)

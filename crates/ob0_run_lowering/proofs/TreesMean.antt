@@ -1,11 +1,11 @@
 -- The code of a tree means the tree, wherever the scene is right.
 use Rattle.std.proofs.Common.{◌≡◌, ℕ, Bool, true, ℤ, pos, Some, None, Option, option_and_then, option_map, sym, refl, ap, ◌∙◌, subst}
 use Rattle.ob0_tree.specs.Tree.{Tree, addend, adds, compares, designator, end, expression, factor, field, index, integer, item, items, more, multiplier, multiplies, negation, none, one, parenthesised, product, relates, selector, simple, sum, term}
-use Rattle.ob0_tree.specs.Places.{value_at}
+use Rattle.ob0_tree.specs.Places.{token_value_at}
 use Rattle.ob0_language_names.specs.Names.{Label, label_text}
 use Rattle.ob0_scope_table.specs.LabelledTrees.{tree_with_labels, label_at_token}
 use Rattle.ob0_language_types.specs.Expressions.{Meanings, Object, a_constant, a_variable}
-use Rattle.ob0_language_types.specs.Typing.{addition_type, negation_type, constant_of, element_type, field_type, multiplication_type, object_type, relation_type, sign_type, type_at, type_of, type_of_addends, type_of_factor, type_of_multipliers, type_of_simple, type_of_term, value_type}
+use Rattle.ob0_language_types.specs.Typing.{addition_type, negation_type, constant_of, element_type, field_type, multiplication_type, object_type, relation_type, sign_type, type_after_selectors, type_of, type_of_addends, type_of_factor, type_of_multipliers, type_of_simple, type_of_term, value_type}
 use Rattle.ob0_language_types.specs.WellTyped.{Signature, TypeMeanings}
 use Rattle.ob0_language_types.proofs.TypedElsewhere.{then_some}
 use Rattle.ob0_language_types.proofs.Literals.{some_inverse}
@@ -30,34 +30,34 @@ found_at q s = record { place = q; shape = s }
 
 -- a constant has no selectors
 
-integer-alone : {N P : Type 0} (meaning : Meanings N Shape P) (s : Tree N (item selector)) (rest : Tree N (items selector)) → type_at meaning integer_shape (more s rest) ≡ None
+integer-alone : {N P : Type 0} (meaning : Meanings N Shape P) (s : Tree N (item selector)) (rest : Tree N (items selector)) → type_after_selectors meaning integer_shape (more s rest) ≡ None
 unfolding type_of
 integer-alone meaning (field x) rest = refl
-integer-alone meaning (index e) rest = elim (type_of meaning e) as (λ o. option_and_then (λ i. option_and_then (λ t. type_at meaning t rest) (element_type integer_shape i)) o ≡ None) [ None ↦ refl | Some i ↦ refl ]
+integer-alone meaning (index e) rest = elim (type_of meaning e) as (λ o. option_and_then (λ i. option_and_then (λ t. type_after_selectors meaning t rest) (element_type integer_shape i)) o ≡ None) [ None ↦ refl | Some i ↦ refl ]
 
-boolean-alone : {N P : Type 0} (meaning : Meanings N Shape P) (s : Tree N (item selector)) (rest : Tree N (items selector)) → type_at meaning boolean_shape (more s rest) ≡ None
+boolean-alone : {N P : Type 0} (meaning : Meanings N Shape P) (s : Tree N (item selector)) (rest : Tree N (items selector)) → type_after_selectors meaning boolean_shape (more s rest) ≡ None
 unfolding type_of
 boolean-alone meaning (field x) rest = refl
-boolean-alone meaning (index e) rest = elim (type_of meaning e) as (λ o. option_and_then (λ i. option_and_then (λ t. type_at meaning t rest) (element_type boolean_shape i)) o ≡ None) [ None ↦ refl | Some i ↦ refl ]
+boolean-alone meaning (index e) rest = elim (type_of meaning e) as (λ o. option_and_then (λ i. option_and_then (λ t. type_after_selectors meaning t rest) (element_type boolean_shape i)) o ≡ None) [ None ↦ refl | Some i ↦ refl ]
 
-type-end : {N P : Type 0} (meaning : Meanings N Shape P) (x s : Shape) → type_at meaning x end ≡ Some s → x ≡ s
+type-end : {N P : Type 0} (meaning : Meanings N Shape P) (x s : Shape) → type_after_selectors meaning x end ≡ Some s → x ≡ s
 unfolding type_of
 type-end meaning x s h = some_inverse h
 
 module _ (checked : TypeMeanings Label) (slots : Label → Slot) where
   -- the code of a constant
 
-  number-constant : (x : Label) (n : ℤ) (path : Tree Label (items selector)) (s : Shape) → checked.object_for x ≡ Some (a_constant (number n)) → type_at checked integer_shape path ≡ Some s
+  number-constant : (x : Label) (n : ℤ) (path : Tree Label (items selector)) (s : Shape) → checked.object_for x ≡ Some (a_constant (number n)) → type_after_selectors checked integer_shape path ≡ Some s
       → CodeMeans checked slots (a_number (lowered.literal n)) s (value_of_factor (designator x path))
   number-constant x n end s e h = subst (λ s. CodeMeans checked slots (a_number (lowered.literal n)) s (value_of_factor (designator x end))) (type-end checked integer_shape s h) (places.number-constant checked slots x n e)
   number-constant x n (more a rest) s e h = let no_type : None ≡ Some s = sym (integer-alone checked a rest) ∙ h in absurd (cc)
 
-  truth-constant : (x : Label) (b : Bool) (path : Tree Label (items selector)) (s : Shape) → checked.object_for x ≡ Some (a_constant (truth b)) → type_at checked boolean_shape path ≡ Some s
+  truth-constant : (x : Label) (b : Bool) (path : Tree Label (items selector)) (s : Shape) → checked.object_for x ≡ Some (a_constant (truth b)) → type_after_selectors checked boolean_shape path ≡ Some s
       → CodeMeans checked slots (a_truth (lowered.constant b)) s (value_of_factor (designator x path))
   truth-constant x b end s e h = subst (λ s. CodeMeans checked slots (a_truth (lowered.constant b)) s (value_of_factor (designator x end))) (type-end checked boolean_shape s h) (places.truth-constant checked slots x b e)
   truth-constant x b (more a rest) s e h = let no_type : None ≡ Some s = sym (boolean-alone checked a rest) ∙ h in absurd (cc)
 
-  constant-means : (x : Label) (v : Value) (path : Tree Label (items selector)) (s : Shape) → checked.object_for x ≡ Some (a_constant v) → option_and_then (λ t. type_at checked t path) (value_type v) ≡ Some s
+  constant-means : (x : Label) (v : Value) (path : Tree Label (items selector)) (s : Shape) → checked.object_for x ≡ Some (a_constant v) → option_and_then (λ t. type_after_selectors checked t path) (value_type v) ≡ Some s
       → CodeMeans checked slots (constant_code v) s (value_of_factor (designator x path))
   constant-means x (number n) path s e h = number-constant x n path s e h
   constant-means x (truth b) path s e h = truth-constant x b path s e h
@@ -101,11 +101,11 @@ module _ (scene : Scene) (checked : TypeMeanings Label) (slots : Label → Slot)
   -- the place at the end of a path
   abbrev Selected : Tree ℕ (items selector) → Type 0
   Selected path =
-      (q : lowered.Place) (z s : Shape) (whole : OutcomeByMoment Label Place) → PlaceStartsChain checked slots q z (tree_with_labels scene.resolved.now path) whole → type_at checked z (tree_with_labels scene.resolved.now path) ≡ Some s
+      (q : lowered.Place) (z s : Shape) (whole : OutcomeByMoment Label Place) → PlaceStartsChain checked slots q z (tree_with_labels scene.resolved.now path) whole → type_after_selectors checked z (tree_with_labels scene.resolved.now path) ≡ Some s
       → (p : lowered.Place) × (selected_place scene (Some (found_at q z)) (tree_with_labels scene.resolved.now path) ≡ Some (found_at p s)) × PlaceMeans checked slots p s whole
 
   -- the place of a variable with its selectors
-  variable-means : (x : Label) (path : Tree ℕ (items selector)) (s v : Shape) → Selected path → checked.object_for x ≡ Some (a_variable v) → type_at checked v (tree_with_labels scene.resolved.now path) ≡ Some s
+  variable-means : (x : Label) (path : Tree ℕ (items selector)) (s v : Shape) → Selected path → checked.object_for x ≡ Some (a_variable v) → type_after_selectors checked v (tree_with_labels scene.resolved.now path) ≡ Some s
       → (q : lowered.Place) × (selected_place scene (base_place scene x) (tree_with_labels scene.resolved.now path) ≡ Some (found_at q s)) × PlaceMeans checked slots q s (place_of_designator x (tree_with_labels scene.resolved.now path))
   variable-means x path s v selected e h =
       let here = sees.variables x v e in
@@ -113,7 +113,7 @@ module _ (scene : Scene) (checked : TypeMeanings Label) (slots : Label → Slot)
       let (q, eq, hq) = selected (slot_place (slot_at scene x)) v s (place_of_designator x (tree_with_labels scene.resolved.now path)) leads h in
       (q, ap (λ o. selected_place scene (variable_place (slot_place (slot_at scene x)) o) (tree_with_labels scene.resolved.now path)) (sees.bound x (a_variable v) e) ∙ eq, hq)
 
-  named-means : (x : Label) (path : Tree ℕ (items selector)) (s : Shape) (o : Option (Object Shape Signature)) → Selected path → checked.object_for x ≡ o → option_and_then (λ t. type_at checked t (tree_with_labels scene.resolved.now path)) (object_type o) ≡ Some s
+  named-means : (x : Label) (path : Tree ℕ (items selector)) (s : Shape) (o : Option (Object Shape Signature)) → Selected path → checked.object_for x ≡ o → option_and_then (λ t. type_after_selectors checked t (tree_with_labels scene.resolved.now path)) (object_type o) ≡ Some s
       → CodeMeans checked slots (named_code (constant_of (object_at scene.types.now x)) (selected_place scene (base_place scene x) (tree_with_labels scene.resolved.now path))) s (value_of_factor (designator x (tree_with_labels scene.resolved.now path)))
   named-means x path s (Some (a_variable v)) selected e h =
       let (q, eq, hq) = variable-means x path s v selected e h in
@@ -171,27 +171,27 @@ module _ (scene : Scene) (checked : TypeMeanings Label) (slots : Label → Slot)
 
     pub factor-means : (f : Tree ℕ factor) (s : Shape) → type_of_factor checked (tree_with_labels scene.resolved.now f) ≡ Some s → CodeMeans checked slots (factor_code scene (tree_with_labels scene.resolved.now f)) s (value_of_factor (tree_with_labels scene.resolved.now f))
     factor-means (designator x path) s h = named-means (label_at_token scene.resolved.now x) path s (checked.object_for (label_at_token scene.resolved.now x)) (λ q z s whole. selected-means q z path s whole) refl h
-    factor-means (integer n) s h = subst (λ s. CodeMeans checked slots (a_number (lowered.literal (pos (value_at scene.resolved.now.module_read.source n)))) s (value_of_factor (integer (value_at scene.resolved.now.module_read.source n)))) (some_inverse h) (integer-means checked slots (value_at scene.resolved.now.module_read.source n))
+    factor-means (integer n) s h = subst (λ s. CodeMeans checked slots (a_number (lowered.literal (pos (token_value_at scene.resolved.now.module_read.source n)))) s (value_of_factor (integer (token_value_at scene.resolved.now.module_read.source n)))) (some_inverse h) (integer-means checked slots (token_value_at scene.resolved.now.module_read.source n))
     factor-means (parenthesised e) s h = parenthesised-means checked slots (expression_code scene (tree_with_labels scene.resolved.now e)) s (tree_with_labels scene.resolved.now e) (expression-means e s h)
     factor-means (negation f) s h =
         let (x, ex, h₁) = then_some (type_of_factor checked (tree_with_labels scene.resolved.now f)) negation_type s h in
         negation_code-means checked slots (tree_with_labels scene.resolved.now f) (factor_code scene (tree_with_labels scene.resolved.now f)) x s h₁ (factor-means f x ex)
 
-    selected-means : (q : lowered.Place) (z : Shape) (path : Tree ℕ (items selector)) (s : Shape) (whole : OutcomeByMoment Label Place) → PlaceStartsChain checked slots q z (tree_with_labels scene.resolved.now path) whole → type_at checked z (tree_with_labels scene.resolved.now path) ≡ Some s
+    selected-means : (q : lowered.Place) (z : Shape) (path : Tree ℕ (items selector)) (s : Shape) (whole : OutcomeByMoment Label Place) → PlaceStartsChain checked slots q z (tree_with_labels scene.resolved.now path) whole → type_after_selectors checked z (tree_with_labels scene.resolved.now path) ≡ Some s
         → (p : lowered.Place) × (selected_place scene (Some (found_at q z)) (tree_with_labels scene.resolved.now path) ≡ Some (found_at p s)) × PlaceMeans checked slots p s whole
     selected-means q z end s whole leads h = (q, ap (λ s. Some (found_at q s)) (some_inverse h), subst (λ s. PlaceMeans checked slots q s whole) (some_inverse h) (places.selectors-end checked slots q z whole leads))
     selected-means q z (more (field x) rest) s whole leads h =
-        let (t, et, h₁) = then_some (field_type z (checked.written (label_at_token scene.resolved.now x))) (λ t. type_at checked t (tree_with_labels scene.resolved.now rest)) s h in
+        let (t, et, h₁) = then_some (field_type z (checked.written (label_at_token scene.resolved.now x))) (λ t. type_after_selectors checked t (tree_with_labels scene.resolved.now rest)) s h in
         let (p, ep, leads₁) = field-step checked slots sees.written q z (label_at_token scene.resolved.now x) t (tree_with_labels scene.resolved.now rest) whole leads et in
         let (p', ep', hp') = selected-means p t rest s whole leads₁ h₁ in
         (p', ap (λ o. selected_place scene o (tree_with_labels scene.resolved.now rest)) ep ∙ ep', hp')
     selected-means q z (more (index e) rest) s whole leads h =
-        let (i, ei, h₁) = then_some (type_of checked (tree_with_labels scene.resolved.now e)) (λ i. option_and_then (λ t. type_at checked t (tree_with_labels scene.resolved.now rest)) (element_type z i)) s h in
-        let (t, et, h₂) = then_some (element_type z i) (λ t. type_at checked t (tree_with_labels scene.resolved.now rest)) s h₁ in
+        let (i, ei, h₁) = then_some (type_of checked (tree_with_labels scene.resolved.now e)) (λ i. option_and_then (λ t. type_after_selectors checked t (tree_with_labels scene.resolved.now rest)) (element_type z i)) s h in
+        let (t, et, h₂) = then_some (element_type z i) (λ t. type_after_selectors checked t (tree_with_labels scene.resolved.now rest)) s h₁ in
         let (p, ep, leads₁) = element-step checked slots (expression_code scene (tree_with_labels scene.resolved.now e)) q z i t (tree_with_labels scene.resolved.now e) (tree_with_labels scene.resolved.now rest) whole leads et (expression-means e i ei) in
         let (p', ep', hp') = selected-means p t rest s whole leads₁ h₂ in
         (p', ap (λ o. selected_place scene o (tree_with_labels scene.resolved.now rest)) ep ∙ ep', hp')
 
-  pub located-means : (x : Label) (path : Tree ℕ (items selector)) (s v : Shape) → checked.object_for x ≡ Some (a_variable v) → type_at checked v (tree_with_labels scene.resolved.now path) ≡ Some s
+  pub located-means : (x : Label) (path : Tree ℕ (items selector)) (s v : Shape) → checked.object_for x ≡ Some (a_variable v) → type_after_selectors checked v (tree_with_labels scene.resolved.now path) ≡ Some s
       → (q : lowered.Place) × (selected_place scene (base_place scene x) (tree_with_labels scene.resolved.now path) ≡ Some (found_at q s)) × PlaceMeans checked slots q s (place_of_designator x (tree_with_labels scene.resolved.now path))
   located-means x path s v e h = variable-means x path s v (λ q z s whole. selected-means q z path s whole) e h

@@ -10,15 +10,15 @@ use Rattle.std.specs.Prelude.{◌≡◌, ℕ, ◌≤◌, true, List, length, Som
 use Rattle.ob0_tree.specs.Tree.{Tree, block, body, items, maybe, procedure}
 use Rattle.ob0_language_names.specs.Names.{Label, naming_by_label}
 use Rattle.ob0_types_table.specs.KnownTables.{Tables, declared_object_in}
-use Rattle.ob0_language_types.specs.WellTyped.{TypeEnvironment, block_fits, procedures_fit}
+use Rattle.ob0_language_types.specs.WellTyped.{TypeEnvironment, block_is_well_typed, procedures_are_well_typed}
 use Rattle.ob0_run_machine.specs.Lowered as lowered
 use Rattle.ob0_run_machine.specs.View.{procedure_of, sequence_of}
 use Rattle.ob0_run_machine.specs.declared.code.Routine.{Routine}
-use Rattle.ob0_run_cells.specs.Activations.{BlockMeans, Placed, Placement, ProceduresMean, label_table}
+use Rattle.ob0_run_cells.specs.Activations.{CodeMeansBlock, PlacementState, Placement, RoutinesMeanProcedures, label_table}
 use Rattle.ob0_run_cells.specs.Lowering.{Slot}
 use Rattle.ob0_run_lowering.specs.declared.scene.Site.{Site}
 use Rattle.ob0_run_lowering.specs.KnownBlocks.{AreDeclared, BlockIsDeclared, ProceduresAreDeclared}
-use Rattle.ob0_run_lowering.specs.Placed.{Follows, LocatesAll, IsFrame, PlacementMatches, variable_slot}
+use Rattle.ob0_run_lowering.specs.PlacedNames.{Follows, LocatesAll, IsFrame, PlacementMatches, variable_slot}
 use Rattle.ob0_run_lowering.specs.declared.programs.Lowering.{Lowering}
 use Rattle.ob0_run_lowering.specs.declared.visible_sites.Frame.{Frame}
 
@@ -51,7 +51,7 @@ pub record Ready (t : Tables) (sites : List Site) (depth : ℕ) (s : BlockState)
   pub declared_there : AreDeclared (declared_object_in t) s.env
   pub matches : PlacementMatches s.env s.placement
   pub holds : LocatesAll sites depth s.placement
-  pub fits : procedures_fit naming_by_label s.env s.next statements ps ≡ true
+  pub fits : procedures_are_well_typed naming_by_label s.env s.next statements ps ≡ true
   pub declared_following : ProceduresAreDeclared (declared_object_in t) s.env s.next ps
 
 -- States that the routines of a table mean the remaining procedures of a block, and that `code`
@@ -63,7 +63,7 @@ abbrev pub RestOfBlockMeans : List lowered.Routine
     → Tree Label (items procedure)
     → Type 0
 RestOfBlockMeans table s code statements ps =
-    ProceduresMean (label_table table) s.env s.placement s.next code statements ps
+    RoutinesMeanProcedures (label_table table) s.env s.placement s.next code statements ps
 
 -- States that the procedures `ps` of a block are lowered from a state, except the procedures `left`
 -- at their end. This results in the state `now`. The added routines and any code that means `left`
@@ -92,10 +92,10 @@ pub record LowersProcedures (t : Tables) (w v : Lowering) (depth : ℕ) (ps left
 -- States that the routine `entry` means a block, in each table that has the procedures that were
 -- added while the block was lowered.
 pub record MeansBlock (w v : Lowering) (f : Frame) (b : Tree Label block) (entry : Routine)
-    (env : TypeEnvironment Label) (p : Placed Label) (k : ℕ) : Type 0 where
+    (env : TypeEnvironment Label) (p : PlacementState Label) (k : ℕ) : Type 0 where
   pub means : (table : List lowered.Routine)
       → HasRoutinesFrom table (length w.procedures.items) v.procedures.items
-      → BlockMeans (label_table table) (variable_slot f.depth) env p k entry.cells
+      → CodeMeansBlock (label_table table) (variable_slot f.depth) env p k entry.cells
       (sequence_of entry.body.items) b
 
 -- States that the routine `entry` means a block, if the block is well-typed and the names in scope
@@ -103,10 +103,10 @@ pub record MeansBlock (w v : Lowering) (f : Frame) (b : Tree Label block) (entry
 -- grow.
 pub record LowersBlock (t : Tables) (w v : Lowering) (f : Frame) (b : Tree Label block)
     (entry : Routine) : Type 0 where
-  pub on : (env : TypeEnvironment Label) (p : Placed Label) (k : ℕ)
+  pub on : (env : TypeEnvironment Label) (p : PlacementState Label) (k : ℕ)
       → PlacementMatches env p.placement
       → IsFrame w.visible.sites.items f p
-      → block_fits naming_by_label env k b ≡ true
+      → block_is_well_typed naming_by_label env k b ≡ true
       → BlockIsDeclared (declared_object_in t) env k b
       → MeansBlock w v f b entry env p k
   pub follows : Follows w.visible v.visible

@@ -113,11 +113,11 @@ negation_code _ = no_code
 
 -- Returns the code of a relation between two numbers, or of `=` or `#` between two truths. Returns
 -- `no_code` for any other operands or relation.
-abbrev pub related : Relation → ExpressionCode → ExpressionCode → ExpressionCode
-related r (a_number m) (a_number n) = a_truth (lowered.related (relation_of r) m n)
-related relation.Equal (a_truth t) (a_truth u) = a_truth (lowered.same t u)
-related relation.NotEqual (a_truth t) (a_truth u) = a_truth (lowered.different t u)
-related _ _ _ = no_code
+abbrev pub relation_code : Relation → ExpressionCode → ExpressionCode → ExpressionCode
+relation_code r (a_number m) (a_number n) = a_truth (lowered.related (relation_of r) m n)
+relation_code relation.Equal (a_truth t) (a_truth u) = a_truth (lowered.same t u)
+relation_code relation.NotEqual (a_truth t) (a_truth u) = a_truth (lowered.different t u)
+relation_code _ _ _ = no_code
 
 -- Returns the offset of an array's element, in cells, if the index is a literal below the array's
 -- length. Returns None for any other index.

@@ -8,32 +8,32 @@
 use Rattle.std.specs.Prelude.{◌≡◌, ℕ, [], ◌∷◌, Some, Option}
 use Rattle.ob0_tree.specs.Tree.{Tree, block, items, procedure}
 use Rattle.ob0_language_names.specs.Names.{Label, declared}
-use Rattle.ob0_language_types.specs.Bodies.{BlockHas, ProceduresHave}
+use Rattle.ob0_language_types.specs.Bodies.{HoldsInBlock, HoldsInProcedures}
 use Rattle.ob0_language_types.specs.Expressions.{Object}
 use Rattle.ob0_language_types.specs.WellTyped.{Signature, TypeEnvironment}
 use Rattle.ob0_language_values.specs.Values.{Shape}
 
 -- The type of a module's declarations as a function: from an ordinal to the declaration's object,
 -- or to None if no object has this ordinal.
-abbrev pub Objects : Type 0
-Objects = ℕ → Option (Object Shape Signature)
+abbrev pub ObjectByOrdinal : Type 0
+ObjectByOrdinal = ℕ → Option (Object Shape Signature)
 
 -- States that each binding of an environment binds an ordinal to the object of the declaration with
 -- this ordinal.
-abbrev pub AreDeclared : Objects → TypeEnvironment Label → Type 0
+abbrev pub AreDeclared : ObjectByOrdinal → TypeEnvironment Label → Type 0
 AreDeclared objects [] = Unit {0}
 AreDeclared objects (b ∷ env) =
     ((k : ℕ) × (b.0 ≡ declared k) × (objects k ≡ Some b.1)) × AreDeclared objects env
 
 -- States `AreDeclared` for each environment in which procedures and statements of a block are
 -- checked. This includes the environments of all blocks inside this block.
-abbrev pub BlockIsDeclared : Objects → TypeEnvironment Label → ℕ → Tree Label block → Type 0
-BlockIsDeclared objects = BlockHas (AreDeclared objects)
+abbrev pub BlockIsDeclared : ObjectByOrdinal → TypeEnvironment Label → ℕ → Tree Label block → Type 0
+BlockIsDeclared objects = HoldsInBlock (AreDeclared objects)
 
 -- States `AreDeclared` for each environment in which these procedures and their blocks are checked.
-abbrev pub ProceduresAreDeclared : Objects
+abbrev pub ProceduresAreDeclared : ObjectByOrdinal
     → TypeEnvironment Label
     → ℕ
     → Tree Label (items procedure)
     → Type 0
-ProceduresAreDeclared objects = ProceduresHave (AreDeclared objects)
+ProceduresAreDeclared objects = HoldsInProcedures (AreDeclared objects)

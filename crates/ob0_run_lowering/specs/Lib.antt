@@ -1,11 +1,11 @@
 pub mod Layouts
 pub mod Scenes
 pub mod Codes
-pub mod Rows
+pub mod TruthDepths
 pub mod Trees
 pub mod LoweredMeans
 pub mod Parts
 pub mod LoweredBodies
 pub mod KnownBlocks
-pub mod Placed
+pub mod PlacedNames
 pub mod Blocks

@@ -1,9 +1,9 @@
 -- States that statements are lowered to code that means them in a scene. `HoldsInScene` is the form
--- of every clause about statements except the clause of `body`. A clause of this form is about all
+-- of every clause about statements except the clause of `lower_body`. A clause of this form is about all
 -- checked names, slots and targets that agree with the scene (`Sees`). It says that the code of a
 -- tree means the tree, if the tree is well-typed (*fits*) with these names. Each law of
 -- `ob0_run_cells` is lifted to this form once (`proofs/HoldsInScene`): if the whole fits, its parts
--- fit. The clause of `body` states the meaning of a body by `BodyMeans` of `ob0_run_cells`. This
+-- fit. The clause of `lower_body` states the meaning of a body by `CodeMeansBody` of `ob0_run_cells`. This
 -- clause is about each environment and each placement that agree with the scene, if the body fits.
 -- A tree that occurs in no well-typed module doesn't fit, so a clause about this tree holds for any
 -- code.
@@ -15,10 +15,10 @@ use Rattle.ob0_tree.specs.Tree.{Tree, body, else_part, elsif_part, empty, expres
 use Rattle.ob0_tree.specs.declared.tree.Expression.{Expression}
 use Rattle.ob0_language_names.specs.Names.{Label, naming_by_label}
 use Rattle.ob0_language_types.specs.Environments.{meanings}
-use Rattle.ob0_language_types.specs.WellTyped.{Signature, TypeEnvironment, TypeMeanings, arguments_fit, body_fits, condition_fits, else_fits, elsifs_fit, sequence_fits, statement_fits, statements_fit}
+use Rattle.ob0_language_types.specs.WellTyped.{Signature, TypeEnvironment, TypeMeanings, arguments_match, body_is_well_typed, condition_is_boolean, else_is_well_typed, elsifs_are_well_typed, sequence_is_well_typed, statement_is_well_typed, further_statements_are_well_typed}
 use Rattle.ob0_run_machine.specs.Lowered as lowered
-use Rattle.ob0_run_cells.specs.Activations.{BodyMeans, Placement, slot_in_placement, target_in_placement}
-use Rattle.ob0_run_cells.specs.LoweredStatements.{ArgumentsMean, ElseMeans, ElsifsMean, FurtherStatementsMean, SequenceMeans, StatementMeans, Target}
+use Rattle.ob0_run_cells.specs.Activations.{CodeMeansBody, Placement, slot_in_placement, target_in_placement}
+use Rattle.ob0_run_cells.specs.LoweredStatements.{CodeMeansArguments, CodeMeansElse, CodeMeansElsifs, CodeMeansFurtherStatements, CodeMeansSequence, CodeMeansStatement, Target}
 use Rattle.ob0_run_cells.specs.Lowering.{Slot, TruthMeans, value_of_expression}
 use Rattle.ob0_run_lowering.specs.declared.scene.Scene.{Scene}
 use Rattle.ob0_run_lowering.specs.Scenes.{Sees}
@@ -36,26 +36,26 @@ HoldsInScene scene fits Means =
     → Means checked slots targets
 
 -- States that a truth of lowered code means a condition in a scene.
-abbrev pub ConditionLowers : Scene → lowered.Truth → Tree Label expression → Type 0
-ConditionLowers scene t e =
-    HoldsInScene scene (λ checked. condition_fits checked e)
+abbrev pub LowersCondition : Scene → lowered.Truth → Tree Label expression → Type 0
+LowersCondition scene t e =
+    HoldsInScene scene (λ checked. condition_is_boolean checked e)
     (λ checked slots targets. TruthMeans checked slots t (value_of_expression e))
 
 -- States that lowered arguments mean the arguments of a call in a scene.
-abbrev pub ArgumentsLower : Scene
+abbrev pub LowersArguments : Scene
     → Signature
     → List lowered.LoweredArgument
     → List (Tree Label expression)
     → Type 0
-ArgumentsLower scene signature cs es =
-    HoldsInScene scene (λ checked. arguments_fit checked signature es)
-    (λ checked slots targets. ArgumentsMean checked slots signature cs es)
+LowersArguments scene signature cs es =
+    HoldsInScene scene (λ checked. arguments_match checked signature es)
+    (λ checked slots targets. CodeMeansArguments checked slots signature cs es)
 
 -- States that an instruction means a statement in a scene.
-abbrev pub StatementLowers : Scene → lowered.Instruction → Tree Label statement → Type 0
-StatementLowers scene c a =
-    HoldsInScene scene (λ checked. statement_fits checked a)
-    (λ checked slots targets. StatementMeans checked slots targets c a)
+abbrev pub LowersStatement : Scene → lowered.Instruction → Tree Label statement → Type 0
+LowersStatement scene c a =
+    HoldsInScene scene (λ checked. statement_is_well_typed checked a)
+    (λ checked slots targets. CodeMeansStatement checked slots targets c a)
 
 -- Returns the arguments of a call. Returns the empty list if the call has no argument list.
 abbrev pub given_arguments : Option (Vec Expression Global) → List Expression
@@ -64,48 +64,48 @@ given_arguments (Some es) = es.items
 
 -- States that an instruction means a statement in a scene. For None, states that the statement is
 -- empty.
-abbrev pub OptionalStatementLowers : Scene → Option lowered.Instruction → Tree Label statement → Type 0
-OptionalStatementLowers scene None a = a ≡ empty
-OptionalStatementLowers scene (Some c) a = StatementLowers scene c a
+abbrev pub LowersOptionalStatement : Scene → Option lowered.Instruction → Tree Label statement → Type 0
+LowersOptionalStatement scene None a = a ≡ empty
+LowersOptionalStatement scene (Some c) a = LowersStatement scene c a
 
 -- States that instructions mean a sequence of statements in a scene.
-abbrev pub SequenceLowers : Scene → lowered.Instructions → Tree Label sequence → Type 0
-SequenceLowers scene cs a =
-    HoldsInScene scene (λ checked. sequence_fits checked a)
-    (λ checked slots targets. SequenceMeans checked slots targets cs a)
+abbrev pub LowersSequence : Scene → lowered.Instructions → Tree Label sequence → Type 0
+LowersSequence scene cs a =
+    HoldsInScene scene (λ checked. sequence_is_well_typed checked a)
+    (λ checked slots targets. CodeMeansSequence checked slots targets cs a)
 
 -- States that instructions mean the statements after the first one of a sequence, in a scene.
-abbrev pub FurtherStatementsLower : Scene → lowered.Instructions → Tree Label (items further_statement)
+abbrev pub LowersFurtherStatements : Scene → lowered.Instructions → Tree Label (items further_statement)
     → Type 0
-FurtherStatementsLower scene cs rest =
-    HoldsInScene scene (λ checked. statements_fit checked rest)
-    (λ checked slots targets. FurtherStatementsMean checked slots targets cs rest)
+LowersFurtherStatements scene cs rest =
+    HoldsInScene scene (λ checked. further_statements_are_well_typed checked rest)
+    (λ checked slots targets. CodeMeansFurtherStatements checked slots targets cs rest)
 
 -- States that instructions mean an ELSE part in a scene. If there is no ELSE part, the instructions
 -- have no effect.
-abbrev pub ElseLowers : Scene → lowered.Instructions → Tree Label (maybe else_part) → Type 0
-ElseLowers scene cs last =
-    HoldsInScene scene (λ checked. else_fits checked last)
-    (λ checked slots targets. ElseMeans checked slots targets cs last)
+abbrev pub LowersElse : Scene → lowered.Instructions → Tree Label (maybe else_part) → Type 0
+LowersElse scene cs last =
+    HoldsInScene scene (λ checked. else_is_well_typed checked last)
+    (λ checked slots targets. CodeMeansElse checked slots targets cs last)
 
 -- States that branches mean ELSIF parts, and that instructions mean the ELSE part after them, in a
 -- scene.
-abbrev pub ElsifsLower : Scene
+abbrev pub LowersElsifs : Scene
     → lowered.Branches
     → lowered.Instructions
     → Tree Label (items elsif_part)
     → Tree Label (maybe else_part)
     → Type 0
-ElsifsLower scene bs cs rest last =
-    HoldsInScene scene (λ checked. elsifs_fit checked rest && else_fits checked last)
-    (λ checked slots targets. ElsifsMean checked slots targets bs cs rest last)
+LowersElsifs scene bs cs rest last =
+    HoldsInScene scene (λ checked. elsifs_are_well_typed checked rest && else_is_well_typed checked last)
+    (λ checked slots targets. CodeMeansElsifs checked slots targets bs cs rest last)
 
 -- States that instructions mean a body in each environment and each placement that agree with the
 -- scene (`Sees`), if the body is well-typed in the environment.
-abbrev pub BodyLowers : Scene → lowered.Instructions → Tree Label (maybe body) → Type 0
-BodyLowers scene cs b =
+abbrev pub LowersBody : Scene → lowered.Instructions → Tree Label (maybe body) → Type 0
+LowersBody scene cs b =
     (env : TypeEnvironment Label) (placement : Placement Label)
     → Sees scene (meanings naming_by_label env) (slot_in_placement naming_by_label placement)
     (target_in_placement naming_by_label placement)
-    → IsTrue (body_fits naming_by_label env b)
-    → BodyMeans naming_by_label env placement cs b
+    → IsTrue (body_is_well_typed naming_by_label env b)
+    → CodeMeansBody naming_by_label env placement cs b

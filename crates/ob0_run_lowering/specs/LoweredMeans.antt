@@ -9,23 +9,23 @@ use Rattle.ob0_types_table.specs.Tables.{formal_view, type_shape}
 use Rattle.ob0_types_table.specs.declared.known.FormalParameter.{FormalParameter}
 use Rattle.ob0_scope_table.specs.LabelledTrees.{tree_with_labels, label_at_token}
 use Rattle.ob0_language_types.specs.Typing.{lone_designator, type_of}
-use Rattle.ob0_language_types.specs.WellTyped.{TypeMeanings, argument_fits, variable_type}
+use Rattle.ob0_language_types.specs.WellTyped.{TypeMeanings, argument_matches, variable_type}
 use Rattle.ob0_language_values.specs.Values.{Shape, Value, boolean_shape, integer_shape}
 use Rattle.ob0_run_machine.specs.View.{argument_of, number_of, place_of, truth_of}
 use Rattle.ob0_run_machine.specs.declared.code.Argument.{Argument}
 use Rattle.ob0_run_machine.specs.declared.code.Number.{Number}
 use Rattle.ob0_run_machine.specs.declared.code.Truth.{Truth}
-use Rattle.ob0_run_cells.specs.LoweredStatements.{ArgumentMeans, IsAt, Target}
+use Rattle.ob0_run_cells.specs.LoweredStatements.{CodeMeansArgument, IsAt, Target}
 use Rattle.ob0_run_cells.specs.Lowering.{OutcomeByMoment, NumberMeans, PlaceMeans, Slot, TruthMeans, place_of_designator, value_of_expression}
 use Rattle.ob0_run_lowering.specs.Codes.{CodeMeans}
 use Rattle.ob0_run_lowering.specs.Scenes.{Sees}
 use Rattle.ob0_run_lowering.specs.Trees.{code_of}
 use Rattle.ob0_run_lowering.specs.declared.lowered.TypedPlace.{TypedPlace}
-use Rattle.ob0_run_lowering.specs.declared.lowered.Lowered.{Lowered}
+use Rattle.ob0_run_lowering.specs.declared.lowered.LoweredExpression.{LoweredExpression}
 use Rattle.ob0_run_lowering.specs.declared.scene.Scene.{Scene}
 
 -- States that the code `l` means an evaluated value of a type.
-abbrev pub LoweredMeans : TypeMeanings Label → (Label → Slot) → Lowered → Shape → OutcomeByMoment Label Value → Type 0
+abbrev pub LoweredMeans : TypeMeanings Label → (Label → Slot) → LoweredExpression → Shape → OutcomeByMoment Label Value → Type 0
 LoweredMeans checked slots l s value = CodeMeans checked slots (code_of l) s value
 
 -- States that `P` holds for all checked names and slots that agree with a scene (`Sees`).
@@ -37,8 +37,8 @@ ForAllSeen scene P =
 
 -- States that code means an expression in a scene. If the expression has no type, nothing is
 -- claimed.
-abbrev pub Lowers : Scene → Tree ℕ expression → Lowered → Type 0
-Lowers scene e l =
+abbrev pub LowersExpression : Scene → Tree ℕ expression → LoweredExpression → Type 0
+LowersExpression scene e l =
     ForAllSeen scene (λ checked slots. (s : Shape)
     → type_of checked (tree_with_labels scene.resolved.now e) ≡ Some s
     → LoweredMeans checked slots l s (value_of_expression (tree_with_labels scene.resolved.now e)))
@@ -63,12 +63,12 @@ LowersTruth scene e t =
 
 -- States that `l` is the place and the type of a designator: the variable at the token `x` with the
 -- selectors `path`. If the designator isn't a variable with a type, nothing is claimed.
-abbrev pub Locates : Scene → ℕ → Tree ℕ (items selector) → TypedPlace → Type 0
-Locates scene x path l =
+abbrev pub LocatesDesignator : Scene → ℕ → Tree ℕ (items selector) → TypedPlace → Type 0
+LocatesDesignator scene x path l =
     ForAllSeen scene (λ checked slots. (s : Shape)
     → variable_type checked
     (Some (label_at_token scene.resolved.now x, tree_with_labels scene.resolved.now path)) ≡ Some s
-    → (type_shape (shapes_of scene.types.now) l.of ≡ s)
+    → (type_shape (shapes_of scene.types.now) l.type_id ≡ s)
     × PlaceMeans checked slots (place_of l.place) s
     (place_of_designator (label_at_token scene.resolved.now x) (tree_with_labels scene.resolved.now path)))
 
@@ -78,14 +78,14 @@ abbrev pub LocatesLoneDesignator : Scene → Tree ℕ expression → TypedPlace 
 LocatesLoneDesignator scene e l =
     ForAllSeen scene (λ checked slots. (s : Shape)
     → variable_type checked (lone_designator (tree_with_labels scene.resolved.now e)) ≡ Some s
-    → (type_shape (shapes_of scene.types.now) l.of ≡ s)
+    → (type_shape (shapes_of scene.types.now) l.type_id ≡ s)
     × IsAt checked slots (place_of l.place) s (tree_with_labels scene.resolved.now e))
 
 -- States that a lowered argument means an argument in a scene. If the argument doesn't fit its
 -- parameter, nothing is claimed.
 abbrev pub LowersArgument : Scene → FormalParameter → Tree ℕ expression → Argument → Type 0
 LowersArgument scene f e a =
-    ForAllSeen scene (λ checked slots. argument_fits checked
+    ForAllSeen scene (λ checked slots. argument_matches checked
     (formal_view (shapes_of scene.types.now) f) (tree_with_labels scene.resolved.now e) ≡ true
-    → ArgumentMeans checked slots (formal_view (shapes_of scene.types.now) f) (argument_of a)
+    → CodeMeansArgument checked slots (formal_view (shapes_of scene.types.now) f) (argument_of a)
     (tree_with_labels scene.resolved.now e))

@@ -6,40 +6,40 @@ use Rattle.ob0_run_machine.specs.declared.code.Argument.TheVariants as argument
 use Rattle.ob0_run_machine.specs.declared.code.Number.{Number}
 use Rattle.ob0_run_machine.specs.declared.code.Truth.{Truth}
 use Rattle.ob0_run_lowering.specs.declared.lowered.TypedPlace.{TypedPlace}
-use Rattle.ob0_run_lowering.specs.declared.lowered.Lowered.{Lowered}
-use Rattle.ob0_run_lowering.specs.declared.lowered.Lowered.TheVariants as code
+use Rattle.ob0_run_lowering.specs.declared.lowered.LoweredExpression.{LoweredExpression}
+use Rattle.ob0_run_lowering.specs.declared.lowered.LoweredExpression.TheVariants as code
 
 -- States that a number is an expression's code, if this code is a number. Nothing is claimed for
 -- other code.
-abbrev pub IsNumberOf : Lowered → Number → Type 0
-IsNumberOf (code.Number m) n = m ≡ n
-IsNumberOf _ n = Unit {0}
+abbrev pub KeepsNumber : LoweredExpression → Number → Type 0
+KeepsNumber (code.Number m) n = m ≡ n
+KeepsNumber _ n = Unit {0}
 
 -- States that a truth is an expression's code, if this code is a truth. Nothing is claimed for
 -- other code.
-abbrev pub IsTruthOf : Lowered → Truth → Type 0
-IsTruthOf (code.Truth u) t = u ≡ t
-IsTruthOf _ t = Unit {0}
+abbrev pub KeepsTruth : LoweredExpression → Truth → Type 0
+KeepsTruth (code.Truth u) t = u ≡ t
+KeepsTruth _ t = Unit {0}
 
 -- States that an argument passes the value of an expression, given the expression's code. If there
 -- is no code, nothing is claimed.
-abbrev pub IsValueOf : Lowered → Argument → Type 0
-IsValueOf (code.Number n) a = argument.Number n ≡ a
-IsValueOf (code.Truth t) a = argument.Truth t ≡ a
-IsValueOf (code.Block q k) a = argument.Block q k ≡ a
-IsValueOf code.Nothing a = Unit {0}
+abbrev pub PassesCode : LoweredExpression → Argument → Type 0
+PassesCode (code.Number n) a = argument.Number n ≡ a
+PassesCode (code.Truth t) a = argument.Truth t ≡ a
+PassesCode (code.Block q k) a = argument.Block q k ≡ a
+PassesCode code.Nothing a = Unit {0}
 
 -- States that a place is the place that was found. If no place was found, nothing is claimed.
-abbrev pub IsTypedPlaceOf : Option TypedPlace → TypedPlace → Type 0
-IsTypedPlaceOf (Some m) l = m ≡ l
-IsTypedPlaceOf None l = Unit {0}
+abbrev pub KeepsFoundPlace : Option TypedPlace → TypedPlace → Type 0
+KeepsFoundPlace (Some m) l = m ≡ l
+KeepsFoundPlace None l = Unit {0}
 
 -- returns an operand's code if this code is a number, otherwise None
-abbrev pub number_in : Lowered → Option Number
+abbrev pub number_in : LoweredExpression → Option Number
 number_in (code.Number n) = Some n
 number_in _ = None
 
 -- returns an operand's code if this code is a truth, otherwise None
-abbrev pub truth_in : Lowered → Option Truth
+abbrev pub truth_in : LoweredExpression → Option Truth
 truth_in (code.Truth t) = Some t
 truth_in _ = None

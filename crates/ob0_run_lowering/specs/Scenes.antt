@@ -9,7 +9,7 @@ use Rattle.ob0_language_types.specs.WellTyped.{Signature, TypeMeanings}
 use Rattle.ob0_language_values.specs.Values.{Shape}
 use Rattle.ob0_run_cells.specs.Activations.{BindingPlace, at_target, in_slot, nowhere, slot_of, target_of}
 use Rattle.ob0_run_cells.specs.LoweredStatements.{Target}
-use Rattle.ob0_run_cells.specs.Lowering.{Slot, held, by_reference, of_module}
+use Rattle.ob0_run_cells.specs.Lowering.{Slot, in_activation, by_reference, of_module}
 use Rattle.ob0_run_lowering.specs.declared.scene.Scene.{Scene}
 use Rattle.ob0_run_lowering.specs.declared.scene.Site.{Site}
 use Rattle.ob0_run_lowering.specs.declared.scene.Site.TheVariants as site
@@ -18,7 +18,7 @@ use Rattle.ob0_run_lowering.specs.declared.scene.Site.TheVariants as site
 abbrev pub place_seen_from : ℕ → Site → BindingPlace
 place_seen_from depth site.Nowhere = nowhere
 place_seen_from depth (site.Module offset) = in_slot (of_module offset)
-place_seen_from depth (site.Held at offset) = in_slot (held (depth - at) offset)
+place_seen_from depth (site.InActivation at offset) = in_slot (in_activation (depth - at) offset)
 place_seen_from depth (site.ByReference at index) = in_slot (by_reference (depth - at) index)
 place_seen_from depth (site.Procedure at index) =
     at_target (record { procedure = index; up = depth - at })

@@ -12,15 +12,15 @@ use Rattle.ob0_language_values.specs.Values.{Shape}
 use Rattle.ob0_run_machine.specs.Lowered as lowered
 use Rattle.ob0_run_machine.specs.View.{number_of, place_of, truth_of}
 use Rattle.ob0_run_cells.specs.Lowering.{slot_place}
-use Rattle.ob0_run_lowering.specs.Codes.{ExpressionCode, FoundPlace, a_block, a_number, a_truth, addition_code, indexed_place, record_field_place, multiplication_code, named_code, negation_code, no_code, related, signed_code}
+use Rattle.ob0_run_lowering.specs.Codes.{ExpressionCode, FoundPlace, a_block, a_number, a_truth, addition_code, indexed_place, record_field_place, multiplication_code, named_code, negation_code, no_code, relation_code, signed_code}
 use Rattle.ob0_run_lowering.specs.Scenes.{object_at, slot_at}
 use Rattle.ob0_run_lowering.specs.declared.lowered.TypedPlace.{TypedPlace}
-use Rattle.ob0_run_lowering.specs.declared.lowered.Lowered.{Lowered}
-use Rattle.ob0_run_lowering.specs.declared.lowered.Lowered.TheVariants as code
+use Rattle.ob0_run_lowering.specs.declared.lowered.LoweredExpression.{LoweredExpression}
+use Rattle.ob0_run_lowering.specs.declared.lowered.LoweredExpression.TheVariants as code
 use Rattle.ob0_run_lowering.specs.declared.scene.Scene.{Scene}
 
--- converts the code in a `Lowered` to an `ExpressionCode`
-abbrev pub code_of : Lowered → ExpressionCode
+-- converts the code in a `LoweredExpression` to an `ExpressionCode`
+abbrev pub code_of : LoweredExpression → ExpressionCode
 code_of (code.Number n) = a_number (number_of n)
 code_of (code.Truth t) = a_truth (truth_of t)
 code_of (code.Block q n) = a_block (place_of q) n
@@ -28,7 +28,7 @@ code_of code.Nothing = no_code
 
 -- converts a `TypedPlace` to a `FoundPlace`, given the types of the table of types
 abbrev pub found_place_of : List Shape → TypedPlace → FoundPlace
-found_place_of shapes l = record { place = place_of l.place; shape = type_shape shapes l.of }
+found_place_of shapes l = record { place = place_of l.place; shape = type_shape shapes l.type_id }
 
 -- returns the place `q` and the type of a variable, or None if the object isn't a variable
 abbrev pub variable_place : lowered.Place → Option (Object Shape Signature) → Option FoundPlace
@@ -45,7 +45,7 @@ abbrev mutual
   pub expression_code : Scene → Tree Label expression → ExpressionCode
   expression_code scene (compares a none) = simple_code scene a
   expression_code scene (compares a (one (relates r b))) =
-      related r (simple_code scene a) (simple_code scene b)
+      relation_code r (simple_code scene a) (simple_code scene b)
 
   -- returns the code of a simple expression: begins with the first term and its sign, then adds the
   -- further terms

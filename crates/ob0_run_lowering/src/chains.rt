@@ -7,15 +7,15 @@
 //! assignments that the machine evaluates in fewer steps.
 //!
 //! Chains and nested pairs have the same meaning, so separate clauses state how deep the code is
-//! nested (`specs/Rows`). One more operand makes a conjunction no deeper on the left, unless
+//! nested (`specs/TruthDepths`). One more operand makes a conjunction no deeper on the left, unless
 //! the left operand wasn't a conjunction (`IsNoDeeper`). So the first operand of a conjunction
-//! isn't a conjunction (`IsFlat`). `both` and `either` list each case of
+//! isn't a conjunction (`IsFlat`). `conjunction_of_two` and `disjunction_of_two` list each case of
 //! the left operand, since a proof knows nothing about an operand in a wildcard arm.
 
 ghost use Rattle.std.specs.Prelude.{◌≡◌, ◌≤◌, IfOk, IfSome, max, suc};
 ghost use Rattle.ob0_run_machine.specs.Lowered as machine;
-ghost use Rattle.ob0_run_machine.specs.View.{conjunction_of, disjunction_of, applied, chain_of, first_of, number_of, operation_of, operator_of, truth_of, variable_of};
-ghost use Rattle.ob0_run_lowering.specs.Rows.{and_depth, or_depth};
+ghost use Rattle.ob0_run_machine.specs.View.{conjunction_of, disjunction_of, operation_with_link, chain_of, first_of, number_of, operation_of, operator_of, truth_of, variable_of};
+ghost use Rattle.ob0_run_lowering.specs.TruthDepths.{and_depth, or_depth};
 ghost use Rattle.ob0_run_machine.specs.declared.code.TruthList.{out-TruthList};
 
 use ob0_run_machine::code::{
@@ -27,7 +27,7 @@ use std::alloc::{AllocError, Global};
 /// right operand.
 fn link(operator: Operator, right: Number) -> Link
     ensures { (left : machine.Number)
-        → applied result left ≡ machine.operation (operator_of operator) left (number_of right) }
+        → operation_with_link result left ≡ machine.operation (operator_of operator) left (number_of right) }
 {
     match operator {
         Operator::Sum => match right {
@@ -61,7 +61,7 @@ fn link(operator: Operator, right: Number) -> Link
 /// Returns the link that applies an operator with a variable as the left operand and the result so
 /// far as the right operand. Returns None for a quotient or a remainder, which have no such link.
 fn reversed_link(operator: Operator, variable: Variable) -> Option<Link>
-    ensures { IfSome result (λ l. (right : machine.Number) → applied l right
+    ensures { IfSome result (λ l. (right : machine.Number) → operation_with_link l right
         ≡ machine.operation (operator_of operator) (machine.cell (variable_of variable)) right) }
 {
     match operator {
@@ -75,14 +75,14 @@ fn reversed_link(operator: Operator, variable: Variable) -> Option<Link>
 
 /// Returns the number that is a single operation: the link applied to the first operand.
 fn single_operation(alloc: Global, first: FirstOperand, link: Link) -> Result<Number, AllocError>
-    ensures { IfOk result (λ n. number_of n ≡ applied link (first_of first)) }
+    ensures { IfOk result (λ n. number_of n ≡ operation_with_link link (first_of first)) }
 {
     Ok(Number::Operation(Box::new(alloc, Operation { first, link })?))
 }
 
 /// Returns the chain that applies a second link, `next`, to the result of an operation.
 fn two_operations(alloc: Global, operation: Operation, next: Link) -> Result<Number, AllocError>
-    ensures { IfOk result (λ n. number_of n ≡ applied next (operation_of operation)) }
+    ensures { IfOk result (λ n. number_of n ≡ operation_with_link next (operation_of operation)) }
 {
     let Operation { first, link } = operation;
     let mut rest = Vec::new(alloc);
@@ -93,7 +93,7 @@ fn two_operations(alloc: Global, operation: Operation, next: Link) -> Result<Num
 
 /// Returns a chain with one more link at its end.
 fn extended_chain(alloc: Global, chain: Chain, link: Link) -> Result<Number, AllocError>
-    ensures { IfOk result (λ n. number_of n ≡ applied link (chain_of chain)) }
+    ensures { IfOk result (λ n. number_of n ≡ operation_with_link link (chain_of chain)) }
 {
     let Chain { first, mut rest } = chain;
     rest.push(link)?;
@@ -142,7 +142,7 @@ fn operation_on_variable(
 
 /// Returns the operation on two numbers. If the left number is an operation or a chain, the result
 /// is one chain.
-pub(crate) fn operation(
+pub(crate) fn operation_on_numbers(
     alloc: Global,
     operator: Operator,
     left: Number,
@@ -277,7 +277,11 @@ fn plain_disjunction(alloc: Global, left: Truth, right: Truth) -> Result<Truth, 
 
 /// Returns the conjunction of two truths. If the left truth is a conjunction, the right truth is
 /// added at its end.
-pub(crate) fn both(alloc: Global, left: Truth, right: Truth) -> Result<Truth, AllocError>
+pub(crate) fn conjunction_of_two(
+    alloc: Global,
+    left: Truth,
+    right: Truth,
+) -> Result<Truth, AllocError>
     ensures meaning { IfOk result
         (λ t. truth_of t ≡ machine.both (truth_of left) (truth_of right)) }
     ensures flat { IfOk result (λ t. and_depth t ≤ max 1 (and_depth left)) }
@@ -330,7 +334,11 @@ pub(crate) fn both(alloc: Global, left: Truth, right: Truth) -> Result<Truth, Al
 
 /// Returns the disjunction of two truths. If the left truth is a disjunction, the right truth is
 /// added at its end.
-pub(crate) fn either(alloc: Global, left: Truth, right: Truth) -> Result<Truth, AllocError>
+pub(crate) fn disjunction_of_two(
+    alloc: Global,
+    left: Truth,
+    right: Truth,
+) -> Result<Truth, AllocError>
     ensures meaning { IfOk result
         (λ t. truth_of t ≡ machine.either (truth_of left) (truth_of right)) }
     ensures flat { IfOk result (λ t. or_depth t ≤ max 1 (or_depth left)) }

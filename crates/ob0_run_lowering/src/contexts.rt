@@ -23,7 +23,7 @@ impl<'g, 'k, 't> LoweringContext<'g, 'k, 't> {
     ghost use Rattle.ob0_types_table.specs.Tables.{type_shape};
     ghost use Rattle.ob0_language_types.specs.Typing.{type_of_object};
     ghost use Rattle.ob0_run_lowering.specs.Scenes.{object_at};
-    ghost use Rattle.ob0_run_lowering.specs.Placed.{declared_size};
+    ghost use Rattle.ob0_run_lowering.specs.PlacedNames.{declared_size};
 
     /// Returns the type of the variable, parameter or constant that the name at a token declares.
     /// If the name declares a type, returns this type. Returns None for any other declaration, or
@@ -38,7 +38,7 @@ impl<'g, 'k, 't> LoweringContext<'g, 'k, 't> {
 
     /// Returns the number of cells of the variable that the name at a token declares, or 0 if the
     /// name has no type.
-    pub(crate) fn size(&self, name: usize) -> usize
+    pub(crate) fn size_at_token(&self, name: usize) -> usize
         ensures { result ≡ declared_size self.now.types.now (label_at_token self.now.resolved.now name) }
     {
         match self.type_of(name) {

@@ -5,12 +5,12 @@ ghost use Rattle.std.specs.Prelude.{IfOk};
 ghost use Rattle.ob0_tree.specs.View.{expression_of};
 ghost use Rattle.ob0_tree.specs.declared.tree.Designator.{out-Designator};
 ghost use Rattle.ob0_language_types.specs.Selected.{selectors_in};
-ghost use Rattle.ob0_run_lowering.specs.LoweredMeans.{Locates, LocatesLoneDesignator, Lowers, LowersArgument, LowersNumber, LowersTruth};
-ghost use Rattle.ob0_run_lowering.specs.Parts.{IsNumberOf, IsTypedPlaceOf, IsTruthOf, IsValueOf};
-ghost use Rattle.ob0_run_lowering.specs.Rows.{IsFlat};
-ghost use Rattle.ob0_run_lowering.specs.declared.lowered.Lowered.TheVariants as code;
+ghost use Rattle.ob0_run_lowering.specs.LoweredMeans.{LocatesDesignator, LocatesLoneDesignator, LowersExpression, LowersArgument, LowersNumber, LowersTruth};
+ghost use Rattle.ob0_run_lowering.specs.Parts.{KeepsNumber, KeepsFoundPlace, KeepsTruth, PassesCode};
+ghost use Rattle.ob0_run_lowering.specs.TruthDepths.{IsFlat};
+ghost use Rattle.ob0_run_lowering.specs.declared.lowered.LoweredExpression.TheVariants as code;
 
-use crate::lowered::{Lowered, TypedPlace};
+use crate::lowered::{LoweredExpression, TypedPlace};
 use crate::scene::Scene;
 use ob0_run_machine::code::{Argument, Number, Place, Truth, Variable};
 use ob0_tree::{Designator, Expression};
@@ -19,54 +19,54 @@ use ob0_types_table::{FormalParameter, TypeId};
 use std::alloc::{AllocError, Global};
 
 /// Returns an expression's code if this code is a number, otherwise the literal 0.
-fn number_or_zero(lowered: Lowered) -> Number
-    ensures { IsNumberOf lowered result }
+fn number_or_zero(lowered: LoweredExpression) -> Number
+    ensures { KeepsNumber lowered result }
 {
     match lowered {
-        Lowered::Number(number) => number,
-        Lowered::Truth(_) => Number::Literal(0),
-        Lowered::Block(_, _) => Number::Literal(0),
-        Lowered::Nothing => Number::Literal(0),
+        LoweredExpression::Number(number) => number,
+        LoweredExpression::Truth(_) => Number::Literal(0),
+        LoweredExpression::Block(_, _) => Number::Literal(0),
+        LoweredExpression::Nothing => Number::Literal(0),
     }
 }
 
 /// Returns an expression's code if this code is a truth, otherwise the constant FALSE.
-fn truth_or_false(lowered: Lowered) -> Truth
-    ensures taken { IsTruthOf lowered result }
+fn truth_or_false(lowered: LoweredExpression) -> Truth
+    ensures taken { KeepsTruth lowered result }
     ensures flat { IsFlat lowered → IsFlat (code.Truth result) }
 {
     match lowered {
-        Lowered::Truth(truth) => truth,
-        Lowered::Number(_) => Truth::Constant(false),
-        Lowered::Block(_, _) => Truth::Constant(false),
-        Lowered::Nothing => Truth::Constant(false),
+        LoweredExpression::Truth(truth) => truth,
+        LoweredExpression::Number(_) => Truth::Constant(false),
+        LoweredExpression::Block(_, _) => Truth::Constant(false),
+        LoweredExpression::Nothing => Truth::Constant(false),
     }
 }
 
 /// Returns the argument that passes the value of an expression, given the expression's code. If the
 /// expression has no code, the argument is FALSE.
-fn by_value_argument(lowered: Lowered) -> Argument
-    ensures { IsValueOf lowered result }
+fn by_value_argument(lowered: LoweredExpression) -> Argument
+    ensures { PassesCode lowered result }
 {
     match lowered {
-        Lowered::Number(number) => Argument::Number(number),
-        Lowered::Truth(truth) => Argument::Truth(truth),
-        Lowered::Block(place, cells) => Argument::Block(place, cells),
-        Lowered::Nothing => Argument::Truth(Truth::Constant(false)),
+        LoweredExpression::Number(number) => Argument::Number(number),
+        LoweredExpression::Truth(truth) => Argument::Truth(truth),
+        LoweredExpression::Block(place, cells) => Argument::Block(place, cells),
+        LoweredExpression::Nothing => Argument::Truth(Truth::Constant(false)),
     }
 }
 
 fn unknown_place() -> TypedPlace {
     TypedPlace {
         place: Place::Variable(Variable::Module(0)),
-        of: TypeId::Unknown,
+        type_id: TypeId::Unknown,
     }
 }
 
 /// Returns the place that was found. For None, returns the module's first cell, with an unknown
 /// type.
 fn found_or_unknown_place(found: Option<TypedPlace>) -> TypedPlace
-    ensures { IsTypedPlaceOf found result }
+    ensures { KeepsFoundPlace found result }
 {
     match found {
         Some(located) => located,
@@ -80,8 +80,12 @@ impl<'s, 'k, 't> Scene<'s, 'k, 't> {
     /// # Errors
     ///
     /// An allocation failed. The other functions in this file also fail only for this reason.
-    pub fn expression(&self, alloc: Global, e: &Expression) -> Result<Lowered, AllocError>
-        ensures lowers { IfOk result (Lowers self.now (expression_of e.now)) }
+    pub fn lower_to_code(
+        &self,
+        alloc: Global,
+        e: &Expression,
+    ) -> Result<LoweredExpression, AllocError>
+        ensures lowers { IfOk result (LowersExpression self.now (expression_of e.now)) }
         ensures flat { IfOk result IsFlat }
     {
         self.lower_expression(alloc, e)
@@ -89,27 +93,27 @@ impl<'s, 'k, 't> Scene<'s, 'k, 't> {
 
     /// Returns the code of an expression of type INTEGER. If the code isn't a number, returns the
     /// literal 0.
-    pub fn number(&self, alloc: Global, e: &Expression) -> Result<Number, AllocError>
+    pub fn lower_to_number(&self, alloc: Global, e: &Expression) -> Result<Number, AllocError>
         ensures { IfOk result (LowersNumber self.now (expression_of e.now)) }
     {
-        let lowered = self.expression(alloc, e)?;
+        let lowered = self.lower_to_code(alloc, e)?;
         Ok(number_or_zero(lowered))
     }
 
     /// Returns the code of an expression of type BOOLEAN. If the code isn't a truth, returns the
     /// constant FALSE.
-    pub fn truth(&self, alloc: Global, e: &Expression) -> Result<Truth, AllocError>
+    pub fn lower_to_truth(&self, alloc: Global, e: &Expression) -> Result<Truth, AllocError>
         ensures lowers { IfOk result (LowersTruth self.now (expression_of e.now)) }
         ensures flat { IfOk result (λ t. IsFlat (code.Truth t)) }
     {
-        let lowered = self.expression(alloc, e)?;
+        let lowered = self.lower_to_code(alloc, e)?;
         Ok(truth_or_false(lowered))
     }
 
     /// Returns the place of a designator, and the type of the value there. If the designator has no
     /// place, returns the module's first cell, with an unknown type.
-    pub fn place(&self, alloc: Global, d: &Designator) -> Result<TypedPlace, AllocError>
-        ensures { IfOk result (Locates self.now (out-Designator d.now).name (selectors_in d.now)) }
+    pub fn lower_to_place(&self, alloc: Global, d: &Designator) -> Result<TypedPlace, AllocError>
+        ensures { IfOk result (LocatesDesignator self.now (out-Designator d.now).name (selectors_in d.now)) }
     {
         let found = self.locate(alloc, d)?;
         Ok(found_or_unknown_place(found))
@@ -121,14 +125,14 @@ impl<'s, 'k, 't> Scene<'s, 'k, 't> {
         ensures { IfOk result (LocatesLoneDesignator self.now (expression_of e.now)) }
     {
         match lone_designator(e) {
-            Some(d) => self.place(alloc, d),
+            Some(d) => self.lower_to_place(alloc, d),
             None => Ok(unknown_place()),
         }
     }
 
     /// Returns the code of an argument: its place for a VAR parameter, its value for any other
     /// parameter.
-    pub fn argument(
+    pub fn lower_to_argument(
         &self,
         alloc: Global,
         formal: &FormalParameter,
@@ -140,7 +144,7 @@ impl<'s, 'k, 't> Scene<'s, 'k, 't> {
             let located = self.locate_argument(alloc, e)?;
             Ok(Argument::Place(located.place))
         } else {
-            let lowered = self.expression(alloc, e)?;
+            let lowered = self.lower_to_code(alloc, e)?;
             Ok(by_value_argument(lowered))
         }
     }

@@ -4,10 +4,10 @@
 //! statements of a body, and the third declarations, blocks and procedures. The first two layers
 //! lower with a scene (`Scene`), which says where lowered code finds each name in a body. Their
 //! contracts hold if the scene has the object, the slot or the target of each checked name
-//! (`Sees`). A slot (`Slot`) is where a variable is, a target (`Target`) is the procedure that a
-//! call enters. So these contracts mention no environments, placements or blocks. The third layer
+//! (`Sees`). A slot (`Slot`) is the place of a variable, a target (`Target`) is the procedure
+//! that a call enters. So these contracts mention no environments, placements or blocks. The third layer
 //! shows `Sees` at each body. If an expression has a type, its code means the expression
-//! (`Lowers`). If an expression has no type, nothing is claimed about its code. So every
+//! (`LowersExpression`). If an expression has no type, nothing is claimed about its code. So every
 //! tree is accepted and lowered.
 #![tactic(auto)]
 
@@ -26,8 +26,8 @@ mod statements;
 mod types;
 mod visible_sites;
 
-pub(crate) use lowered::{Lowered, TypedPlace};
+pub(crate) use lowered::{LoweredExpression, TypedPlace};
 pub use programs::{Program, lower};
 pub(crate) use scene::{Scene, Site};
-pub(crate) use statements::body;
+pub(crate) use statements::lower_body;
 pub(crate) use types::TypeLayouts;

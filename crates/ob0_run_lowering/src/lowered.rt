@@ -5,7 +5,7 @@ use ob0_types_table::TypeId;
 
 /// The code of an expression. It has a case for each kind of type, and a case without code.
 #[derive(Drop)]
-pub enum Lowered {
+pub enum LoweredExpression {
     Number(Number),
     Truth(Truth),
     /// The cells of an array or a record: the place of the first cell, and the number of cells.
@@ -19,5 +19,5 @@ pub enum Lowered {
 #[derive(Drop)]
 pub struct TypedPlace {
     pub place: Place,
-    pub of: TypeId,
+    pub type_id: TypeId,
 }

@@ -6,10 +6,10 @@ ghost use Rattle.std.specs.Prelude.{◌≡◌, IfOk};
 ghost use Rattle.ob0_tree.specs.View.{assignment_of};
 ghost use Rattle.ob0_scope_table.specs.LabelledTrees.{tree_with_labels};
 ghost use Rattle.ob0_run_machine.specs.Lowered as machine;
-ghost use Rattle.ob0_run_machine.specs.View.{applied, number_of, operation_of, place_of, statement_of, truth_of, variable_of};
-ghost use Rattle.ob0_run_lowering.specs.LoweredBodies.{StatementLowers};
+ghost use Rattle.ob0_run_machine.specs.View.{operation_with_link, number_of, operation_of, place_of, statement_of, truth_of, variable_of};
+ghost use Rattle.ob0_run_lowering.specs.LoweredBodies.{LowersStatement};
 
-use crate::{Lowered, Scene};
+use crate::{LoweredExpression, Scene};
 use ob0_run_machine::code::{
     FirstOperand, Instruction, Link, Number, Operation, Place, Truth, Variable,
 };
@@ -49,7 +49,7 @@ fn variable_assignment(
 /// variable.
 fn update_assignment(variable: Variable, link: Link) -> Instruction
     ensures { statement_of result ≡ machine.stores_number (variable_of variable)
-        (applied link (machine.cell (variable_of variable))) }
+        (operation_with_link link (machine.cell (variable_of variable))) }
 {
     match link {
         Link::SumLiteral(n) => Instruction::Increase(variable, n),
@@ -114,14 +114,14 @@ pub(crate) fn lower_assignment(
     scene: &Scene<'_, '_, '_>,
     a: &Assignment,
 ) -> Result<Instruction, AllocError>
-    ensures { IfOk result (λ made. StatementLowers scene.now (statement_of made)
+    ensures { IfOk result (λ made. LowersStatement scene.now (statement_of made)
         (tree_with_labels scene.now.resolved.now (assignment_of a.now))) }
 {
-    let target = scene.place(alloc, &a.target)?;
-    match scene.expression(alloc, &a.value)? {
-        Lowered::Number(n) => number_assignment(alloc, target.place, n),
-        Lowered::Truth(t) => Ok(truth_assignment(target.place, t)),
-        Lowered::Block(from, cells) => Ok(Instruction::Copy(target.place, from, cells)),
-        Lowered::Nothing => Ok(Instruction::WriteLine),
+    let target = scene.lower_to_place(alloc, &a.target)?;
+    match scene.lower_to_code(alloc, &a.value)? {
+        LoweredExpression::Number(n) => number_assignment(alloc, target.place, n),
+        LoweredExpression::Truth(t) => Ok(truth_assignment(target.place, t)),
+        LoweredExpression::Block(from, cells) => Ok(Instruction::Copy(target.place, from, cells)),
+        LoweredExpression::Nothing => Ok(Instruction::WriteLine),
     }
 }

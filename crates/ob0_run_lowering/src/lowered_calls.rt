@@ -5,7 +5,7 @@
 //! Arguments and parameters are visited in pairs, and the lengths of the two lists aren't compared.
 //! If one list is longer, the call isn't well-typed, and nothing is claimed about its code. Read
 //! needs the place of its argument (`locate_argument`), Write the value of its argument
-//! (`number`).
+//! (`lower_to_number`).
 
 ghost use Rattle.std.specs.Prelude.{◌≡◌, IfOk, Some, map, option_map, slice_get};
 ghost use Rattle.ob0_tree.specs.View.{arguments_of, call_of};
@@ -15,10 +15,10 @@ ghost use Rattle.ob0_types_table.specs.KnownTables.{shapes_of};
 ghost use Rattle.ob0_types_table.specs.Tables.{formal_view, standard_of};
 ghost use Rattle.ob0_types_table.specs.Designators.{labelled_expressions};
 ghost use Rattle.ob0_scope_table.specs.LabelledTrees.{tree_with_labels, label_at_token};
-ghost use Rattle.ob0_language_types.specs.Expressions.{a_procedure, a_standard, reads, writes};
+ghost use Rattle.ob0_language_types.specs.Expressions.{a_procedure, a_standard, read_procedure, write_procedure};
 ghost use Rattle.ob0_run_machine.specs.View.{argument_of, statement_of};
 ghost use Rattle.ob0_run_lowering.specs.Scenes.{object_at};
-ghost use Rattle.ob0_run_lowering.specs.LoweredBodies.{ArgumentsLower, StatementLowers, given_arguments};
+ghost use Rattle.ob0_run_lowering.specs.LoweredBodies.{LowersArguments, LowersStatement, given_arguments};
 
 use crate::Scene;
 use ob0_run_machine::code;
@@ -33,7 +33,7 @@ pub(crate) fn lower_call_statement(
     scene: &Scene<'_, '_, '_>,
     c: &Call,
 ) -> Result<Instruction, AllocError>
-    ensures { IfOk result (λ made. StatementLowers scene.now (statement_of made)
+    ensures { IfOk result (λ made. LowersStatement scene.now (statement_of made)
         (tree_with_labels scene.now.resolved.now (call_of c.now))) }
 {
     match scene.object(c.procedure) {
@@ -64,10 +64,10 @@ fn lower_procedure_call(
     ensures { IfOk result (λ made. object_at scene.now.types.now
         (label_at_token scene.now.resolved.now c.now.procedure)
         ≡ Some (a_procedure (map (formal_view (shapes_of scene.now.types.now)) formals.now))
-        → StatementLowers scene.now (statement_of made)
+        → LowersStatement scene.now (statement_of made)
         (tree_with_labels scene.now.resolved.now (call_of c.now))) }
 {
-    let arguments = arguments(alloc, scene, formals, &c.arguments)?;
+    let arguments = lower_arguments(alloc, scene, formals, &c.arguments)?;
     let target = scene.target(c.procedure);
     Ok(Instruction::Call(code::ProcedureCall {
         procedure: target.procedure,
@@ -78,13 +78,13 @@ fn lower_procedure_call(
 
 /// Returns the code of a call's arguments, each according to its parameter. The list is empty if
 /// the call has no argument list.
-fn arguments(
+fn lower_arguments(
     alloc: Global,
     scene: &Scene<'_, '_, '_>,
     formals: &[FormalParameter],
     given: &Option<Vec<Expression>>,
 ) -> Result<Vec<Argument>, AllocError>
-    ensures { IfOk result (λ made. ArgumentsLower scene.now
+    ensures { IfOk result (λ made. LowersArguments scene.now
         (map (formal_view (shapes_of scene.now.types.now)) formals.now) (map argument_of made.items)
         (labelled_expressions scene.now.resolved.now (given_arguments given.now))) }
 {
@@ -100,20 +100,20 @@ fn lower_argument_list(
     formals: &[FormalParameter],
     given: &Vec<Expression>,
 ) -> Result<Vec<Argument>, AllocError>
-    ensures { IfOk result (λ made. ArgumentsLower scene.now
+    ensures { IfOk result (λ made. LowersArguments scene.now
         (map (formal_view (shapes_of scene.now.types.now)) formals.now) (map argument_of made.items)
         (labelled_expressions scene.now.resolved.now given.now.items)) }
 {
     let mut made = Vec::new(alloc);
     for (formal, e) in formals.iter().zip(given) {
-        let argument = scene.argument(alloc, formal, e)?;
+        let argument = scene.lower_to_argument(alloc, formal, e)?;
         made.push(argument)?;
     }
     Ok(made)
 }
 
 /// Returns the first argument of a call, or None if the call has no arguments.
-fn first(given: &Option<Vec<Expression>>) -> Option<&Expression>
+fn first_argument(given: &Option<Vec<Expression>>) -> Option<&Expression>
     ensures { option_map (λ e. e.now) result ≡ slice_get (given_arguments given.now) 0 }
 {
     match given {
@@ -131,7 +131,7 @@ fn lower_standard_call(
 ) -> Result<Instruction, AllocError>
     ensures { IfOk result (λ made. (x : Label)
         → object_at scene.now.types.now x ≡ Some (a_standard (standard_of standard))
-        → StatementLowers scene.now (statement_of made)
+        → LowersStatement scene.now (statement_of made)
         (calls x (tree_with_labels scene.now.resolved.now (arguments_of given.now)))) }
 {
     match standard {
@@ -147,11 +147,11 @@ fn lower_read(
     given: &Option<Vec<Expression>>,
 ) -> Result<Instruction, AllocError>
     ensures { IfOk result (λ made. (x : Label)
-        → object_at scene.now.types.now x ≡ Some (a_standard reads)
-        → StatementLowers scene.now (statement_of made)
+        → object_at scene.now.types.now x ≡ Some (a_standard read_procedure)
+        → LowersStatement scene.now (statement_of made)
         (calls x (tree_with_labels scene.now.resolved.now (arguments_of given.now)))) }
 {
-    match first(given) {
+    match first_argument(given) {
         None => Ok(Instruction::WriteLine),
         Some(e) => {
             let at = scene.locate_argument(alloc, e)?;
@@ -166,14 +166,14 @@ fn lower_write(
     given: &Option<Vec<Expression>>,
 ) -> Result<Instruction, AllocError>
     ensures { IfOk result (λ made. (x : Label)
-        → object_at scene.now.types.now x ≡ Some (a_standard writes)
-        → StatementLowers scene.now (statement_of made)
+        → object_at scene.now.types.now x ≡ Some (a_standard write_procedure)
+        → LowersStatement scene.now (statement_of made)
         (calls x (tree_with_labels scene.now.resolved.now (arguments_of given.now)))) }
 {
-    match first(given) {
+    match first_argument(given) {
         None => Ok(Instruction::WriteLine),
         Some(e) => {
-            let n = scene.number(alloc, e)?;
+            let n = scene.lower_to_number(alloc, e)?;
             Ok(Instruction::Write(n))
         }
     }

@@ -10,7 +10,7 @@
 //! claimed about these types.
 
 ghost use Rattle.std.specs.Prelude.{◌≡◌, IfOk, Some, option_and_then, option_map, pos};
-ghost use Rattle.ob0_tree.specs.Places.{value_at};
+ghost use Rattle.ob0_tree.specs.Places.{token_value_at};
 ghost use Rattle.ob0_tree.specs.View.{compound_of, designator_of, expression_of, factor_of, selector_of, simple_of, term_of};
 ghost use Rattle.ob0_tree.specs.declared.tree.Designator.{out-Designator};
 ghost use Rattle.ob0_language_names.specs.Names.{label_text};
@@ -22,12 +22,12 @@ ghost use Rattle.ob0_language_types.specs.Selected.{selectors_in};
 ghost use Rattle.ob0_language_types.specs.Typing.{constant_of};
 ghost use Rattle.ob0_language_values.specs.Scalars.{scalar_value};
 ghost use Rattle.ob0_run_machine.specs.View.{number_of};
-ghost use Rattle.ob0_run_lowering.specs.Rows.{IsFlat};
+ghost use Rattle.ob0_run_lowering.specs.TruthDepths.{IsFlat};
 ghost use Rattle.ob0_run_lowering.specs.Codes.{a_number, constant_code, element_place, indexed_place, record_field_place, code_at_place, code_at};
 ghost use Rattle.ob0_run_lowering.specs.Scenes.{object_at};
 ghost use Rattle.ob0_run_lowering.specs.Trees.{base_place, code_of, expression_code, factor_code, found_place_of, place_after_selector, selected_place, simple_code, term_code};
 
-use crate::lowered::{Lowered, TypedPlace};
+use crate::lowered::{LoweredExpression, TypedPlace};
 use crate::operators::{
     lower_addend, lower_multiplier, lower_negation, lower_relation, lower_sign,
 };
@@ -37,18 +37,18 @@ use ob0_language_values::Scalar;
 use ob0_run_machine::code::{Number, Truth};
 use ob0_tree::{
     Comparison, CompoundExpression, Designator, Expression, Factor, Selector, SimpleExpression,
-    Term, text_at,
+    Term, token_text_at,
 };
 use ob0_types_table::{Object, Parts, TypeId, number_at};
 use std::alloc::{AllocError, Global};
 
-fn constant(value: Scalar) -> Lowered
+fn lower_constant(value: Scalar) -> LoweredExpression
     ensures code { code_of result ≡ constant_code (scalar_value value) }
     ensures flat { IsFlat result }
 {
     match value {
-        Scalar::Number(number) => Lowered::Number(Number::Literal(number)),
-        Scalar::Truth(truth) => Lowered::Truth(Truth::Constant(truth)),
+        Scalar::Number(number) => LoweredExpression::Number(Number::Literal(number)),
+        Scalar::Truth(truth) => LoweredExpression::Truth(Truth::Constant(truth)),
     }
 }
 
@@ -71,7 +71,7 @@ impl<'s, 'k, 't> Scene<'s, 'k, 't> {
 
     /// Returns the value of the constant that the name at a token refers to, or None if the name
     /// refers to no constant.
-    fn constant(&self, name: usize) -> Option<Scalar>
+    fn constant_at_token(&self, name: usize) -> Option<Scalar>
         ensures { option_map scalar_value result
             ≡ constant_of (object_at self.now.types.now (label_at_token self.now.resolved.now name)) }
     {
@@ -91,14 +91,14 @@ impl<'s, 'k, 't> Scene<'s, 'k, 't> {
         ensures { result.now ≡ label_text (label_at_token self.now.resolved.now token) }
     {
         match self.resolved.ordinal_at(token) {
-            None => text_at(self.resolved.tokens(), token),
+            None => token_text_at(self.resolved.tokens(), token),
             Some(_) => "",
         }
     }
 
     /// Returns the value of the number literal at a token.
-    fn integer(&self, token: usize) -> i32
-        ensures { result ≡ pos (value_at self.now.resolved.now.module_read.source token) }
+    fn literal_at_token(&self, token: usize) -> i32
+        ensures { result ≡ pos (token_value_at self.now.resolved.now.module_read.source token) }
     {
         number_at(self.resolved.tokens(), token)
     }
@@ -111,38 +111,38 @@ impl<'s, 'k, 't> Scene<'s, 'k, 't> {
     {
         match self.variable_type(name) {
             None => Ok(None),
-            Some(of) => {
+            Some(type_id) => {
                 let place = self.variable(alloc, name)?;
-                Ok(Some(TypedPlace { place, of }))
+                Ok(Some(TypedPlace { place, type_id }))
             }
         }
     }
 
     /// Returns the code of the value at a place: a number, a truth, or the cells of an array or a
     /// record.
-    fn code_at_place(&self, at: TypedPlace) -> Lowered
+    fn code_at_place(&self, at: TypedPlace) -> LoweredExpression
         ensures code { code_of result
             ≡ code_at_place (found_place_of (shapes_of self.now.types.now) at).place
             (found_place_of (shapes_of self.now.types.now) at).shape }
         ensures flat { IsFlat result }
     {
-        let TypedPlace { place, of } = at;
-        match of {
-            TypeId::Integer => Lowered::Number(number_at_place(place)),
-            TypeId::Boolean => Lowered::Truth(Truth::Flag(place)),
-            TypeId::Array(_) => Lowered::Block(place, self.types.size(of)),
-            TypeId::Record(_) => Lowered::Block(place, self.types.size(of)),
-            TypeId::Unknown => Lowered::Block(place, self.types.size(of)),
+        let TypedPlace { place, type_id } = at;
+        match type_id {
+            TypeId::Integer => LoweredExpression::Number(number_at_place(place)),
+            TypeId::Boolean => LoweredExpression::Truth(Truth::Flag(place)),
+            TypeId::Array(_) => LoweredExpression::Block(place, self.types.size(type_id)),
+            TypeId::Record(_) => LoweredExpression::Block(place, self.types.size(type_id)),
+            TypeId::Unknown => LoweredExpression::Block(place, self.types.size(type_id)),
         }
     }
 
-    fn code_at(&self, at: Option<TypedPlace>) -> Lowered
+    fn code_at(&self, at: Option<TypedPlace>) -> LoweredExpression
         ensures code { code_of result
             ≡ code_at (option_map (found_place_of (shapes_of self.now.types.now)) at) }
         ensures flat { IsFlat result }
     {
         match at {
-            None => Lowered::Nothing,
+            None => LoweredExpression::Nothing,
             Some(at) => self.code_at_place(at),
         }
     }
@@ -159,14 +159,17 @@ impl<'s, 'k, 't> Scene<'s, 'k, 't> {
             ≡ record_field_place (label_text (label_at_token self.now.resolved.now name))
             (found_place_of (shapes_of self.now.types.now) at)) }
     {
-        let TypedPlace { place, of } = at;
+        let TypedPlace { place, type_id } = at;
         let name = self.field_name(name);
-        match self.types.declarations().field_type(of, name) {
+        match self.types.declarations().field_type(type_id, name) {
             None => Ok(None),
             Some(field) => {
-                let offset = self.types.offset(of, name);
+                let offset = self.types.offset(type_id, name);
                 let place = part(alloc, place, offset)?;
-                Ok(Some(TypedPlace { place, of: field }))
+                Ok(Some(TypedPlace {
+                    place,
+                    type_id: field,
+                }))
             }
         }
     }
@@ -184,14 +187,14 @@ impl<'s, 'k, 't> Scene<'s, 'k, 't> {
             (found_place_of (shapes_of self.now.types.now) at).place
             (found_place_of (shapes_of self.now.types.now) at).shape) }
     {
-        let TypedPlace { place, of } = at;
-        match self.types.declarations().parts(of) {
+        let TypedPlace { place, type_id } = at;
+        match self.types.declarations().parts(type_id) {
             Parts::Array(array) => {
                 let stride = self.types.size(array.element);
                 let place = element(alloc, place, index, array.length, stride)?;
                 Ok(Some(TypedPlace {
                     place,
-                    of: array.element,
+                    type_id: array.element,
                 }))
             }
             Parts::Integer => Ok(None),
@@ -205,7 +208,7 @@ impl<'s, 'k, 't> Scene<'s, 'k, 't> {
         &self,
         alloc: Global,
         at: Option<TypedPlace>,
-        index: Lowered,
+        index: LoweredExpression,
     ) -> Result<Option<TypedPlace>, AllocError>
         ensures { IfOk result (λ o. option_map (found_place_of (shapes_of self.now.types.now)) o
             ≡ indexed_place (code_of index)
@@ -214,10 +217,10 @@ impl<'s, 'k, 't> Scene<'s, 'k, 't> {
         match at {
             None => Ok(None),
             Some(at) => match index {
-                Lowered::Number(index) => self.element(alloc, at, index),
-                Lowered::Truth(_) => Ok(None),
-                Lowered::Block(_, _) => Ok(None),
-                Lowered::Nothing => Ok(None),
+                LoweredExpression::Number(index) => self.element(alloc, at, index),
+                LoweredExpression::Truth(_) => Ok(None),
+                LoweredExpression::Block(_, _) => Ok(None),
+                LoweredExpression::Nothing => Ok(None),
             },
         }
     }
@@ -244,19 +247,23 @@ impl<'s, 'k, 't> Scene<'s, 'k, 't> {
         &self,
         alloc: Global,
         e: &Expression,
-    ) -> Result<Lowered, AllocError>
+    ) -> Result<LoweredExpression, AllocError>
         ensures code { IfOk result (λ l. code_of l
             ≡ expression_code self.now (tree_with_labels self.now.resolved.now (expression_of e.now))) }
         ensures flat { IfOk result IsFlat }
     {
         match e {
-            Expression::Factor(f) => self.factor(alloc, f),
+            Expression::Factor(f) => self.lower_factor(alloc, f),
             Expression::CompoundExpression(c) => self.lower_compound(alloc, c),
         }
     }
 
     #[cycle(lowering)]
-    fn lower_compound(&self, alloc: Global, c: &CompoundExpression) -> Result<Lowered, AllocError>
+    fn lower_compound(
+        &self,
+        alloc: Global,
+        c: &CompoundExpression,
+    ) -> Result<LoweredExpression, AllocError>
         ensures code { IfOk result (λ l. code_of l
             ≡ expression_code self.now (tree_with_labels self.now.resolved.now (compound_of c.now))) }
         ensures flat { IfOk result IsFlat }
@@ -273,46 +280,52 @@ impl<'s, 'k, 't> Scene<'s, 'k, 't> {
     }
 
     #[cycle(lowering)]
-    fn lower_simple(&self, alloc: Global, s: &SimpleExpression) -> Result<Lowered, AllocError>
+    fn lower_simple(
+        &self,
+        alloc: Global,
+        s: &SimpleExpression,
+    ) -> Result<LoweredExpression, AllocError>
         ensures code { IfOk result (λ l. code_of l
             ≡ simple_code self.now (tree_with_labels self.now.resolved.now (simple_of s.now))) }
         ensures flat { IfOk result IsFlat }
     {
-        let first = self.term(alloc, &s.first)?;
+        let first = self.lower_term(alloc, &s.first)?;
         let mut so_far = lower_sign(alloc, s.sign, first)?;
         for addend in &s.more {
-            let term = self.term(alloc, &addend.term)?;
+            let term = self.lower_term(alloc, &addend.term)?;
             so_far = lower_addend(alloc, addend.operator, so_far, term)?;
         }
         Ok(so_far)
     }
 
     #[cycle(lowering)]
-    fn term(&self, alloc: Global, t: &Term) -> Result<Lowered, AllocError>
+    fn lower_term(&self, alloc: Global, t: &Term) -> Result<LoweredExpression, AllocError>
         ensures code { IfOk result (λ l. code_of l
             ≡ term_code self.now (tree_with_labels self.now.resolved.now (term_of t.now))) }
         ensures flat { IfOk result IsFlat }
     {
-        let mut so_far = self.factor(alloc, &t.first)?;
+        let mut so_far = self.lower_factor(alloc, &t.first)?;
         for multiplier in &t.more {
-            let factor = self.factor(alloc, &multiplier.factor)?;
+            let factor = self.lower_factor(alloc, &multiplier.factor)?;
             so_far = lower_multiplier(alloc, multiplier.operator, so_far, factor)?;
         }
         Ok(so_far)
     }
 
     #[cycle(lowering)]
-    fn factor(&self, alloc: Global, f: &Factor) -> Result<Lowered, AllocError>
+    fn lower_factor(&self, alloc: Global, f: &Factor) -> Result<LoweredExpression, AllocError>
         ensures code { IfOk result (λ l. code_of l
             ≡ factor_code self.now (tree_with_labels self.now.resolved.now (factor_of f.now))) }
         ensures flat { IfOk result IsFlat }
     {
         match f {
             Factor::Designator(d) => self.lower_designator(alloc, d),
-            Factor::Integer(token) => Ok(Lowered::Number(Number::Literal(self.integer(*token)))),
+            Factor::Integer(token) => Ok(LoweredExpression::Number(Number::Literal(
+                self.literal_at_token(*token),
+            ))),
             Factor::Parenthesised(e) => self.lower_expression(alloc, e),
             Factor::Not(f) => {
-                let operand = self.factor(alloc, f)?;
+                let operand = self.lower_factor(alloc, f)?;
                 lower_negation(alloc, operand)
             }
         }
@@ -321,13 +334,17 @@ impl<'s, 'k, 't> Scene<'s, 'k, 't> {
     /// Returns the code of a designator: the value of a constant, or the value at the place of a
     /// variable with its selectors. Returns `Nothing` if the designator is neither.
     #[cycle(lowering)]
-    fn lower_designator(&self, alloc: Global, d: &Designator) -> Result<Lowered, AllocError>
+    fn lower_designator(
+        &self,
+        alloc: Global,
+        d: &Designator,
+    ) -> Result<LoweredExpression, AllocError>
         ensures code { IfOk result (λ l. code_of l
             ≡ factor_code self.now (tree_with_labels self.now.resolved.now (designator_of d.now))) }
         ensures flat { IfOk result IsFlat }
     {
-        match self.constant(d.name) {
-            Some(value) => Ok(constant(value)),
+        match self.constant_at_token(d.name) {
+            Some(value) => Ok(lower_constant(value)),
             None => {
                 let at = self.locate(alloc, d)?;
                 Ok(self.code_at(at))

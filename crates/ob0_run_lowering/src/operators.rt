@@ -8,11 +8,11 @@ ghost use Rattle.ob0_run_cells.specs.Lowering.{relation_of};
 ghost use Rattle.ob0_run_machine.specs.View as view;
 ghost use Rattle.ob0_run_lowering.specs.Codes as codes;
 ghost use Rattle.ob0_run_lowering.specs.Parts.{number_in, truth_in};
-ghost use Rattle.ob0_run_lowering.specs.Rows.{IsNoDeeper, IsFlat, and_depth, or_depth};
+ghost use Rattle.ob0_run_lowering.specs.TruthDepths.{IsNoDeeper, IsFlat, and_depth, or_depth};
 ghost use Rattle.ob0_run_lowering.specs.Trees.{code_of};
 
-use crate::chains::{both, either, negation, operation};
-use crate::lowered::Lowered;
+use crate::chains::{conjunction_of_two, disjunction_of_two, negation, operation_on_numbers};
+use crate::lowered::LoweredExpression;
 use ob0_run_machine::code;
 use ob0_run_machine::code::{
     Number, Operands, Operator, Place, Truth, TruthPair, Variable, VariableElement,
@@ -21,85 +21,93 @@ use ob0_tree::{AddOperator, MultiplyOperator, Relation, Sign};
 use std::alloc::{AllocError, Global};
 
 /// Returns an operand's code if this code is a number, otherwise None.
-fn number_in(operand: Lowered) -> Option<Number>
+fn number_in(operand: LoweredExpression) -> Option<Number>
     ensures { result ≡ number_in operand }
 {
     match operand {
-        Lowered::Number(number) => Some(number),
-        Lowered::Truth(_) => None,
-        Lowered::Block(_, _) => None,
-        Lowered::Nothing => None,
+        LoweredExpression::Number(number) => Some(number),
+        LoweredExpression::Truth(_) => None,
+        LoweredExpression::Block(_, _) => None,
+        LoweredExpression::Nothing => None,
     }
 }
 
 /// Returns an operand's code if this code is a truth, otherwise None.
-fn truth_in(operand: Lowered) -> Option<Truth>
+fn truth_in(operand: LoweredExpression) -> Option<Truth>
     ensures { result ≡ truth_in operand }
 {
     match operand {
-        Lowered::Truth(truth) => Some(truth),
-        Lowered::Number(_) => None,
-        Lowered::Block(_, _) => None,
-        Lowered::Nothing => None,
+        LoweredExpression::Truth(truth) => Some(truth),
+        LoweredExpression::Number(_) => None,
+        LoweredExpression::Block(_, _) => None,
+        LoweredExpression::Nothing => None,
     }
 }
 
 fn lower_operation(
     alloc: Global,
     operator: Operator,
-    left: Lowered,
-    right: Lowered,
-) -> Result<Lowered, AllocError>
+    left: LoweredExpression,
+    right: LoweredExpression,
+) -> Result<LoweredExpression, AllocError>
     ensures code { IfOk result
         (λ l. code_of l ≡ codes.number_operation (operator_of operator) (code_of left) (code_of right)) }
     ensures flat { IfOk result (IsNoDeeper left) }
 {
     let Some(first) = number_in(left) else {
-        return Ok(Lowered::Nothing);
+        return Ok(LoweredExpression::Nothing);
     };
     let Some(second) = number_in(right) else {
-        return Ok(Lowered::Nothing);
+        return Ok(LoweredExpression::Nothing);
     };
-    let number = operation(alloc, operator, first, second)?;
-    Ok(Lowered::Number(number))
+    let number = operation_on_numbers(alloc, operator, first, second)?;
+    Ok(LoweredExpression::Number(number))
 }
 
-fn lower_conjunction(alloc: Global, left: Lowered, right: Lowered) -> Result<Lowered, AllocError>
+fn lower_conjunction(
+    alloc: Global,
+    left: LoweredExpression,
+    right: LoweredExpression,
+) -> Result<LoweredExpression, AllocError>
     ensures code { IfOk result
         (λ l. code_of l ≡ codes.truth_operation machine.both (code_of left) (code_of right)) }
     ensures flat { IfOk result (IsNoDeeper left) }
 {
     let Some(first) = truth_in(left) else {
-        return Ok(Lowered::Nothing);
+        return Ok(LoweredExpression::Nothing);
     };
     let Some(second) = truth_in(right) else {
-        return Ok(Lowered::Nothing);
+        return Ok(LoweredExpression::Nothing);
     };
-    let truth = both(alloc, first, second)?;
-    Ok(Lowered::Truth(truth))
+    let truth = conjunction_of_two(alloc, first, second)?;
+    Ok(LoweredExpression::Truth(truth))
 }
 
-fn lower_disjunction(alloc: Global, left: Lowered, right: Lowered) -> Result<Lowered, AllocError>
+fn lower_disjunction(
+    alloc: Global,
+    left: LoweredExpression,
+    right: LoweredExpression,
+) -> Result<LoweredExpression, AllocError>
     ensures code { IfOk result
         (λ l. code_of l ≡ codes.truth_operation machine.either (code_of left) (code_of right)) }
     ensures flat { IfOk result (IsNoDeeper left) }
 {
     let Some(first) = truth_in(left) else {
-        return Ok(Lowered::Nothing);
+        return Ok(LoweredExpression::Nothing);
     };
     let Some(second) = truth_in(right) else {
-        return Ok(Lowered::Nothing);
+        return Ok(LoweredExpression::Nothing);
     };
-    let truth = either(alloc, first, second)?;
-    Ok(Lowered::Truth(truth))
+    let truth = disjunction_of_two(alloc, first, second)?;
+    Ok(LoweredExpression::Truth(truth))
 }
 
 pub(crate) fn lower_addend(
     alloc: Global,
     operator: AddOperator,
-    left: Lowered,
-    right: Lowered,
-) -> Result<Lowered, AllocError>
+    left: LoweredExpression,
+    right: LoweredExpression,
+) -> Result<LoweredExpression, AllocError>
     ensures code { IfOk result
         (λ l. code_of l ≡ codes.addition_code operator (code_of left) (code_of right)) }
     ensures flat { IfOk result (IsNoDeeper left) }
@@ -114,9 +122,9 @@ pub(crate) fn lower_addend(
 pub(crate) fn lower_multiplier(
     alloc: Global,
     operator: MultiplyOperator,
-    left: Lowered,
-    right: Lowered,
-) -> Result<Lowered, AllocError>
+    left: LoweredExpression,
+    right: LoweredExpression,
+) -> Result<LoweredExpression, AllocError>
     ensures code { IfOk result
         (λ l. code_of l ≡ codes.multiplication_code operator (code_of left) (code_of right)) }
     ensures flat { IfOk result (IsNoDeeper left) }
@@ -129,24 +137,24 @@ pub(crate) fn lower_multiplier(
     }
 }
 
-fn lower_minus(alloc: Global, operand: Lowered) -> Result<Lowered, AllocError>
+fn lower_minus(alloc: Global, operand: LoweredExpression) -> Result<LoweredExpression, AllocError>
     ensures code { IfOk result
         (λ l. code_of l ≡ codes.signed_code (Some signs.Minus) (code_of operand)) }
     ensures flat { IfOk result (IsNoDeeper operand) }
 {
     match operand {
-        Lowered::Number(number) => {
-            Ok(Lowered::Number(Number::Negative(Box::new(alloc, number)?)))
+        LoweredExpression::Number(number) => {
+            Ok(LoweredExpression::Number(Number::Negative(Box::new(alloc, number)?)))
         }
-        Lowered::Truth(_) => Ok(Lowered::Nothing),
-        Lowered::Block(_, _) => Ok(Lowered::Nothing),
-        Lowered::Nothing => Ok(Lowered::Nothing),
+        LoweredExpression::Truth(_) => Ok(LoweredExpression::Nothing),
+        LoweredExpression::Block(_, _) => Ok(LoweredExpression::Nothing),
+        LoweredExpression::Nothing => Ok(LoweredExpression::Nothing),
     }
 }
 
 /// Returns the code of a term with the sign `+`, which is the sum of the term and 0. Returns
 /// `Nothing` if the term isn't a number.
-fn lower_plus(alloc: Global, operand: Lowered) -> Result<Lowered, AllocError>
+fn lower_plus(alloc: Global, operand: LoweredExpression) -> Result<LoweredExpression, AllocError>
     ensures code { IfOk result
         (λ l. code_of l ≡ codes.signed_code (Some signs.Plus) (code_of operand)) }
     ensures flat { IfOk result (IsNoDeeper operand) }
@@ -155,7 +163,7 @@ fn lower_plus(alloc: Global, operand: Lowered) -> Result<Lowered, AllocError>
         alloc,
         Operator::Sum,
         operand,
-        Lowered::Number(Number::Literal(0)),
+        LoweredExpression::Number(Number::Literal(0)),
     )
 }
 
@@ -164,8 +172,8 @@ fn lower_plus(alloc: Global, operand: Lowered) -> Result<Lowered, AllocError>
 pub(crate) fn lower_sign(
     alloc: Global,
     sign: Option<Sign>,
-    operand: Lowered,
-) -> Result<Lowered, AllocError>
+    operand: LoweredExpression,
+) -> Result<LoweredExpression, AllocError>
     ensures code { IfOk result (λ l. code_of l ≡ codes.signed_code sign (code_of operand)) }
     ensures flat { IfOk result (IsNoDeeper operand) }
 {
@@ -178,15 +186,18 @@ pub(crate) fn lower_sign(
     }
 }
 
-pub(crate) fn lower_negation(alloc: Global, operand: Lowered) -> Result<Lowered, AllocError>
+pub(crate) fn lower_negation(
+    alloc: Global,
+    operand: LoweredExpression,
+) -> Result<LoweredExpression, AllocError>
     ensures code { IfOk result (λ l. code_of l ≡ codes.negation_code (code_of operand)) }
     ensures flat { IfOk result IsFlat }
 {
     match operand {
-        Lowered::Truth(truth) => Ok(Lowered::Truth(negation(alloc, truth)?)),
-        Lowered::Number(_) => Ok(Lowered::Nothing),
-        Lowered::Block(_, _) => Ok(Lowered::Nothing),
-        Lowered::Nothing => Ok(Lowered::Nothing),
+        LoweredExpression::Truth(truth) => Ok(LoweredExpression::Truth(negation(alloc, truth)?)),
+        LoweredExpression::Number(_) => Ok(LoweredExpression::Nothing),
+        LoweredExpression::Block(_, _) => Ok(LoweredExpression::Nothing),
+        LoweredExpression::Nothing => Ok(LoweredExpression::Nothing),
     }
 }
 
@@ -311,25 +322,25 @@ fn relate_truths(
     relation: Relation,
     left: Truth,
     right: Truth,
-) -> Result<Lowered, AllocError>
+) -> Result<LoweredExpression, AllocError>
     ensures code { IfOk result (λ l. code_of l
-        ≡ codes.related relation (codes.a_truth (truth_of left)) (codes.a_truth (truth_of right))) }
+        ≡ codes.relation_code relation (codes.a_truth (truth_of left)) (codes.a_truth (truth_of right))) }
     ensures flat { IfOk result IsFlat }
 {
     let truths = TruthPair { left, right };
     match relation {
         Relation::Equal => {
             let sides = Box::new(alloc, truths)?;
-            Ok(Lowered::Truth(Truth::Same(sides)))
+            Ok(LoweredExpression::Truth(Truth::Same(sides)))
         }
         Relation::NotEqual => {
             let sides = Box::new(alloc, truths)?;
-            Ok(Lowered::Truth(Truth::Different(sides)))
+            Ok(LoweredExpression::Truth(Truth::Different(sides)))
         }
-        Relation::Less => Ok(Lowered::Nothing),
-        Relation::LessEqual => Ok(Lowered::Nothing),
-        Relation::Greater => Ok(Lowered::Nothing),
-        Relation::GreaterEqual => Ok(Lowered::Nothing),
+        Relation::Less => Ok(LoweredExpression::Nothing),
+        Relation::LessEqual => Ok(LoweredExpression::Nothing),
+        Relation::Greater => Ok(LoweredExpression::Nothing),
+        Relation::GreaterEqual => Ok(LoweredExpression::Nothing),
     }
 }
 
@@ -339,17 +350,17 @@ fn lower_number_relation(
     alloc: Global,
     relation: Relation,
     left: Number,
-    right: Lowered,
-) -> Result<Lowered, AllocError>
+    right: LoweredExpression,
+) -> Result<LoweredExpression, AllocError>
     ensures code { IfOk result (λ l. code_of l
-        ≡ codes.related relation (codes.a_number (number_of left)) (code_of right)) }
+        ≡ codes.relation_code relation (codes.a_number (number_of left)) (code_of right)) }
     ensures flat { IfOk result IsFlat }
 {
     let Some(second) = number_in(right) else {
-        return Ok(Lowered::Nothing);
+        return Ok(LoweredExpression::Nothing);
     };
     let truth = relate_numbers(alloc, relation, left, second)?;
-    Ok(Lowered::Truth(truth))
+    Ok(LoweredExpression::Truth(truth))
 }
 
 /// Returns the code of a relation between a truth and an operand. Returns `Nothing` if the operand
@@ -358,14 +369,14 @@ fn lower_truth_relation(
     alloc: Global,
     relation: Relation,
     left: Truth,
-    right: Lowered,
-) -> Result<Lowered, AllocError>
+    right: LoweredExpression,
+) -> Result<LoweredExpression, AllocError>
     ensures code { IfOk result
-        (λ l. code_of l ≡ codes.related relation (codes.a_truth (truth_of left)) (code_of right)) }
+        (λ l. code_of l ≡ codes.relation_code relation (codes.a_truth (truth_of left)) (code_of right)) }
     ensures flat { IfOk result IsFlat }
 {
     let Some(second) = truth_in(right) else {
-        return Ok(Lowered::Nothing);
+        return Ok(LoweredExpression::Nothing);
     };
     relate_truths(alloc, relation, left, second)
 }
@@ -373,17 +384,17 @@ fn lower_truth_relation(
 pub(crate) fn lower_relation(
     alloc: Global,
     relation: Relation,
-    left: Lowered,
-    right: Lowered,
-) -> Result<Lowered, AllocError>
+    left: LoweredExpression,
+    right: LoweredExpression,
+) -> Result<LoweredExpression, AllocError>
     ensures code { IfOk result
-        (λ l. code_of l ≡ codes.related relation (code_of left) (code_of right)) }
+        (λ l. code_of l ≡ codes.relation_code relation (code_of left) (code_of right)) }
     ensures flat { IfOk result IsFlat }
 {
     match left {
-        Lowered::Number(number) => lower_number_relation(alloc, relation, number, right),
-        Lowered::Truth(truth) => lower_truth_relation(alloc, relation, truth, right),
-        Lowered::Block(_, _) => Ok(Lowered::Nothing),
-        Lowered::Nothing => Ok(Lowered::Nothing),
+        LoweredExpression::Number(number) => lower_number_relation(alloc, relation, number, right),
+        LoweredExpression::Truth(truth) => lower_truth_relation(alloc, relation, truth, right),
+        LoweredExpression::Block(_, _) => Ok(LoweredExpression::Nothing),
+        LoweredExpression::Nothing => Ok(LoweredExpression::Nothing),
     }
 }

@@ -57,7 +57,9 @@ fn part_of_variable(alloc: Global, variable: Variable, offset: usize) -> Result<
 {
     match variable {
         Variable::Module(at) => Ok(Place::Variable(Variable::Module(at.wrapping_add(offset)))),
-        Variable::Here(at) => Ok(Place::Variable(Variable::Here(at.wrapping_add(offset)))),
+        Variable::InOwnActivation(at) => Ok(Place::Variable(Variable::InOwnActivation(
+            at.wrapping_add(offset),
+        ))),
         Variable::ByReference { index, offset: at } => {
             reference(alloc, 0, index as usize, (at as usize).wrapping_add(offset))
         }

@@ -16,7 +16,7 @@ ghost use Rattle.ob0_run_lowering.specs.Blocks.{LowersProcedures, LowersBlock};
 
 use crate::contexts::LoweringContext;
 use crate::visible_sites::{Frame, VisibleSites};
-use crate::{Scene, Site, TypeLayouts, body};
+use crate::{Scene, Site, TypeLayouts, lower_body};
 use ob0_run_machine::code;
 use ob0_scope_table::Resolved;
 use ob0_tree::{Block, Procedure};
@@ -45,7 +45,7 @@ impl Lowering {
     ghost use Rattle.ob0_run_lowering.specs.Scenes.{site_at};
     ghost use Rattle.ob0_run_lowering.specs.declared.scene.Site.TheVariants as site;
     ghost use Rattle.ob0_run_machine.specs.declared.code.Routine as code;
-    ghost use Rattle.ob0_run_lowering.specs.Placed.{Follows, sites_with_binding};
+    ghost use Rattle.ob0_run_lowering.specs.PlacedNames.{Follows, sites_with_binding};
 
     /// Stores the code of a procedure at the procedure's index. Does nothing if the list of
     /// procedures has no such index.
@@ -92,7 +92,7 @@ impl Lowering {
     /// bound before its body is lowered, so the body can call the procedure. Its parameters and
     /// declarations are in scope up to its end.
     #[cycle(blocks)]
-    fn procedure(
+    fn lower_procedure(
         &mut self,
         context: &LoweringContext<'_, '_, '_>,
         depth: usize,
@@ -110,10 +110,10 @@ impl Lowering {
         let frame = Frame {
             depth: inside,
             cells: 0,
-            references: 0,
+            var_parameter_count: 0,
         };
         let frame = self.visible.place_formals(context, frame, &p.formals)?;
-        let entry = self.block(context, frame, &p.block)?;
+        let entry = self.lower_block(context, frame, &p.block)?;
         self.visible.restore_hidden(outside);
         self.set_routine(index, entry);
         Ok(())
@@ -122,7 +122,7 @@ impl Lowering {
     /// Lowers a block: places its variables, lowers its procedures, and then its statements.
     /// Returns the number of cells of the block's variables, and the code of its statements.
     #[cycle(blocks)]
-    fn block(
+    fn lower_block(
         &mut self,
         context: &LoweringContext<'_, '_, '_>,
         frame: Frame,
@@ -131,9 +131,11 @@ impl Lowering {
         ensures { IfOk result (LowersBlock context.now.types.now self.old self.new frame
             (tree_with_labels context.now.resolved.now (block_of b.now))) }
     {
-        let own = self.visible.variables(context, frame, &b.variables)?;
+        let own = self
+            .visible
+            .place_block_variables(context, frame, &b.variables)?;
         for p in &b.procedures {
-            self.procedure(context, own.depth, p)?;
+            self.lower_procedure(context, own.depth, p)?;
         }
         let scene = Scene {
             resolved: context.resolved,
@@ -141,7 +143,7 @@ impl Lowering {
             sites: self.visible.sites.as_slice(),
             depth: own.depth,
         };
-        let body = body(context.alloc, &scene, &b.body)?;
+        let body = lower_body(context.alloc, &scene, &b.body)?;
         Ok(code::Routine {
             cells: own.cells - frame.cells,
             body,
@@ -179,9 +181,9 @@ pub fn lower<'t>(
     let frame = Frame {
         depth: 0,
         cells: 0,
-        references: 0,
+        var_parameter_count: 0,
     };
-    let entry = lowering.block(&context, frame, resolved.module().block())?;
+    let entry = lowering.lower_block(&context, frame, resolved.module().block())?;
     let code = code::LoweredCode {
         cells: entry.cells,
         body: entry.body,

@@ -22,7 +22,7 @@ pub enum Site {
     /// A variable, at an offset in the cells of the module.
     Module(usize),
     /// A variable, at an offset in the cells of an activation with this depth.
-    Held { depth: usize, offset: usize },
+    InActivation { depth: usize, offset: usize },
     /// A VAR parameter of an activation with this depth, by its index among the VAR parameters.
     ByReference { depth: usize, index: usize },
     /// A procedure that is declared in an activation with this depth, by its index in the program.
@@ -106,7 +106,7 @@ impl<'s, 'k, 't> Scene<'s, 'k, 't> {
             },
             Site::Nowhere => CallTarget::none(),
             Site::Module(_) => CallTarget::none(),
-            Site::Held { .. } => CallTarget::none(),
+            Site::InActivation { .. } => CallTarget::none(),
             Site::ByReference { .. } => CallTarget::none(),
         }
     }
@@ -119,7 +119,7 @@ impl<'s, 'k, 't> Scene<'s, 'k, 't> {
     {
         match self.site(name) {
             Site::Module(offset) => Ok(Place::Variable(Variable::Module(offset))),
-            Site::Held { depth, offset } => {
+            Site::InActivation { depth, offset } => {
                 Ok(place_in_activation(self.depth.saturating_sub(depth), offset))
             }
             Site::ByReference { depth, index } => {
@@ -133,10 +133,10 @@ impl<'s, 'k, 't> Scene<'s, 'k, 't> {
 
 /// Returns the place at an offset in the cells of the activation `up` levels out.
 fn place_in_activation(up: usize, offset: usize) -> Place
-    ensures { place_of result ≡ slot_place (slots.held up offset) }
+    ensures { place_of result ≡ slot_place (slots.in_activation up offset) }
 {
     if up == 0 {
-        Place::Variable(Variable::Here(offset))
+        Place::Variable(Variable::InOwnActivation(offset))
     } else {
         Place::Outside { up, offset }
     }

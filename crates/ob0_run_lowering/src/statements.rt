@@ -10,7 +10,7 @@ ghost use Rattle.ob0_tree.specs.View as view;
 ghost use Rattle.ob0_tree.specs.View.{body_of, if_of, sequence_of_vec};
 ghost use Rattle.ob0_scope_table.specs.LabelledTrees.{tree_with_labels};
 ghost use Rattle.ob0_run_machine.specs.View.{sequence_of, statement_of};
-ghost use Rattle.ob0_run_lowering.specs.LoweredBodies.{BodyLowers, OptionalStatementLowers, SequenceLowers, StatementLowers};
+ghost use Rattle.ob0_run_lowering.specs.LoweredBodies.{LowersBody, LowersOptionalStatement, LowersSequence, LowersStatement};
 
 use crate::Scene;
 use crate::lowered_assignments::lower_assignment;
@@ -20,12 +20,12 @@ use ob0_tree::{If, Statement};
 use std::alloc::{AllocError, Global};
 
 /// Returns the code of a block's statements. The code is empty if the block has no BEGIN.
-pub fn body(
+pub fn lower_body(
     alloc: Global,
     scene: &Scene<'_, '_, '_>,
     statements: &Option<Vec<Statement>>,
 ) -> Result<Vec<code::Instruction>, AllocError>
-    ensures { IfOk result (λ made. BodyLowers scene.now (sequence_of made.items)
+    ensures { IfOk result (λ made. LowersBody scene.now (sequence_of made.items)
         (tree_with_labels scene.now.resolved.now (body_of statements.now))) }
 {
     match statements {
@@ -53,27 +53,27 @@ fn push_if_any(
 
 /// Returns the code of a statement, or None if the statement is empty.
 #[cycle(statements)]
-fn statement(
+fn lower_statement(
     alloc: Global,
     scene: &Scene<'_, '_, '_>,
     s: &Statement,
 ) -> Result<Option<code::Instruction>, AllocError>
-    ensures { IfOk result (λ made. OptionalStatementLowers scene.now (option_map statement_of made)
+    ensures { IfOk result (λ made. LowersOptionalStatement scene.now (option_map statement_of made)
         (tree_with_labels scene.now.resolved.now (view.statement_of s.now))) }
 {
     match s {
         Statement::Empty => Ok(None),
         Statement::Assign(a) => Ok(Some(lower_assignment(alloc, scene, a)?)),
         Statement::Call(c) => Ok(Some(lower_call_statement(alloc, scene, c)?)),
-        Statement::If(i) => Ok(Some(branches(alloc, scene, i)?)),
+        Statement::If(i) => Ok(Some(lower_if(alloc, scene, i)?)),
         Statement::While(w) => {
-            let condition = scene.truth(alloc, &w.condition)?;
+            let condition = scene.lower_to_truth(alloc, &w.condition)?;
             let body = lower_sequence(alloc, scene, &w.body)?;
             Ok(Some(code::Instruction::While(code::WhileLoop { condition, body })))
         }
         Statement::Repeat(r) => {
             let body = lower_sequence(alloc, scene, &r.body)?;
-            let condition = scene.truth(alloc, &r.condition)?;
+            let condition = scene.lower_to_truth(alloc, &r.condition)?;
             Ok(Some(code::Instruction::Repeat(code::RepeatLoop { body, condition })))
         }
     }
@@ -86,12 +86,12 @@ fn lower_sequence(
     scene: &Scene<'_, '_, '_>,
     statements: &Vec<Statement>,
 ) -> Result<Vec<code::Instruction>, AllocError>
-    ensures { IfOk result (λ made. SequenceLowers scene.now (sequence_of made.items)
+    ensures { IfOk result (λ made. LowersSequence scene.now (sequence_of made.items)
         (tree_with_labels scene.now.resolved.now (sequence_of_vec statements.now))) }
 {
     let mut made = Vec::new(alloc);
     for s in statements {
-        let next = statement(alloc, scene, s)?;
+        let next = lower_statement(alloc, scene, s)?;
         push_if_any(&mut made, next)?;
     }
     Ok(made)
@@ -99,19 +99,19 @@ fn lower_sequence(
 
 /// Returns the code of an IF with its ELSIF parts and its ELSE part.
 #[cycle(statements)]
-fn branches(
+fn lower_if(
     alloc: Global,
     scene: &Scene<'_, '_, '_>,
     i: &If,
 ) -> Result<code::Instruction, AllocError>
-    ensures { IfOk result (λ made. StatementLowers scene.now (statement_of made)
+    ensures { IfOk result (λ made. LowersStatement scene.now (statement_of made)
         (tree_with_labels scene.now.resolved.now (if_of i.now))) }
 {
-    let first = scene.truth(alloc, &i.condition)?;
+    let first = scene.lower_to_truth(alloc, &i.condition)?;
     let then = lower_sequence(alloc, scene, &i.then)?;
     let mut others = Vec::new(alloc);
     for part in &i.elsifs {
-        let condition = scene.truth(alloc, &part.condition)?;
+        let condition = scene.lower_to_truth(alloc, &part.condition)?;
         let body = lower_sequence(alloc, scene, &part.then)?;
         others.push(code::Branch { condition, body })?;
     }

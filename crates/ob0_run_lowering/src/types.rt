@@ -7,7 +7,7 @@
 ghost use Rattle.std.specs.Prelude.{◌≡◌, ◌≤◌, ◌+◌, ◌*◌, ◌^◌, ℕ, IfOk, List, MatchResult, slice_index_or};
 ghost use Rattle.ob0_run_cells.specs.Cells.{field_offset, size, step_offset};
 ghost use Rattle.ob0_language_names.specs.Names.{Name};
-ghost use Rattle.ob0_types_table.specs.FieldPlaces.{field_selected};
+ghost use Rattle.ob0_types_table.specs.FieldPlaces.{selected_field};
 ghost use Rattle.ob0_types_table.specs.KnownTables.{shapes_of};
 ghost use Rattle.ob0_types_table.specs.Tables.{field_shapes, entry_shape, faulty_shape, array_or_faulty, record_or_faulty, type_shape};
 ghost use Rattle.ob0_language_values.specs.Values as values;
@@ -224,7 +224,7 @@ fn offset_at(offsets: &[usize], index: usize) -> usize
 fn offset_of_field(laid: &RecordLayout, field: Option<FieldId>) -> usize
     ensures { (k : ℕ) (fs : values.FieldShapes) (x : Name)
         → AreLaidOut fs laid.now
-        → field ≡ field_selected (values.record_shape k fs) x
+        → field ≡ selected_field (values.record_shape k fs) x
         → result ≡ field_offset fs x }
 {
     match field {

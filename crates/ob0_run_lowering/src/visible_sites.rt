@@ -8,7 +8,7 @@
 
 ghost use Rattle.std.specs.Prelude.{◌≡◌, ◌≤◌, ◌+◌, ◌^◌, ℕ, suc, IfOk, OnOk, MatchOption, length, slice_set};
 ghost use Rattle.ob0_run_lowering.specs.Scenes.{site_at};
-ghost use Rattle.ob0_run_lowering.specs.Placed.{IsNextSite};
+ghost use Rattle.ob0_run_lowering.specs.PlacedNames.{IsNextSite};
 
 use crate::Site;
 use crate::contexts::LoweringContext;
@@ -20,7 +20,7 @@ use std::alloc::{AllocError, Global};
 #[derive(Drop, Clone, Copy)]
 pub(crate) struct HiddenSite {
     pub(crate) ordinal: usize,
-    pub(crate) before: Site,
+    pub(crate) earlier_site: Site,
 }
 
 /// The sites of the declarations in scope. `sites` has the site of each declaration, at the
@@ -37,7 +37,7 @@ pub(crate) struct VisibleSites {
 pub(crate) struct Frame {
     pub(crate) depth: usize,
     pub(crate) cells: usize,
-    pub(crate) references: usize,
+    pub(crate) var_parameter_count: usize,
 }
 
 /// Returns the site of the next variable of an activation, which comes after the cells so far.
@@ -47,7 +47,7 @@ fn next_site(frame: Frame) -> Site
     if frame.depth == 0 {
         Site::Module(frame.cells)
     } else {
-        Site::Held {
+        Site::InActivation {
             depth: frame.depth,
             offset: frame.cells,
         }
@@ -65,7 +65,7 @@ impl Frame {
         Some(Frame {
             depth: self.depth,
             cells,
-            references: self.references,
+            var_parameter_count: self.var_parameter_count,
         })
     }
 }
@@ -76,8 +76,8 @@ impl VisibleSites {
     ghost use Rattle.ob0_language_names.specs.Parts.{formal_sections, names_in_list, section_variables};
     ghost use Rattle.ob0_scope_table.specs.LabelledTrees.{tree_with_labels, label_at_token};
     ghost use Rattle.ob0_run_cells.specs.Activations.{place_name};
-    ghost use Rattle.ob0_run_lowering.specs.Placed.{Follows, IsRestored, Places, declared_size, place_each, sites_with_binding, variable_slot};
-    ghost use Rattle.ob0_run_lowering.specs.Placed as placed;
+    ghost use Rattle.ob0_run_lowering.specs.PlacedNames.{Follows, IsRestored, PlacesNames, declared_size, place_each, sites_with_binding, variable_slot};
+    ghost use Rattle.ob0_run_lowering.specs.PlacedNames as placed;
     ghost use Rattle.ob0_types_table.specs.Tables.{mode_of};
 
     /// Returns a table without any declaration in scope.
@@ -135,8 +135,11 @@ impl VisibleSites {
         ensures follows { OnOk result (Follows self.old self.new) }
     {
         self.make_room_for(ordinal)?;
-        let before = self.site_of_ordinal(ordinal);
-        self.hidden.push(HiddenSite { ordinal, before })?;
+        let earlier_site = self.site_of_ordinal(ordinal);
+        self.hidden.push(HiddenSite {
+            ordinal,
+            earlier_site,
+        })?;
         self.set_site(ordinal, site);
         Ok(())
     }
@@ -174,7 +177,7 @@ impl VisibleSites {
         while self.hidden.len() > hidden_count {
             match self.hidden.pop() {
                 None => break,
-                Some(last) => self.set_site(last.ordinal, last.before),
+                Some(last) => self.set_site(last.ordinal, last.earlier_site),
             }
         }
     }
@@ -183,34 +186,34 @@ impl VisibleSites {
     /// the next index, a variable or a value parameter gets cells. Returns the frame with this name
     /// added. Fails if an allocation fails, or if a count of the frame would have more than 64
     /// bits.
-    fn place(
+    fn place_declared_name(
         &mut self,
         context: &LoweringContext<'_, '_, '_>,
         frame: Frame,
         by_place: bool,
         name: usize,
     ) -> Result<Frame, AllocError>
-        ensures { IfOk result (Places self.old self.new frame (place_name (variable_slot frame.depth)
+        ensures { IfOk result (PlacesNames self.old self.new frame (place_name (variable_slot frame.depth)
             (mode_of by_place) (label_at_token context.now.resolved.now name)
             (declared_size context.now.types.now (label_at_token context.now.resolved.now name)))) }
     {
         let ordinal = context.resolved.ordinal_at(name);
         if by_place {
-            let Some(references) = frame.references.checked_add(1) else {
+            let Some(var_parameter_count) = frame.var_parameter_count.checked_add(1) else {
                 return Err(AllocError);
             };
             let site = Site::ByReference {
                 depth: frame.depth,
-                index: frame.references,
+                index: frame.var_parameter_count,
             };
             self.bind(ordinal, site)?;
             return Ok(Frame {
                 depth: frame.depth,
                 cells: frame.cells,
-                references,
+                var_parameter_count,
             });
         }
-        let Some(next) = frame.with_more_cells(context.size(name)) else {
+        let Some(next) = frame.with_more_cells(context.size_at_token(name)) else {
             return Err(AllocError);
         };
         self.bind(ordinal, next_site(frame))?;
@@ -226,24 +229,24 @@ impl VisibleSites {
         by_place: bool,
         names: &NameList,
     ) -> Result<Frame, AllocError>
-        ensures { IfOk result (Places self.old self.new frame (place_each (variable_slot frame.depth)
+        ensures { IfOk result (PlacesNames self.old self.new frame (place_each (variable_slot frame.depth)
             (declared_size context.now.types.now) (mode_of by_place)
             (names_in_list (tree_with_labels context.now.resolved.now (names_of names.now))))) }
     {
-        let mut now = self.place(context, frame, by_place, names.first)?;
+        let mut now = self.place_declared_name(context, frame, by_place, names.first)?;
         for name in &names.more {
-            now = self.place(context, now, by_place, *name)?;
+            now = self.place_declared_name(context, now, by_place, *name)?;
         }
         Ok(now)
     }
 
-    fn place_groups(
+    fn place_variable_declarations(
         &mut self,
         context: &LoweringContext<'_, '_, '_>,
         frame: Frame,
         groups: &[VariableDeclaration],
     ) -> Result<Frame, AllocError>
-        ensures { IfOk result (Places self.old self.new frame (placed.place_groups
+        ensures { IfOk result (PlacesNames self.old self.new frame (placed.place_variable_declarations
             (variable_slot frame.depth) (declared_size context.now.types.now)
             (tree_with_labels context.now.resolved.now (items_of variable_of groups.now)))) }
     {
@@ -256,19 +259,19 @@ impl VisibleSites {
 
     /// Places the variables of a block in its activation, one after the other. Returns the frame
     /// with these variables added.
-    pub(crate) fn variables(
+    pub(crate) fn place_block_variables(
         &mut self,
         context: &LoweringContext<'_, '_, '_>,
         frame: Frame,
         section: &Option<Vec<VariableDeclaration>>,
     ) -> Result<Frame, AllocError>
-        ensures { IfOk result (Places self.old self.new frame (placed.place_groups
+        ensures { IfOk result (PlacesNames self.old self.new frame (placed.place_variable_declarations
             (variable_slot frame.depth) (declared_size context.now.types.now)
             (section_variables (tree_with_labels context.now.resolved.now (variables_of section.now))))) }
     {
         match section {
-            None => self.place_groups(context, frame, &[]),
-            Some(groups) => self.place_groups(context, frame, groups.as_slice()),
+            None => self.place_variable_declarations(context, frame, &[]),
+            Some(groups) => self.place_variable_declarations(context, frame, groups.as_slice()),
         }
     }
 
@@ -278,7 +281,7 @@ impl VisibleSites {
         frame: Frame,
         sections: &[ParameterSection],
     ) -> Result<Frame, AllocError>
-        ensures { IfOk result (Places self.old self.new frame (placed.place_sections
+        ensures { IfOk result (PlacesNames self.old self.new frame (placed.place_sections
             (variable_slot frame.depth) (declared_size context.now.types.now)
             (tree_with_labels context.now.resolved.now (items_of further_section_of sections.now)))) }
     {
@@ -297,7 +300,7 @@ impl VisibleSites {
         frame: Frame,
         formals: &Option<Vec<ParameterSection>>,
     ) -> Result<Frame, AllocError>
-        ensures { IfOk result (Places self.old self.new frame (placed.place_sections
+        ensures { IfOk result (PlacesNames self.old self.new frame (placed.place_sections
             (variable_slot frame.depth) (declared_size context.now.types.now)
             (formal_sections (tree_with_labels context.now.resolved.now (formals_of formals.now))))) }
     {

@@ -10,7 +10,7 @@ use Rattle.ob0_run_machine.specs.declared.code.FirstOperand.TheBlock.{hidden-the
 use Rattle.ob0_run_machine.specs.Evaluation.{Levels, StepResult, ends, gives, number, ◌>>=◌}
 use Rattle.ob0_run_machine.specs.Lowered as lowered
 use Rattle.ob0_run_machine.specs.Answers.{outcome_of_applied_link}
-use Rattle.ob0_run_machine.specs.View.{applied, chain_by_row, chain_on_operand, chain_of, first_of, number_of, variable_of}
+use Rattle.ob0_run_machine.specs.View.{operation_with_link, chain_by_row, chain_on_operand, chain_of, first_of, number_of, variable_of}
 
 pub bind_gives : {A : Type 0} (o : StepResult A) → (o >>= (λ a. gives a)) ≡ o
 bind_gives (gives a) = refl
@@ -32,7 +32,7 @@ after_variable ls cells o (variable.Module offset) right = refl
 after_variable ls cells o _ right = refl
 
 -- an operation on a number is that on its value
-pub applied_to : (ls : Levels) (cells : List ℤ) (left : lowered.Number) (l : Link) → number ls cells (applied l left) ≡ (number ls cells left >>= outcome_of_applied_link ls cells l)
+pub applied_to : (ls : Levels) (cells : List ℤ) (left : lowered.Number) (l : Link) → number ls cells (operation_with_link l left) ≡ (number ls cells left >>= outcome_of_applied_link ls cells l)
 applied_to ls cells left (link.VariableSum v) = after_variable ls cells lowered.sum v left
 applied_to ls cells left (link.VariableDifference v) = after_variable ls cells lowered.difference v left
 applied_to ls cells left (link.VariableProduct v) = after_variable ls cells lowered.product v left
@@ -40,7 +40,7 @@ applied_to ls cells left _ = refl
 
 pub chained : (ls : Levels) (cells : List ℤ) (left : lowered.Number) (links : List Link) → number ls cells (chain_on_operand left links) ≡ (number ls cells left >>= continued ls cells links)
 chained ls cells left [] = sym (bind_gives (number ls cells left))
-chained ls cells left (l ∷ rest) = chained ls cells (applied l left) rest
+chained ls cells left (l ∷ rest) = chained ls cells (operation_with_link l left) rest
     ∙ ap (λ o. o >>= continued ls cells rest) (applied_to ls cells left l)
     ∙ bind_assoc (number ls cells left) (outcome_of_applied_link ls cells l) (continued ls cells rest)
 
@@ -56,7 +56,7 @@ chain_begins ls cells first links a h = record { so_far = sym (chain_fails ls ce
 
 chained_listed : (n : _) (row : Row_of-Link n) (left : lowered.Number) → chain_by_row row left ≡ chain_on_operand left (items-the_row-Link n row)
 chained_listed _ end_of-Link left = refl
-chained_listed _ (more_of-Link l row) left = chained_listed _ row (applied l left)
+chained_listed _ (more_of-Link l row) left = chained_listed _ row (operation_with_link l left)
 
 pub chain_made : (c : _) → number_of (Chain c) ≡ chain_of c.value
 chain_made c = chained_listed _ (hidden-the_row-Link-0 (out-Chain c.value).rest) (first_of (out-Chain c.value).first)

@@ -3,7 +3,7 @@ use Rattle.std.proofs.Common.{◌≡◌, ℕ, zero, suc, arith, Bool, true, fals
 use Rattle.std.proofs.lemmas.List.{drop_all, drop_more}
 use Rattle.ob0_run_machine.specs.declared.code.Argument.{Argument}
 use Rattle.ob0_run_machine.specs.declared.level.Level as level
-use Rattle.ob0_run_machine.specs.Levels.{levels_after, levels_of, levels_of_option}
+use Rattle.ob0_run_machine.specs.Levels.{enclosing_levels, levels_of, levels_of_option}
 use Rattle.ob0_run_machine.specs.declared.code.Branch.{Branch}
 use Rattle.ob0_run_machine.specs.declared.code.ProcedureCall as call
 use Rattle.ob0_run_machine.specs.declared.code.Conditional.{Conditional, out-Conditional}
@@ -42,7 +42,7 @@ EndsRun post e m m' f = (enters : CallEffect) → PerformsCalls post enters → 
 -- the exit of a `?` at what ends the run
 pub ending_by : {post : CallPostcondition} {r : Result (Unit {0}) Stop} {m m' : Machine} {f : CodeEffect} (e : EvaluationFault) → (y : Stop) × (r ≡ Err y) × (end_of_stop y ≡ Some (end_of e))
     → EndsRun post e m m' f → MachineDoes post r m m' f
-ending_by {m = m} {m' = m'} {f = f} e q h = leaving (q.0, q.1, refl) record { as_defined = λ enters p. subst (λ o. StopsRun o m' (f enters (state_of m))) (sym q.2) (h enters p) }
+ending_by {m = m} {m' = m'} {f = f} e q h = leaving (q.0, q.1, refl) record { has_effect = λ enters p. subst (λ o. StopsRun o m' (f enters (state_of m))) (sym q.2) (h enters p) }
 
 -- a truth that is known
 pub settled : {a b : Bool} {o : StepResult Bool} → gives a ≡ o → a ≡ b → gives b ≡ o
@@ -73,19 +73,19 @@ pub sequence_on : {post : CallPostcondition} {start now m : Machine} {t : ℕ} {
     → MachineDoes post (Ok u) now m (statement_effect t ls (statement_of x)) → InSequence post start m t ls xs (k + 1)
 sequence_on {now = now} {t = t} {ls = ls} {xs = xs} {k = k} u x c less is h = record {
   so_far = λ enters p.
-      c.so_far enters p ∙ execute-next enters t ls xs k x (state_of now) less is ∙ ap (λ q. continue_with q (execute_all enters t ls (sequence_of (drop (k + 1) xs)))) (h.as_defined enters p);
+      c.so_far enters p ∙ execute-next enters t ls xs k x (state_of now) less is ∙ ap (λ q. continue_with q (execute_all enters t ls (sequence_of (drop (k + 1) xs)))) (h.has_effect enters p);
 }
 
 pub sequence_fails : {post : CallPostcondition} {start now m : Machine} {t : ℕ} {ls : Levels} {xs : List Instruction} {k : ℕ} (e : Stop) (x : Instruction) → InSequence post start now t ls xs k → k < length xs → x ≡ get_or xs k x
     → MachineDoes post (Err e) now m (statement_effect t ls (statement_of x)) → MachineDoes post (Err e) start m (sequence_effect t ls (sequence_of xs))
 sequence_fails {now = now} {m = m} {t = t} {ls = ls} {xs = xs} {k = k} e x c less is h = record {
-  as_defined = λ enters p.
+  has_effect = λ enters p.
       subst (MachineSteps (Err e) m) (sym (c.so_far enters p ∙ execute-next enters t ls xs k x (state_of now) less is))
-      (failed_then e m (execute enters t ls (statement_of x) (state_of now)) (execute_all enters t ls (sequence_of (drop (k + 1) xs))) (h.as_defined enters p));
+      (failed_then e m (execute enters t ls (statement_of x) (state_of now)) (execute_all enters t ls (sequence_of (drop (k + 1) xs))) (h.has_effect enters p));
 }
 
 pub sequence_ends : {post : CallPostcondition} {start now : Machine} {t : ℕ} {ls : Levels} {xs : List Instruction} {k : ℕ} (u : Unit {0}) → InSequence post start now t ls xs k → length xs ≤ k → MachineDoes post (Ok u) start now (sequence_effect t ls (sequence_of xs))
-sequence_ends {now = now} {t = t} {ls = ls} {xs = xs} {k = k} u c all = record { as_defined = λ enters p. c.so_far enters p ∙ execute-last enters t ls xs k (state_of now) all }
+sequence_ends {now = now} {t = t} {ls = ls} {xs = xs} {k = k} u c all = record { has_effect = λ enters p. c.so_far enters p ∙ execute-last enters t ls xs k (state_of now) all }
 
 -- branches
 
@@ -123,17 +123,17 @@ branches_fail {now = now} {t = t} {ls = ls} {i = i} {xs = xs} {k = k} e x c less
 pub branch_taken : {post : CallPostcondition} {start now m : Machine} {t : ℕ} {ls : Levels} {i : Conditional} {xs : List Branch} {k : ℕ} (r : Result (Unit {0}) Stop) (ss : List Instruction) (x : Branch) → InBranches post start now t ls i xs k → k < length xs → x ≡ get_or xs k x
     → gives true ≡ truth ls now.cells.items (truth_of x.condition) → ss ≡ x.body.items → MachineDoes post r now m (sequence_effect t ls (sequence_of ss)) → MachineDoes post r start m (elsifs_effect t ls (elsif_branches i) (else_statements i))
 branch_taken {now = now} {m = m} {t = t} {ls = ls} {i = i} {xs = xs} {k = k} r ss x c less is h same d = record {
-  as_defined = λ enters p.
+  has_effect = λ enters p.
       subst (MachineSteps r m) (sym (c.so_far enters p ∙ branch-next enters t ls i xs k x (state_of now) less is
       ∙ ap (λ o. choose (state_of now) o (execute_all enters t ls (sequence_of x.body.items)) (from_branches enters t ls i (drop (k + 1) xs))) (sym h)
-      ∙ ap (λ ss. execute_all enters t ls (sequence_of ss) (state_of now)) (sym same))) (d.as_defined enters p);
+      ∙ ap (λ ss. execute_all enters t ls (sequence_of ss) (state_of now)) (sym same))) (d.has_effect enters p);
 }
 
 pub branches_end : {post : CallPostcondition} {start now m : Machine} {t : ℕ} {ls : Levels} {i : Conditional} {xs : List Branch} {k : ℕ} (r : Result (Unit {0}) Stop) (ss : List Instruction) → InBranches post start now t ls i xs k → length xs ≤ k
     → ss ≡ (out-Conditional i).otherwise.items → MachineDoes post r now m (sequence_effect t ls (sequence_of ss)) → MachineDoes post r start m (elsifs_effect t ls (elsif_branches i) (else_statements i))
 branches_end {now = now} {m = m} {t = t} {ls = ls} {i = i} {xs = xs} {k = k} r ss c all same d = record {
-  as_defined = λ enters p.
-      subst (MachineSteps r m) (sym (c.so_far enters p ∙ branch-last enters t ls i xs k (state_of now) all ∙ ap (λ ss. execute_all enters t ls (sequence_of ss) (state_of now)) (sym same))) (d.as_defined enters p);
+  has_effect = λ enters p.
+      subst (MachineSteps r m) (sym (c.so_far enters p ∙ branch-last enters t ls i xs k (state_of now) all ∙ ap (λ ss. execute_all enters t ls (sequence_of ss) (state_of now)) (sym same))) (d.has_effect enters p);
 }
 
 -- IF: its first condition
@@ -151,12 +151,12 @@ if_fails m t ls i e h = λ enters p. if-goes enters t ls i (state_of m) (ends (e
 pub if_taken : {post : CallPostcondition} {m m' : Machine} (t : ℕ) (ls : Levels) (i : Conditional) (r : Result (Unit {0}) Stop) (ss : List Instruction) → gives true ≡ truth ls m.cells.items (truth_of (out-Conditional i).condition)
     → ss ≡ (out-Conditional i).body.items → MachineDoes post r m m' (sequence_effect t ls (sequence_of ss)) → MachineDoes post r m m' (statement_effect t ls (conditional_of i))
 if_taken {m = m} {m' = m'} t ls i r ss h same d = record {
-  as_defined = λ enters p. subst (MachineSteps r m') (sym (if-goes enters t ls i (state_of m) (gives true) h ∙ ap (λ ss. execute_all enters t ls (sequence_of ss) (state_of m)) (sym same))) (d.as_defined enters p);
+  has_effect = λ enters p. subst (MachineSteps r m') (sym (if-goes enters t ls i (state_of m) (gives true) h ∙ ap (λ ss. execute_all enters t ls (sequence_of ss) (state_of m)) (sym same))) (d.has_effect enters p);
 }
 
 pub if_passed : {post : CallPostcondition} {m m' : Machine} (t : ℕ) (ls : Levels) (i : Conditional) (r : Result (Unit {0}) Stop) → gives false ≡ truth ls m.cells.items (truth_of (out-Conditional i).condition)
     → MachineDoes post r m m' (elsifs_effect t ls (elsif_branches i) (else_statements i)) → MachineDoes post r m m' (statement_effect t ls (conditional_of i))
-if_passed {m = m} {m' = m'} t ls i r h d = record { as_defined = λ enters p. subst (MachineSteps r m') (sym (if-goes enters t ls i (state_of m) (gives false) h)) (d.as_defined enters p) }
+if_passed {m = m} {m' = m'} t ls i r h d = record { has_effect = λ enters p. subst (MachineSteps r m') (sym (if-goes enters t ls i (state_of m) (gives false) h)) (d.has_effect enters p) }
 
 -- WHILE
 
@@ -202,26 +202,26 @@ while_fails e c h = while-chosen (ends (end_of e)) c h
 
 pub while_ends : {post : CallPostcondition} {start now : Machine} {t : ℕ} {ls : Levels} {w : lowered.Truth} {xs : List Instruction} {left : ℕ} (u : Unit {0}) → InWhile post start now t ls w xs left → gives false ≡ truth ls now.cells.items w
     → MachineDoes post (Ok u) start now (statement_effect t ls (lowered.while_loop w (sequence_of xs)))
-while_ends u c h = record { as_defined = while-chosen (gives false) c h }
+while_ends u c h = record { has_effect = while-chosen (gives false) c h }
 
 pub while_bound : {post : CallPostcondition} {start now : Machine} {t : ℕ} {ls : Levels} {w : lowered.Truth} {xs : List Instruction} {left : ℕ} → InWhile post start now t ls w xs left → gives true ≡ truth ls now.cells.items w → left ≡ 0
     → MachineDoes post (Err stop.TurnBound) start now (statement_effect t ls (lowered.while_loop w (sequence_of xs)))
-while_bound {now = now} {t = t} {ls = ls} {w = w} {xs = xs} {left = left} c h e = record { as_defined = λ enters p. while-chosen (gives true) c h enters p ∙ once-none enters left t ls w xs (state_of now) e }
+while_bound {now = now} {t = t} {ls = ls} {w = w} {xs = xs} {left = left} c h e = record { has_effect = λ enters p. while-chosen (gives true) c h enters p ∙ once-none enters left t ls w xs (state_of now) e }
 
 pub while_on : {post : CallPostcondition} {start now m : Machine} {t : ℕ} {ls : Levels} {w : lowered.Truth} {xs : List Instruction} {left : ℕ} (u : Unit {0}) (ss : List Instruction) → InWhile post start now t ls w xs left → gives true ≡ truth ls now.cells.items w → left ≢ 0
     → ss ≡ xs → MachineDoes post (Ok u) now m (sequence_effect t ls (sequence_of ss)) → InWhile post start m t ls w xs (left - 1)
 while_on {now = now} {t = t} {ls = ls} {w = w} {xs = xs} {left = left} u ss c h e same d = record {
   so_far = λ enters p. while-chosen (gives true) c h enters p ∙ once-more enters left t ls w xs (state_of now) e
-      ∙ ap (λ q. continue_with q (turning enters (left - 1) t ls w xs)) (ap (λ ss. execute_all enters t ls (sequence_of ss) (state_of now)) (sym same) ∙ d.as_defined enters p);
+      ∙ ap (λ q. continue_with q (turning enters (left - 1) t ls w xs)) (ap (λ ss. execute_all enters t ls (sequence_of ss) (state_of now)) (sym same) ∙ d.has_effect enters p);
 }
 
 pub while_body_fails : {post : CallPostcondition} {start now m : Machine} {t : ℕ} {ls : Levels} {w : lowered.Truth} {xs : List Instruction} {left : ℕ} (x : Stop) (ss : List Instruction) → InWhile post start now t ls w xs left → gives true ≡ truth ls now.cells.items w → left ≢ 0
     → ss ≡ xs → MachineDoes post (Err x) now m (sequence_effect t ls (sequence_of ss)) → MachineDoes post (Err x) start m (statement_effect t ls (lowered.while_loop w (sequence_of xs)))
 while_body_fails {now = now} {m = m} {t = t} {ls = ls} {w = w} {xs = xs} {left = left} x ss c h e same d = record {
-  as_defined = λ enters p.
+  has_effect = λ enters p.
       subst (MachineSteps (Err x) m) (sym (while-chosen (gives true) c h enters p ∙ once-more enters left t ls w xs (state_of now) e
       ∙ ap (λ q. continue_with q (turning enters (left - 1) t ls w xs)) (ap (λ ss. execute_all enters t ls (sequence_of ss) (state_of now)) (sym same))))
-      (failed_then x m (execute_all enters t ls (sequence_of ss) (state_of now)) (turning enters (left - 1) t ls w xs) (d.as_defined enters p));
+      (failed_then x m (execute_all enters t ls (sequence_of ss) (state_of now)) (turning enters (left - 1) t ls w xs) (d.has_effect enters p));
 }
 
 -- the statements of a counting loop: some, and one after them
@@ -245,15 +245,15 @@ all-after enters t ls (y ∷ ys) x s = continued_twice (execute enters t ls (sta
 pub then_last : {post : CallPostcondition} {r : Result (Unit {0}) Stop} {start now m : Machine} (t : ℕ) (ls : Levels) (xs : List Instruction) (u : Unit {0}) (x : Instruction) → MachineDoes post (Ok u) start now (sequence_effect t ls (sequence_of xs))
     → MachineDoes post r now m (statement_effect t ls (statement_of x)) → MachineDoes post r start m (sequence_effect t ls (sequence_of (xs ++ x ∷ [])))
 then_last {r = r} {start = start} {now = now} {m = m} t ls xs u x d e = record {
-  as_defined = λ enters p.
-      subst (MachineSteps r m) (sym (all-after enters t ls xs x (state_of start) ∙ ap (λ q. continue_with q (execute enters t ls (statement_of x))) (d.as_defined enters p))) (e.as_defined enters p);
+  has_effect = λ enters p.
+      subst (MachineSteps r m) (sym (all-after enters t ls xs x (state_of start) ∙ ap (λ q. continue_with q (execute enters t ls (statement_of x))) (d.has_effect enters p))) (e.has_effect enters p);
 }
 
 pub before_last : {post : CallPostcondition} {start m : Machine} (t : ℕ) (ls : Levels) (xs : List Instruction) (e : Stop) (x : Instruction) → MachineDoes post (Err e) start m (sequence_effect t ls (sequence_of xs))
     → MachineDoes post (Err e) start m (sequence_effect t ls (sequence_of (xs ++ x ∷ [])))
 before_last {start = start} {m = m} t ls xs e x d = record {
-  as_defined = λ enters p.
-      subst (MachineSteps (Err e) m) (sym (all-after enters t ls xs x (state_of start))) (failed_then e m (execute_all enters t ls (sequence_of xs) (state_of start)) (execute enters t ls (statement_of x)) (d.as_defined enters p));
+  has_effect = λ enters p.
+      subst (MachineSteps (Err e) m) (sym (all-after enters t ls xs x (state_of start))) (failed_then e m (execute_all enters t ls (sequence_of xs) (state_of start)) (execute enters t ls (statement_of x)) (d.has_effect enters p));
 }
 
 pub steps_by : (m : Machine) (r : Result (Unit {0}) Stop) (p : MachineProgress) (e : EvaluationFault) → (y : Stop) × (r ≡ Err y) × (end_of_stop y ≡ Some (end_of e)) → stopped (end_of e) (output_items m.output.items) ≡ p → MachineSteps r m p
@@ -309,10 +309,10 @@ again-more enters left t ls r s e = ap (λ left. again enters left t ls r s) (on
 pub repeat_body_fails : {post : CallPostcondition} {start now m : Machine} {t : ℕ} {ls : Levels} {r : RepeatLoop} {left : ℕ} (x : Stop) (ss : List Instruction) → InRepeat post start now t ls r left
     → ss ≡ r.body.items → MachineDoes post (Err x) now m (sequence_effect t ls (sequence_of ss)) → MachineDoes post (Err x) start m (statement_effect t ls (repeat_of r))
 repeat_body_fails {now = now} {m = m} {t = t} {ls = ls} {r = r} {left = left} x ss c same d = record {
-  as_defined = λ enters p.
+  has_effect = λ enters p.
       subst (MachineSteps (Err x) m) (sym (c.so_far enters p ∙ until-goes enters left t ls r (state_of now)
       ∙ ap (λ q. continue_with q (turned enters left t ls r)) (ap (λ ss. execute_all enters t ls (sequence_of ss) (state_of now)) (sym same))))
-      (failed_then x m (execute_all enters t ls (sequence_of ss) (state_of now)) (turned enters left t ls r) (d.as_defined enters p));
+      (failed_then x m (execute_all enters t ls (sequence_of ss) (state_of now)) (turned enters left t ls r) (d.has_effect enters p));
 }
 
 -- a turn was made
@@ -323,7 +323,7 @@ pub turn_made : {post : CallPostcondition} {start now m : Machine} {t : ℕ} {ls
     → ss ≡ r.body.items → MachineDoes post (Ok u) now m (sequence_effect t ls (sequence_of ss)) → Turned post start m t ls r left
 turn_made {now = now} {t = t} {ls = ls} {r = r} {left = left} u ss c same d = record {
   so_far = λ enters p. c.so_far enters p ∙ until-goes enters left t ls r (state_of now)
-      ∙ ap (λ q. continue_with q (turned enters left t ls r)) (ap (λ ss. execute_all enters t ls (sequence_of ss) (state_of now)) (sym same) ∙ d.as_defined enters p);
+      ∙ ap (λ q. continue_with q (turned enters left t ls r)) (ap (λ ss. execute_all enters t ls (sequence_of ss) (state_of now)) (sym same) ∙ d.has_effect enters p);
 }
 
 turned-chosen : {post : CallPostcondition} {start now : Machine} {t : ℕ} {ls : Levels} {r : RepeatLoop} {left : ℕ} (o : StepResult Bool) → Turned post start now t ls r left → o ≡ truth ls now.cells.items (truth_of r.condition)
@@ -336,11 +336,11 @@ repeat_fails e c h = turned-chosen (ends (end_of e)) c h
 
 pub repeat_ends : {post : CallPostcondition} {start now : Machine} {t : ℕ} {ls : Levels} {r : RepeatLoop} {left : ℕ} (u : Unit {0}) → Turned post start now t ls r left → gives true ≡ truth ls now.cells.items (truth_of r.condition)
     → MachineDoes post (Ok u) start now (statement_effect t ls (repeat_of r))
-repeat_ends u c h = record { as_defined = turned-chosen (gives true) c h }
+repeat_ends u c h = record { has_effect = turned-chosen (gives true) c h }
 
 pub repeat_bound : {post : CallPostcondition} {start now : Machine} {t : ℕ} {ls : Levels} {r : RepeatLoop} {left : ℕ} → Turned post start now t ls r left → gives false ≡ truth ls now.cells.items (truth_of r.condition) → left ≡ 0
     → MachineDoes post (Err stop.TurnBound) start now (statement_effect t ls (repeat_of r))
-repeat_bound {now = now} {t = t} {ls = ls} {r = r} {left = left} c h e = record { as_defined = λ enters p. turned-chosen (gives false) c h enters p ∙ again-none enters left t ls r (state_of now) e }
+repeat_bound {now = now} {t = t} {ls = ls} {r = r} {left = left} c h e = record { has_effect = λ enters p. turned-chosen (gives false) c h enters p ∙ again-none enters left t ls r (state_of now) e }
 
 pub repeat_on : {post : CallPostcondition} {start now : Machine} {t : ℕ} {ls : Levels} {r : RepeatLoop} {left : ℕ} → Turned post start now t ls r left → gives false ≡ truth ls now.cells.items (truth_of r.condition) → left ≢ 0
     → InRepeat post start now t ls r (left - 1)
@@ -362,7 +362,7 @@ pub call_fails : {post : CallPostcondition} {m m' : Machine} (memory : Memory) (
     → none ≡ [] → xs ≡ c.arguments.items → StopsPassing (end_of_stop e) memory (pass_all ls (map argument_of xs) (passed_arguments m.cells.items none)) → m'.output ≡ m.output → m'.memory ≡ memory
     → MachineDoes post (Err e) m m' (statement_effect t ls (call_of c))
 call_fails {m = m} {m' = m'} memory e t ls c xs none empty same h out kept = record {
-  as_defined = λ enters p. subst (StopsRun (end_of_stop e) m') (sym (call-goes t ls c enters (state_of m)
+  has_effect = λ enters p. subst (StopsRun (end_of_stop e) m') (sym (call-goes t ls c enters (state_of m)
       ∙ ap (λ o. use_result (state_of m) o (λ p. enters c.procedure (levels_in_call ls (length m.cells.items) c.up p) record (state_of m) { cells = p.cells }))
       (ap (λ xs. pass_all ls (map argument_of xs) (passed_arguments m.cells.items [])) (sym same) ∙ ap (λ none. pass_all ls (map argument_of xs) (passed_arguments m.cells.items none)) (sym empty))))
       (passing_stops m m' (end_of_stop e) memory out kept _ _ h);
@@ -374,7 +374,7 @@ pub call_enters : {post : CallPostcondition} {m m' : Machine} {r : Result (Unit 
     → ((enters : CallEffect) → PerformsCalls post enters → MachineSteps r m' (enters c.procedure inner (record (state_of m) { cells = cells })))
     → MachineDoes post r m m' (statement_effect t ls (call_of c))
 call_enters {m = m} {m' = m'} {r = r} cells addresses t ls inner c xs none empty same h seen done = record {
-  as_defined = λ enters p.
+  has_effect = λ enters p.
       subst (MachineSteps r m') (sym (call-goes t ls c enters (state_of m)
       ∙ ap (λ o. use_result (state_of m) o (λ p. enters c.procedure (levels_in_call ls (length m.cells.items) c.up p) record (state_of m) { cells = p.cells }))
       (ap (λ xs. pass_all ls (map argument_of xs) (passed_arguments m.cells.items [])) (sym same) ∙ ap (λ none. pass_all ls (map argument_of xs) (passed_arguments m.cells.items none)) (sym empty) ∙ h)
@@ -384,10 +384,10 @@ call_enters {m = m} {m' = m'} {r = r} cells addresses t ls inner c xs none empty
 
 pub enters_as : {post : CallPostcondition} {m m' : Machine} {r : Result (Unit {0}) Stop} (k up base : ℕ) (addresses : List ℕ) (ls inner : Levels) → inner ≡ levels_in_call ls base up (passed_arguments m.cells.items addresses)
     → ((enters : CallEffect) → PerformsCalls post enters → MachineSteps r m' (enters k inner (state_of m))) → MachineDoes post r m m' (entry_effect k up ls base addresses)
-enters_as {m = m} {m' = m'} {r = r} k up base addresses ls inner seen done = record { as_defined = λ enters p. subst (λ seen. MachineSteps r m' (enters k seen (state_of m))) seen (done enters p) }
+enters_as {m = m} {m' = m'} {r = r} k up base addresses ls inner seen done = record { has_effect = λ enters p. subst (λ seen. MachineSteps r m' (enters k seen (state_of m))) seen (done enters p) }
 
 -- the levels of an activation that is made
-following : (o : _) → levels_after (level.back-Level-enclosing o) ≡ levels_of_option o
+following : (o : _) → enclosing_levels (level.back-Level-enclosing o) ≡ levels_of_option o
 following None = refl
 following (Some l) = refl
 

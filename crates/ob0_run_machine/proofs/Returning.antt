@@ -10,7 +10,7 @@ use Rattle.ob0_run_machine.specs.declared.machine.Machine.{Machine}
 use Rattle.ob0_run_machine.specs.Answers.{end_of_stop}
 use Rattle.ob0_run_machine.specs.Evaluation as ending
 use Rattle.ob0_run_machine.specs.Evaluation.{CallBound, Levels, innermost_level}
-use Rattle.ob0_run_machine.specs.Execution.{MachineProgress, MachineState, OutputItem, activate, call, execute_all, run_result, drop_variables, no_room, outermost, run, running, stopped, run_with_cells, zeros}
+use Rattle.ob0_run_machine.specs.Execution.{MachineProgress, MachineState, OutputItem, activate, call, execute_all, run_result, drop_variables, no_room, module_levels, run, running, stopped, run_with_cells, zeros}
 use Rattle.ob0_run_machine.specs.Levels.{levels_of}
 use Rattle.ob0_run_machine.specs.Lowered.{Routine}
 use Rattle.ob0_run_machine.specs.Machines.{MachineDoes, CallSteps, StopsRun, PerformsCalls, CallPostcondition, MachineSteps, activation_effect, sequence_effect, output_items, state_of}
@@ -49,15 +49,15 @@ module _ (m m₂ : Machine) (program : LoweredCode) (c t k : ℕ) (l : level.Lev
   dropped None p h = h
 
   pub call_fails : (e : Stop) → MachineDoes post (Err e) m m₂ (activation_effect o t (levels_of l)) → CallSteps (Err e) m m₂ program c t k l
-  call_fails e d = subst (StopsRun (end_of_stop e) m₂) (sym goes) (dropped (end_of_stop e) _ (d.as_defined _ performs))
+  call_fails e d = subst (StopsRun (end_of_stop e) m₂) (sym goes) (dropped (end_of_stop e) _ (d.has_effect _ performs))
 
   pub call_returns : (m₃ : Machine) (u v : Unit {0}) → MachineDoes post (Ok u) m m₂ (activation_effect o t (levels_of l)) → state_of m₃ ≡ record (state_of m₂) { cells = take (innermost_level (levels_of l)).base m₂.cells.items } → CallSteps (Ok v) m m₃ program c t k l
-  call_returns m₃ u v d cut = goes ∙ ap (drop_variables (innermost_level (levels_of l)).base) (d.as_defined _ performs) ∙ ap running (sym cut)
+  call_returns m₃ u v d cut = goes ∙ ap (drop_variables (innermost_level (levels_of l)).base) (d.has_effect _ performs) ∙ ap running (sym cut)
 
 -- the body
 pub activates_none : {post : CallPostcondition} {m : Machine} {o : Option Routine} (u : Unit {0}) (t : ℕ) (ls : Levels) → o ≡ None → MachineDoes post (Ok u) m m (activation_effect o t ls)
 unfolding activate
-activates_none {m = m} u t ls e = record { as_defined = λ enters p. ap (λ o. activate enters t ls o (state_of m)) e }
+activates_none {m = m} u t ls e = record { has_effect = λ enters p. ap (λ o. activate enters t ls o (state_of m)) e }
 
 -- existing cells have room
 pub has_room : (cells more : List ℤ) (n : ℕ) → more ≡ cells ++ zeros n → length more < 2 ^ 64 → nat_lt (length cells + n) (2 ^ 64) ≡ true
@@ -75,8 +75,8 @@ activate-goes enters t ls o p s e = ap (λ o. activate enters t ls o s) e
 pub activates : {post : CallPostcondition} {r : Result (Unit {0}) Stop} {m m₂ m' : Machine} {o : Option Routine} (t : ℕ) (ls : Levels) (p : Routine) → o ≡ Some p → m₂.cells.items ≡ m.cells.items ++ zeros p.cells → length m₂.cells.items < 2 ^ 64
     → state_of m₂ ≡ record (state_of m) { cells = m.cells.items ++ zeros p.cells } → MachineDoes post r m₂ m' (sequence_effect t ls p.body) → MachineDoes post r m m' (activation_effect o t ls)
 activates {r = r} {m = m} {m₂ = m₂} {m' = m'} {o = o} t ls p e grown few more d = record {
-  as_defined = λ enters performs.
-      subst (MachineSteps r m') (sym (activate-goes enters t ls o p (state_of m) e ∙ with-room p.cells (execute_all enters t ls p.body) (state_of m) m₂.cells.items grown few ∙ ap (execute_all enters t ls p.body) (sym more))) (d.as_defined enters performs);
+  has_effect = λ enters performs.
+      subst (MachineSteps r m') (sym (activate-goes enters t ls o p (state_of m) e ∙ with-room p.cells (execute_all enters t ls p.body) (state_of m) m₂.cells.items grown few ∙ ap (execute_all enters t ls p.body) (sym more))) (d.has_effect enters performs);
 }
 
 pub leaving_steps : (r : Result (Unit {0}) Stop) (e : Stop) (m : Machine) (p : MachineProgress) → (y : Stop) × (r ≡ Err y) × (y ≡ e) → MachineSteps (Err e) m p → MachineSteps r m p
@@ -84,10 +84,10 @@ leaving_steps r e m p q h = subst (λ r. MachineSteps r m p) (sym q.1) (subst (�
 
 -- the statements of a program
 pub block_runs : (m m' : Machine) (program : LoweredCode) (c t : ℕ) (r : Result (Unit {0}) Stop) (post : CallPostcondition) (inner : Levels) (xs : List Instruction) → PerformsCalls post (call (program_of program).procedures c t)
-    → inner ≡ outermost → xs ≡ program.body.items → MachineDoes post r m m' (sequence_effect t inner (sequence_of xs)) → MachineSteps r m' (body_run (program_of program) c t (state_of m))
+    → inner ≡ module_levels → xs ≡ program.body.items → MachineDoes post r m m' (sequence_effect t inner (sequence_of xs)) → MachineSteps r m' (body_run (program_of program) c t (state_of m))
 block_runs m m' program c t r post inner xs performs seen same d =
-    subst (λ xs. MachineSteps r m' (sequence_effect t outermost (sequence_of xs) (call (program_of program).procedures c t) (state_of m))) same
-    (subst (λ inner. MachineSteps r m' (sequence_effect t inner (sequence_of xs) (call (program_of program).procedures c t) (state_of m))) seen (d.as_defined _ performs))
+    subst (λ xs. MachineSteps r m' (sequence_effect t module_levels (sequence_of xs) (call (program_of program).procedures c t) (state_of m))) same
+    (subst (λ inner. MachineSteps r m' (sequence_effect t inner (sequence_of xs) (call (program_of program).procedures c t) (state_of m))) seen (d.has_effect _ performs))
 
 -- whole runs
 abbrev pub state_with : List ℤ → List ℤ → List OutputItem → MachineState

@@ -5,7 +5,7 @@ use Rattle.ob0_run_machine.specs.declared.code.Truth.{Truth, All, Any, Row_of-Tr
 use Rattle.ob0_run_machine.specs.declared.code.Truth.TheBlock.{hidden-the_row-Truth-0}
 use Rattle.ob0_run_machine.specs.Evaluation.{Levels, StepResult, gives, truth, ◌>>=◌}
 use Rattle.ob0_run_machine.specs.Lowered as lowered
-use Rattle.ob0_run_machine.specs.View.{conjunction_from, conjunction_of, all_of, disjunction_from, disjunction_of, any_of, truth_of}
+use Rattle.ob0_run_machine.specs.View.{conjunction_from, conjunction_of, conjunction_by_row, disjunction_from, disjunction_of, disjunction_by_row, truth_of}
 use Rattle.ob0_run_machine.proofs.Chains.{bind_assoc, bind_gives}
 
 -- what a truth becomes by one more
@@ -43,11 +43,11 @@ all_fails ls cells first ts o h = ap (λ o. o >>= joined with_and ls cells ts) h
 pub any_fails : (ls : Levels) (cells : List ℤ) (first : lowered.Truth) (ts : List Truth) (o : StepResult Bool) → o ≡ truth ls cells first → (o >>= joined with_or ls cells ts) ≡ truth ls cells (disjunction_from first ts)
 any_fails ls cells first ts o h = ap (λ o. o >>= joined with_or ls cells ts) h ∙ sym (any_joined ls cells first ts)
 
-all_listed : (n : _) (row : Row_of-Truth n) (left : lowered.Truth) → all_of row left ≡ conjunction_from left (items-the_row-Truth n row)
+all_listed : (n : _) (row : Row_of-Truth n) (left : lowered.Truth) → conjunction_by_row row left ≡ conjunction_from left (items-the_row-Truth n row)
 all_listed _ end_of-Truth left = refl
 all_listed _ (more_of-Truth t row) left = all_listed _ row (lowered.both left (truth_of t))
 
-any_listed : (n : _) (row : Row_of-Truth n) (left : lowered.Truth) → any_of row left ≡ disjunction_from left (items-the_row-Truth n row)
+any_listed : (n : _) (row : Row_of-Truth n) (left : lowered.Truth) → disjunction_by_row row left ≡ disjunction_from left (items-the_row-Truth n row)
 any_listed _ end_of-Truth left = refl
 any_listed _ (more_of-Truth t row) left = any_listed _ row (lowered.either left (truth_of t))
 

@@ -3,12 +3,12 @@ use Rattle.std.proofs.Common.{◌≡◌, refl, sym, ◌∙◌, ap}
 use Rattle.ob0_run_machine.specs.declared.code.Instruction.{If, While, Repeat, Row_of-Instruction, end_of-Instruction, more_of-Instruction, items-the_row-Instruction, items_hidden-the_row-Instruction-0}
 use Rattle.ob0_run_machine.specs.declared.code.Instruction.TheBlock.{hidden-the_row-Instruction-0, items_shown-the_row-Instruction-0, hidden-the_row-Branch-1}
 use Rattle.ob0_run_machine.specs.declared.code.Conditional.{out-Conditional, roll-Conditional, roll-out-Conditional, rolls-Conditional', Row_of-Branch, end_of-Branch, more_of-Branch, items-the_row-Branch, items_hidden-the_row-Branch-1}
-use Rattle.ob0_run_machine.specs.Lowered.{before, branch, chooses, repeat_loop, while_loop}
+use Rattle.ob0_run_machine.specs.Lowered.{next_statement, branch, chooses, repeat_loop, while_loop}
 use Rattle.ob0_run_machine.specs.View.{all_branches, conditional_of, branches_of, if_of, repeat_of, sequence_of, statement_of, statements_of, truth_of, while_of}
 
 statements_listed : (n : _) (row : Row_of-Instruction n) → statements_of row ≡ sequence_of (items-the_row-Instruction n row)
 statements_listed _ end_of-Instruction = refl
-statements_listed _ (more_of-Instruction s row) = ap (before (statement_of s)) (statements_listed _ row)
+statements_listed _ (more_of-Instruction s row) = ap (next_statement (statement_of s)) (statements_listed _ row)
 
 statements_hidden : (ss : _) → statements_of (hidden-the_row-Instruction-0 ss) ≡ sequence_of ss.items
 statements_hidden ss = statements_listed _ (hidden-the_row-Instruction-0 ss) ∙ ap sequence_of (items_hidden-the_row-Instruction-0 ss)

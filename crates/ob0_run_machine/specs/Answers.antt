@@ -11,7 +11,7 @@ use Rattle.ob0_run_machine.specs.declared.code.Link.{Link}
 use Rattle.ob0_run_machine.specs.declared.flat_outcome.FlatOutcome.{FlatOutcome}
 use Rattle.ob0_run_machine.specs.declared.flat_outcome.FlatOutcome.TheVariants as flat_outcome
 use Rattle.ob0_run_machine.specs.Lowered.{literal}
-use Rattle.ob0_run_machine.specs.View.{applied}
+use Rattle.ob0_run_machine.specs.View.{operation_with_link}
 
 -- returns the end of a run that a fault of an expression causes
 abbrev pub end_of : EvaluationFault → Halt
@@ -51,4 +51,4 @@ number_or_overflow (Some n) = gives n
 
 -- returns the outcome of applying the link `l` to the number `left`
 abbrev pub outcome_of_applied_link : Levels → List ℤ → Link → ℤ → StepResult ℤ
-outcome_of_applied_link ls cells l left = number ls cells (applied l (literal left))
+outcome_of_applied_link ls cells l left = number ls cells (operation_with_link l (literal left))

@@ -5,8 +5,8 @@
 use Rattle.std.specs.Prelude.{ℕ, suc, zero, ◌+◌, ◌*◌, ◌%◌, ◌^◌, Bool, true, false, not, ◌&&◌, List, [], ◌∷◌, Option, None, Some, ℤ, pos, negsuc, ◌+ℤ◌, ◌-ℤ◌, ◌*ℤ◌, neg_ℤ, if◌then◌else◌, nat_lt, slice_index_or, int_lt, int_le, drop}
 use Rattle.ob0_language_values.specs.Division as division
 use Rattle.ob0_language_values.specs.Division.{checked_division}
-pub use Rattle.ob0_language_values.specs.Values.{fits, same_truth}
-use Rattle.ob0_run_machine.specs.Lowered.{Place, in_module, here, outside, passed, element, Number, literal, cell, negative, operation, Operator, sum, difference, product, quotient, remainder, Comparator, equal, not_equal, less, less_equal, greater, greater_equal, Truth, constant, flag, negation, both, either, related, same, different}
+pub use Rattle.ob0_language_values.specs.Values.{fits_in_32_bits, same_truth}
+use Rattle.ob0_run_machine.specs.Lowered.{Place, in_module, in_own_activation, outside, passed, element, Number, literal, cell, negative, operation, Operator, sum, difference, product, quotient, remainder, Comparator, equal, not_equal, less, less_equal, greater, greater_equal, Truth, constant, flag, negation, both, either, related, same, different}
 
 infixl 20 ◌>>=◌
 -- The end of a run: Done, a fault, or a bound that was reached.
@@ -61,7 +61,7 @@ cell_at cells address = slice_index_or cells address (pos 0)
 
 -- Returns a number as an outcome. The run ends with Overflow if the number has more than 32 bits.
 abbrev pub checked_number : ℤ → StepResult ℤ
-checked_number n = if fits n then gives n else ends Overflow
+checked_number n = if fits_in_32_bits n then gives n else ends Overflow
 
 -- Returns the result of a division as an outcome. None, which is the result for a divisor below 1,
 -- ends the run with Divisor.
@@ -83,7 +83,7 @@ abbrev mutual
   -- place fails, or if the index is outside its array.
   pub address : Levels → List ℤ → Place → StepResult ℕ
   address ls cells (in_module offset) = gives offset
-  address ls cells (here offset) = gives (add_offset (innermost_level ls).base offset)
+  address ls cells (in_own_activation offset) = gives (add_offset (innermost_level ls).base offset)
   address ls cells (outside up offset) = gives (add_offset (level_at ls up).base offset)
   address ls cells (passed up index offset) =
       gives (add_offset (slice_index_or (level_at ls up).addresses index 0) offset)

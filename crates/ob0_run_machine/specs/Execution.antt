@@ -5,7 +5,7 @@
 -- Rule: none; for contracts of the machine: what lowered statements mean,
 -- by the rules of docs/LANGUAGE.md, Runs 5 to 10.
 use Rattle.std.specs.Prelude.{ℕ, zero, suc, ◌+◌, ◌-◌, ◌^◌, Bool, true, false, ◌&&◌, List, [], ◌∷◌, ◌++◌, length, take, drop, replicate, ℤ, pos, Some, None, Option, if◌then◌else◌, nat_le, nat_lt, slice_get, slice_set}
-use Rattle.ob0_run_machine.specs.Lowered.{LoweredArgument, by_place, by_number, by_truth, by_block, Instruction, stores_number, stores_truth, copies, reads, writes, writes_line, chooses, while_loop, repeat_loop, calls, Instructions, no_statement, before, Branches, no_branch, branch, Routine, LoweredCode}
+use Rattle.ob0_run_machine.specs.Lowered.{LoweredArgument, by_place, by_number, by_truth, by_block, Instruction, stores_number, stores_truth, copies, reads, writes, writes_line, chooses, while_loop, repeat_loop, calls, Instructions, no_statement, next_statement, Branches, no_branch, branch, Routine, LoweredCode}
 use Rattle.ob0_run_machine.specs.Evaluation.{CallBound, Done, Halt, InputEnd, StepResult, Levels, TurnBound, address, as_cell, ends, gives, innermost_level, number, truth, ◌>>=◌}
 
 -- An item of output: a number, or the end of a line.
@@ -96,20 +96,20 @@ pass_cells p more = record p { cells = p.cells ++ more }
 
 -- Evaluates an argument, and returns the passed arguments with this one added: an address for a VAR
 -- parameter, otherwise the cells of a value. If the evaluation ends the run, returns this end.
-abbrev pub pass : Levels → LoweredArgument → CallArguments → StepResult CallArguments
-pass ls (by_place p) done =
+abbrev pub pass_argument : Levels → LoweredArgument → CallArguments → StepResult CallArguments
+pass_argument ls (by_place p) done =
     address ls done.cells p >>= (λ a. gives record done { addresses = done.addresses ++ a ∷ [] })
-pass ls (by_number n) done = number ls done.cells n >>= (λ a. gives (pass_cells done (a ∷ [])))
-pass ls (by_truth t) done =
+pass_argument ls (by_number n) done = number ls done.cells n >>= (λ a. gives (pass_cells done (a ∷ [])))
+pass_argument ls (by_truth t) done =
     truth ls done.cells t >>= (λ a. gives (pass_cells done (as_cell a ∷ [])))
-pass ls (by_block p n) done =
+pass_argument ls (by_block p n) done =
     address ls done.cells p >>= (λ a. gives (pass_cells done (block_at done.cells a n)))
 
 -- Evaluates and passes a list of arguments, from left to right, and returns the passed arguments
 -- with these added. If an evaluation ends the run, returns this end.
 abbrev pub pass_all : Levels → List LoweredArgument → CallArguments → StepResult CallArguments
 pass_all ls [] done = gives done
-pass_all ls (a ∷ as_given) done = pass ls a done >>= pass_all ls as_given
+pass_all ls (a ∷ as_given) done = pass_argument ls a done >>= pass_all ls as_given
 
 -- Returns the run of a WHILE, with at most `t` iterations. If the condition is FALSE, the statement
 -- ends. If the condition is TRUE, one more iteration is made. If no iteration is left, the run ends
@@ -180,7 +180,7 @@ unfoldable mutual
   -- returns the run of a list of statements, one after the other
   pub execute_all : CallEffect → ℕ → Levels → Instructions → MachineState → MachineProgress
   execute_all enter t ls no_statement s = running s
-  execute_all enter t ls (before a rest) s =
+  execute_all enter t ls (next_statement a rest) s =
       continue_with (execute enter t ls a s) (execute_all enter t ls rest)
 
   -- returns the run of the first branch with a TRUE condition, or of `otherwise` if no condition is
@@ -238,8 +238,8 @@ run_result (stopped e out) = Some (record { output = out; ending = e })
 run_result no_room = None
 
 -- returns the activations that the module's body can see: only the module's activation, with base 0
-abbrev pub outermost : Levels
-outermost = record { base = 0; addresses = [] } ∷ []
+abbrev pub module_levels : Levels
+module_levels = record { base = 0; addresses = [] } ∷ []
 
 -- Returns the run of a program on an input, with the bounds `c` on open calls and `t` on
 -- iterations. Returns None if the run has no room for its cells.
@@ -247,5 +247,5 @@ unfoldable pub run : LoweredCode → List ℤ → ℕ → ℕ → Option Machine
 unfolding execute_all call
 run program input c t =
     run_result (run_with_cells program.cells
-    (execute_all (call program.procedures c t) t outermost program.body) record
+    (execute_all (call program.procedures c t) t module_levels program.body) record
     { cells = []; input = input; output = [] })

@@ -11,13 +11,13 @@ abbrev mutual
   -- returns the activations that a `Level` can see: itself, then the activations around it
   pub levels_of : code.Level → Levels
   levels_of (code.Level' base addresses enclosing) =
-      record { base = base; addresses = addresses.now } ∷ levels_after enclosing
+      record { base = base; addresses = addresses.now } ∷ enclosing_levels enclosing
 
   -- Returns the activations around an activation, the nearest first. There are none around the
   -- module's activation.
-  pub levels_after : code.Held-Level-enclosing → Levels
-  levels_after code.None' = []
-  levels_after (code.Some' pointer l) = levels_of l
+  pub enclosing_levels : code.Held-Level-enclosing → Levels
+  enclosing_levels code.None' = []
+  enclosing_levels (code.Some' pointer l) = levels_of l
 
 -- Returns the activations that a `Level` can see, itself first. Returns the empty list for None.
 abbrev pub levels_of_option : Option (Bor code.Level) → Levels

@@ -22,7 +22,7 @@ mutual
     -- a place at an offset in the cells of the module
     in_module : (offset : ℕ) → Place
     -- a place at an offset in the cells of the running activation
-    here : (offset : ℕ) → Place
+    in_own_activation : (offset : ℕ) → Place
     -- a place at an offset in the cells of the activation `up` levels out
     outside : (up offset : ℕ) → Place
     -- A place at an offset from the address that was passed for a VAR parameter of the activation
@@ -81,7 +81,7 @@ mutual
   -- A list of statements.
   pub data Instructions : Type 0 where
     no_statement : Instructions
-    before : Instruction → Instructions → Instructions
+    next_statement : Instruction → Instructions → Instructions
 
   -- A list of conditions, each with the statements that run if it is the first TRUE condition.
   pub data Branches : Type 0 where

@@ -96,7 +96,7 @@ elsifs_effect t ls bs otherwise enters s =
 -- `doing`. This has to hold for each effect of calls that agrees with the postcondition `post`.
 pub record MachineDoes (post : CallPostcondition) (r : Result (Unit {0}) Stop) (m m' : Machine) (doing : CodeEffect)
     : Type 0 where
-  pub as_defined : (enters : CallEffect)
+  pub has_effect : (enters : CallEffect)
       → PerformsCalls post enters
       → MachineSteps r m' (doing enters (state_of m))
 

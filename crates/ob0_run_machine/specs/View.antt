@@ -50,7 +50,7 @@ operator_of operator.Remainder = lowered.remainder
 -- converts a `Variable` to a lowered place
 abbrev pub variable_of : Variable → lowered.Place
 variable_of (variable.Module offset) = lowered.in_module offset
-variable_of (variable.Here offset) = lowered.here offset
+variable_of (variable.InOwnActivation offset) = lowered.in_own_activation offset
 variable_of (variable.ByReference index offset) = lowered.passed 0 index offset
 
 -- converts a `Reference` to a lowered place: a place at an offset from the address that was passed
@@ -81,7 +81,7 @@ abbrev mutual
   number_of (number.Variable v) = lowered.cell (variable_of v)
   number_of (number.Cell p) = lowered.cell (place_of p)
   number_of (number.Negative' pointer n) = lowered.negative (number_of n)
-  number_of (number.Operation' pointer begin l) = applied l (first_of begin)
+  number_of (number.Operation' pointer begin l) = operation_with_link l (first_of begin)
   number_of (number.Chain' pointer begin shape row) = chain_by_row row (first_of begin)
 
   -- converts the first operand of an operation or a chain to a lowered number
@@ -92,37 +92,37 @@ abbrev mutual
   first_of (first.Negative' pointer n) = lowered.negative (number_of n)
 
   -- returns the lowered operation that applies a link to a number
-  pub applied : Link → lowered.Number → lowered.Number
-  applied (link.SumLiteral n) left = lowered.operation lowered.sum left (lowered.literal n)
-  applied (link.SumVariable v) left =
+  pub operation_with_link : Link → lowered.Number → lowered.Number
+  operation_with_link (link.SumLiteral n) left = lowered.operation lowered.sum left (lowered.literal n)
+  operation_with_link (link.SumVariable v) left =
       lowered.operation lowered.sum left (lowered.cell (variable_of v))
-  applied (link.DifferenceLiteral n) left =
+  operation_with_link (link.DifferenceLiteral n) left =
       lowered.operation lowered.difference left (lowered.literal n)
-  applied (link.DifferenceVariable v) left =
+  operation_with_link (link.DifferenceVariable v) left =
       lowered.operation lowered.difference left (lowered.cell (variable_of v))
-  applied (link.ProductLiteral n) left = lowered.operation lowered.product left (lowered.literal n)
-  applied (link.ProductVariable v) left =
+  operation_with_link (link.ProductLiteral n) left = lowered.operation lowered.product left (lowered.literal n)
+  operation_with_link (link.ProductVariable v) left =
       lowered.operation lowered.product left (lowered.cell (variable_of v))
-  applied (link.QuotientLiteral n) left =
+  operation_with_link (link.QuotientLiteral n) left =
       lowered.operation lowered.quotient left (lowered.literal n)
-  applied (link.QuotientVariable v) left =
+  operation_with_link (link.QuotientVariable v) left =
       lowered.operation lowered.quotient left (lowered.cell (variable_of v))
-  applied (link.RemainderLiteral n) left =
+  operation_with_link (link.RemainderLiteral n) left =
       lowered.operation lowered.remainder left (lowered.literal n)
-  applied (link.RemainderVariable v) left =
+  operation_with_link (link.RemainderVariable v) left =
       lowered.operation lowered.remainder left (lowered.cell (variable_of v))
-  applied (link.VariableSum v) right =
+  operation_with_link (link.VariableSum v) right =
       lowered.operation lowered.sum (lowered.cell (variable_of v)) right
-  applied (link.VariableDifference v) right =
+  operation_with_link (link.VariableDifference v) right =
       lowered.operation lowered.difference (lowered.cell (variable_of v)) right
-  applied (link.VariableProduct v) right =
+  operation_with_link (link.VariableProduct v) right =
       lowered.operation lowered.product (lowered.cell (variable_of v)) right
-  applied (link.Other o n) left = lowered.operation (operator_of o) left (number_of n)
+  operation_with_link (link.Other o n) left = lowered.operation (operator_of o) left (number_of n)
 
   -- returns the lowered operations that apply a row of links to a number, one link after the other
   pub chain_by_row : {n : _} → number.Row_of-Link n → lowered.Number → lowered.Number
   chain_by_row number.end_of-Link left = left
-  chain_by_row (number.more_of-Link l row) left = chain_by_row row (applied l left)
+  chain_by_row (number.more_of-Link l row) left = chain_by_row row (operation_with_link l left)
 
 -- converts an `Element` to a lowered place, as `place_of` does
 abbrev pub element_of : Element → lowered.Place
@@ -132,13 +132,13 @@ element_of e =
 
 -- converts an `Operation` to a lowered number
 abbrev pub operation_of : Operation → lowered.Number
-operation_of o = applied (out-Operation o).link (first_of (out-Operation o).first)
+operation_of o = operation_with_link (out-Operation o).link (first_of (out-Operation o).first)
 
 -- returns the lowered operations that apply a list of links to the number `left`, one link after
 -- the other
 abbrev pub chain_on_operand : lowered.Number → List Link → lowered.Number
 chain_on_operand left [] = left
-chain_on_operand left (l ∷ ls) = chain_on_operand (applied l left) ls
+chain_on_operand left (l ∷ ls) = chain_on_operand (operation_with_link l left) ls
 
 -- converts a `Chain` to a lowered number
 abbrev pub chain_of : chain.Chain → lowered.Number
@@ -175,8 +175,8 @@ abbrev mutual
   truth_of (truth.Negation' pointer t) = lowered.negation (truth_of t)
   truth_of (truth.Both' pointer left right) = lowered.both (truth_of left) (truth_of right)
   truth_of (truth.Either' pointer left right) = lowered.either (truth_of left) (truth_of right)
-  truth_of (truth.All' pointer first shape row) = all_of row (truth_of first)
-  truth_of (truth.Any' pointer first shape row) = any_of row (truth_of first)
+  truth_of (truth.All' pointer first shape row) = conjunction_by_row row (truth_of first)
+  truth_of (truth.Any' pointer first shape row) = disjunction_by_row row (truth_of first)
   truth_of (truth.Related r o) = operands_relation r o.value
   truth_of (truth.LessThanLiteral v n) = variable_relation relation.Less v (lowered.literal n)
   truth_of (truth.ComparedToLiteral r v n) = variable_relation r v (lowered.literal n)
@@ -187,14 +187,14 @@ abbrev mutual
       lowered.different (truth_of left) (truth_of right)
 
   -- returns the conjunction of the truth `left` and the truths of a row, nested on the left
-  pub all_of : {n : _} → truth.Row_of-Truth n → lowered.Truth → lowered.Truth
-  all_of truth.end_of-Truth left = left
-  all_of (truth.more_of-Truth t row) left = all_of row (lowered.both left (truth_of t))
+  pub conjunction_by_row : {n : _} → truth.Row_of-Truth n → lowered.Truth → lowered.Truth
+  conjunction_by_row truth.end_of-Truth left = left
+  conjunction_by_row (truth.more_of-Truth t row) left = conjunction_by_row row (lowered.both left (truth_of t))
 
   -- returns the disjunction of the truth `left` and the truths of a row, nested on the left
-  pub any_of : {n : _} → truth.Row_of-Truth n → lowered.Truth → lowered.Truth
-  any_of truth.end_of-Truth left = left
-  any_of (truth.more_of-Truth t row) left = any_of row (lowered.either left (truth_of t))
+  pub disjunction_by_row : {n : _} → truth.Row_of-Truth n → lowered.Truth → lowered.Truth
+  disjunction_by_row truth.end_of-Truth left = left
+  disjunction_by_row (truth.more_of-Truth t row) left = disjunction_by_row row (lowered.either left (truth_of t))
 
 -- returns the conjunction of the truth `left` and the truths of a list, nested on the left
 abbrev pub conjunction_from : lowered.Truth → List Truth → lowered.Truth
@@ -239,7 +239,7 @@ abbrev mutual
   statement_of (statement.StoreChain v c) = lowered.stores_number (variable_of v) (chain_of c.value)
   statement_of (statement.Increase v n) = variable_increase v n
   statement_of (statement.Update v l) =
-      lowered.stores_number (variable_of v) (applied l (lowered.cell (variable_of v)))
+      lowered.stores_number (variable_of v) (operation_with_link l (lowered.cell (variable_of v)))
   statement_of (statement.StoreTruth p t) = lowered.stores_truth (place_of p) (truth_of t)
   statement_of (statement.StoreConstant r b) =
       lowered.stores_truth (variable_element_of r.value) (lowered.constant b)
@@ -263,7 +263,7 @@ abbrev mutual
   pub statements_of : {n : _} → statement.Row_of-Instruction n → lowered.Instructions
   statements_of statement.end_of-Instruction = lowered.no_statement
   statements_of (statement.more_of-Instruction s row) =
-      lowered.before (statement_of s) (statements_of row)
+      lowered.next_statement (statement_of s) (statements_of row)
 
   -- converts a row of branches to lowered branches
   pub branches_of : {n : _} → if_statement.Row_of-Branch n → lowered.Branches
@@ -274,7 +274,7 @@ abbrev mutual
 -- converts a list of statements to lowered statements
 abbrev pub sequence_of : List Instruction → lowered.Instructions
 sequence_of [] = lowered.no_statement
-sequence_of (s ∷ ss) = lowered.before (statement_of s) (sequence_of ss)
+sequence_of (s ∷ ss) = lowered.next_statement (statement_of s) (sequence_of ss)
 
 -- converts a `WhileLoop` to a lowered WHILE
 abbrev pub while_of : WhileLoop → lowered.Instruction

@@ -28,7 +28,7 @@ fn three_addresses(
     ensures listed { IfOk result (λ r. addresses_in r ≡ a ∷ b ∷ c ∷ []) }
     ensures failed { OnErr result (has_failed memory.new ≡ true) }
 {
-    let mut all = memory.list();
+    let mut all = memory.new_list();
     memory.push(&mut all, a)?;
     memory.push(&mut all, b)?;
     memory.push(&mut all, c)?;

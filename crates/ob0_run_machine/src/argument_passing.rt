@@ -2,7 +2,7 @@
 //! parameter, the address of the argument's place is passed.
 
 ghost use Rattle.std.specs.Prelude.{map};
-ghost use Rattle.ob0_run_machine.specs.Execution.{pass, pass_all};
+ghost use Rattle.ob0_run_machine.specs.Execution.{pass_argument, pass_all};
 ghost use Rattle.ob0_run_machine.specs.Levels.{addresses_in, levels_of};
 ghost use Rattle.ob0_run_machine.specs.Machines.{Passes, passed_arguments};
 ghost use Rattle.ob0_run_machine.specs.View.{argument_of};
@@ -18,7 +18,7 @@ use crate::operators::as_cell;
 /// Evaluates an argument and passes it: adds its value at the end of `cells`, or the address of its
 /// place at the end of `addresses`. Fails if the evaluation has a fault or an allocation fails.
 #[inline(always)]
-fn pass(
+fn pass_argument(
     memory: &mut Memory,
     argument: &Argument,
     level: &Level<'_>,
@@ -26,7 +26,7 @@ fn pass(
     addresses: &mut VarAddresses,
 ) -> Result<(), Stop>
     ensures { Passes result memory.new cells.new.items (addresses_in addresses.new)
-        (pass (levels_of level.now) (argument_of argument.now)
+        (pass_argument (levels_of level.now) (argument_of argument.now)
         (passed_arguments cells.old.items (addresses_in addresses.old))) }
 {
     match argument {
@@ -65,7 +65,7 @@ pub(crate) fn pass_all(
         (passed_arguments cells.old.items (addresses_in addresses.old))) }
 {
     for argument in arguments {
-        pass(memory, argument, level, cells, addresses)?;
+        pass_argument(memory, argument, level, cells, addresses)?;
     }
     Ok(())
 }

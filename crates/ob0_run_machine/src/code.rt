@@ -22,7 +22,7 @@
 //!   variable (`ElementToVariable`), for the assignment of TRUE or FALSE to an element
 //!   (`StoreConstant`), and for `~flag` (`Unset`).
 //! - Comparisons of variables are evaluated inline, flags and elements by small functions
-//!   (`flag`, `compare_element`), all other conditions by a large function
+//!   (`evaluate_flag`, `compare_element`), all other conditions by a large function
 //!   (`evaluate_truth_flat`).
 //!
 //! A long sum is a `Chain`, a long conjunction an `All`, and a long disjunction an `Any`. Each has
@@ -41,13 +41,13 @@ pub enum Operator {
 }
 
 /// A variable, or a part of one, that is found without evaluating an index. `Module` is at an
-/// offset in the cells of the module, `Here` at an offset in the cells of the running
+/// offset in the cells of the module, `InOwnActivation` at an offset in the cells of the running
 /// activation. `ByReference` is at an offset from the address that was passed for a VAR parameter
 /// of the running activation. An offset is a number of cells.
 #[derive(Clone, Copy, PartialEq, Eq, Debug)]
 pub enum Variable {
     Module(usize),
-    Here(usize),
+    InOwnActivation(usize),
     /// The index of a VAR parameter among the VAR parameters, and an offset from the address that
     /// was passed for it. Both have 32 bits, so a `Variable` has 16 bytes. `Place::Passed` has
     /// larger numbers.

@@ -8,7 +8,7 @@ ghost use Rattle.ob0_run_machine.specs.Evaluation.{address, cell_at, gives, numb
 ghost use Rattle.ob0_run_machine.specs.declared.code.TruthPair.{out-TruthPair};
 ghost use Rattle.ob0_run_machine.specs.Lowered as lowered;
 ghost use Rattle.ob0_run_machine.specs.Levels.{levels_of};
-ghost use Rattle.ob0_run_machine.specs.View.{conjunction_of, disjunction_of, applied, chain_of, variable_relation, element_of, first_of, number_of, operation_of, operator_of, place_of, operands_relation, element_relation, variable_element_of, truth_of, variable_of};
+ghost use Rattle.ob0_run_machine.specs.View.{conjunction_of, disjunction_of, operation_with_link, chain_of, variable_relation, element_of, first_of, number_of, operation_of, operator_of, place_of, operands_relation, element_relation, variable_element_of, truth_of, variable_of};
 
 use crate::code::{
     Chain, Comparator, Element, FirstOperand, Link, Number, Operands, Operation, Operator, Place,
@@ -19,7 +19,7 @@ use crate::flat_outcome::{FlatOutcome, into_flat, into_result};
 use crate::level::{Level, base_at, outer_var_parameter_at, var_parameter_at};
 use crate::operators::{
     add, add_offset, compare, divide, element_address, equal_truths, is_true, modulo, multiply,
-    negative, operate, subtract,
+    negate, operate, subtract,
 };
 
 /// Returns the value of a cell, or 0 if there is no cell at the address.
@@ -41,7 +41,7 @@ pub(crate) fn variable_address(variable: Variable, level: &Level<'_>) -> usize
 {
     match variable {
         Variable::Module(offset) => offset,
-        Variable::Here(offset) => add_offset(level.base, offset),
+        Variable::InOwnActivation(offset) => add_offset(level.base, offset),
         Variable::ByReference { index, offset } => {
             add_offset(var_parameter_at(level, index as usize), offset as usize)
         }
@@ -60,7 +60,7 @@ fn value_of(variable: Variable, level: &Level<'_>, cells: &[i32]) -> i32
 /// Returns the address of a place in an array's element, if the array and the index are variables.
 /// Returns the fault Index if the array has no element at this index.
 #[inline(always)]
-pub(crate) fn row(
+pub(crate) fn variable_element_address(
     row: &VariableElement,
     level: &Level<'_>,
     cells: &[i32],
@@ -88,7 +88,7 @@ pub(crate) fn locate(
         Place::Variable(variable) => Ok(variable_address(*variable, level)),
         Place::Outside { up, offset } => Ok(add_offset(base_at(level, *up), *offset)),
         Place::Passed(r) => Ok(add_offset(outer_var_parameter_at(level, r.up, r.index), r.offset)),
-        Place::VariableElement(r) => row(r, level, cells),
+        Place::VariableElement(r) => variable_element_address(r, level, cells),
         Place::Element(e) => into_result(locate_element_flat(e, level, cells)),
     }
 }
@@ -131,7 +131,7 @@ pub(crate) fn evaluate_number(
             Ok(cell_at(cells, a))
         }
         Number::Negative(operand) => into_result(evaluate_negative(operand, level, cells)),
-        Number::Operation(o) => into_result(operation(o, level, cells)),
+        Number::Operation(o) => into_result(evaluate_operation(o, level, cells)),
         Number::Chain(c) => into_result(evaluate_chain_flat(c, level, cells)),
     }
 }
@@ -165,7 +165,7 @@ fn evaluate_negative(operand: &Number, level: &Level<'_>, cells: &[i32]) -> Flat
         ≡ number (levels_of level.now) cells.now (lowered.negative (number_of operand.now)) }
 {
     match evaluate_number(operand, level, cells) {
-        Ok(a) => into_flat(negative(a)),
+        Ok(a) => into_flat(negate(a)),
         Err(ending) => into_flat(Err(ending)),
     }
 }
@@ -174,7 +174,7 @@ fn evaluate_negative(operand: &Number, level: &Level<'_>, cells: &[i32]) -> Flat
 /// is a variable, as in most operations, the function has no registers to save.
 #[inline(never)]
 #[cycle(evaluation)]
-fn operation(o: &Operation, level: &Level<'_>, cells: &[i32]) -> FlatOutcome<i32>
+fn evaluate_operation(o: &Operation, level: &Level<'_>, cells: &[i32]) -> FlatOutcome<i32>
     ensures { outcome_of result ≡ number (levels_of level.now) cells.now (operation_of o.now) }
 {
     match &o.first {
@@ -283,7 +283,7 @@ pub(crate) fn evaluate_update(
 ) -> Result<i32, EvaluationFault>
     ensures { outcome_of_result result
         ≡ number (levels_of level.now) cells.now
-        (applied link.now (lowered.cell (variable_of variable))) }
+        (operation_with_link link.now (lowered.cell (variable_of variable))) }
 {
     let left = value_of(variable, level, cells);
     apply(link, left, level, cells)
@@ -291,7 +291,7 @@ pub(crate) fn evaluate_update(
 
 /// Returns whether the cell at a place is TRUE, or the fault that ends the evaluation of the place.
 #[inline(never)]
-fn flag(place: &Place, level: &Level<'_>, cells: &[i32]) -> FlatOutcome<bool>
+fn evaluate_flag(place: &Place, level: &Level<'_>, cells: &[i32]) -> FlatOutcome<bool>
     ensures { outcome_of result
         ≡ truth (levels_of level.now) cells.now (lowered.flag (place_of place.now)) }
 {
@@ -309,13 +309,13 @@ fn is_unset(place: &Place, level: &Level<'_>, cells: &[i32]) -> Result<bool, Eva
         ≡ truth (levels_of level.now) cells.now
         (lowered.negation (lowered.flag (place_of place.now))) }
 {
-    let a = into_result(flag(place, level, cells))?;
+    let a = into_result(evaluate_flag(place, level, cells))?;
     Ok(!a)
 }
 
 /// Returns the value of an expression of type BOOLEAN, or the fault that ends its evaluation.
 /// Constants and comparisons of variables are evaluated inline. Flags and comparisons of elements
-/// are evaluated by small functions, and all other forms by `truth`.
+/// are evaluated by small functions, and all other forms by `evaluate_truth_out_of_line`.
 #[inline(always)]
 pub(crate) fn evaluate_truth(
     t: &Truth,
@@ -326,7 +326,7 @@ pub(crate) fn evaluate_truth(
 {
     match t {
         Truth::Constant(b) => Ok(*b),
-        Truth::Flag(place) => into_result(flag(place, level, cells)),
+        Truth::Flag(place) => into_result(evaluate_flag(place, level, cells)),
         Truth::Unset(place) => is_unset(place, level, cells),
         Truth::LessThanLiteral(v, n) => {
             Ok(compare_variable(Comparator::Less, *v, *n, level, cells))
@@ -337,13 +337,17 @@ pub(crate) fn evaluate_truth(
             Ok(compare_variable(*r, *v, right, level, cells))
         }
         Truth::ElementToVariable(r, q, v) => into_result(compare_element(*r, q, *v, level, cells)),
-        _ => truth(t, level, cells),
+        _ => evaluate_truth_out_of_line(t, level, cells),
     }
 }
 
 #[inline(always)]
 #[cycle(truths)]
-fn truth(t: &Truth, level: &Level<'_>, cells: &[i32]) -> Result<bool, EvaluationFault>
+fn evaluate_truth_out_of_line(
+    t: &Truth,
+    level: &Level<'_>,
+    cells: &[i32],
+) -> Result<bool, EvaluationFault>
     ensures { outcome_of_result result ≡ truth (levels_of level.now) cells.now (truth_of t.now) }
 {
     into_result(evaluate_truth_flat(t, level, cells))
@@ -368,14 +372,14 @@ fn evaluate_general_truth(
 {
     match t {
         Truth::Constant(b) => Ok(*b),
-        Truth::Flag(place) => into_result(flag(place, level, cells)),
+        Truth::Flag(place) => into_result(evaluate_flag(place, level, cells)),
         Truth::Unset(place) => is_unset(place, level, cells),
         Truth::Negation(operand) => {
-            let a = truth(operand, level, cells)?;
+            let a = evaluate_truth_out_of_line(operand, level, cells)?;
             Ok(!a)
         }
-        Truth::Both(operands) => both(operands, level, cells),
-        Truth::Either(operands) => either(operands, level, cells),
+        Truth::Both(operands) => evaluate_both(operands, level, cells),
+        Truth::Either(operands) => evaluate_either(operands, level, cells),
         Truth::All(several) => evaluate_all(several, level, cells),
         Truth::Any(several) => evaluate_any(several, level, cells),
         Truth::Related(relation, operands) => compare_operands(*relation, operands, level, cells),
@@ -388,8 +392,8 @@ fn evaluate_general_truth(
             Ok(compare_variable(*r, *v, right, level, cells))
         }
         Truth::ElementToVariable(r, q, v) => into_result(compare_element(*r, q, *v, level, cells)),
-        Truth::Same(operands) => same(operands, level, cells),
-        Truth::Different(operands) => different(operands, level, cells),
+        Truth::Same(operands) => evaluate_same(operands, level, cells),
+        Truth::Different(operands) => evaluate_different(operands, level, cells),
     }
 }
 
@@ -421,7 +425,7 @@ fn compare_element(
     ensures { outcome_of result
         ≡ truth (levels_of level.now) cells.now (element_relation relation left.now right) }
 {
-    match row(left, level, cells) {
+    match variable_element_address(left, level, cells) {
         Ok(a) => {
             let right = value_of(right, level, cells);
             FlatOutcome::Value(compare(relation, cell_at(cells, a), right))
@@ -448,44 +452,56 @@ fn compare_operands(
 }
 
 #[cycle(truths)]
-fn both(operands: &TruthPair, level: &Level<'_>, cells: &[i32]) -> Result<bool, EvaluationFault>
+fn evaluate_both(
+    operands: &TruthPair,
+    level: &Level<'_>,
+    cells: &[i32],
+) -> Result<bool, EvaluationFault>
     ensures { outcome_of_result result
         ≡ truth (levels_of level.now) cells.now (lowered.both
         (truth_of (out-TruthPair operands.now).left) (truth_of (out-TruthPair operands.now).right)) }
 {
-    if truth(&operands.left, level, cells)? {
-        truth(&operands.right, level, cells)
+    if evaluate_truth_out_of_line(&operands.left, level, cells)? {
+        evaluate_truth_out_of_line(&operands.right, level, cells)
     } else {
         Ok(false)
     }
 }
 
 #[cycle(truths)]
-fn either(operands: &TruthPair, level: &Level<'_>, cells: &[i32]) -> Result<bool, EvaluationFault>
+fn evaluate_either(
+    operands: &TruthPair,
+    level: &Level<'_>,
+    cells: &[i32],
+) -> Result<bool, EvaluationFault>
     ensures { outcome_of_result result
         ≡ truth (levels_of level.now) cells.now (lowered.either
         (truth_of (out-TruthPair operands.now).left) (truth_of (out-TruthPair operands.now).right)) }
 {
-    if truth(&operands.left, level, cells)? {
+    if evaluate_truth_out_of_line(&operands.left, level, cells)? {
         Ok(true)
     } else {
-        truth(&operands.right, level, cells)
+        evaluate_truth_out_of_line(&operands.right, level, cells)
     }
 }
 
 #[cycle(truths)]
-fn same(operands: &TruthPair, level: &Level<'_>, cells: &[i32]) -> Result<bool, EvaluationFault>
+fn evaluate_same(
+    operands: &TruthPair,
+    level: &Level<'_>,
+    cells: &[i32],
+) -> Result<bool, EvaluationFault>
     ensures { outcome_of_result result
         ≡ truth (levels_of level.now) cells.now (lowered.same
         (truth_of (out-TruthPair operands.now).left) (truth_of (out-TruthPair operands.now).right)) }
 {
-    let left = truth(&operands.left, level, cells)?;
-    let right = truth(&operands.right, level, cells)?;
+    let left = evaluate_truth_out_of_line(&operands.left, level, cells)?;
+    let right = evaluate_truth_out_of_line(&operands.right, level, cells)?;
     Ok(equal_truths(left, right))
 }
 
 #[cycle(truths)]
-fn different(
+fn evaluate_different(
     operands: &TruthPair,
     level: &Level<'_>,
     cells: &[i32],
@@ -494,8 +510,8 @@ fn different(
         ≡ truth (levels_of level.now) cells.now (lowered.different
         (truth_of (out-TruthPair operands.now).left) (truth_of (out-TruthPair operands.now).right)) }
 {
-    let left = truth(&operands.left, level, cells)?;
-    let right = truth(&operands.right, level, cells)?;
+    let left = evaluate_truth_out_of_line(&operands.left, level, cells)?;
+    let right = evaluate_truth_out_of_line(&operands.right, level, cells)?;
     Ok(!equal_truths(left, right))
 }
 
@@ -510,7 +526,7 @@ fn evaluate_all(
     ensures { outcome_of_result result
         ≡ truth (levels_of level.now) cells.now (conjunction_of several.now) }
 {
-    let mut left = truth(&several.first, level, cells)?;
+    let mut left = evaluate_truth_out_of_line(&several.first, level, cells)?;
     for t in &several.rest {
         left = evaluate_and(left, t, level, cells)?;
     }
@@ -529,7 +545,7 @@ fn evaluate_and(
         ≡ (if left then truth (levels_of level.now) cells.now (truth_of t.now) else gives false) }
 {
     if left {
-        truth(t, level, cells)
+        evaluate_truth_out_of_line(t, level, cells)
     } else {
         Ok(false)
     }
@@ -546,7 +562,7 @@ fn evaluate_any(
     ensures { outcome_of_result result
         ≡ truth (levels_of level.now) cells.now (disjunction_of several.now) }
 {
-    let mut left = truth(&several.first, level, cells)?;
+    let mut left = evaluate_truth_out_of_line(&several.first, level, cells)?;
     for t in &several.rest {
         left = evaluate_or(left, t, level, cells)?;
     }
@@ -567,6 +583,6 @@ fn evaluate_or(
     if left {
         Ok(true)
     } else {
-        truth(t, level, cells)
+        evaluate_truth_out_of_line(t, level, cells)
     }
 }

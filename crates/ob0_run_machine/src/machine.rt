@@ -58,7 +58,7 @@ pub(crate) fn copy(cells: &mut Vec<i32>, to: usize, from: usize, count: usize)
 
 impl<'i> Machine<'i> {
     /// Returns the number of cells, which is the address of the next cell to be added.
-    pub(crate) fn size(&self) -> usize
+    pub(crate) fn cell_count(&self) -> usize
         ensures { result ≡ length self.now.cells.items }
     {
         self.cells.len()

@@ -14,7 +14,7 @@ use crate::cell_copies::copy_up;
 use std::alloc::{AllocError, Global};
 
 /// The largest number of cells that `push_zeros` adds one by one.
-const FEW_CELLS: usize = 8;
+const MAX_INLINE_ZEROS: usize = 8;
 
 /// The allocator, and whether `fail` was called.
 #[derive(Clone, Copy)]
@@ -35,7 +35,7 @@ impl Memory {
     }
 
     /// Returns an empty list.
-    pub(crate) fn list<T>(&self) -> Vec<T>
+    pub(crate) fn new_list<T>(&self) -> Vec<T>
         ensures { result.items ≡ [] }
     {
         Vec::new(self.alloc)
@@ -55,7 +55,7 @@ impl Memory {
         }
     }
 
-    /// Adds `count` cells with the value 0 at the end. If `count` is at most `FEW_CELLS`,
+    /// Adds `count` cells with the value 0 at the end. If `count` is at most `MAX_INLINE_ZEROS`,
     /// as in most procedures, the cells are added one by one, without a function call.
     #[inline(always)]
     pub(crate) fn push_zeros(
@@ -68,7 +68,7 @@ impl Memory {
         ensures full { OnErr result (vec_capacity cells.old < vec_len cells.old + count) }
         ensures room { OnOk result (length cells.new.items < 2 ^ 64) }
     {
-        if count > FEW_CELLS {
+        if count > MAX_INLINE_ZEROS {
             return self.push_many_zeros(cells, count);
         }
         for _cell in 0..count {

@@ -108,7 +108,7 @@ pub(crate) fn operate(operator: Operator, left: i32, right: i32) -> Result<i32, 
 
 /// Returns the number with the opposite sign, or the fault Overflow if it has more than 32 bits.
 #[inline(always)]
-pub(crate) fn negative(number: i32) -> Result<i32, EvaluationFault>
+pub(crate) fn negate(number: i32) -> Result<i32, EvaluationFault>
     ensures { outcome_of_result result ≡ checked_number (neg_ℤ number) }
 {
     checked_number(number.checked_neg())

@@ -10,7 +10,7 @@ ghost use Rattle.ob0_run_machine.specs.Execution.{CallEffect, execute};
 ghost use Rattle.ob0_run_machine.specs.Levels.{levels_of};
 ghost use Rattle.ob0_run_machine.specs.Lowered as lowered;
 ghost use Rattle.ob0_run_machine.specs.Machines.{MachineDoes, MachineSteps, entry_effect, statement_effect, sequence_effect, elsifs_effect, progress_after_step, state_of};
-ghost use Rattle.ob0_run_machine.specs.View.{applied, conditional_of, call_of, chain_of, variable_relation, variable_increase, number_of, elsif_branches, else_statements, place_of, repeat_of, variable_element_of, sequence_of, statement_of, truth_of, variable_of, while_of};
+ghost use Rattle.ob0_run_machine.specs.View.{operation_with_link, conditional_of, call_of, chain_of, variable_relation, variable_increase, number_of, elsif_branches, else_statements, place_of, repeat_of, variable_element_of, sequence_of, statement_of, truth_of, variable_of, while_of};
 
 use crate::addresses::VarAddresses;
 use crate::argument_passing::pass_all;
@@ -20,8 +20,8 @@ use crate::code::{
 };
 use crate::ending::{EvaluationFault, Stop};
 use crate::evaluator::{
-    cell_at, evaluate_chain, evaluate_number, evaluate_truth, evaluate_update, locate, row,
-    variable_address,
+    cell_at, evaluate_chain, evaluate_number, evaluate_truth, evaluate_update, locate,
+    variable_address, variable_element_address,
 };
 use crate::level::{Level, enclosing_level};
 use crate::machine::{Item, Machine, copy, store};
@@ -130,7 +130,7 @@ fn update(
     ensures { (enters : CallEffect) (t : ℕ)
         → progress_after_step result machine.new
         ≡ execute enters t (levels_of level.now) (lowered.stores_number (variable_of variable)
-        (applied link.now (lowered.cell (variable_of variable)))) (state_of machine.old) }
+        (operation_with_link link.now (lowered.cell (variable_of variable)))) (state_of machine.old) }
 {
     let v = evaluate_update(variable, link, level, machine.cells.as_slice())?;
     store(&mut machine.cells, variable_address(variable, level), v);
@@ -171,7 +171,7 @@ fn store_constant(
         ≡ execute enters t (levels_of level.now)
         (lowered.stores_truth (variable_element_of r.now) (lowered.constant b)) (state_of machine.old) }
 {
-    let a = row(r, level, machine.cells.as_slice())?;
+    let a = variable_element_address(r, level, machine.cells.as_slice())?;
     store(&mut machine.cells, a, as_cell(b));
     Ok(())
 }
@@ -263,7 +263,7 @@ fn run_call<F: Fn(&mut Machine<'_>, usize, &Level<'_>) -> Result<(), Stop>>(
         → MachineDoes (F.post enter.now) result machine.old machine.new
         (statement_effect t (levels_of level.now) (call_of c.now)) }
 {
-    let base = machine.size();
+    let base = machine.cell_count();
     let mut addresses = VarAddresses::Empty;
     pass_all(
         &mut machine.memory,
@@ -440,7 +440,7 @@ fn run_elsifs<F: Fn(&mut Machine<'_>, usize, &Level<'_>) -> Result<(), Stop>>(
 /// `Stop`, the error type of a statement.
 #[tactic(auto, unfolding(crate::specs::Execution::execute))]
 #[inline(always)]
-fn count(address: usize, by: i32, machine: &mut Machine<'_>) -> Result<(), Stop>
+fn increase_or_stop(address: usize, by: i32, machine: &mut Machine<'_>) -> Result<(), Stop>
     ensures { (enters : CallEffect) (t : ℕ) (ls : Levels) (v : Variable)
         → address_of ls machine.old.cells.items (variable_of v) ≡ gives address
         → MachineSteps result machine.new
@@ -487,7 +487,7 @@ fn run_counted_body<F: Fn(&mut Machine<'_>, usize, &Level<'_>) -> Result<(), Sto
         (sequence_of (statements.now ++ Increase v by ∷ []))) }
 {
     run_sequence_inline(statements, level, turns, machine, enter)?;
-    count(address, by, machine)
+    increase_or_stop(address, by, machine)
 }
 
 /// Runs a counting loop: a WHILE whose condition is that a variable is less than a literal, and

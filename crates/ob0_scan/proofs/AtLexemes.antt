@@ -9,7 +9,7 @@ use Rattle.ob0_scan.specs.declared.lexeme.LexemeKind.{LexemeKind}
 use Rattle.ob0_scan.specs.declared.lexeme.LexemeKind.TheVariants as lexeme
 use Rattle.ob0_scan.specs.declared.lexeme.Span.{Span}
 use Rattle.ob0_scan.specs.declared.lexeme.Token.{Token}
-use Rattle.ob0_scan.specs.Lexed.{Lexeme, joined, AreLexemes}
+use Rattle.ob0_scan.specs.Lexed.{Lexeme, text_of_lexemes, AreLexemes}
 use Rattle.ob0_scan.specs.TextWithTokens.{span_from, token_at, comment_at, tokens_from, comments_from}
 use Rattle.ob0_scan.specs.Reused.{span_after_shift, token_after_shift}
 use Rattle.ob0_scan.proofs.Cuts.{nonempty}
@@ -79,26 +79,26 @@ head_all g P s l h = ⊎_elim
     (λ one. All-same P (g.head s l) (one.0 ∷ []) one.1 (All-cons P one.0 [] (h one.0 one.2) (All-nil P)))
     (g.one s l)
 
-pub lies : {X : Type 0} (g : AtLexemes X) (s : ℕ) (ls : List Lexeme) → Full ls → All (λ x. Lies s (s + length (joined ls)) (g.span x)) (g.all s ls)
-lies g s [] h = All-same (λ x. Lies s (s + length (joined [])) (g.span x)) (g.all s []) [] (g.none s) (All-nil (λ x. Lies s (s + length (joined [])) (g.span x)))
+pub lies : {X : Type 0} (g : AtLexemes X) (s : ℕ) (ls : List Lexeme) → Full ls → All (λ x. Lies s (s + length (text_of_lexemes ls)) (g.span x)) (g.all s ls)
+lies g s [] h = All-same (λ x. Lies s (s + length (text_of_lexemes [])) (g.span x)) (g.all s []) [] (g.none s) (All-nil (λ x. Lies s (s + length (text_of_lexemes [])) (g.span x)))
 lies {X} g s (l ∷ ls) h =
-    let long : length (joined (l ∷ ls)) ≡ length l.text + length (joined ls) = length-append l.text (joined ls) in
+    let long : length (text_of_lexemes (l ∷ ls)) ≡ length l.text + length (text_of_lexemes ls) = length-append l.text (text_of_lexemes ls) in
     let some = h.0 in
-    let P : X → Type 0 = λ x. Lies s (s + length (joined (l ∷ ls))) (g.span x) in
+    let P : X → Type 0 = λ x. Lies s (s + length (text_of_lexemes (l ∷ ls))) (g.span x) in
     All-same P (g.all s (l ∷ ls)) (g.head s l ++ g.all (s + length l.text) ls) (g.step s l ls)
     (All-append P (g.head s l) (g.all (s + length l.text) ls)
-    (head_all g P s l (λ x e. subst (Lies s (s + length (joined (l ∷ ls)))) (sym e) (record { starts = omega arith; some = omega arith; ends = omega arith })))
-    (All-weaker (λ x. Lies (s + length l.text) (s + length l.text + length (joined ls)) (g.span x)) P (λ x w. record { starts = omega (arith, w.starts); some = w.some; ends = omega (arith, w.ends) }) (g.all (s + length l.text) ls)
+    (head_all g P s l (λ x e. subst (Lies s (s + length (text_of_lexemes (l ∷ ls)))) (sym e) (record { starts = omega arith; some = omega arith; ends = omega arith })))
+    (All-weaker (λ x. Lies (s + length l.text) (s + length l.text + length (text_of_lexemes ls)) (g.span x)) P (λ x w. record { starts = omega (arith, w.starts); some = w.some; ends = omega (arith, w.ends) }) (g.all (s + length l.text) ls)
     (lies g (s + length l.text) ls h.1)))
 
-pub all-append : {X : Type 0} (g : AtLexemes X) (s : ℕ) (xs ys : List Lexeme) → g.all s (xs ++ ys) ≡ g.all s xs ++ g.all (s + length (joined xs)) ys
+pub all-append : {X : Type 0} (g : AtLexemes X) (s : ℕ) (xs ys : List Lexeme) → g.all s (xs ++ ys) ≡ g.all s xs ++ g.all (s + length (text_of_lexemes xs)) ys
 all-append g s [] ys = sym (ap₂ (λ t n. t ++ g.all n ys) (g.none s) (add-zero s))
 all-append g s (x ∷ xs) ys =
-    let place : s + length x.text + length (joined xs) ≡ s + length (joined (x ∷ xs)) = omega (arith, length-append x.text (joined xs)) in
+    let place : s + length x.text + length (text_of_lexemes xs) ≡ s + length (text_of_lexemes (x ∷ xs)) = omega (arith, length-append x.text (text_of_lexemes xs)) in
     g.step s x (xs ++ ys)
     ∙ ap (λ t. g.head s x ++ t) (all-append g (s + length x.text) xs ys ∙ ap (λ n. g.all (s + length x.text) xs ++ g.all n ys) place)
-    ∙ sym (append_assoc (g.head s x) (g.all (s + length x.text) xs) (g.all (s + length (joined (x ∷ xs))) ys))
-    ∙ ap (λ t. t ++ g.all (s + length (joined (x ∷ xs))) ys) (sym (g.step s x xs))
+    ∙ sym (append_assoc (g.head s x) (g.all (s + length x.text) xs) (g.all (s + length (text_of_lexemes (x ∷ xs))) ys))
+    ∙ ap (λ t. t ++ g.all (s + length (text_of_lexemes (x ∷ xs))) ys) (sym (g.step s x xs))
 
 -- If no item passes the test, the number of leading items that pass is 0.
 pub none_pass : {X : Type 0} (q : X → Bool) (xs : List X) → All (λ x. q x ≡ false) xs → prefix_len q xs ≡ 0
@@ -116,30 +116,30 @@ not_below a b h = false_from_ne_true (ltb a b) (λ e. absurd (omega (arith, ltb-
 
 -- The items without the leading ones that begin before the end of the lexemes xs are the items of
 -- the later lexemes ys.
-pub back_split : {X : Type 0} (g : AtLexemes X) (s place : ℕ) (xs ys : List Lexeme) → Full xs → Full ys → s + length (joined xs) ≡ place → drop (prefix_len (λ x. ltb (g.span x).start place) (g.all s (xs ++ ys))) (g.all s (xs ++ ys)) ≡ g.all place ys
+pub back_split : {X : Type 0} (g : AtLexemes X) (s place : ℕ) (xs ys : List Lexeme) → Full xs → Full ys → s + length (text_of_lexemes xs) ≡ place → drop (prefix_len (λ x. ltb (g.span x).start place) (g.all s (xs ++ ys))) (g.all s (xs ++ ys)) ≡ g.all place ys
 back_split {X} g s place xs ys f h e =
     let q : X → Bool = λ x. ltb (g.span x).start place in
     let split : g.all s (xs ++ ys) ≡ g.all s xs ++ g.all place ys = all-append g s xs ys ∙ ap (λ n. g.all s xs ++ g.all n ys) e in
-    let front : All (λ x. q x ≡ true) (g.all s xs) = All-weaker (λ x. Lies s (s + length (joined xs)) (g.span x)) (λ x. q x ≡ true) (λ x w. lt-ltb (g.span x).start place (omega (arith, w.some, w.ends, e))) (g.all s xs) (lies g s xs f) in
-    let back : All (λ x. q x ≡ false) (g.all place ys) = All-weaker (λ x. Lies place (place + length (joined ys)) (g.span x)) (λ x. q x ≡ false) (λ x w. not_below (g.span x).start place w.starts) (g.all place ys) (lies g place ys h) in
+    let front : All (λ x. q x ≡ true) (g.all s xs) = All-weaker (λ x. Lies s (s + length (text_of_lexemes xs)) (g.span x)) (λ x. q x ≡ true) (λ x w. lt-ltb (g.span x).start place (omega (arith, w.some, w.ends, e))) (g.all s xs) (lies g s xs f) in
+    let back : All (λ x. q x ≡ false) (g.all place ys) = All-weaker (λ x. Lies place (place + length (text_of_lexemes ys)) (g.span x)) (λ x. q x ≡ false) (λ x w. not_below (g.span x).start place w.starts) (g.all place ys) (lies g place ys h) in
     ap (λ t. drop (prefix_len q t) t) split
     ∙ ap (λ n. drop n (g.all s xs ++ g.all place ys)) (front_passes q (g.all s xs) (g.all place ys) front (none_pass q (g.all place ys) back))
     ∙ drop-append_seam (g.all s xs) (g.all place ys)
 
 -- The leading items that end before a place are the items of the lexemes xs that end before that
 -- place.
-pub front_split : {X : Type 0} (g : AtLexemes X) (s at place : ℕ) (xs ys : List Lexeme) → Full xs → (0 < length xs → s + length (joined xs) < place) → s + length (joined xs) ≡ at → prefix_len (λ x. ltb (g.span x).end place) (g.all at ys) ≡ 0 → take (prefix_len (λ x. ltb (g.span x).end place) (g.all s (xs ++ ys))) (g.all s (xs ++ ys)) ≡ g.all s xs
+pub front_split : {X : Type 0} (g : AtLexemes X) (s at place : ℕ) (xs ys : List Lexeme) → Full xs → (0 < length xs → s + length (text_of_lexemes xs) < place) → s + length (text_of_lexemes xs) ≡ at → prefix_len (λ x. ltb (g.span x).end place) (g.all at ys) ≡ 0 → take (prefix_len (λ x. ltb (g.span x).end place) (g.all s (xs ++ ys))) (g.all s (xs ++ ys)) ≡ g.all s xs
 front_split {X} g s at place xs ys f near e none =
     let q : X → Bool = λ x. ltb (g.span x).end place in
     let split : g.all s (xs ++ ys) ≡ g.all s xs ++ g.all at ys = all-append g s xs ys ∙ ap (λ n. g.all s xs ++ g.all n ys) e in
     ap (λ t. take (prefix_len q t) t) split
     ∙ ap (λ n. take n (g.all s xs ++ g.all at ys)) (front_passes q (g.all s xs) (g.all at ys) (ends_in xs f near) none)
     ∙ take-append_seam (g.all s xs) (g.all at ys) where
-      ends_in : (zs : List Lexeme) → Full zs → (0 < length zs → s + length (joined zs) < place) → All (λ x. ltb (g.span x).end place ≡ true) (g.all s zs)
+      ends_in : (zs : List Lexeme) → Full zs → (0 < length zs → s + length (text_of_lexemes zs) < place) → All (λ x. ltb (g.span x).end place ≡ true) (g.all s zs)
       ends_in [] f near = All-same (λ x. ltb (g.span x).end place ≡ true) (g.all s []) [] (g.none s) (All-nil (λ x. ltb (g.span x).end place ≡ true))
       ends_in (z ∷ zs) f near =
           let close = near (omega arith) in
-          All-weaker (λ x. Lies s (s + length (joined (z ∷ zs))) (g.span x)) (λ x. ltb (g.span x).end place ≡ true) (λ x w. lt-ltb (g.span x).end place (omega (arith, w.ends, close))) (g.all s (z ∷ zs)) (lies g s (z ∷ zs) f)
+          All-weaker (λ x. Lies s (s + length (text_of_lexemes (z ∷ zs))) (g.span x)) (λ x. ltb (g.span x).end place ≡ true) (λ x w. lt-ltb (g.span x).end place (omega (arith, w.ends, close))) (g.all s (z ∷ zs)) (lies g s (z ∷ zs) f)
 
 -- If the first lexeme ends at or after a place, no leading item ends before the place.
 pub none_end : {X : Type 0} (g : AtLexemes X) (place s : ℕ) (l : Lexeme) (ls : List Lexeme) → Full (l ∷ ls) → place ≤ s + length l.text → prefix_len (λ x. ltb (g.span x).end place) (g.all s (l ∷ ls)) ≡ 0
@@ -148,21 +148,21 @@ none_end {X} g place s l ls f far =
     none_pass (λ x. ltb (g.span x).end place) (g.all s (l ∷ ls)) (All-same P (g.all s (l ∷ ls)) (g.head s l ++ g.all (s + length l.text) ls) (g.step s l ls)
     (All-append P (g.head s l) (g.all (s + length l.text) ls)
     (head_all g P s l (λ x e. subst (λ (v : Span). ltb v.end place ≡ false) (sym e) (not_below (s + length l.text) place far)))
-    (All-weaker (λ x. Lies (s + length l.text) (s + length l.text + length (joined ls)) (g.span x)) P (λ x w. not_below (g.span x).end place (omega (arith, w.starts, w.some))) (g.all (s + length l.text) ls) (lies g (s + length l.text) ls f.1))))
+    (All-weaker (λ x. Lies (s + length l.text) (s + length l.text + length (text_of_lexemes ls)) (g.span x)) P (λ x w. not_below (g.span x).end place (omega (arith, w.starts, w.some))) (g.all (s + length l.text) ls) (lies g (s + length l.text) ls f.1))))
 
 -- Holds if the place is between two of the lexemes, or at the beginning or end of them.
 pub record Border (s : ℕ) (ls : List Lexeme) (place : ℕ) : Type 0 where
   pub front : List Lexeme
   pub back : List Lexeme
   pub split : ls ≡ front ++ back
-  pub at : s + length (joined front) ≡ place
+  pub at : s + length (text_of_lexemes front) ≡ place
 
 further_border : (s place : ℕ) (l : Lexeme) (ls : List Lexeme) → Border (s + length l.text) ls place → Border s (l ∷ ls) place
 further_border s place l ls b = record {
   front = l ∷ b.front;
   back = b.back;
   split = ap (λ t. l ∷ t) b.split;
-  at = omega (arith, length-append l.text (joined b.front), b.at);
+  at = omega (arith, length-append l.text (text_of_lexemes b.front), b.at);
 }
 
 pub begin_at_borders : {X : Type 0} (g : AtLexemes X) (s : ℕ) (ls : List Lexeme) → All (λ x. Border s ls (g.span x).start) (g.all s ls)
@@ -199,7 +199,7 @@ ascending_head {X} g key after s high l rest some later h = ⊎_elim
 pub ascending : {X : Type 0} (g : AtLexemes X) (key : Span → ℕ) → ComesAfter key → (s : ℕ) (ls : List Lexeme) → Full ls → AreAscending (λ x. key (g.span x)) (g.all s ls)
 ascending g key after s [] h = subst (AreAscending (λ x. key (g.span x))) (sym (g.none s)) tt
 ascending g key after s (l ∷ ls) h = subst (AreAscending (λ x. key (g.span x))) (sym (g.step s l ls))
-    (ascending_head g key after s (s + length l.text + length (joined ls)) l (g.all (s + length l.text) ls) h.0 (lies g (s + length l.text) ls h.1)
+    (ascending_head g key after s (s + length l.text + length (text_of_lexemes ls)) l (g.all (s + length l.text) ls) h.0 (lies g (s + length l.text) ls h.1)
     (ascending g key after (s + length l.text) ls h.1))
 
 -- Returns the items without the leading ones that begin before a place.

@@ -10,7 +10,7 @@ use Rattle.ob0_scan.specs.declared.lexeme.LexemeKind.{LexemeKind}
 use Rattle.ob0_scan.specs.declared.lexeme.LexemeKind.TheVariants as lexeme
 use Rattle.ob0_scan.specs.declared.lexeme.Span.{Span}
 use Rattle.ob0_scan.specs.declared.lexeme.Token.{Token}
-use Rattle.ob0_scan.specs.Lexed.{Lexeme, joined}
+use Rattle.ob0_scan.specs.Lexed.{Lexeme, text_of_lexemes}
 use Rattle.ob0_scan.specs.TextWithTokens.{span_from, token_at, comment_at, tokens_from, comments_from}
 use Rattle.ob0_scan.specs.RescanState.{token_end, comment_end, last_end}
 use Rattle.ob0_scan.proofs.Cuts.{joined_push, tokens_push, comments_push}
@@ -33,7 +33,7 @@ pub record Front (place s : ℕ) (ls : List Lexeme) : Type 0 where
   pub back : List Lexeme
   pub at : ℕ
   pub split : ls ≡ front ++ back
-  pub at_is : s + length (joined front) ≡ at
+  pub at_is : s + length (text_of_lexemes front) ≡ at
   pub near : 0 < length front → at < place
   pub shape : (front ≡ []) ⊎ Last front
   pub tokens_done : prefix_len (λ (t : Token). ltb t.span.end place) (tokens_from at back) ≡ 0
@@ -54,7 +54,7 @@ module _ (place s : ℕ) (l : Lexeme) (ls : List Lexeme) where
   }
 
   no_bytes : (r : Front place (s + length l.text) ls) → r.front ≡ [] → s + length l.text ≡ r.at
-  no_bytes r e = let none : length (joined r.front) ≡ 0 = ap (λ t. length (joined t)) e in omega (arith, r.at_is, none)
+  no_bytes r e = let none : length (text_of_lexemes r.front) ≡ 0 = ap (λ t. length (text_of_lexemes t)) e in omega (arith, r.at_is, none)
 
   -- If the front has no lexeme, white space in front leaves it empty.
   blank : (r : Front place (s + length l.text) ls) → r.front ≡ [] → l.kind ≡ lexeme.Space → Front place s (l ∷ ls)
@@ -80,7 +80,7 @@ module _ (place s : ℕ) (l : Lexeme) (ls : List Lexeme) where
     back = r.back;
     at = r.at;
     split = ap (λ t. l ∷ t) r.split;
-    at_is = omega (arith, length-append l.text (joined r.front), r.at_is);
+    at_is = omega (arith, length-append l.text (text_of_lexemes r.front), r.at_is);
     near = λ _. ⊎_elim
         (λ none. subst (λ n. n < place) (no_bytes r none) close)
         (λ some. r.near (let long : length r.front ≡ length some.init + 1 = ap length some.are ∙ length_push some.init some.last in omega arith))
@@ -144,18 +144,18 @@ one_further (lexeme.Token k) ts cs n len black ht hc =
     ap₂ (λ o (us : List Span). max (token_end o) (comment_end (slice_get us (length us - 1)))) (last_of ts (record { kind = k; span = span_from n len })) (append-nil cs)
     ∙ max_left (n + len) (comment_end (slice_get cs (length cs - 1))) (omega arith)
 
-pub front_end : (ls : List Lexeme) → Full ls → (ls ≡ []) ⊎ Last ls → last_end (tokens_from 0 ls) (comments_from 0 ls) ≡ length (joined ls)
-front_end ls f (inl e) = ap (λ t. last_end (tokens_from 0 t) (comments_from 0 t)) e ∙ sym (ap (λ t. length (joined t)) e)
+pub front_end : (ls : List Lexeme) → Full ls → (ls ≡ []) ⊎ Last ls → last_end (tokens_from 0 ls) (comments_from 0 ls) ≡ length (text_of_lexemes ls)
+front_end ls f (inl e) = ap (λ t. last_end (tokens_from 0 t) (comments_from 0 t)) e ∙ sym (ap (λ t. length (text_of_lexemes t)) e)
 front_end ls f (inr w) =
     let init = w.init in
     let l = w.last in
-    let n : ℕ = 0 + length (joined init) in
+    let n : ℕ = 0 + length (text_of_lexemes init) in
     let parts = full_parts init (l ∷ []) (subst Full w.are f) in
     let ts = tokens_from 0 init in
     let cs = comments_from 0 init in
     let low_tokens : All (λ (t : Token). t.span.end ≤ n) ts = All-weaker (λ (t : Token). Lies 0 n t.span) (λ (t : Token). t.span.end ≤ n) (λ t h. h.ends) ts (lies of_tokens 0 init parts.0) in
     let low_comments : All (λ (c : Span). c.end ≤ n) cs = All-weaker (λ (c : Span). Lies 0 n c) (λ (c : Span). c.end ≤ n) (λ c h. h.ends) cs (lies of_comments 0 init parts.0) in
-    let long : length (joined ls) ≡ n + length l.text = ap (λ t. length (joined t)) w.are ∙ ap length (joined_push init l) ∙ omega (arith, length-append (joined init) l.text) in
+    let long : length (text_of_lexemes ls) ≡ n + length l.text = ap (λ t. length (text_of_lexemes t)) w.are ∙ ap length (joined_push init l) ∙ omega (arith, length-append (text_of_lexemes init) l.text) in
     ap (λ t. last_end (tokens_from 0 t) (comments_from 0 t)) w.are
     ∙ ap₂ last_end (tokens_push 0 init l) (comments_push 0 init l)
     ∙ one_further l.kind ts cs n (length l.text) w.black low_tokens low_comments

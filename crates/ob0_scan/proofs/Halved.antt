@@ -22,10 +22,10 @@ pub in_order : (s : TextWithTokens) → IsScan s → AreInOrder s.tokens s.comme
 in_order s o =
     let some = full o.lexemes [] o.lexed.each in
     record {
-      tokens_begin = rising (λ (t : Token). t.span.start) s.tokens (subst (AreAscending (λ (t : Token). t.span.start)) (sym o.tokens) (ascending of_tokens (λ (v : Span). v.start) starts_after 0 o.lexemes some));
-      tokens_end = rising (λ (t : Token). t.span.end) s.tokens (subst (AreAscending (λ (t : Token). t.span.end)) (sym o.tokens) (ascending of_tokens (λ (v : Span). v.end) ends_after 0 o.lexemes some));
-      comments_begin = rising (λ (c : Span). c.start) s.comments (subst (AreAscending (λ (c : Span). c.start)) (sym o.comments) (ascending of_comments (λ (v : Span). v.start) starts_after 0 o.lexemes some));
-      comments_end = rising (λ (c : Span). c.end) s.comments (subst (AreAscending (λ (c : Span). c.end)) (sym o.comments) (ascending of_comments (λ (v : Span). v.end) ends_after 0 o.lexemes some));
+      token_starts_ascend = rising (λ (t : Token). t.span.start) s.tokens (subst (AreAscending (λ (t : Token). t.span.start)) (sym o.tokens) (ascending of_tokens (λ (v : Span). v.start) starts_after 0 o.lexemes some));
+      token_ends_ascend = rising (λ (t : Token). t.span.end) s.tokens (subst (AreAscending (λ (t : Token). t.span.end)) (sym o.tokens) (ascending of_tokens (λ (v : Span). v.end) ends_after 0 o.lexemes some));
+      comment_starts_ascend = rising (λ (c : Span). c.start) s.comments (subst (AreAscending (λ (c : Span). c.start)) (sym o.comments) (ascending of_comments (λ (v : Span). v.start) starts_after 0 o.lexemes some));
+      comment_ends_ascend = rising (λ (c : Span). c.end) s.comments (subst (AreAscending (λ (c : Span). c.end)) (sym o.comments) (ascending of_comments (λ (v : Span). v.end) ends_after 0 o.lexemes some));
     }
 
 -- The partition point of a test is the number of leading items that pass it.

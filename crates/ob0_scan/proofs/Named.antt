@@ -41,7 +41,7 @@ module _ (old new : List ℕ) (from removed added : ℕ) (r : ReplacesRange old 
       let there : span.start + added - removed ≡ from + added + away = omega (arith, later) in
       let here : from + removed + away ≡ span.start = omega (arith, later) in
       ap₂ (λ n s. take n (drop s new)) wide there
-      ∙ ap (take (span.end - span.start)) (further new (from + added) away ∙ ap (drop away) (sym r.following) ∙ sym (further old (from + removed) away) ∙ ap (λ s. drop s old) here) where
+      ∙ ap (take (span.end - span.start)) (further new (from + added) away ∙ ap (drop away) (sym r.behind) ∙ sym (further old (from + removed) away) ∙ ap (λ s. drop s old) here) where
         further : (text : List ℕ) (n m : ℕ) → drop (n + m) text ≡ drop m (drop n text)
         further text n m = sym (drop-drop m n text)
 
@@ -65,61 +65,61 @@ module _ {X : Type 0} (of : TokenKind → List ℕ → X) where
       ap₂ (λ n ns. of t.kind n ∷ ns) (at_back old new from removed added r t.span (All-head (λ (x : Token). from + removed ≤ x.span.start) t tokens h)) (after_stays old new from removed added r tokens (All-tail (λ (x : Token). from + removed ≤ x.span.start) t tokens h))
 
   written_stays : (old : TextWithTokens) (new : List ℕ) (from removed added : ℕ) (b : RescannedMiddle) → ReplacesRange old.text new from removed added → IsRescannedMiddle old new from removed added b
-      → written new b.tokens.items ≡ written old.text (take (b.following.tokens - b.front.tokens) (drop b.front.tokens old.tokens))
+      → written new b.tokens.items ≡ written old.text (take (b.old_end.tokens - b.old_start.tokens) (drop b.old_start.tokens old.tokens))
       → written new (with_middle old new removed added b).tokens ≡ written old.text old.tokens
   written_stays old new from removed added b r w same =
-      let front : List Token = take b.front.tokens old.tokens in
-      let gone : List Token = take (b.following.tokens - b.front.tokens) (drop b.front.tokens old.tokens) in
-      let rest : List Token = drop b.following.tokens old.tokens in
-      let place : b.front.tokens + (b.following.tokens - b.front.tokens) ≡ b.following.tokens = omega (arith, w.tokens_ordered) in
-      let parts : gone ++ rest ≡ drop b.front.tokens old.tokens =
-      ap (λ l. gone ++ l) (ap (λ n. drop n old.tokens) (sym place) ∙ sym (drop-drop (b.following.tokens - b.front.tokens) b.front.tokens old.tokens))
-      ∙ take-append-drop (b.following.tokens - b.front.tokens) (drop b.front.tokens old.tokens) in
-      let middle : written new (b.tokens.items ++ map (token_after_shift removed added) rest) ≡ written old.text (drop b.front.tokens old.tokens) =
+      let front : List Token = take b.old_start.tokens old.tokens in
+      let gone : List Token = take (b.old_end.tokens - b.old_start.tokens) (drop b.old_start.tokens old.tokens) in
+      let rest : List Token = drop b.old_end.tokens old.tokens in
+      let place : b.old_start.tokens + (b.old_end.tokens - b.old_start.tokens) ≡ b.old_end.tokens = omega (arith, w.tokens_ordered) in
+      let parts : gone ++ rest ≡ drop b.old_start.tokens old.tokens =
+      ap (λ l. gone ++ l) (ap (λ n. drop n old.tokens) (sym place) ∙ sym (drop-drop (b.old_end.tokens - b.old_start.tokens) b.old_start.tokens old.tokens))
+      ∙ take-append-drop (b.old_end.tokens - b.old_start.tokens) (drop b.old_start.tokens old.tokens) in
+      let middle : written new (b.tokens.items ++ map (token_after_shift removed added) rest) ≡ written old.text (drop b.old_start.tokens old.tokens) =
       written-append new b.tokens.items (map (token_after_shift removed added) rest)
       ∙ ap₂ (λ x y. x ++ y) same (after_stays old.text new from removed added r rest w.tokens_after)
       ∙ sym (written-append old.text gone rest)
       ∙ ap (written old.text) parts in
       written-append new front (b.tokens.items ++ map (token_after_shift removed added) rest)
       ∙ ap₂ (λ x y. x ++ y) (before_stays old.text new from removed added r front w.tokens_before) middle
-      ∙ sym (written-append old.text front (drop b.front.tokens old.tokens))
-      ∙ ap (written old.text) (take-append-drop b.front.tokens old.tokens)
+      ∙ sym (written-append old.text front (drop b.old_start.tokens old.tokens))
+      ∙ ap (written old.text) (take-append-drop b.old_start.tokens old.tokens)
 
 pub names_stay : (old : TextWithTokens) (new : List ℕ) (from removed added : ℕ) (b : RescannedMiddle) → ReplacesRange old.text new from removed added → IsRescannedMiddle old new from removed added b
-    → names_in new b.tokens.items ≡ names_in old.text (take (b.following.tokens - b.front.tokens) (drop b.front.tokens old.tokens))
+    → names_in new b.tokens.items ≡ names_in old.text (take (b.old_end.tokens - b.old_start.tokens) (drop b.old_start.tokens old.tokens))
     → names_in new (with_middle old new removed added b).tokens ≡ names_in old.text old.tokens
 names_stay old new from removed added b r w same = written_stays name_or_empty old new from removed added b r w same
 
 pub words_stay : (old : TextWithTokens) (new : List ℕ) (from removed added : ℕ) (b : RescannedMiddle) → ReplacesRange old.text new from removed added → IsRescannedMiddle old new from removed added b
-    → words_of_tokens new b.tokens.items ≡ words_of_tokens old.text (take (b.following.tokens - b.front.tokens) (drop b.front.tokens old.tokens))
+    → words_of_tokens new b.tokens.items ≡ words_of_tokens old.text (take (b.old_end.tokens - b.old_start.tokens) (drop b.old_start.tokens old.tokens))
     → words_of_tokens new (with_middle old new removed added b).tokens ≡ words_of_tokens old.text old.tokens
 words_stay old new from removed added b r w same = written_stays (λ k text. record { kind = k; text = text }) old new from removed added b r w same
 
 -- The tokens before the change have the same kinds and spellings as before.
 pub front_written : (old : TextWithTokens) (new : List ℕ) (from removed added : ℕ) (b : RescannedMiddle) → ReplacesRange old.text new from removed added → IsRescannedMiddle old new from removed added b
-    → take b.front.tokens (words_of_tokens new (with_middle old new removed added b).tokens) ≡ take b.front.tokens (words_of_tokens old.text old.tokens)
+    → take b.old_start.tokens (words_of_tokens new (with_middle old new removed added b).tokens) ≡ take b.old_start.tokens (words_of_tokens old.text old.tokens)
 front_written old new from removed added b r w =
     let of : TokenKind → List ℕ → Word = λ k text. record { kind = k; text = text } in
-    let front : List Token = take b.front.tokens old.tokens in
-    let rest : List Token = b.tokens.items ++ map (token_after_shift removed added) (drop b.following.tokens old.tokens) in
-    let inside : b.front.tokens ≤ length old.tokens = omega (arith, w.tokens_ordered, w.tokens_inside) in
-    ap (take b.front.tokens) (written-append of new front rest ∙ ap (λ l. l ++ written of new rest) (before_stays of old.text new from removed added r front w.tokens_before))
-    ∙ take_at (written of old.text front) (written of new rest) b.front.tokens (length-map front (λ (t : Token). of t.kind (text_in_span old.text t.span)) ∙ length-take-le b.front.tokens old.tokens inside)
-    ∙ sym (take-map (λ (t : Token). of t.kind (text_in_span old.text t.span)) b.front.tokens old.tokens)
+    let front : List Token = take b.old_start.tokens old.tokens in
+    let rest : List Token = b.tokens.items ++ map (token_after_shift removed added) (drop b.old_end.tokens old.tokens) in
+    let inside : b.old_start.tokens ≤ length old.tokens = omega (arith, w.tokens_ordered, w.tokens_inside) in
+    ap (take b.old_start.tokens) (written-append of new front rest ∙ ap (λ l. l ++ written of new rest) (before_stays of old.text new from removed added r front w.tokens_before))
+    ∙ take_at (written of old.text front) (written of new rest) b.old_start.tokens (length-map front (λ (t : Token). of t.kind (text_in_span old.text t.span)) ∙ length-take-le b.old_start.tokens old.tokens inside)
+    ∙ sym (take-map (λ (t : Token). of t.kind (text_in_span old.text t.span)) b.old_start.tokens old.tokens)
 
 pub back_written : (old : TextWithTokens) (new : List ℕ) (from removed added back : ℕ) (b : RescannedMiddle) → ReplacesRange old.text new from removed added → IsRescannedMiddle old new from removed added b
-    → back ≡ b.front.tokens + length b.tokens.items
-    → drop back (words_of_tokens new (with_middle old new removed added b).tokens) ≡ drop b.following.tokens (words_of_tokens old.text old.tokens)
+    → back ≡ b.old_start.tokens + length b.tokens.items
+    → drop back (words_of_tokens new (with_middle old new removed added b).tokens) ≡ drop b.old_end.tokens (words_of_tokens old.text old.tokens)
 back_written old new from removed added back b r w at =
     let of : TokenKind → List ℕ → Word = λ k text. record { kind = k; text = text } in
-    let front : List Token = take b.front.tokens old.tokens in
-    let last : List Token = drop b.following.tokens old.tokens in
+    let front : List Token = take b.old_start.tokens old.tokens in
+    let last : List Token = drop b.old_end.tokens old.tokens in
     let moved : List Token = map (token_after_shift removed added) last in
-    let inside : b.front.tokens ≤ length old.tokens = omega (arith, w.tokens_ordered, w.tokens_inside) in
+    let inside : b.old_start.tokens ≤ length old.tokens = omega (arith, w.tokens_ordered, w.tokens_inside) in
     let count : length (written of new (front ++ b.tokens.items)) ≡ back =
-    length-map (front ++ b.tokens.items) (λ (t : Token). of t.kind (text_in_span new t.span)) ∙ (length-append front b.tokens.items ∙ omega (arith, at, length-take-le b.front.tokens old.tokens inside)) in
+    length-map (front ++ b.tokens.items) (λ (t : Token). of t.kind (text_in_span new t.span)) ∙ (length-append front b.tokens.items ∙ omega (arith, at, length-take-le b.old_start.tokens old.tokens inside)) in
     ap (λ (l : List Token). drop back (words_of_tokens new l)) (sym (append_assoc front b.tokens.items moved))
     ∙ (ap (drop back) (written-append of new (front ++ b.tokens.items) moved)
     ∙ (drop_at (written of new (front ++ b.tokens.items)) (written of new moved) back count
     ∙ (after_stays of old.text new from removed added r last w.tokens_after
-    ∙ sym (drop-map (λ (t : Token). of t.kind (text_in_span old.text t.span)) b.following.tokens old.tokens))))
+    ∙ sym (drop-map (λ (t : Token). of t.kind (text_in_span old.text t.span)) b.old_end.tokens old.tokens))))

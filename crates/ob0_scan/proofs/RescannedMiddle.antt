@@ -6,8 +6,8 @@ use Rattle.ob0_scan.specs.declared.lexeme.Span.{Span}
 use Rattle.ob0_scan.specs.declared.lexeme.Token.{Token}
 use Rattle.ob0_scan.specs.declared.scanner.Scanner.{Scanner}
 use Rattle.ob0_scan.specs.TextWithTokens.{TextWithTokens, IsScan, max_text, span_from, token_at, comment_at, tokens_from, comments_from}
-use Rattle.ob0_scan.specs.Reused.{ReplacesRange, NoOldBegins, IsNew, Reuses, span_after_shift, token_after_shift, tokens_before_change, comments_before_change, tokens_beginning_from, comments_beginning_from}
-use Rattle.ob0_scan.specs.RescanState.{first_token_begins_at, first_comment_begins_at, IsMovable, TakesOne, ReadsWithoutMeeting, CanStopAt}
+use Rattle.ob0_scan.specs.Reused.{ReplacesRange, NoLexemeBeginsAt, IsNewBehindChange, Reuses, span_after_shift, token_after_shift, tokens_before_change, comments_before_change, tokens_beginning_from, comments_beginning_from}
+use Rattle.ob0_scan.specs.RescanState.{first_token_begins_at, first_comment_begins_at, IsMovable, AddsOneLexeme, AddsNewLexemes, CanStopAt}
 use Rattle.ob0_scan.specs.Progress.{ScanProgress}
 use Rattle.ob0_scan.specs.UnderWay.{IsConsistentScanner}
 use Rattle.ob0_scan.proofs.Spans.{token_with, comment_with}
@@ -30,17 +30,17 @@ comment_first : (place : ℕ) (cs : List Span) → first_comment_begins_at place
 comment_first place [] = refl
 comment_first place (c ∷ cs) = refl
 
-pub reads_none : (old : TextWithTokens) (from removed added : ℕ) (s : Scanner) → ReadsWithoutMeeting old from removed added s s
+pub reads_none : (old : TextWithTokens) (from removed added : ℕ) (s : Scanner) → AddsNewLexemes old from removed added s s
 reads_none old from removed added s = record {
   tokens = [];
   comments = [];
   tokens_are = sym (append-nil s.tokens.items);
   comments_are = sym (append-nil s.comments.items);
-  tokens_new = All-nil (λ (t : Token). IsNew old from removed added t.span);
-  comments_new = All-nil (λ (c : Span). IsNew old from removed added c);
+  tokens_new = All-nil (λ (t : Token). IsNewBehindChange old from removed added t.span);
+  comments_new = All-nil (λ (c : Span). IsNewBehindChange old from removed added c);
 }
 
-pub reads_more : (old : TextWithTokens) (from removed added : ℕ) (s t u : Scanner) → ReadsWithoutMeeting old from removed added s t → TakesOne t u → (from + added ≤ t.at → NoOldBegins old (t.at + removed - added)) → ReadsWithoutMeeting old from removed added s u
+pub reads_more : (old : TextWithTokens) (from removed added : ℕ) (s t u : Scanner) → AddsNewLexemes old from removed added s t → AddsOneLexeme t u → (from + added ≤ t.at → NoLexemeBeginsAt old (t.at + removed - added)) → AddsNewLexemes old from removed added s u
 reads_more old from removed added s t u r w new =
     let place = span_from t.at w.len in
     record {
@@ -48,12 +48,12 @@ reads_more old from removed added s t u r w new =
       comments = r.comments ++ comment_at w.kind place;
       tokens_are = w.tokens ∙ ap (λ x. x ++ token_at w.kind place) r.tokens_are ∙ append_assoc s.tokens.items r.tokens (token_at w.kind place);
       comments_are = w.comments ∙ ap (λ x. x ++ comment_at w.kind place) r.comments_are ∙ append_assoc s.comments.items r.comments (comment_at w.kind place);
-      tokens_new = All-append (λ (x : Token). IsNew old from removed added x.span) r.tokens (token_at w.kind place) r.tokens_new (token_with (λ (x : Token). IsNew old from removed added x.span) w.kind place (λ kind. new));
-      comments_new = All-append (λ (x : Span). IsNew old from removed added x) r.comments (comment_at w.kind place) r.comments_new (comment_with (λ (x : Span). IsNew old from removed added x) w.kind place new);
+      tokens_new = All-append (λ (x : Token). IsNewBehindChange old from removed added x.span) r.tokens (token_at w.kind place) r.tokens_new (token_with (λ (x : Token). IsNewBehindChange old from removed added x.span) w.kind place (λ kind. new));
+      comments_new = All-append (λ (x : Span). IsNewBehindChange old from removed added x) r.comments (comment_at w.kind place) r.comments_new (comment_with (λ (x : Span). IsNewBehindChange old from removed added x) w.kind place new);
     }
 
 module _ (old : TextWithTokens) (o : IsScan old) where
-  pub none_begins : (place : ℕ) → (first_token_begins_at place (tokens_beginning_from place old.tokens) || first_comment_begins_at place (comments_beginning_from place old.comments)) ≡ false → NoOldBegins old place
+  pub none_begins : (place : ℕ) → (first_token_begins_at place (tokens_beginning_from place old.tokens) || first_comment_begins_at place (comments_beginning_from place old.comments)) ≡ false → NoLexemeBeginsAt old place
   none_begins place e =
       let parts = either_false (first_token_begins_at place (tokens_beginning_from place old.tokens)) (first_comment_begins_at place (comments_beginning_from place old.comments)) e in
       let some = full o.lexemes [] o.lexed.each in
@@ -74,7 +74,7 @@ module _ (old : TextWithTokens) (o : IsScan old) where
     -- The end of the new text corresponds to the end of the old one.
     pub end_place : (at : ℕ) → at ≡ length new → at + removed - added ≡ length old.text
     end_place at e =
-        let same : length old.text - (from + removed) ≡ length new - (from + added) = sym (length-drop (from + removed) old.text) ∙ ap length r.following ∙ length-drop (from + added) new in
+        let same : length old.text - (from + removed) ≡ length new - (from + added) = sym (length-drop (from + removed) old.text) ∙ ap length r.behind ∙ length-drop (from + added) new in
         omega (arith, same, r.inside_old, r.inside_new)
 
     pub end_met : (at : ℕ) → at ≡ length new → CanStopAt old (length new) from removed added at [] []
@@ -82,7 +82,7 @@ module _ (old : TextWithTokens) (o : IsScan old) where
         let place = end_place at e in
         let none = none_following old o new from removed added r in
         record {
-          following = omega (arith, r.inside_new);
+          behind_change = omega (arith, r.inside_new);
           tokens_are = sym (ap (λ p. tokens_beginning_from p old.tokens) place ∙ none.0);
           comments_are = sym (ap (λ p. comments_beginning_from p old.comments) place ∙ none.1);
           border = inl e;
@@ -101,7 +101,7 @@ module _ (old : TextWithTokens) (o : IsScan old) where
 -- The old tokens and comments before the change, the newly read ones and the later old ones
 -- together meet `Reuses`.
 pub reused : (old new : TextWithTokens) (from removed added : ℕ) (s t : Scanner) (tokens : List Token) (comments : List Span) (end : ℕ) (fs : List Token) (gs : List Span) → fs ≡ tokens_before_change from old.tokens → gs ≡ comments_before_change from old.comments → s.tokens.items ≡ [] → s.comments.items ≡ []
-    → ReadsWithoutMeeting old from removed added s t → CanStopAt old end from removed added t.at tokens comments
+    → AddsNewLexemes old from removed added s t → CanStopAt old end from removed added t.at tokens comments
     → new.tokens ≡ (fs ++ t.tokens.items) ++ map (token_after_shift removed added) tokens → new.comments ≡ (gs ++ t.comments.items) ++ map (span_after_shift removed added) comments
     → (read : ℕ) → read ≡ length t.tokens.items + length t.comments.items → Reuses old new from removed added read
 reused old new from removed added s t tokens comments end fs gs ft fc st sc r m et ec read e =
@@ -109,12 +109,12 @@ reused old new from removed added s t tokens comments end fs gs ft fc st sc r m 
     let read_comments : t.comments.items ≡ r.comments = r.comments_are ∙ ap (λ x. x ++ r.comments) sc in
     record {
       place = t.at + removed - added;
-      following = omega (arith, m.following);
+      behind_change = omega (arith, m.behind_change);
       tokens_between = r.tokens;
       comments_between = r.comments;
       tokens = et ∙ ap₂ (λ x y. x ++ map (token_after_shift removed added) y) (ap₂ (λ x y. x ++ y) ft read_tokens) m.tokens_are;
       comments = ec ∙ ap₂ (λ x y. x ++ map (span_after_shift removed added) y) (ap₂ (λ x y. x ++ y) fc read_comments) m.comments_are;
-      read_are = omega (arith, e, ap length read_tokens, ap length read_comments);
+      read_count = omega (arith, e, ap length read_tokens, ap length read_comments);
       tokens_new = r.tokens_new;
       comments_new = r.comments_new;
     }
@@ -139,10 +139,10 @@ settled old o new from removed added r t tokens comments text under none short f
     let p : ScanProgress new t.at ts cs t.faults.items = subst (λ x. ScanProgress x t.at ts cs t.faults.items) text under in
     let place : ℕ = t.at + removed - added in
     let border = met_border old o new from removed added r t.at tokens comments met in
-    let low : removed ≤ place = omega (arith, met.following) in
-    let same : t.at + removed ≡ place + added = omega (arith, met.following) in
+    let low : removed ≤ place = omega (arith, met.behind_change) in
+    let same : t.at + removed ≡ place + added = omega (arith, met.behind_change) in
     let move = movable old o new from removed added r place short low border in
-    let whole = finished old o new from removed added r t.at place ts cs p.utf8 short p.place.0 met.following same (p.cut none) border in
+    let whole = finished old o new from removed added r t.at place ts cs p.utf8 short p.place.0 met.behind_change same (p.cut none) border in
     record {
       met = met;
       tokens_move = All-same (λ (x : Token). IsMovable removed added x.span) tokens (tokens_beginning_from place old.tokens) met.tokens_are move.0;

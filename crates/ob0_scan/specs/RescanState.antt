@@ -9,7 +9,7 @@ use Rattle.ob0_scan.specs.declared.lexeme.LexemeKind.{LexemeKind}
 use Rattle.ob0_scan.specs.declared.scanner.Scanner.{Scanner}
 use Rattle.ob0_scan.specs.declared.incremental_scan.RescannedMiddle.{RescannedMiddle}
 use Rattle.ob0_scan.specs.TextWithTokens.{TextWithTokens, IsScan, span_from, token_at, comment_at}
-use Rattle.ob0_scan.specs.Reused.{tokens_beginning_from, comments_beginning_from, span_after_shift, token_after_shift, Reuses, IsNew}
+use Rattle.ob0_scan.specs.Reused.{tokens_beginning_from, comments_beginning_from, span_after_shift, token_after_shift, Reuses, IsNewBehindChange}
 
 -- Returns the byte offset at which a token ends, or 0 for None.
 abbrev pub token_end : Option Token → ℕ
@@ -42,21 +42,21 @@ first_comment_begins_at place (c ∷ comments) = c.start == place
 -- States that the tokens are in text order and the comments are in text order: neither the starts
 -- nor the ends of their spans decrease.
 pub record AreInOrder (tokens : List Token) (comments : List Span) : Type 0 where
-  pub tokens_begin : IsNonDecreasingBy (λ (t : Token). t.span.start) tokens
-  pub tokens_end : IsNonDecreasingBy (λ (t : Token). t.span.end) tokens
-  pub comments_begin : IsNonDecreasingBy (λ (c : Span). c.start) comments
-  pub comments_end : IsNonDecreasingBy (λ (c : Span). c.end) comments
+  pub token_starts_ascend : IsNonDecreasingBy (λ (t : Token). t.span.start) tokens
+  pub token_ends_ascend : IsNonDecreasingBy (λ (t : Token). t.span.end) tokens
+  pub comment_starts_ascend : IsNonDecreasingBy (λ (c : Span). c.start) comments
+  pub comment_ends_ascend : IsNonDecreasingBy (λ (c : Span). c.end) comments
 
 -- States that the span can be shifted by `added - removed` bytes: its start is at least `removed`,
 -- and its end plus `added` fits in 32 bits.
 pub record IsMovable (removed added : ℕ) (span : Span) : Type 0 where
-  pub following : removed ≤ span.start
+  pub start_suffices : removed ≤ span.start
   pub ordered : span.start ≤ span.end
   pub small : span.end + added < 2 ^ 32
 
 -- States that the scanner `s` has found no fault, and that the scanner `t` has read one more lexeme.
 -- The lexeme begins at `s.at`. If it is a token or a comment, it is added to the list of `s`.
-pub record TakesOne (s t : Scanner) : Type 0 where
+pub record AddsOneLexeme (s t : Scanner) : Type 0 where
   pub kind : LexemeKind
   pub len : ℕ
   pub clear : length s.faults.items ≡ 0
@@ -66,20 +66,20 @@ pub record TakesOne (s t : Scanner) : Type 0 where
 -- States that the scanner `t` has the tokens and comments of the scanner `s`, followed by newly read
 -- ones. If one of these begins behind the change, no old token or comment begins at the same place
 -- in the old text.
-pub record ReadsWithoutMeeting (old : TextWithTokens) (from removed added : ℕ) (s t : Scanner) : Type 0 where
+pub record AddsNewLexemes (old : TextWithTokens) (from removed added : ℕ) (s t : Scanner) : Type 0 where
   pub tokens : List Token
   pub comments : List Span
   pub tokens_are : t.tokens.items ≡ s.tokens.items ++ tokens
   pub comments_are : t.comments.items ≡ s.comments.items ++ comments
-  pub tokens_new : All (λ (t : Token). IsNew old from removed added t.span) tokens
-  pub comments_new : All (λ (c : Span). IsNew old from removed added c) comments
+  pub tokens_new : All (λ (t : Token). IsNewBehindChange old from removed added t.span) tokens
+  pub comments_new : All (λ (c : Span). IsNewBehindChange old from removed added c) comments
 
 -- States that a scan of the new text can stop at the byte offset `at`. This offset is behind the
 -- change, and either the text ends there (at `end`) or an old token or comment begins there.
 -- `tokens` and `comments` are the old ones that begin there or later.
 pub record CanStopAt (old : TextWithTokens) (end from removed added at : ℕ) (tokens : List Token)
     (comments : List Span) : Type 0 where
-  pub following : from + added ≤ at
+  pub behind_change : from + added ≤ at
   pub tokens_are : tokens ≡ tokens_beginning_from (at + removed - added) old.tokens
   pub comments_are : comments ≡ comments_beginning_from (at + removed - added) old.comments
   pub border : (at ≡ end)
@@ -92,29 +92,29 @@ abbrev pub with_middle : TextWithTokens → List ℕ → ℕ → ℕ → Rescann
 with_middle old new removed added b = record {
   text = new;
   tokens =
-      take b.front.tokens old.tokens
-      ++ (b.tokens.items ++ map (token_after_shift removed added) (drop b.following.tokens old.tokens));
+      take b.old_start.tokens old.tokens
+      ++ (b.tokens.items ++ map (token_after_shift removed added) (drop b.old_end.tokens old.tokens));
   comments =
-      take b.front.comments old.comments
+      take b.old_start.comments old.comments
       ++ (b.comments.items
-      ++ map (span_after_shift removed added) (drop b.following.comments old.comments));
+      ++ map (span_after_shift removed added) (drop b.old_end.comments old.comments));
 }
 
 -- States that `b` has the newly read tokens and comments of the new text, and the indexes of the
 -- old ones that they replace.
 pub record IsRescannedMiddle (old : TextWithTokens) (new : List ℕ) (from removed added : ℕ) (b : RescannedMiddle)
     : Type 0 where
-  pub tokens_ordered : b.front.tokens ≤ b.following.tokens
-  pub tokens_inside : b.following.tokens ≤ length old.tokens
-  pub comments_ordered : b.front.comments ≤ b.following.comments
-  pub comments_inside : b.following.comments ≤ length old.comments
-  pub tokens_before : All (λ (t : Token). t.span.end ≤ from) (take b.front.tokens old.tokens)
+  pub tokens_ordered : b.old_start.tokens ≤ b.old_end.tokens
+  pub tokens_inside : b.old_end.tokens ≤ length old.tokens
+  pub comments_ordered : b.old_start.comments ≤ b.old_end.comments
+  pub comments_inside : b.old_end.comments ≤ length old.comments
+  pub tokens_before : All (λ (t : Token). t.span.end ≤ from) (take b.old_start.tokens old.tokens)
   pub tokens_after : All (λ (t : Token). from + removed ≤ t.span.start)
-      (drop b.following.tokens old.tokens)
+      (drop b.old_end.tokens old.tokens)
   pub tokens_move : All (λ (t : Token). IsMovable removed added t.span)
-      (drop b.following.tokens old.tokens)
+      (drop b.old_end.tokens old.tokens)
   pub comments_move : All (λ (c : Span). IsMovable removed added c)
-      (drop b.following.comments old.comments)
+      (drop b.old_end.comments old.comments)
   pub scan : IsScan (with_middle old new removed added b)
   pub reuses : Reuses old (with_middle old new removed added b) from removed added
       (length b.tokens.items + length b.comments.items)

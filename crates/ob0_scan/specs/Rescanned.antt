@@ -4,20 +4,20 @@ use Rattle.std.specs.Prelude.{◌≡◌, ℕ, List, true}
 use Rattle.ob0_scan.specs.declared.tokens.RescanInPlace.{RescanInPlace}
 use Rattle.ob0_scan.specs.TextWithTokens.{TextWithTokens, IsScanOf}
 use Rattle.ob0_scan.specs.Reused.{Reuses, kinds, names_in, words_of_tokens}
-use Rattle.ob0_scan.specs.SameKinds.{HasSameTokens, HasSameWords}
+use Rattle.ob0_scan.specs.SameKinds.{HasSameKinds, HasSameWords}
 
 -- States that `r` has the scan of the new text, and compares this scan correctly with the old one.
--- If `alike` is true, all tokens have the same kinds as the old tokens. If `same_names` is true,
+-- If `same_kinds` is true, all tokens have the same kinds as the old tokens. If `same_names` is true,
 -- the identifiers have the same spellings. If `same_words` is true, all tokens have the same kinds
 -- and spellings.
 pub record IsRescanOf (old : TextWithTokens) (new : List ℕ) (from removed added : ℕ) (r : RescanInPlace)
     : Type 0 where
   pub scan : IsScanOf new r.rescan.tokens
   pub reused : Reuses old r.rescan.tokens from removed added r.rescan.read
-  pub alike : r.alike ≡ true → kinds r.rescan.tokens.tokens ≡ kinds old.tokens
+  pub same_kinds : r.same_kinds ≡ true → kinds r.rescan.tokens.tokens ≡ kinds old.tokens
   pub same_names : r.same_names ≡ true
       → names_in r.rescan.tokens.text r.rescan.tokens.tokens ≡ names_in old.text old.tokens
   pub same_words : r.same_words ≡ true
       → words_of_tokens r.rescan.tokens.text r.rescan.tokens.tokens ≡ words_of_tokens old.text old.tokens
-  pub same : HasSameTokens r.same old.tokens r.rescan.tokens.tokens
+  pub same : HasSameKinds r.same old.tokens r.rescan.tokens.tokens
   pub written : HasSameWords r.same old r.rescan.tokens

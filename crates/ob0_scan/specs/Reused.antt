@@ -15,7 +15,7 @@ pub record ReplacesRange (old new : List ℕ) (from removed added : ℕ) : Type 
   pub inside_old : from + removed ≤ length old
   pub inside_new : from + added ≤ length new
   pub front : take from old ≡ take from new
-  pub following : drop (from + removed) old ≡ drop (from + added) new
+  pub behind : drop (from + removed) old ≡ drop (from + added) new
 
 -- Returns the kind of a token with the value of an integer set to 0. Other kinds are returned
 -- unchanged.
@@ -72,16 +72,16 @@ abbrev pub comments_beginning_from : ℕ → List Span → List Span
 comments_beginning_from place comments = drop (prefix_len (λ c. nat_lt c.start place) comments) comments
 
 -- States that no token and no comment of the scan begins at this byte offset.
-pub record NoOldBegins (s : TextWithTokens) (place : ℕ) : Type 0 where
+pub record NoLexemeBeginsAt (s : TextWithTokens) (place : ℕ) : Type 0 where
   pub tokens : All (λ (t : Token). t.span.start ≢ place) s.tokens
   pub comments : All (λ (c : Span). c.start ≢ place) s.comments
 
 -- States that a span of the new text, if it begins behind the change, begins at a place at which no
 -- token or comment of the old text begins. This is true of every span that begins before the end of
 -- the changed bytes.
-abbrev pub IsNew : TextWithTokens → ℕ → ℕ → ℕ → Span → Type 0
-IsNew old from removed added span =
-    from + added ≤ span.start → NoOldBegins old (span.start + removed - added)
+abbrev pub IsNewBehindChange : TextWithTokens → ℕ → ℕ → ℕ → Span → Type 0
+IsNewBehindChange old from removed added span =
+    from + added ≤ span.start → NoLexemeBeginsAt old (span.start + removed - added)
 
 -- States that the tokens and comments of the new text have three parts. The first part has the old
 -- ones that end before the change. The last part has the old ones that begin at `place` or later,
@@ -91,7 +91,7 @@ IsNew old from removed added span =
 -- which tokens or comments of both texts begin.
 pub record Reuses (old new : TextWithTokens) (from removed added read : ℕ) : Type 0 where
   pub place : ℕ
-  pub following : from + removed ≤ place
+  pub behind_change : from + removed ≤ place
   pub tokens_between : List Token
   pub comments_between : List Span
   pub tokens : new.tokens
@@ -100,6 +100,6 @@ pub record Reuses (old new : TextWithTokens) (from removed added read : ℕ) : T
   pub comments : new.comments
       ≡ (comments_before_change from old.comments ++ comments_between)
       ++ map (span_after_shift removed added) (comments_beginning_from place old.comments)
-  pub read_are : read ≡ length tokens_between + length comments_between
-  pub tokens_new : All (λ (t : Token). IsNew old from removed added t.span) tokens_between
-  pub comments_new : All (λ (c : Span). IsNew old from removed added c) comments_between
+  pub read_count : read ≡ length tokens_between + length comments_between
+  pub tokens_new : All (λ (t : Token). IsNewBehindChange old from removed added t.span) tokens_between
+  pub comments_new : All (λ (c : Span). IsNewBehindChange old from removed added c) comments_between

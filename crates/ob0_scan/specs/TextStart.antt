@@ -4,13 +4,13 @@ use Rattle.std.specs.Prelude.{◌≡◌, ◌≢◌, ℕ, ◌≤◌, List, ◌++�
 use Rattle.ob0_scan.specs.declared.lexeme.LexemeKind.{LexemeKind}
 use Rattle.ob0_scan.specs.declared.lexeme.Symbol.{Symbol}
 use Rattle.ob0_scan.specs.Classes.{symbol_text}
-use Rattle.ob0_scan.specs.Lexed.{Lexeme, IsFirst}
+use Rattle.ob0_scan.specs.Lexed.{Lexeme, IsFirstLexeme}
 
 -- States that the first `len` bytes of the text are its first lexeme, and that this lexeme has this
 -- kind.
-pub record IsFirstOf (text : List ℕ) (kind : LexemeKind) (len : ℕ) : Type 0 where
+pub record StartsWithLexeme (text : List ℕ) (kind : LexemeKind) (len : ℕ) : Type 0 where
   pub in_range : len ≤ length text
-  pub first : IsFirst (record { kind = kind; text = take len text }) (drop len text)
+  pub first : IsFirstLexeme (record { kind = kind; text = take len text }) (drop len text)
 
 -- States that the text begins with this symbol of `len` bytes, and with no longer symbol.
 pub record IsLongestSymbol (text : List ℕ) (symbol : Symbol) (len : ℕ) : Type 0 where
@@ -26,4 +26,4 @@ StartsWithNoSymbol text = (symbol : Symbol) (following : List ℕ) → symbol_te
 
 -- States that the text begins with no lexeme.
 abbrev pub StartsWithNoLexeme : List ℕ → Type 0
-StartsWithNoLexeme text = (l : Lexeme) (after : List ℕ) → IsFirst l after → l.text ++ after ≢ text
+StartsWithNoLexeme text = (l : Lexeme) (after : List ℕ) → IsFirstLexeme l after → l.text ++ after ≢ text

@@ -8,7 +8,7 @@ use Rattle.ob0_scan.specs.declared.lexeme.LexemeKind.{LexemeKind}
 use Rattle.ob0_scan.specs.declared.lexeme.LexemeKind.TheVariants as lexeme
 use Rattle.ob0_scan.specs.declared.lexeme.Span.{Span}
 use Rattle.ob0_scan.specs.declared.lexeme.Token.{Token}
-use Rattle.ob0_scan.specs.Lexed.{Lexeme, Lexed}
+use Rattle.ob0_scan.specs.Lexed.{Lexeme, LexesInto}
 
 -- A token as the grammar sees it: its kind and its spelling.
 pub record Word : Type 0 where
@@ -77,7 +77,7 @@ max_faults = 100
 
 -- States that the text isn't too long and can be cut into lexemes.
 abbrev pub IsScannable : List ℕ → Type 0
-IsScannable text = (length text ≤ max_text) × ((lexemes : List Lexeme) × Lexed text lexemes)
+IsScannable text = (length text ≤ max_text) × ((lexemes : List Lexeme) × LexesInto text lexemes)
 
 -- A text with its tokens and comments.
 pub record TextWithTokens : Type 0 where
@@ -91,7 +91,7 @@ pub record IsScan (s : TextWithTokens) : Type 0 where
   pub utf8 : IsUtf8 s.text
   pub short : length s.text ≤ max_text
   pub lexemes : List Lexeme
-  pub lexed : Lexed s.text lexemes
+  pub lexed : LexesInto s.text lexemes
   pub tokens : s.tokens ≡ tokens_from 0 lexemes
   pub comments : s.comments ≡ comments_from 0 lexemes
 

@@ -9,9 +9,9 @@
 //!   right at the change may continue with the inserted text.)
 //! - Behind the change, shifted by `added - removed` bytes: each token and comment that begins at a
 //!   certain place or later. This is the first place behind the change at which a token or comment
-//!   begins in both texts (`IsNew`).
+//!   begins in both texts (`IsNewBehindChange`).
 //!
-//! If `alike` is true in the result, the new tokens have the same kinds as the old tokens. If
+//! If `same_kinds` is true in the result, the new tokens have the same kinds as the old tokens. If
 //! `same_names` is true, the identifiers have the same spellings. If `same_words` is true, all
 //! tokens have the same kinds and spellings.
 //!
@@ -55,15 +55,15 @@ ghost use Rattle.ob0_scan.specs.TextWithTokens.{IsScanOf, word_of_token, text_in
 ghost use Rattle.ob0_scan.specs.Refused.{IsRightRefusal, IsRightRescanRefusal};
 ghost use Rattle.ob0_scan.specs.UnderWay.{IsConsistentScanner};
 ghost use Rattle.ob0_scan.specs.Reused.{ReplacesRange, Reuses, kinds, kind_without_value, name_or_empty, names_in, words_of_tokens};
-ghost use Rattle.ob0_scan.specs.SameKinds.{HasSameTokens, HasSameWords};
+ghost use Rattle.ob0_scan.specs.SameKinds.{HasSameKinds, HasSameWords};
 ghost use Rattle.ob0_scan.specs.Rescanned.{IsRescanOf};
-ghost use Rattle.ob0_scan.specs.RescanState.{ReadsWithoutMeeting, CanStopAt, IsRescannedMiddle};
+ghost use Rattle.ob0_scan.specs.RescanState.{AddsNewLexemes, CanStopAt, IsRescannedMiddle};
 
 use crate::fault::{Fault, ScanRefusal};
 use crate::lexeme::{Span, Token, TokenKind};
 use crate::old_lexemes::{LexemeSlices, ReplacedRange};
 use crate::scanner::{MAX_TEXT, Scanner, too_long_faults};
-use crate::tokens::{Rescan, RescanInPlace, SameTokens, Tokens};
+use crate::tokens::{Rescan, RescanInPlace, SameParts, Tokens};
 use std::alloc::{AllocError, Global};
 use thiserror::Error;
 
@@ -75,12 +75,12 @@ pub(crate) struct LexemeCounts {
 }
 
 /// The newly scanned tokens and comments, and the indexes of the old ones that they replace. These
-/// are the old tokens `front.tokens..following.tokens` and the old comments
-/// `front.comments..following.comments`.
+/// are the old tokens `old_start.tokens..old_end.tokens` and the old comments
+/// `old_start.comments..old_end.comments`.
 #[derive(Drop)]
 pub(crate) struct RescannedMiddle {
-    pub(crate) front: LexemeCounts,
-    pub(crate) following: LexemeCounts,
+    pub(crate) old_start: LexemeCounts,
+    pub(crate) old_end: LexemeCounts,
     pub(crate) tokens: Vec<Token>,
     pub(crate) comments: Vec<Span>,
 }
@@ -88,25 +88,28 @@ pub(crate) struct RescannedMiddle {
 impl RescannedMiddle {
     /// Returns whether the new tokens have the same kinds as the old tokens that they replace.
     fn has_kinds_of(&self, old: &[Token]) -> bool
-        requires ordered { self.now.front.tokens ≤ self.now.following.tokens }
-        requires inside { self.now.following.tokens ≤ length old.now }
+        requires ordered { self.now.old_start.tokens ≤ self.now.old_end.tokens }
+        requires inside { self.now.old_end.tokens ≤ length old.now }
         ensures { result ≡ true → kinds self.now.tokens.items
-            ≡ kinds (take (self.now.following.tokens - self.now.front.tokens)
-            (drop self.now.front.tokens old.now)) }
+            ≡ kinds (take (self.now.old_end.tokens - self.now.old_start.tokens)
+            (drop self.now.old_start.tokens old.now)) }
     {
-        have_same_kinds(&self.tokens, &old[self.front.tokens..self.following.tokens])
+        have_same_kinds(
+            &self.tokens,
+            &old[self.old_start.tokens..self.old_end.tokens],
+        )
     }
 
     /// Returns whether the new tokens and the old tokens that they replace have the same
     /// identifiers at the same places in the list.
     fn has_names_of(&self, new_text: &str, old: &Tokens) -> bool
-        requires ordered { self.now.front.tokens ≤ self.now.following.tokens }
-        requires inside { self.now.following.tokens ≤ length old.now.tokens }
+        requires ordered { self.now.old_start.tokens ≤ self.now.old_end.tokens }
+        requires inside { self.now.old_end.tokens ≤ length old.now.tokens }
         ensures { result ≡ true → names_in new_text.now self.now.tokens.items
-            ≡ names_in old.now.text (take (self.now.following.tokens - self.now.front.tokens)
-            (drop self.now.front.tokens old.now.tokens)) }
+            ≡ names_in old.now.text (take (self.now.old_end.tokens - self.now.old_start.tokens)
+            (drop self.now.old_start.tokens old.now.tokens)) }
     {
-        let replaced = &old.tokens()[self.front.tokens..self.following.tokens];
+        let replaced = &old.tokens()[self.old_start.tokens..self.old_end.tokens];
         have_same_names(
             new_text.as_bytes(),
             &self.tokens,
@@ -118,13 +121,13 @@ impl RescannedMiddle {
     /// Returns whether the new tokens have the same kinds and spellings as the old tokens that they
     /// replace.
     fn has_words_of(&self, new_text: &str, old: &Tokens) -> bool
-        requires ordered { self.now.front.tokens ≤ self.now.following.tokens }
-        requires inside { self.now.following.tokens ≤ length old.now.tokens }
+        requires ordered { self.now.old_start.tokens ≤ self.now.old_end.tokens }
+        requires inside { self.now.old_end.tokens ≤ length old.now.tokens }
         ensures { result ≡ true → words_of_tokens new_text.now self.now.tokens.items
-            ≡ words_of_tokens old.now.text (take (self.now.following.tokens - self.now.front.tokens)
-            (drop self.now.front.tokens old.now.tokens)) }
+            ≡ words_of_tokens old.now.text (take (self.now.old_end.tokens - self.now.old_start.tokens)
+            (drop self.now.old_start.tokens old.now.tokens)) }
     {
-        let replaced = &old.tokens()[self.front.tokens..self.following.tokens];
+        let replaced = &old.tokens()[self.old_start.tokens..self.old_end.tokens];
         have_same_words(
             new_text.as_bytes(),
             &self.tokens,
@@ -316,7 +319,7 @@ pub fn rescan_in_place(
     ensures reused { IfOk result
         (λ r. Reuses old r.rescan.tokens from removed added r.rescan.read) }
     ensures alike { IfOk result
-        (λ r. r.alike ≡ true → kinds r.rescan.tokens.tokens ≡ kinds old.tokens) }
+        (λ r. r.same_kinds ≡ true → kinds r.rescan.tokens.tokens ≡ kinds old.tokens) }
     ensures same_names { IfOk result
         (λ r. r.same_names ≡ true → names_in r.rescan.tokens.text r.rescan.tokens.tokens
         ≡ names_in old.text old.tokens) }
@@ -324,7 +327,7 @@ pub fn rescan_in_place(
         (λ r. r.same_words ≡ true → words_of_tokens r.rescan.tokens.text r.rescan.tokens.tokens
         ≡ words_of_tokens old.text old.tokens) }
     ensures same { IfOk result
-        (λ r. HasSameTokens r.same old.tokens r.rescan.tokens.tokens) }
+        (λ r. HasSameKinds r.same old.tokens r.rescan.tokens.tokens) }
     ensures written { IfOk result (λ r. HasSameWords r.same old r.rescan.tokens) }
 {
     let change = ReplacedRange {
@@ -335,21 +338,21 @@ pub fn rescan_in_place(
     match scan_changed_part(alloc, &old, new_text, change) {
         Ok(between) => {
             let read = between.tokens.len() + between.comments.len();
-            let alike = between.has_kinds_of(old.tokens());
+            let same_kinds = between.has_kinds_of(old.tokens());
             let same_names = between.has_names_of(new_text, &old);
             let same_words = between.has_words_of(new_text, &old);
-            let (prefix, old_suffix) = (between.front.tokens, between.following.tokens);
-            let following = old.tokens().len() - old_suffix;
+            let (prefix, old_suffix) = (between.old_start.tokens, between.old_end.tokens);
+            let suffix_len = old.tokens().len() - old_suffix;
             let tokens = old.replace_middle(new_text, between, change)?;
-            let same = SameTokens {
+            let same = SameParts {
                 prefix,
                 old_suffix,
-                new_suffix: tokens.tokens().len() - following,
+                new_suffix: tokens.tokens().len() - suffix_len,
             };
             Ok(RescanInPlace {
                 rescan: Rescan { tokens, read },
                 same,
-                alike,
+                same_kinds,
                 same_names,
                 same_words,
             })
@@ -409,11 +412,11 @@ fn scan_changed_part(
         return Err(ScanRefusal::Faults(faults));
     }
     Ok(RescannedMiddle {
-        front: LexemeCounts {
+        old_start: LexemeCounts {
             tokens: front.tokens.len(),
             comments: front.comments.len(),
         },
-        following: LexemeCounts {
+        old_end: LexemeCounts {
             tokens: all.tokens.len() - rest.tokens.len(),
             comments: all.comments.len() - rest.comments.len(),
         },
@@ -437,7 +440,7 @@ fn continue_scan<'o>(
     ensures text { scanner.new.text ≡ scanner.old.text }
     ensures front { scanner.new.front ≡ scanner.old.front }
     ensures reads { OnOk result (length scanner.new.faults.items ≡ 0
-        → ReadsWithoutMeeting old.now change.from change.removed change.added scanner.old scanner.new) }
+        → AddsNewLexemes old.now change.from change.removed change.added scanner.old scanner.new) }
     ensures met { IfOk result (λ rest. length scanner.new.faults.items ≡ 0
         → CanStopAt old.now (length scanner.new.text.now) change.from change.removed change.added
         scanner.new.at rest.tokens.now rest.comments.now) }

@@ -8,7 +8,7 @@ ghost use Rattle.ob0_scan.specs.Comments.{IsComment};
 ghost use Rattle.ob0_scan.specs.Classes.{is_space, max_integer, symbol_text, IsWord, IsLexemeOfKind, decimal_value};
 ghost use Rattle.ob0_scan.specs.TextStart.{IsLongestSymbol, StartsWithNoSymbol};
 ghost use Rattle.ob0_scan.specs.Begins.{StartsWith};
-ghost use Rattle.ob0_scan.specs.Faults.{IsCharOf};
+ghost use Rattle.ob0_scan.specs.Faults.{IsFirstCharLength};
 
 use crate::fault::FaultCode;
 use crate::lexeme::{LexemeKind, ReservedWord, Symbol, TokenKind};
@@ -224,7 +224,7 @@ fn first_char_len(text: &str) -> usize
     requires { 0 < length text.now }
     ensures nonempty { 0 < result }
     ensures boundary { IsCharBoundary text.now result }
-    ensures character { IsCharOf result text.now }
+    ensures character { IsFirstCharLength result text.now }
 {
     match text.chars().next() {
         Some(c) => c.len_utf8(),

@@ -29,14 +29,14 @@ pub(crate) struct ReplacedRange {
 }
 
 impl ReplacedRange {
-    /// Returns the byte offset in the old text of the place that is at the byte offset `place` in
+    /// Returns the byte offset in the old text of the place that is at the byte offset `offset` in
     /// the new text. The place must be behind the changed bytes.
-    pub(crate) fn old_offset(self, place: usize) -> usize
-        requires following { self.added ≤ place }
-        requires small { place + self.removed < 2 ^ 64 }
-        ensures { result + self.added ≡ place + self.removed }
+    pub(crate) fn old_offset(self, offset: usize) -> usize
+        requires following { self.added ≤ offset }
+        requires small { offset + self.removed < 2 ^ 64 }
+        ensures { result + self.added ≡ offset + self.removed }
     {
-        place - self.added + self.removed
+        offset - self.added + self.removed
     }
 
     /// Turns the old text into the new text. Only the changed bytes are written, and the bytes
@@ -78,16 +78,16 @@ pub(crate) struct LexemeSlices<'t> {
 }
 
 impl<'t> LexemeSlices<'t> {
-    /// Returns the leading tokens and comments that end before the byte offset `place`, by binary
-    /// search. A token or comment that ends at `place` isn't included.
-    pub(crate) fn front_before(self, place: usize) -> LexemeSlices<'t>
+    /// Returns the leading tokens and comments that end before the byte offset `offset`, by binary
+    /// search. A token or comment that ends at `offset` isn't included.
+    pub(crate) fn front_before(self, offset: usize) -> LexemeSlices<'t>
         requires { AreInOrder self.tokens.now self.comments.now }
-        ensures tokens { result.tokens.now ≡ tokens_before_change place self.entry.tokens.now }
+        ensures tokens { result.tokens.now ≡ tokens_before_change offset self.entry.tokens.now }
         ensures comments { result.comments.now
-            ≡ comments_before_change place self.entry.comments.now }
+            ≡ comments_before_change offset self.entry.comments.now }
     {
-        let tokens = count_tokens_ending_before(self.tokens, place);
-        let comments = count_comments_ending_before(self.comments, place);
+        let tokens = count_tokens_ending_before(self.tokens, offset);
+        let comments = count_comments_ending_before(self.comments, offset);
         LexemeSlices {
             tokens: &self.tokens[..tokens],
             comments: &self.comments[..comments],
@@ -95,14 +95,14 @@ impl<'t> LexemeSlices<'t> {
     }
 
     /// Returns the tokens and comments without the leading ones that begin before the byte offset
-    /// `place`, by binary search.
-    pub(crate) fn rest_from(self, place: usize) -> LexemeSlices<'t>
+    /// `offset`, by binary search.
+    pub(crate) fn rest_from(self, offset: usize) -> LexemeSlices<'t>
         requires { AreInOrder self.tokens.now self.comments.now }
-        ensures tokens { result.tokens.now ≡ tokens_beginning_from place self.entry.tokens.now }
-        ensures comments { result.comments.now ≡ comments_beginning_from place self.entry.comments.now }
+        ensures tokens { result.tokens.now ≡ tokens_beginning_from offset self.entry.tokens.now }
+        ensures comments { result.comments.now ≡ comments_beginning_from offset self.entry.comments.now }
     {
-        let tokens = count_tokens_beginning_before(self.tokens, place);
-        let comments = count_comments_beginning_before(self.comments, place);
+        let tokens = count_tokens_beginning_before(self.tokens, offset);
+        let comments = count_comments_beginning_before(self.comments, offset);
         LexemeSlices {
             tokens: &self.tokens[tokens..],
             comments: &self.comments[comments..],
@@ -110,26 +110,26 @@ impl<'t> LexemeSlices<'t> {
     }
 
     /// Returns the tokens and comments without the leading ones that begin before the byte offset
-    /// `place`. The skipped ones should be few, because they are visited one by one.
-    pub(crate) fn skip_to(self, place: usize) -> LexemeSlices<'t>
-        ensures tokens { result.tokens.now ≡ tokens_beginning_from place self.entry.tokens.now }
-        ensures comments { result.comments.now ≡ comments_beginning_from place self.entry.comments.now }
+    /// `offset`. The skipped ones should be few, because they are visited one by one.
+    pub(crate) fn skip_to(self, offset: usize) -> LexemeSlices<'t>
+        ensures tokens { result.tokens.now ≡ tokens_beginning_from offset self.entry.tokens.now }
+        ensures comments { result.comments.now ≡ comments_beginning_from offset self.entry.comments.now }
     {
-        let tokens = count_tokens_before_linearly(self.tokens, place);
-        let comments = count_comments_before_linearly(self.comments, place);
+        let tokens = count_tokens_before_linearly(self.tokens, offset);
+        let comments = count_comments_before_linearly(self.comments, offset);
         LexemeSlices {
             tokens: &self.tokens[tokens..],
             comments: &self.comments[comments..],
         }
     }
 
-    /// Returns whether the first token or the first comment begins at the byte offset `place`.
-    pub(crate) fn first_begins_at(self, place: usize) -> bool
+    /// Returns whether the first token or the first comment begins at the byte offset `offset`.
+    pub(crate) fn first_begins_at(self, offset: usize) -> bool
         ensures { result
-            ≡ first_token_begins_at place self.entry.tokens.now
-            || first_comment_begins_at place self.entry.comments.now }
+            ≡ first_token_begins_at offset self.entry.tokens.now
+            || first_comment_begins_at offset self.entry.comments.now }
     {
-        first_token_begins_at(self.tokens, place) || first_comment_begins_at(self.comments, place)
+        first_token_begins_at(self.tokens, offset) || first_comment_begins_at(self.comments, offset)
     }
 
     /// Returns the byte offset at which the last token ends or the last comment ends, whichever is
@@ -141,24 +141,24 @@ impl<'t> LexemeSlices<'t> {
     }
 }
 
-/// Returns whether the first token begins at the byte offset `place`. Returns false if there is no
+/// Returns whether the first token begins at the byte offset `offset`. Returns false if there is no
 /// token.
-fn first_token_begins_at(tokens: &[Token], place: usize) -> bool
-    ensures { result ≡ first_token_begins_at place tokens.now }
+fn first_token_begins_at(tokens: &[Token], offset: usize) -> bool
+    ensures { result ≡ first_token_begins_at offset tokens.now }
 {
     match tokens {
-        [token, ..] => token.span.start as usize == place,
+        [token, ..] => token.span.start as usize == offset,
         [] => false,
     }
 }
 
-/// Returns whether the first comment begins at the byte offset `place`. Returns false if there is
+/// Returns whether the first comment begins at the byte offset `offset`. Returns false if there is
 /// no comment.
-fn first_comment_begins_at(comments: &[Span], place: usize) -> bool
-    ensures { result ≡ first_comment_begins_at place comments.now }
+fn first_comment_begins_at(comments: &[Span], offset: usize) -> bool
+    ensures { result ≡ first_comment_begins_at offset comments.now }
 {
     match comments {
-        [comment, ..] => comment.start as usize == place,
+        [comment, ..] => comment.start as usize == offset,
         [] => false,
     }
 }
@@ -184,108 +184,108 @@ fn comment_end(comment: Option<&Span>) -> usize
 }
 
 /// Returns the number of leading tokens that end before a byte offset, by binary search.
-fn count_tokens_ending_before(tokens: &[Token], place: usize) -> usize
+fn count_tokens_ending_before(tokens: &[Token], offset: usize) -> usize
     requires { IsNonDecreasingBy (λ (t : Token). t.span.end) tokens.now }
     ensures bound { result ≤ length tokens.now }
-    ensures count { result ≡ prefix_len (λ (t : Token). nat_lt t.span.end place) tokens.now }
+    ensures count { result ≡ prefix_len (λ (t : Token). nat_lt t.span.end offset) tokens.now }
 {
-    tokens.partition_point(|token| (token.span.end as usize) < place)
+    tokens.partition_point(|token| (token.span.end as usize) < offset)
 }
 
 /// Returns the number of leading comments that end before a byte offset, by binary search.
-fn count_comments_ending_before(comments: &[Span], place: usize) -> usize
+fn count_comments_ending_before(comments: &[Span], offset: usize) -> usize
     requires { IsNonDecreasingBy (λ (c : Span). c.end) comments.now }
     ensures bound { result ≤ length comments.now }
-    ensures count { result ≡ prefix_len (λ (c : Span). nat_lt c.end place) comments.now }
+    ensures count { result ≡ prefix_len (λ (c : Span). nat_lt c.end offset) comments.now }
 {
-    comments.partition_point(|comment| (comment.end as usize) < place)
+    comments.partition_point(|comment| (comment.end as usize) < offset)
 }
 
 /// Returns the number of leading tokens that begin before a byte offset, by binary search.
-fn count_tokens_beginning_before(tokens: &[Token], place: usize) -> usize
+fn count_tokens_beginning_before(tokens: &[Token], offset: usize) -> usize
     requires { IsNonDecreasingBy (λ (t : Token). t.span.start) tokens.now }
     ensures bound { result ≤ length tokens.now }
-    ensures count { result ≡ prefix_len (λ (t : Token). nat_lt t.span.start place) tokens.now }
+    ensures count { result ≡ prefix_len (λ (t : Token). nat_lt t.span.start offset) tokens.now }
 {
-    tokens.partition_point(|token| (token.span.start as usize) < place)
+    tokens.partition_point(|token| (token.span.start as usize) < offset)
 }
 
 /// Returns the number of leading comments that begin before a byte offset, by binary search.
-fn count_comments_beginning_before(comments: &[Span], place: usize) -> usize
+fn count_comments_beginning_before(comments: &[Span], offset: usize) -> usize
     requires { IsNonDecreasingBy (λ (c : Span). c.start) comments.now }
     ensures bound { result ≤ length comments.now }
-    ensures count { result ≡ prefix_len (λ (c : Span). nat_lt c.start place) comments.now }
+    ensures count { result ≡ prefix_len (λ (c : Span). nat_lt c.start offset) comments.now }
 {
-    comments.partition_point(|comment| (comment.start as usize) < place)
+    comments.partition_point(|comment| (comment.start as usize) < offset)
 }
 
 /// Returns the number of leading tokens that begin before a byte offset. The tokens are visited one
 /// by one.
-fn count_tokens_before_linearly(tokens: &[Token], place: usize) -> usize
+fn count_tokens_before_linearly(tokens: &[Token], offset: usize) -> usize
     ensures bound { result ≤ length tokens.now }
-    ensures count { result ≡ prefix_len (λ (t : Token). nat_lt t.span.start place) tokens.now }
+    ensures count { result ≡ prefix_len (λ (t : Token). nat_lt t.span.start offset) tokens.now }
 {
     tokens
         .iter()
-        .take_while(|token| (token.span.start as usize) < place)
+        .take_while(|token| (token.span.start as usize) < offset)
         .count()
 }
 
 /// Returns the number of leading comments that begin before a byte offset. The comments are visited
 /// one by one.
-fn count_comments_before_linearly(comments: &[Span], place: usize) -> usize
+fn count_comments_before_linearly(comments: &[Span], offset: usize) -> usize
     ensures bound { result ≤ length comments.now }
-    ensures count { result ≡ prefix_len (λ (c : Span). nat_lt c.start place) comments.now }
+    ensures count { result ≡ prefix_len (λ (c : Span). nat_lt c.start offset) comments.now }
 {
     comments
         .iter()
-        .take_while(|comment| (comment.start as usize) < place)
+        .take_while(|comment| (comment.start as usize) < offset)
         .count()
 }
 
-/// Replaces the tokens with the indexes `front..following` by `between`. Shifts the spans of
+/// Replaces the tokens with the indexes `old_start..old_end` by `between`. Shifts the spans of
 /// all later tokens to their places in the changed text.
 pub(crate) fn splice_tokens(
     tokens: &mut Vec<Token>,
-    front: usize,
-    following: usize,
+    old_start: usize,
+    old_end: usize,
     between: Vec<Token>,
     change: ReplacedRange,
 ) -> Result<(), AllocError>
-    requires ordered { front ≤ following }
-    requires inside { following ≤ length tokens.old.items }
+    requires ordered { old_start ≤ old_end }
+    requires inside { old_end ≤ length tokens.old.items }
     requires movable { All (λ (t : Token). IsMovable change.removed change.added t.span)
-        (drop following tokens.old.items) }
+        (drop old_end tokens.old.items) }
     ensures { OnOk result (tokens.new.items
-        ≡ take front tokens.old.items
+        ≡ take old_start tokens.old.items
         ++ (between.items
-        ++ map (token_after_shift change.removed change.added) (drop following tokens.old.items))) }
+        ++ map (token_after_shift change.removed change.added) (drop old_end tokens.old.items))) }
 {
-    shift_tokens(tokens, following, change);
-    tokens.splice(front..following, between)?;
+    shift_tokens(tokens, old_end, change);
+    tokens.splice(old_start..old_end, between)?;
     Ok(())
 }
 
-/// Replaces the comments with the indexes `front..following` by `between`. Shifts the spans of
+/// Replaces the comments with the indexes `old_start..old_end` by `between`. Shifts the spans of
 /// all later comments to their places in the changed text.
 pub(crate) fn splice_comments(
     comments: &mut Vec<Span>,
-    front: usize,
-    following: usize,
+    old_start: usize,
+    old_end: usize,
     between: Vec<Span>,
     change: ReplacedRange,
 ) -> Result<(), AllocError>
-    requires ordered { front ≤ following }
-    requires inside { following ≤ length comments.old.items }
+    requires ordered { old_start ≤ old_end }
+    requires inside { old_end ≤ length comments.old.items }
     requires movable { All (λ (c : Span). IsMovable change.removed change.added c)
-        (drop following comments.old.items) }
+        (drop old_end comments.old.items) }
     ensures { OnOk result (comments.new.items
-        ≡ take front comments.old.items
+        ≡ take old_start comments.old.items
         ++ (between.items
-        ++ map (span_after_shift change.removed change.added) (drop following comments.old.items))) }
+        ++ map (span_after_shift change.removed change.added) (drop old_end comments.old.items))) }
 {
-    shift_comments(comments, following, change);
-    comments.splice(front..following, between)?;
+    shift_comments(comments, old_end, change);
+    comments.splice(old_start..old_end, between)?;
     Ok(())
 }
 

@@ -2,7 +2,7 @@
 use Rattle.std.proofs.Common.{◌≡◌, ℕ, List, [], ◌∷◌, ◌++◌, refl}
 use Rattle.ob0_tree.specs.declared.tree.Role.{Role}
 use Rattle.ob0_tree.specs.declared.tree.Role.TheVariants as role
-use Rattle.ob0_tree.specs.Tree.{Sort, Tree, identifiers, mapped, adds, array_type, assigns, begins, branches, calls, compares, declares, declares_constant, declares_constants, declares_procedure, declares_type, declares_types, declares_variable, declares_variables, designator, else_branch, elsif_branch, empty, end, field, has_body, index, integer, is_module, listed, more, multiplies, named_type, negation, no_arguments, no_fields, no_formals, none, one, parenthesised, product, record_type, relates, repeat_loop, runs, some_arguments, some_fields, some_formals, sum, then_argument, then_fields, then_name, then_section, then_statement, value_section, variable_section, while_loop}
+use Rattle.ob0_tree.specs.Tree.{Sort, Tree, identifiers, mapped_tree, adds, array_type, assigns, begins, branches, calls, compares, declares, declares_constant, declares_constants, declares_procedure, declares_type, declares_types, declares_variable, declares_variables, designator, else_branch, elsif_branch, empty, end, field, forms_block, index, integer, is_module, listed, more, multiplies, named_type, negation, no_arguments, no_fields, no_formals, none, one, parenthesised, product, record_type, relates, repeat_loop, runs, some_arguments, some_fields, some_formals, sum, then_argument, then_fields, then_name, then_section, then_statement, value_section, variable_section, while_loop}
 
 pub record Two (P Q : Type 0) : Type 0 where
   pub first : P
@@ -33,7 +33,7 @@ module _ {M : Type 0} (f f' : ℕ → M) (g : ℕ → ℕ) where
   to : {P Q : Type 0} {xs : List (Role × ℕ)} → Reads xs P → (P → Q) → Reads xs Q
   to p s = record { reads = λ h. s (p.reads h) }
 
-  pub alike : {s : Sort} (r : Role) (t : Tree ℕ s) → Reads (identifiers r t) (mapped f g t ≡ mapped f' g t)
+  pub alike : {s : Sort} (r : Role) (t : Tree ℕ s) → Reads (identifiers r t) (mapped_tree f g t ≡ mapped_tree f' g t)
   alike r none = nothing refl
   alike r (one a) = to (alike r a) (λ p i. one (p i))
   alike r end = nothing refl
@@ -85,5 +85,5 @@ module _ {M : Type 0} (f f' : ℕ → M) (g : ℕ → ℕ) where
   alike r (declares_procedure a b c d) = to (first (both (alike r b) (both (alike r c) (first (nothing {P = Unit {0}} tt))))) (λ p i. declares_procedure (p.first i) (p.second.first i) (p.second.second.first i) (p.second.second.second.first i))
   alike r (declares a b c d) = to (both (alike r a) (both (alike r b) (both (alike r c) (alike r d)))) (λ p i. declares (p.first i) (p.second.first i) (p.second.second.first i) (p.second.second.second i))
   alike r (begins a) = to (alike r a) (λ p i. begins (p i))
-  alike r (has_body a b) = to (both (alike r a) (alike r b)) (λ p i. has_body (p.first i) (p.second i))
+  alike r (forms_block a b) = to (both (alike r a) (alike r b)) (λ p i. forms_block (p.first i) (p.second i))
   alike r (is_module a b c) = to (first (both (alike r b) (first (nothing {P = Unit {0}} tt)))) (λ p i. is_module (p.first i) (p.second.first i) (p.second.second.first i))

@@ -4,8 +4,8 @@
 use Rattle.std.proofs.Common.{◌≡◌, ℕ, zero, suc, List, [], ◌∷◌, ◌++◌, refl, sym, ap, ◌∙◌, append_assoc, append-nil}
 use Rattle.ob0_tree.specs.declared.tree.Role.{Role}
 use Rattle.ob0_tree.specs.declared.tree.Role.TheVariants as role
-use Rattle.ob0_tree.specs.Tree.{Tree, block, declares, declares_procedure, end, has_body, identifiers, is_module, item, items, module_text, more, procedure}
-use Rattle.ob0_scope_table.specs.BodyReplaced.{PathToBody, block_without, body_among, body_at, body_in, body_inside, closing_name_in_procedures, closing_name_in_module, closing_name_in_block, closing_name_in_procedure, procedure_without, procedures_without, module_without_body}
+use Rattle.ob0_tree.specs.Tree.{Tree, block, declares, declares_procedure, end, forms_block, identifiers, is_module, item, items, module_text, more, procedure}
+use Rattle.ob0_scope_table.specs.BodyReplaced.{PathToBody, block_without, body_at_path_in_procedures, body_at_path, body_at_path_in_block, body_at_path_in_procedure, closing_name_in_procedures, closing_name_in_module, closing_name_in_block, closing_name_in_procedure, procedure_without, procedures_without, module_without_body}
 
 -- states that `whole` is `rest` with the identifiers of a body inserted; the closing name comes
 -- first after the body
@@ -40,9 +40,9 @@ in_procedure x f b rest last = simp (append_assoc)
 
 mutual
   -- Splits the identifiers of a block with this closing name, and others after it.
-  pub split_block : {N : Type 0} (way : PathToBody) (closes : Role) (own : N) (rest : List (Role × N)) (b : Tree N block)
-      → Split (identifiers role.Declaring b ++ ((closes, own) ∷ rest)) (identifiers role.Declaring (block_without way b) ++ ((closes, own) ∷ rest)) (identifiers role.Declaring (body_in way b)) (closing_name_in_block way own b)
-  split_block [] closes own rest (has_body ds statements) =
+  pub split_block : {N : Type 0} (path : PathToBody) (closes : Role) (own : N) (rest : List (Role × N)) (b : Tree N block)
+      → Split (identifiers role.Declaring b ++ ((closes, own) ∷ rest)) (identifiers role.Declaring (block_without path b) ++ ((closes, own) ∷ rest)) (identifiers role.Declaring (body_at_path_in_block path b)) (closing_name_in_block path own b)
+  split_block [] closes own rest (forms_block ds statements) =
       let d = identifiers role.Declaring ds in
       let s = identifiers role.Declaring statements in
       record {
@@ -52,37 +52,37 @@ mutual
         whole_is = append_assoc d s ((closes, own) ∷ rest);
         rest_is = ap (λ z. z ++ ((closes, own) ∷ rest)) (append-nil d);
       }
-  split_block (k ∷ way) closes own rest (has_body (declares cs ts vs ps) statements) =
+  split_block (k ∷ path) closes own rest (forms_block (declares cs ts vs ps) statements) =
       let c = identifiers role.Declaring cs in
       let t = identifiers role.Declaring ts in
       let v = identifiers role.Declaring vs in
       let s = identifiers role.Declaring statements in
-      split_is (in_block c t v (identifiers role.Declaring ps) s ((closes, own) ∷ rest)) (in_block c t v (identifiers role.Declaring (procedures_without k way ps)) s ((closes, own) ∷ rest))
-      (prepend (c ++ (t ++ v)) (split_among k way closes own s rest ps))
+      split_is (in_block c t v (identifiers role.Declaring ps) s ((closes, own) ∷ rest)) (in_block c t v (identifiers role.Declaring (procedures_without k path ps)) s ((closes, own) ∷ rest))
+      (prepend (c ++ (t ++ v)) (split_among k path closes own s rest ps))
 
   -- Splits the identifiers of procedures, and others after them.
-  pub split_among : {N : Type 0} (k : ℕ) (way : PathToBody) (closes : Role) (own : N) (following rest : List (Role × N)) (ps : Tree N (items procedure))
-      → Split (identifiers role.Declaring ps ++ (following ++ ((closes, own) ∷ rest))) (identifiers role.Declaring (procedures_without k way ps) ++ (following ++ ((closes, own) ∷ rest))) (identifiers role.Declaring (body_among k way ps)) (closing_name_in_procedures k way own ps)
-  split_among zero way closes own following rest end = record { before = following; closes = closes; after = rest; whole_is = refl; rest_is = refl }
-  split_among (suc k) way closes own following rest end = record { before = following; closes = closes; after = rest; whole_is = refl; rest_is = refl }
-  split_among zero way closes own following rest (more p ps) =
+  pub split_among : {N : Type 0} (k : ℕ) (path : PathToBody) (closes : Role) (own : N) (following rest : List (Role × N)) (ps : Tree N (items procedure))
+      → Split (identifiers role.Declaring ps ++ (following ++ ((closes, own) ∷ rest))) (identifiers role.Declaring (procedures_without k path ps) ++ (following ++ ((closes, own) ∷ rest))) (identifiers role.Declaring (body_at_path_in_procedures k path ps)) (closing_name_in_procedures k path own ps)
+  split_among zero path closes own following rest end = record { before = following; closes = closes; after = rest; whole_is = refl; rest_is = refl }
+  split_among (suc k) path closes own following rest end = record { before = following; closes = closes; after = rest; whole_is = refl; rest_is = refl }
+  split_among zero path closes own following rest (more p ps) =
       let others = identifiers role.Declaring ps ++ (following ++ ((closes, own) ∷ rest)) in
       split_is (append_assoc (identifiers role.Declaring p) (identifiers role.Declaring ps) (following ++ ((closes, own) ∷ rest)))
-      (append_assoc (identifiers role.Declaring (procedure_without way p)) (identifiers role.Declaring ps) (following ++ ((closes, own) ∷ rest)))
-      (split_inside way others p)
-  split_among (suc k) way closes own following rest (more p ps) =
+      (append_assoc (identifiers role.Declaring (procedure_without path p)) (identifiers role.Declaring ps) (following ++ ((closes, own) ∷ rest)))
+      (split_inside path others p)
+  split_among (suc k) path closes own following rest (more p ps) =
       split_is (append_assoc (identifiers role.Declaring p) (identifiers role.Declaring ps) (following ++ ((closes, own) ∷ rest)))
-      (append_assoc (identifiers role.Declaring p) (identifiers role.Declaring (procedures_without k way ps)) (following ++ ((closes, own) ∷ rest)))
-      (prepend (identifiers role.Declaring p) (split_among k way closes own following rest ps))
+      (append_assoc (identifiers role.Declaring p) (identifiers role.Declaring (procedures_without k path ps)) (following ++ ((closes, own) ∷ rest)))
+      (prepend (identifiers role.Declaring p) (split_among k path closes own following rest ps))
 
   -- Splits the identifiers of a procedure, and others after it.
-  pub split_inside : {N : Type 0} (way : PathToBody) (rest : List (Role × N)) (p : Tree N (item procedure))
-      → Split (identifiers role.Declaring p ++ rest) (identifiers role.Declaring (procedure_without way p) ++ rest) (identifiers role.Declaring (body_inside way p)) (closing_name_in_procedure way p)
-  split_inside way rest (declares_procedure x fs b closing) =
+  pub split_inside : {N : Type 0} (path : PathToBody) (rest : List (Role × N)) (p : Tree N (item procedure))
+      → Split (identifiers role.Declaring p ++ rest) (identifiers role.Declaring (procedure_without path p) ++ rest) (identifiers role.Declaring (body_at_path_in_procedure path p)) (closing_name_in_procedure path p)
+  split_inside path rest (declares_procedure x fs b closing) =
       let f = identifiers role.Declaring fs in
-      split_is (in_procedure (role.Declaring, x) f (identifiers role.Declaring b) rest (role.ClosingName, closing)) (in_procedure (role.Declaring, x) f (identifiers role.Declaring (block_without way b)) rest (role.ClosingName, closing))
-      (prepend ((role.Declaring, x) ∷ f) (split_block way role.ClosingName closing rest b))
+      split_is (in_procedure (role.Declaring, x) f (identifiers role.Declaring b) rest (role.ClosingName, closing)) (in_procedure (role.Declaring, x) f (identifiers role.Declaring (block_without path b)) rest (role.ClosingName, closing))
+      (prepend ((role.Declaring, x) ∷ f) (split_block path role.ClosingName closing rest b))
 
 -- Splits the identifiers of a module.
-pub split_module : {N : Type 0} (way : PathToBody) (t : Tree N module_text) → Split (identifiers role.Declaring t) (identifiers role.Declaring (module_without_body way t)) (identifiers role.Declaring (body_at way t)) (closing_name_in_module way t)
-split_module way (is_module x b closing) = prepend ((role.ModuleName, x) ∷ []) (split_block way role.ModuleName closing [] b)
+pub split_module : {N : Type 0} (path : PathToBody) (t : Tree N module_text) → Split (identifiers role.Declaring t) (identifiers role.Declaring (module_without_body path t)) (identifiers role.Declaring (body_at_path path t)) (closing_name_in_module path t)
+split_module path (is_module x b closing) = prepend ((role.ModuleName, x) ∷ []) (split_block path role.ModuleName closing [] b)

@@ -6,7 +6,7 @@ use Rattle.ob0_tree.specs.Tree.{Tree, module_text}
 use Rattle.ob0_scope.specs.declared.name_conflicts.FirstConflict as reported
 use Rattle.ob0_scope.specs.declared.name_conflicts.FirstConflict.TheVariants as reports
 use Rattle.ob0_language_names.specs.Names.{Name, same_name}
-use Rattle.ob0_language_names.specs.Occurrences.{Free, at_declaration, at_occurrence, bindings, blocks_in, declares_ordinal, first_name_conflict, first_difference, is_duplicate, another_has_name}
+use Rattle.ob0_language_names.specs.Occurrences.{Free, at_declaration, at_occurrence, bindings, scopes_in_block, declares_ordinal, first_name_conflict, first_difference, is_duplicate, another_has_name}
 use Rattle.ob0_language_names.specs.Parts.{module_block}
 use Rattle.ob0_scope.specs.Renames.{namesake, namesake_in, other_with_name, conflict_of}
 use Rattle.ob0_language_names.specs.Scopes.{Scope, renamed}
@@ -35,7 +35,7 @@ namesake_is (own ∷ blocks) d new =
     here false = refl
 
 duplicate_is : (m : Tree Name module_text) (d : ℕ) (new : Name) (o : Option ℕ) → o ≡ namesake m d new → is_duplicate m d new ≡ is_some o
-duplicate_is m d new o e = sym (namesake_is (blocks_in 7 [] (module_block m)) d new) ∙ ap is_some (sym e)
+duplicate_is m d new o e = sym (namesake_is (scopes_in_block 7 [] (module_block m)) d new) ∙ ap is_some (sym e)
 
 pub captured_there : (m : Tree Name module_text) (d : ℕ) (new : Name) (other : ℕ) → Some other ≡ namesake m d new → Some at_declaration ≡ first_name_conflict m d new
 captured_there m d new other e =

@@ -9,11 +9,11 @@ use Rattle.std.specs.Ordering.{is_eq, nat_cmp}
 use Rattle.ob0_scan.specs.declared.fault.Fault.{Fault}
 use Rattle.ob0_scan.specs.TextWithTokens.{TextWithTokens}
 use Rattle.ob0_tree.specs.declared.tree.Fields.{Fields}
-use Rattle.ob0_tree.specs.Tree.{Tree, block, body, constants, declares, declares_procedure, formals, has_body, items, maybe, procedure, type_names, variables}
-use Rattle.ob0_tree.specs.Places.{text_at}
+use Rattle.ob0_tree.specs.Tree.{Tree, block, body, constants, declares, declares_procedure, formals, forms_block, items, maybe, procedure, type_definitions, variables}
+use Rattle.ob0_tree.specs.Places.{token_text_at}
 use Rattle.ob0_tree.specs.View.{fields_of, further_fields_of_group, items_of, record_of_list}
-use Rattle.ob0_language_names.specs.DeclaredOnce.{block_names, further_group_fields, is_among, procedure_names}
-use Rattle.ob0_scope_table.specs.DeclaredTwice.{duplicate_faults, block_declaration_faults, closing_name_faults, duplicate_fault, duplicate_fields, duplicate_fields_in_formals, duplicate_fields_in_group, duplicate_fields_in_groups, procedure_declaration_faults, procedures_declaration_faults, duplicate_fields_in_types, fault_unless, duplicate_fields_in_variables}
+use Rattle.ob0_language_names.specs.ConsistentNames.{block_names, further_field_names, is_among, procedure_names}
+use Rattle.ob0_scope_table.specs.DeclaredTwice.{duplicate_faults, block_declaration_faults, closing_name_faults, duplicate_fault, duplicate_field_faults, duplicate_field_faults_in_formals, duplicate_field_faults_in_group, duplicate_field_faults_in_groups, procedure_declaration_faults, procedures_declaration_faults, duplicate_field_faults_in_types, fault_unless, duplicate_field_faults_in_variables}
 use Rattle.ob0_language_names.specs.Names.{Name, same_name}
 use Rattle.ob0_language_names.specs.Parts.{constant_names, formal_names, formal_sections, declared_type_names, section_constants, section_types, section_variables, variable_names}
 use Rattle.ob0_language_names.proofs.NameEquality.{same_name-comm}
@@ -62,16 +62,16 @@ one_more x seen next grown q =
     grown.0 (record { ref_ptr = (0, 0); now = q }) ∙ either (is_eq (slice_cmp nat_cmp x q)) (same_name q x) (has seen q) (is_eq-slice_cmp x q ∙ same_name-comm x q)
 
 pub sees_on : (source : TextWithTokens) (all : List ℕ) (start : List Fault) (done : ℕ) (seen next : Name → Bool) (now later : List Fault) (added : Bool) (token : ℕ) (x : Name) → Seeing source all start done seen now → done < length all
-    → token ≡ get_or all done 0 → x ≡ text_at source token → added ≡ not (seen x) → ((q : Name) → next q ≡ (same_name q x || seen q)) → later ≡ now ++ fault_unless added (duplicate_fault source token) → Seeing source all start (done + 1) next later
+    → token ≡ get_or all done 0 → x ≡ token_text_at source token → added ≡ not (seen x) → ((q : Name) → next q ≡ (same_name q x || seen q)) → later ≡ now ++ fault_unless added (duplicate_fault source token) → Seeing source all start (done + 1) next later
 sees_on source all start done seen next now later added token x w less here named new grown e =
     let rest = drop (done + 1) all in
     let split : drop done all ≡ token ∷ rest = drop_more all done 0 less ∙ ap (λ y. y ∷ rest) (sym here) in
-    let fresh : added ≡ not (is_among (text_at source token) w.before) = new ∙ (ap not (w.found x) ∙ ap (λ y. not (is_among y w.before)) named) in
+    let fresh : added ≡ not (is_among (token_text_at source token) w.before) = new ∙ (ap not (w.found x) ∙ ap (λ y. not (is_among y w.before)) named) in
     record {
       before = x ∷ w.before;
       found = λ q. grown q ∙ ap (λ b. same_name q x || b) (w.found q);
       so_far = (λ i. (e ∙ ap (λ b. now ++ fault_unless b (duplicate_fault source token)) fresh) i ++ duplicate_faults source (named i ∷ w.before) rest)
-          ∙ (append_assoc now (fault_unless (not (is_among (text_at source token) w.before)) (duplicate_fault source token)) (duplicate_faults source (text_at source token ∷ w.before) rest)
+          ∙ (append_assoc now (fault_unless (not (is_among (token_text_at source token) w.before)) (duplicate_fault source token)) (duplicate_faults source (token_text_at source token ∷ w.before) rest)
           ∙ (sym (ap (λ ys. now ++ duplicate_faults source w.before ys) split) ∙ w.so_far));
     }
 
@@ -93,39 +93,39 @@ one_further text (x ∷ xs) (suc done) d less q =
     ap (λ b. same_name q (text x) || b) (one_further text xs done d (omega (arith, less)) q) ∙ swapped (same_name q (text x)) (same_name q (text (get_or xs done d))) (is_among q (map text (take done xs)))
 
 -- The faults of a record's fields are reported, whichever group is the first.
-pub record_reported : (source : TextWithTokens) (start own after : List Fault) (gs : List Fields) (fs : List ℕ) → fs ≡ further_group_fields (items_of further_fields_of_group gs) → own ≡ start ++ duplicate_faults source [] fs
-    → after ≡ own ++ duplicate_fields_in_groups source (items_of further_fields_of_group gs) → after ≡ start ++ duplicate_fields source (record_of_list gs)
+pub record_reported : (source : TextWithTokens) (start own after : List Fault) (gs : List Fields) (fs : List ℕ) → fs ≡ further_field_names (items_of further_fields_of_group gs) → own ≡ start ++ duplicate_faults source [] fs
+    → after ≡ own ++ duplicate_field_faults_in_groups source (items_of further_fields_of_group gs) → after ≡ start ++ duplicate_field_faults source (record_of_list gs)
 record_reported source start own after [] fs are e f = f ∙ (append-nil own ∙ (e ∙ ap (λ ns. start ++ duplicate_faults source [] ns) are))
 record_reported source start own after (g ∷ gs) fs are e f =
     let rest = items_of further_fields_of_group gs in
-    let inner = duplicate_fields_in_group source (fields_of g) ++ duplicate_fields_in_groups source rest in
-    let names = further_group_fields (items_of further_fields_of_group (g ∷ gs)) in
+    let inner = duplicate_field_faults_in_group source (fields_of g) ++ duplicate_field_faults_in_groups source rest in
+    let names = further_field_names (items_of further_fields_of_group (g ∷ gs)) in
     f ∙ (ap (λ d. d ++ inner) (e ∙ ap (λ ns. start ++ duplicate_faults source [] ns) are) ∙ append_assoc start (duplicate_faults source [] names) inner)
 
 five_names : (a b c d e : List ℕ) → (((a ++ b) ++ c) ++ d) ++ e ≡ a ++ (b ++ (c ++ (d ++ e)))
 five_names a b c d e = append_assoc ((a ++ b) ++ c) d e ∙ (append_assoc (a ++ b) c (d ++ e) ∙ append_assoc a b (c ++ (d ++ e)))
 
 -- The faults of a block are reported for its names, its types, its variables and its procedures.
-pub block_reported : (source : TextWithTokens) (start : List Fault) (own : List ℕ) (cs : Tree ℕ (maybe constants)) (ts : Tree ℕ (maybe type_names)) (vs : Tree ℕ (maybe variables)) (ps : Tree ℕ (items procedure)) (statements : Tree ℕ (maybe body))
+pub block_reported : (source : TextWithTokens) (start : List Fault) (own : List ℕ) (cs : Tree ℕ (maybe constants)) (ts : Tree ℕ (maybe type_definitions)) (vs : Tree ℕ (maybe variables)) (ps : Tree ℕ (items procedure)) (statements : Tree ℕ (maybe body))
     (all : List ℕ) (named typed varied after : List Fault) → all ≡ (((own ++ constant_names (section_constants cs)) ++ declared_type_names (section_types ts)) ++ variable_names (section_variables vs)) ++ procedure_names ps
-    → named ≡ start ++ duplicate_faults source [] all → typed ≡ named ++ duplicate_fields_in_types source (section_types ts) → varied ≡ typed ++ duplicate_fields_in_variables source (section_variables vs)
-    → after ≡ varied ++ procedures_declaration_faults source ps → after ≡ start ++ block_declaration_faults source own (has_body (declares cs ts vs ps) statements)
+    → named ≡ start ++ duplicate_faults source [] all → typed ≡ named ++ duplicate_field_faults_in_types source (section_types ts) → varied ≡ typed ++ duplicate_field_faults_in_variables source (section_variables vs)
+    → after ≡ varied ++ procedures_declaration_faults source ps → after ≡ start ++ block_declaration_faults source own (forms_block (declares cs ts vs ps) statements)
 block_reported source start own cs ts vs ps statements all named typed varied after are d t v p =
     let names = are ∙ five_names own (constant_names (section_constants cs)) (declared_type_names (section_types ts)) (variable_names (section_variables vs)) (procedure_names ps) in
-    let T = duplicate_fields_in_types source (section_types ts) in
-    let V = duplicate_fields_in_variables source (section_variables vs) in
+    let T = duplicate_field_faults_in_types source (section_types ts) in
+    let V = duplicate_field_faults_in_variables source (section_variables vs) in
     let P = procedures_declaration_faults source ps in
-    let D = duplicate_faults source [] (own ++ block_names (has_body (declares cs ts vs ps) statements)) in
+    let D = duplicate_faults source [] (own ++ block_names (forms_block (declares cs ts vs ps) statements)) in
     let first : named ≡ start ++ D = d ∙ ap (λ xs. start ++ duplicate_faults source [] xs) names in
     p ∙ (ap (λ z. z ++ P) (v ∙ ap (λ z. z ++ V) (t ∙ ap (λ z. z ++ T) first))
     ∙ (append_assoc ((start ++ D) ++ T) V P ∙ (append_assoc (start ++ D) T (V ++ P) ∙ append_assoc start D (T ++ (V ++ P)))))
 
 -- The faults of a procedure are reported for its closing name, its parameters' types and its block.
 pub procedure_reported : (source : TextWithTokens) (start closed typed : List Fault) (x : ℕ) (fs : Tree ℕ (maybe formals)) (b : Tree ℕ block) (closing : ℕ) (own : List ℕ) → closed ≡ start ++ closing_name_faults source x closing
-    → typed ≡ closed ++ duplicate_fields_in_formals source (formal_sections fs) → own ≡ formal_names (formal_sections fs)
+    → typed ≡ closed ++ duplicate_field_faults_in_formals source (formal_sections fs) → own ≡ formal_names (formal_sections fs)
     → typed ++ block_declaration_faults source own b ≡ start ++ procedure_declaration_faults source (declares_procedure x fs b closing)
 procedure_reported source start closed typed x fs b closing own c t are =
-    let F = duplicate_fields_in_formals source (formal_sections fs) in
+    let F = duplicate_field_faults_in_formals source (formal_sections fs) in
     let C = closing_name_faults source x closing in
     let B = block_declaration_faults source (formal_names (formal_sections fs)) b in
     (λ i. (t ∙ ap (λ z. z ++ F) c) i ++ block_declaration_faults source (are i) b) ∙ (append_assoc (start ++ C) F B ∙ append_assoc start C (F ++ B))

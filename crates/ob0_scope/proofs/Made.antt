@@ -12,7 +12,7 @@ use Rattle.ob0_scan.specs.TextWithTokens.{TextWithTokens}
 use Rattle.ob0_tree.specs.declared.tree.Role.TheVariants as role
 use Rattle.ob0_tree.specs.Tree.{identifiers, occurrences}
 use Rattle.ob0_tree.specs.ParsedModule.{ParsedModule, IsParsed, tree_of}
-use Rattle.ob0_tree.specs.Places.{text_at}
+use Rattle.ob0_tree.specs.Places.{token_text_at}
 use Rattle.ob0_scope_table.specs.DeclaredTwice.{declaration_faults}
 use Rattle.ob0_language_names.specs.Names.{Name, naming_by_spelling}
 use Rattle.ob0_scope_table.specs.Resolution.{AreFaultsOf, IsNumberingTable, IsResolution, OnlyNamesHaveOrdinals, declaring_names, is_declaration_fault, is_undeclared_fault, is_unbound, label_at, ordinal_in, span_at, undeclared_faults_by_labels, undeclared_faults, undeclared_faults_by_table, ordinal_and_spelling}
@@ -42,7 +42,7 @@ unbound_one (Some k) x s rest other e = e
 unbound_all : (source : TextWithTokens) (ordinals : List (Option ℕ)) (is : List ℕ) → undeclared_faults_by_table source ordinals is ≡ undeclared_faults_by_labels source is (map (label_at source ordinals) is)
 unbound_all source ordinals [] = refl
 unbound_all source ordinals (i ∷ is) =
-    unbound_one (ordinal_in ordinals i) (text_at source i) (span_at source i) (undeclared_faults_by_table source ordinals is) (undeclared_faults_by_labels source is (map (label_at source ordinals) is)) (unbound_all source ordinals is)
+    unbound_one (ordinal_in ordinals i) (token_text_at source i) (span_at source i) (undeclared_faults_by_table source ordinals is) (undeclared_faults_by_labels source is (map (label_at source ordinals) is)) (unbound_all source ordinals is)
 
 occurrences_kept : (o : Option ℕ) (s : Span) (rest : List Fault) → filter is_undeclared_fault rest ≡ rest
     → filter is_undeclared_fault (if is_some o then rest else record { code = code.Undeclared; span = s } ∷ rest) ≡ (if is_some o then rest else record { code = code.Undeclared; span = s } ∷ rest)
@@ -104,7 +104,7 @@ resolution_marked m ordinals declarations uses once faults parsed are_there alon
       parsed = parsed;
       numbering = numbering;
       binding = (paired.agree are_there).1;
-      names_alone = alone;
+      ordinals_only_at_names = alone;
       declaring = declaring;
       occurring = occurring;
       reported = subst (AreFaultsOf m) (sym (all ∙ (λ i. twice i ++ undeclared_faults_by_table m.source ordinals (occurring i)))) (faults_reported m ordinals numbering);

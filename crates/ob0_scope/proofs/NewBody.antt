@@ -11,14 +11,14 @@ use Rattle.std.proofs.lemmas.List.{map-append}
 use Rattle.std.proofs.lemmas.List.Folds.{list_any-append}
 use Rattle.std.specs.List.{list_any}
 use Rattle.ob0_scan.specs.declared.fault.Fault.{Fault}
-use Rattle.ob0_scan.specs.declared.tokens.SameTokens.{SameTokens}
+use Rattle.ob0_scan.specs.declared.tokens.SameParts.{SameParts}
 use Rattle.ob0_scan.specs.TextWithTokens.{TextWithTokens}
 use Rattle.ob0_tree.specs.declared.tree.Role.{Role}
 use Rattle.ob0_tree.specs.declared.tree.Role.TheVariants as role
-use Rattle.ob0_tree.specs.Order.{AreAscending, leaves, names_without_roles}
+use Rattle.ob0_tree.specs.Order.{AreAscending, identifier_names, names_without_roles}
 use Rattle.ob0_tree.specs.ParsedModule.{ParsedModule, named_tree_of, tree_of}
-use Rattle.ob0_tree.specs.Places.{tree_with_names, text_at, value_at}
-use Rattle.ob0_tree.specs.Tree.{identifiers, mapped, occurrences}
+use Rattle.ob0_tree.specs.Places.{tree_with_names, token_text_at, token_value_at}
+use Rattle.ob0_tree.specs.Tree.{identifiers, mapped_tree, occurrences}
 use Rattle.ob0_tree.specs.Visited.{state_after_identifiers}
 use Rattle.ob0_tree.proofs.Leaves.{leaves_ascend}
 use Rattle.ob0_tree.proofs.Occurring.{looked_up-occurrences, looked_up_only}
@@ -26,8 +26,8 @@ use Rattle.ob0_language_names.specs.Names.{naming_by_spelling}
 use Rattle.ob0_language_names.specs.Scopes.{relabel_module}
 use Rattle.ob0_tree.specs.FirstIdentifier.{first_token_of}
 use Rattle.ob0_tree.proofs.AscendingNumbers.{AllBelow, AllFrom, below_more, from_less, leaves_append}
-use Rattle.ob0_tree.proofs.MappedIdentifiers.{beside_role, identifiers-mapped, leaves_mapped}
-use Rattle.ob0_scope_table.specs.BodyReplaced.{IsBodyReplaced, PathToBody, body_at, closing_name_in_module, moved_token_index, way_in_module, module_without_body}
+use Rattle.ob0_tree.proofs.MappedIdentifiers.{beside_role, identifiers-mapped_tree, leaves_mapped}
+use Rattle.ob0_scope_table.specs.BodyReplaced.{IsBodyReplaced, PathToBody, body_at_path, closing_name_in_module, moved_token_index, path_to_body_in_module, module_without_body}
 use Rattle.ob0_scope_table.specs.DeclaredTwice.{declaration_faults}
 use Rattle.ob0_scope_table.specs.OneBody.{is_outside}
 use Rattle.ob0_scope_table.specs.Resolution.{IsBindingTable, IsResolution, binding_at, declaring_names, ordinal_in, undeclared_faults_by_table, ordinal_and_spelling}
@@ -71,11 +71,11 @@ names_walked ((role.ModuleName, i) ∷ xs) = later_names xs i []
 
 -- ---- the new indexes of tokens
 
-stays : (s : SameTokens) (xs : List (Role × ℕ)) → AllBelow s.prefix (names_without_roles xs) → map (beside_role (moved_token_index s)) xs ≡ xs
+stays : (s : SameParts) (xs : List (Role × ℕ)) → AllBelow s.prefix (names_without_roles xs) → map (beside_role (moved_token_index s)) xs ≡ xs
 stays s [] h = refl
 stays s (x ∷ xs) h = λ i. (x.0, moved_below s x.1 h.0 i) ∷ stays s xs h.1 i
 
-goes_far : (s : SameTokens) (range : BodyRange) (xs : List (Role × ℕ)) → s.prefix ≤ s.old_suffix → s.old_suffix < range.old_closing → range.closing ≡ s.new_suffix + (range.old_closing - s.old_suffix) → AllFrom range.old_closing (names_without_roles xs)
+goes_far : (s : SameParts) (range : BodyRange) (xs : List (Role × ℕ)) → s.prefix ≤ s.old_suffix → s.old_suffix < range.old_closing → range.closing ≡ s.new_suffix + (range.old_closing - s.old_suffix) → AllFrom range.old_closing (names_without_roles xs)
     → map (beside_role (moved_token_index s)) xs ≡ map (beside_role (far range)) xs
 goes_far s range [] le less e h = refl
 goes_far s range (x ∷ xs) le less e h =
@@ -93,7 +93,7 @@ names_renamed f (x ∷ xs) = λ i. f x.1 ∷ names_renamed f xs i
 -- ---- the identifiers of both modules
 
 -- states which identifiers are before the body, in the old body, in the new body, and after it
-record Known (old new : ParsedModule) (way : PathToBody) (range : BodyRange) : Type 0 where
+record Known (old new : ParsedModule) (path : PathToBody) (range : BodyRange) : Type 0 where
   before : List (Role × ℕ)
   own : List (Role × ℕ)
   others : List (Role × ℕ)
@@ -101,29 +101,29 @@ record Known (old new : ParsedModule) (way : PathToBody) (range : BodyRange) : T
   high : ℕ
   olds : identifiers role.Declaring (tree_of old) ≡ before ++ (own ++ after)
   news : identifiers role.Declaring (tree_of new) ≡ before ++ (others ++ map (beside_role (far range)) after)
-  old_rest : identifiers role.Declaring (module_without_body way (tree_of old)) ≡ before ++ after
-  new_rest : identifiers role.Declaring (module_without_body way (tree_of new)) ≡ before ++ map (beside_role (far range)) after
-  others_are : others ≡ identifiers role.Declaring (body_at way (tree_of new))
+  old_rest : identifiers role.Declaring (module_without_body path (tree_of old)) ≡ before ++ after
+  new_rest : identifiers role.Declaring (module_without_body path (tree_of new)) ≡ before ++ map (beside_role (far range)) after
+  others_are : others ≡ identifiers role.Declaring (body_at_path path (tree_of new))
   old_parts : Parted before own after range.first range.old_closing high
   new_parts : Parted before others (map (beside_role (far range)) after) range.first range.closing (length new.source.tokens)
   few : high + range.closing ≤ 2 ^ 64 - 1
 
-module _ (old new : ParsedModule) (way : PathToBody) (s : SameTokens) (r : IsBodyReplaced old new way s) where
+module _ (old new : ParsedModule) (path : PathToBody) (s : SameParts) (r : IsBodyReplaced old new path s) where
   abbrev old_closing : ℕ
-  old_closing = closing_name_in_module way (tree_of old)
+  old_closing = closing_name_in_module path (tree_of old)
 
   abbrev new_closing : ℕ
-  new_closing = closing_name_in_module way (tree_of new)
+  new_closing = closing_name_in_module path (tree_of new)
 
   abbrev exact : BodyRange
   exact = record { first = r.first; old_closing = old_closing; closing = new_closing }
 
-  known : Known old new way exact
+  known : Known old new path exact
   known =
-      let so = split_module way (tree_of old) in
-      let sn = split_module way (tree_of new) in
-      let own = identifiers role.Declaring (body_at way (tree_of old)) in
-      let others = identifiers role.Declaring (body_at way (tree_of new)) in
+      let so = split_module path (tree_of old) in
+      let sn = split_module path (tree_of new) in
+      let own = identifiers role.Declaring (body_at_path path (tree_of old)) in
+      let others = identifiers role.Declaring (body_at_path path (tree_of new)) in
       let po = parted so.before own so.after so.closes r.first old_closing (length old.source.tokens) r.old_first (subst (λ l. AreAscending 0 (names_without_roles l) (length old.source.tokens)) so.whole_is (leaves_ascend old r.old_parsed)) in
       let pn = parted sn.before others sn.after sn.closes r.first new_closing (length new.source.tokens) r.new_first (subst (λ l. AreAscending 0 (names_without_roles l) (length new.source.tokens)) sn.whole_is (leaves_ascend new r.new_parsed)) in
       let old_tail : List (Role × ℕ) = (so.closes, old_closing) ∷ so.after in
@@ -136,7 +136,7 @@ module _ (old new : ParsedModule) (way : PathToBody) (s : SameTokens) (r : IsBod
       let same : sn.before ++ new_tail ≡ so.before ++ map (beside_role (far exact)) old_tail =
       sym sn.rest_is
       ∙ (ap (identifiers role.Declaring) r.outside
-      ∙ (identifiers-mapped (moved_token_index s) (moved_token_index s) role.Declaring (module_without_body way (tree_of old))
+      ∙ (identifiers-mapped_tree (moved_token_index s) (moved_token_index s) role.Declaring (module_without_body path (tree_of old))
       ∙ (ap (map (beside_role (moved_token_index s))) so.rest_is
       ∙ (map-append (beside_role (moved_token_index s)) so.before old_tail
       ∙ (λ i. stays s so.before (below_more r.first s.prefix (names_without_roles so.before) (omega (arith, front)) po.before_below) i ++ goes_far s exact old_tail old_range back closing po.after_from i))))) in
@@ -163,8 +163,8 @@ module _ (old new : ParsedModule) (way : PathToBody) (s : SameTokens) (r : IsBod
 
   old_inside : old_closing < length old.source.tokens
   old_inside =
-      let so = split_module way (tree_of old) in
-      (parted so.before (identifiers role.Declaring (body_at way (tree_of old))) so.after so.closes r.first old_closing (length old.source.tokens) r.old_first
+      let so = split_module path (tree_of old) in
+      (parted so.before (identifiers role.Declaring (body_at_path path (tree_of old))) so.after so.closes r.first old_closing (length old.source.tokens) r.old_first
       (subst (λ l. AreAscending 0 (names_without_roles l) (length old.source.tokens)) so.whole_is (leaves_ascend old r.old_parsed))).few
 
   -- The old index of the closing name follows from the new one.
@@ -177,11 +177,11 @@ module _ (old new : ParsedModule) (way : PathToBody) (s : SameTokens) (r : IsBod
       let there : new_closing - s.new_suffix + s.old_suffix ≡ old_closing = omega (arith, closing, back) in
       min-eq_left (let small : new_closing - s.new_suffix + s.old_suffix ≤ 2 ^ 64 - 1 = omega (arith, there, few, inside) in small) ∙ there
 
-known_in : (old new : ParsedModule) (way : PathToBody) (s : SameTokens) (range : BodyRange) (r : IsBodyReplaced old new way s) → range.first ≡ r.first → range.closing ≡ closing_name_in_module way (tree_of new) → range.old_closing ≡ old_closing_token s range.closing → Known old new way range
-known_in old new way s range r first closing place =
-    let there = place ∙ (ap (old_closing_token s) closing ∙ place_is old new way s r) in
-    let is : exact old new way s r ≡ range = λ i. record { first = sym first i; old_closing = sym there i; closing = sym closing i } in
-    subst (Known old new way) is (known old new way s r)
+known_in : (old new : ParsedModule) (path : PathToBody) (s : SameParts) (range : BodyRange) (r : IsBodyReplaced old new path s) → range.first ≡ r.first → range.closing ≡ closing_name_in_module path (tree_of new) → range.old_closing ≡ old_closing_token s range.closing → Known old new path range
+known_in old new path s range r first closing place =
+    let there = place ∙ (ap (old_closing_token s) closing ∙ place_is old new path s r) in
+    let is : exact old new path s r ≡ range = λ i. record { first = sym first i; old_closing = sym there i; closing = sym closing i } in
+    subst (Known old new path) is (known old new path s r)
 
 -- ---- the bindings of tokens outside the body
 
@@ -203,18 +203,18 @@ ordinals_at source ordinals [] = refl
 ordinals_at source ordinals (x ∷ xs) = ap (λ l. ordinal_in ordinals x ∷ l) (ordinals_at source ordinals xs)
 
 -- The bindings of names outside the body are unchanged.
-same_outside : (old new : ParsedModule) (way : PathToBody) (s : SameTokens) (before now : List (Option ℕ)) → IsBodyReplaced old new way s → IsBindingTable old before → IsBindingTable new now
-    → map (ordinal_in now) (leaves (module_without_body way (tree_of new))) ≡ map (ordinal_in before) (leaves (module_without_body way (tree_of old)))
-same_outside old new way s before now r was is =
-    let outside : (m : ParsedModule) (ordinals : List (Option ℕ)) → IsBindingTable m ordinals → relabel_module naming_by_spelling ordinal_and_spelling (tree_with_names m.source (module_without_body way (tree_of m))) ≡ mapped (binding_at m.source ordinals) (value_at m.source) (module_without_body way (tree_of m)) =
+same_outside : (old new : ParsedModule) (path : PathToBody) (s : SameParts) (before now : List (Option ℕ)) → IsBodyReplaced old new path s → IsBindingTable old before → IsBindingTable new now
+    → map (ordinal_in now) (identifier_names (module_without_body path (tree_of new))) ≡ map (ordinal_in before) (identifier_names (module_without_body path (tree_of old)))
+same_outside old new path s before now r was is =
+    let outside : (m : ParsedModule) (ordinals : List (Option ℕ)) → IsBindingTable m ordinals → relabel_module naming_by_spelling ordinal_and_spelling (tree_with_names m.source (module_without_body path (tree_of m))) ≡ mapped_tree (binding_at m.source ordinals) (token_value_at m.source) (module_without_body path (tree_of m)) =
     λ m ordinals bound.
-    ap (relabel_module naming_by_spelling ordinal_and_spelling) (sym (without_mapped (text_at m.source) (value_at m.source) way (tree_of m)))
-    ∙ (sym (without_relabelled naming_by_spelling ordinal_and_spelling way (named_tree_of m))
-    ∙ (ap (module_without_body way) bound ∙ without_mapped (binding_at m.source ordinals) (value_at m.source) way (tree_of m))) in
-    let listed : (m : ParsedModule) (ordinals : List (Option ℕ)) → map (λ (p : Option ℕ × List ℕ). p.0) (leaves (mapped (binding_at m.source ordinals) (value_at m.source) (module_without_body way (tree_of m)))) ≡ map (ordinal_in ordinals) (leaves (module_without_body way (tree_of m))) =
-    λ m ordinals. ap (map (λ (p : Option ℕ × List ℕ). p.0)) (leaves_mapped (binding_at m.source ordinals) (value_at m.source) (module_without_body way (tree_of m))) ∙ ordinals_at m.source ordinals (leaves (module_without_body way (tree_of m))) in
+    ap (relabel_module naming_by_spelling ordinal_and_spelling) (sym (without_mapped (token_text_at m.source) (token_value_at m.source) path (tree_of m)))
+    ∙ (sym (without_relabelled naming_by_spelling ordinal_and_spelling path (named_tree_of m))
+    ∙ (ap (module_without_body path) bound ∙ without_mapped (binding_at m.source ordinals) (token_value_at m.source) path (tree_of m))) in
+    let listed : (m : ParsedModule) (ordinals : List (Option ℕ)) → map (λ (p : Option ℕ × List ℕ). p.0) (identifier_names (mapped_tree (binding_at m.source ordinals) (token_value_at m.source) (module_without_body path (tree_of m)))) ≡ map (ordinal_in ordinals) (identifier_names (module_without_body path (tree_of m))) =
+    λ m ordinals. ap (map (λ (p : Option ℕ × List ℕ). p.0)) (leaves_mapped (binding_at m.source ordinals) (token_value_at m.source) (module_without_body path (tree_of m))) ∙ ordinals_at m.source ordinals (identifier_names (module_without_body path (tree_of m))) in
     sym (listed new now)
-    ∙ (ap (λ t. map (λ (p : Option ℕ × List ℕ). p.0) (leaves t)) (sym (outside new now is) ∙ (ap (relabel_module naming_by_spelling ordinal_and_spelling) (names_outside old new way s r) ∙ outside old before was))
+    ∙ (ap (λ t. map (λ (p : Option ℕ × List ℕ). p.0) (identifier_names t)) (sym (outside new now is) ∙ (ap (relabel_module naming_by_spelling ordinal_and_spelling) (names_outside old new path s r) ∙ outside old before was))
     ∙ listed old before)
 
 -- ---- the marks
@@ -293,23 +293,23 @@ absent_all j a b c e f g = list_any-append (λ i. i == j) a (b ++ c) ∙ (λ k. 
 three : (a b c : List (Role × ℕ)) → names_without_roles (a ++ (b ++ c)) ≡ names_without_roles a ++ (names_without_roles b ++ names_without_roles c)
 three a b c = leaves_append a (b ++ c) ∙ ap (λ z. names_without_roles a ++ z) (leaves_append b c)
 
-module _ (old new : ParsedModule) (way : PathToBody) (range : BodyRange) (known : Known old new way range) (table : List (Option ℕ)) (alone : (token : ℕ) → list_any (λ i. i == token) (leaves (tree_of old)) ≡ false → ordinal_in table token ≡ None) where
+module _ (old new : ParsedModule) (path : PathToBody) (range : BodyRange) (known : Known old new path range) (table : List (Option ℕ)) (alone : (token : ℕ) → list_any (λ i. i == token) (identifier_names (tree_of old)) ≡ false → ordinal_in table token ≡ None) where
   abbrev before_names : List ℕ
   before_names = names_without_roles known.before
 
   abbrev ordinal_after_names : List ℕ
   ordinal_after_names = names_without_roles known.after
 
-  old_names : leaves (tree_of old) ≡ before_names ++ (names_without_roles known.own ++ ordinal_after_names)
+  old_names : identifier_names (tree_of old) ≡ before_names ++ (names_without_roles known.own ++ ordinal_after_names)
   old_names = ap names_without_roles known.olds ∙ three known.before known.own known.after
 
-  new_names : leaves (tree_of new) ≡ before_names ++ (names_without_roles known.others ++ map (far range) ordinal_after_names)
+  new_names : identifier_names (tree_of new) ≡ before_names ++ (names_without_roles known.others ++ map (far range) ordinal_after_names)
   new_names = ap names_without_roles known.news ∙ (three known.before known.others (map (beside_role (far range)) known.after) ∙ ap (λ z. before_names ++ (names_without_roles known.others ++ z)) (names_renamed (far range) known.after))
 
   first_less : range.first ≤ range.closing
   first_less = let less = known.new_parts.less in omega (arith, less)
 
-  kept_alone : (token : ℕ) → list_any (λ i. i == token) (leaves (tree_of new)) ≡ false → ordinal_in (carried_ordinals range table) token ≡ None
+  kept_alone : (token : ℕ) → list_any (λ i. i == token) (identifier_names (tree_of new)) ≡ false → ordinal_in (carried_ordinals range table) token ≡ None
   kept_alone token e = one (ltb token range.first) (ltb token range.closing) refl refl
     where
       absent : list_any (λ i. i == token) (before_names ++ (names_without_roles known.others ++ map (far range) ordinal_after_names)) ≡ false
@@ -351,18 +351,18 @@ pub new_body_bound : (m : ParsedModule) (b : Bindings) (range : BodyRange) (own 
     → once ≡ declaration_faults m → faults ≡ once ++ undeclared_faults_by_table m.source ordinals uses
     → IsResolution (record { module_read = m; ordinals = ordinals; declarations = declarations; uses = uses; faults = faults })
 new_body_bound m b range own ordinals declarations uses once faults n long declared numbered used twice all =
-    let was = n.was in
+    let was = n.was_bound in
     let old = was.old in
-    let way = was.way in
+    let path = was.path in
     let s = n.same in
     let r = was.replaced in
     let res = was.resolved in
     let w = original_spellings m.source in
-    let there : way_in_module s.prefix (tree_of m) ≡ way = r.new_way in
-    let first : range.first ≡ r.first = some_first (sym n.first ∙ (ap (λ y. first_token_of (identifiers role.Declaring (body_at y (tree_of m)))) there ∙ r.new_first)) in
+    let there : path_to_body_in_module s.prefix (tree_of m) ≡ path = r.new_path in
+    let first : range.first ≡ r.first = some_first (sym n.first ∙ (ap (λ y. first_token_of (identifiers role.Declaring (body_at_path y (tree_of m)))) there ∙ r.new_first)) in
     let front = r.front in
     let lies = module_exact s.prefix s.new_suffix range.first range.closing (omega (arith, first, front)) (tree_of m) (length m.source.tokens) r.new_in_body (leaves_ascend m r.new_parsed) n.first n.closing in
-    let known = known_in old m way s range r first (n.closing ∙ ap (λ y. closing_name_in_module y (tree_of m)) there) n.old_closing in
+    let known = known_in old m path s range r first (n.closing ∙ ap (λ y. closing_name_in_module y (tree_of m)) there) n.old_closing in
     let table = b.ordinals.items in
     let kept_table = carried_ordinals range table in
     let marks = (visit_module (tree_of m) (initial_walk w)).marks in
@@ -374,7 +374,7 @@ new_body_bound m b range own ordinals declarations uses once faults n long decla
     let after = names_without_roles known.after in
     let same : map (ordinal_in full) (before ++ map (far range) after) ≡ map (ordinal_in table) (before ++ after) =
     ap (map (ordinal_in full)) (sym (ap names_without_roles known.new_rest ∙ (leaves_append known.before (map (beside_role (far range)) known.after) ∙ ap (λ z. before ++ z) (names_renamed (far range) known.after))))
-    ∙ (same_outside old m way s table full r res.binding binding ∙ ap (map (ordinal_in table)) (ap names_without_roles known.old_rest ∙ leaves_append known.before known.after)) in
+    ∙ (same_outside old m path s table full r res.binding binding ∙ ap (map (ordinal_in table)) (ap names_without_roles known.old_rest ∙ leaves_append known.before known.after)) in
     let each = both_each (ordinal_in full) (ordinal_in table) (far range) before after same in
     let less = known.new_parts.less in
     let out = is_outside range.first range.closing in
@@ -382,14 +382,14 @@ new_body_bound m b range own ordinals declarations uses once faults n long decla
     agree_both out (ordinal_in kept_table) (ordinal_in full) before (names_without_roles known.others ++ map (far range) after) (agree_before range table (ordinal_in full) less before known.new_parts.before_below each.0)
     (agree_both out (ordinal_in kept_table) (ordinal_in full) (names_without_roles known.others) (map (far range) after) (agree_within range table (ordinal_in full) less (names_without_roles known.others) known.new_parts.own_from known.new_parts.own_below)
     (agree_after range table (ordinal_in full) less after known.old_parts.after_from each.1)) in
-    let tokens : tokens_of marks ≡ before ++ (names_without_roles known.others ++ map (far range) after) = paired.tokens ∙ new_names old m way range known table res.names_alone in
+    let tokens : tokens_of marks ≡ before ++ (names_without_roles known.others ++ map (far range) after) = paired.tokens ∙ new_names old m path range known table res.ordinals_only_at_names in
     let outside = marks_at out (ordinal_in kept_table) (ordinal_in full) marks has (subst (AgreeAt out (ordinal_in kept_table) (ordinal_in full)) (sym tokens) agree) in
-    let nothing : declaring_names known.others ≡ [] = ap declaring_names known.others_are ∙ (declares_nothing tt (body_at way (tree_of m))).plain in
+    let nothing : declaring_names known.others ≡ [] = ap declaring_names known.others_are ∙ (declares_nothing tt (body_at_path path (tree_of m))).plain in
     let declaring : declarations ≡ declaring_names (identifiers role.Declaring (tree_of m)) =
     declared
     ∙ ((λ i. carried_tokens range ((res.declaring ∙ ap declaring_names known.olds) i) (sym nothing i))
     ∙ (carried_picked range declaring_names known.before known.own known.after known.others known.high picks_declaring known.old_parts known.few ∙ ap declaring_names (sym known.news))) in
-    let own_is : own ≡ looked_up_only known.others = n.uses ∙ (ap (λ y. occurrences (body_at y (tree_of m))) there ∙ (sym (looked_up-occurrences role.Declaring (λ n xs. refl) (body_at way (tree_of m))) ∙ ap looked_up_only (sym known.others_are))) in
+    let own_is : own ≡ looked_up_only known.others = n.uses ∙ (ap (λ y. occurrences (body_at_path y (tree_of m))) there ∙ (sym (looked_up-occurrences role.Declaring (λ n xs. refl) (body_at_path path (tree_of m))) ∙ ap looked_up_only (sym known.others_are))) in
     let old_uses : b.occurrences.items ≡ looked_up_only (known.before ++ (known.own ++ known.after)) = res.occurring ∙ (sym (looked_up-occurrences role.Declaring (λ n xs. refl) (tree_of old)) ∙ ap looked_up_only known.olds) in
     let occurring : uses ≡ occurrences (tree_of m) =
     used
@@ -399,5 +399,5 @@ new_body_bound m b range own ordinals declarations uses once faults n long decla
     let renumbered = body_renumbered m range.first range.closing kept_table declarations r.new_parsed r.new_scan lies outside declaring long in
     resolution_marked m ordinals declarations uses once faults r.new_parsed
     (subst (λ (os : List (Option ℕ)). HasMarks (ordinal_in os) marks) (sym numbered) renumbered.marks)
-    (λ token e. ap (λ (os : List (Option ℕ)). ordinal_in os token) numbered ∙ (renumbered.elsewhere token e ∙ kept_alone old m way range known table res.names_alone token e))
+    (λ token e. ap (λ (os : List (Option ℕ)). ordinal_in os token) numbered ∙ (renumbered.elsewhere token e ∙ kept_alone old m path range known table res.ordinals_only_at_names token e))
     declaring occurring twice all

@@ -7,10 +7,10 @@ use Rattle.std.specs.List.{list_any}
 use Rattle.std.proofs.lemmas.Cmp.{nat_list_eq_equiv}
 use Rattle.std.proofs.lemmas.List.Folds.{list_any-append}
 use Rattle.std.proofs.lemmas.Slice.Eq.{bytes_eq-Decides}
-use Rattle.ob0_tree.specs.Tree.{Sort, Tree, mapped, occurrences, block, constant, constants, formals, further_name, further_section, item, items, maybe, module_text, names, procedure, section, type_name, type_names, variable, variables, adds, array_type, assigns, begins, branches, calls, compares, declares, declares_constant, declares_constants, declares_procedure, declares_type, declares_types, declares_variable, declares_variables, designator, else_branch, elsif_branch, empty, end, field, has_body, index, integer, is_module, listed, more, multiplies, named_type, negation, no_arguments, no_fields, no_formals, none, one, parenthesised, product, record_type, relates, repeat_loop, runs, some_arguments, some_fields, some_formals, sum, then_argument, then_fields, then_name, then_section, then_statement, value_section, variable_section, while_loop}
+use Rattle.ob0_tree.specs.Tree.{Sort, Tree, mapped_tree, occurrences, block, constant, constants, formals, further_name, further_section, item, items, maybe, module_text, names, procedure, section, type_definition, type_definitions, variable, variables, adds, array_type, assigns, begins, branches, calls, compares, declares, declares_constant, declares_constants, declares_procedure, declares_type, declares_types, declares_variable, declares_variables, designator, else_branch, elsif_branch, empty, end, field, forms_block, index, integer, is_module, listed, more, multiplies, named_type, negation, no_arguments, no_fields, no_formals, none, one, parenthesised, product, record_type, relates, repeat_loop, runs, some_arguments, some_fields, some_formals, sum, then_argument, then_fields, then_name, then_section, then_statement, value_section, variable_section, while_loop}
 use Rattle.ob0_language_names.specs.Mapping.{map_names}
 use Rattle.ob0_language_names.specs.Names.{Label, Name, naming_by_spelling, as_written, declared, same_name}
-use Rattle.ob0_language_names.specs.Occurrences.{Free, bindings, blocks_in, blocks_in_procedure, blocks_in_procedures, declares_ordinal, another_has_name}
+use Rattle.ob0_language_names.specs.Occurrences.{Free, bindings, scopes_in_block, scopes_in_procedure, scopes_in_procedures, declares_ordinal, another_has_name}
 use Rattle.ob0_language_names.specs.Parts.{constant_names, formal_names, formal_sections, further_names, declared_type_names, names_in_list, procedure_name, section_constants, section_names, section_types, section_variables, variable_names}
 use Rattle.ob0_language_names.specs.Scopes.{Labelling, Scope, ordinal_after_names, ordinal_after_procedure, label_from_ordinal, body_scope, declare_names, declare_procedure_names, first_procedure_ordinal, first_type_ordinal, first_variable_ordinal, label_names, label_of, ordinal_of, predeclared_scope, procedures_scope, relabel_block, relabel_constant_section, relabel_constants, relabel_formals, relabel_names, relabel_procedure, relabel_procedures, relabel_section, relabel_sections, relabel_type_section, relabel_types, relabel_uses, relabel_variable_section, relabel_variables, renamed, same_ordinal, types_scope, variables_scope}
 use Rattle.ob0_language_names.proofs.DistinctNames.{new_name}
@@ -41,7 +41,7 @@ and-false false c e = refl
 -- token.
 module _ (f : ℕ → Name) (g : ℕ → ℕ) (look' keep' : Name → Name) (look keep look₂ keep₂ : Name → Label)
     (looks : (i : ℕ) → look (look' (f i)) ≡ look₂ (f i)) (keeps : (i : ℕ) → keep (keep' (f i)) ≡ keep₂ (f i)) where
-  twice : {s : Sort} (t : Tree ℕ s) → map_names look keep (map_names look' keep' (mapped f g t)) ≡ map_names look₂ keep₂ (mapped f g t)
+  twice : {s : Sort} (t : Tree ℕ s) → map_names look keep (map_names look' keep' (mapped_tree f g t)) ≡ map_names look₂ keep₂ (mapped_tree f g t)
   twice none = refl
   twice (one t) = λ i. one (twice t i)
   twice end = refl
@@ -93,7 +93,7 @@ module _ (f : ℕ → Name) (g : ℕ → ℕ) (look' keep' : Name → Name) (loo
   twice (declares_procedure name fs b closing) = λ i. declares_procedure (keeps name i) (twice fs i) (twice b i) (keeps closing i)
   twice (declares cs ts vs ps) = λ i. declares (twice cs i) (twice ts i) (twice vs i) (twice ps i)
   twice (begins s) = λ i. begins (twice s i)
-  twice (has_body ds b) = λ i. has_body (twice ds i) (twice b i)
+  twice (forms_block ds b) = λ i. forms_block (twice ds i) (twice b i)
   twice (is_module name b closing) = λ i. is_module (keeps name i) (twice b i) (keeps closing i)
 
 -- f gives the name of each token, which is never the new name of the declaration d. `here` is a
@@ -152,48 +152,48 @@ module _ (d : ℕ) (new : Name) (f : ℕ → Name) (g : ℕ → ℕ) (fresh : (i
 
   -- No name of the text is the new name.
 
-  new_further : (ns : Tree ℕ (items further_name)) → AllNew (further_names (mapped f g ns))
+  new_further : (ns : Tree ℕ (items further_name)) → AllNew (further_names (mapped_tree f g ns))
   new_further end = tt
   new_further (more (then_name x) ns) = (fresh x, new_further ns)
 
-  new_listed : (ns : Tree ℕ names) → AllNew (names_in_list (mapped f g ns))
+  new_listed : (ns : Tree ℕ names) → AllNew (names_in_list (mapped_tree f g ns))
   new_listed (listed x ns) = (fresh x, new_further ns)
 
-  new_constants : (cs : Tree ℕ (items constant)) → AllNew (constant_names (mapped f g cs))
+  new_constants : (cs : Tree ℕ (items constant)) → AllNew (constant_names (mapped_tree f g cs))
   new_constants end = tt
   new_constants (more (declares_constant x e) cs) = (fresh x, new_constants cs)
 
-  new_types : (ts : Tree ℕ (items type_name)) → AllNew (declared_type_names (mapped f g ts))
+  new_types : (ts : Tree ℕ (items type_definition)) → AllNew (declared_type_names (mapped_tree f g ts))
   new_types end = tt
   new_types (more (declares_type x t) ts) = (fresh x, new_types ts)
 
-  new_variables : (vs : Tree ℕ (items variable)) → AllNew (variable_names (mapped f g vs))
+  new_variables : (vs : Tree ℕ (items variable)) → AllNew (variable_names (mapped_tree f g vs))
   new_variables end = tt
   new_variables (more (declares_variable ns t) vs) =
-      all_new-append (names_in_list (mapped f g ns)) (variable_names (mapped f g vs)) (new_listed ns) (new_variables vs)
+      all_new-append (names_in_list (mapped_tree f g ns)) (variable_names (mapped_tree f g vs)) (new_listed ns) (new_variables vs)
 
-  new_section : (s : Tree ℕ section) → AllNew (section_names (mapped f g s))
+  new_section : (s : Tree ℕ section) → AllNew (section_names (mapped_tree f g s))
   new_section (value_section ns t) = new_listed ns
   new_section (variable_section ns t) = new_listed ns
 
-  new_sections : (fs : Tree ℕ (items further_section)) → AllNew (formal_names (mapped f g fs))
+  new_sections : (fs : Tree ℕ (items further_section)) → AllNew (formal_names (mapped_tree f g fs))
   new_sections end = tt
   new_sections (more (then_section s) fs) =
-      all_new-append (section_names (mapped f g s)) (formal_names (mapped f g fs)) (new_section s) (new_sections fs)
+      all_new-append (section_names (mapped_tree f g s)) (formal_names (mapped_tree f g fs)) (new_section s) (new_sections fs)
 
-  new_constant_section : (cs : Tree ℕ (maybe constants)) → AllNew (constant_names (section_constants (mapped f g cs)))
+  new_constant_section : (cs : Tree ℕ (maybe constants)) → AllNew (constant_names (section_constants (mapped_tree f g cs)))
   new_constant_section none = tt
   new_constant_section (one (declares_constants cs)) = new_constants cs
 
-  new_type_section : (ts : Tree ℕ (maybe type_names)) → AllNew (declared_type_names (section_types (mapped f g ts)))
+  new_type_section : (ts : Tree ℕ (maybe type_definitions)) → AllNew (declared_type_names (section_types (mapped_tree f g ts)))
   new_type_section none = tt
   new_type_section (one (declares_types ts)) = new_types ts
 
-  new_variable_section : (vs : Tree ℕ (maybe variables)) → AllNew (variable_names (section_variables (mapped f g vs)))
+  new_variable_section : (vs : Tree ℕ (maybe variables)) → AllNew (variable_names (section_variables (mapped_tree f g vs)))
   new_variable_section none = tt
   new_variable_section (one (declares_variables vs)) = new_variables vs
 
-  new_formals : (fs : Tree ℕ (maybe formals)) → AllNew (formal_names (formal_sections (mapped f g fs)))
+  new_formals : (fs : Tree ℕ (maybe formals)) → AllNew (formal_names (formal_sections (mapped_tree f g fs)))
   new_formals none = tt
   new_formals (one no_formals) = tt
   new_formals (one (some_formals s fs)) = new_sections (more (then_section s) fs)
@@ -201,47 +201,47 @@ module _ (d : ℕ) (new : Name) (f : ℕ → Name) (g : ℕ → ℕ) (fresh : (i
   -- The scopes of a block agree if the scopes before it do.
 
   agrees_types : (there here : Scope Name) (j k : ℕ) → j ≡ k → Agrees there here → (b : Tree ℕ block)
-      → Agrees (types_scope j (relabel_block naming_by_spelling ren here k (mapped f g b)) there) (types_scope k (mapped f g b) here)
-  agrees_types there here j k jk agrees (has_body (declares cs ts vs ps) statements) =
-      agrees_listed j k jk _ _ (ap constant_names (constants-section naming_by_spelling ren here k (mapped f g cs)) ∙ constants-labels naming_by_spelling ren here k (section_constants (mapped f g cs)))
+      → Agrees (types_scope j (relabel_block naming_by_spelling ren here k (mapped_tree f g b)) there) (types_scope k (mapped_tree f g b) here)
+  agrees_types there here j k jk agrees (forms_block (declares cs ts vs ps) statements) =
+      agrees_listed j k jk _ _ (ap constant_names (constants-section naming_by_spelling ren here k (mapped_tree f g cs)) ∙ constants-labels naming_by_spelling ren here k (section_constants (mapped_tree f g cs)))
       (new_constant_section cs) there here agrees
 
   agrees_variables : (there here : Scope Name) (j k : ℕ) → j ≡ k → Agrees there here → (b : Tree ℕ block)
-      → Agrees (variables_scope j (relabel_block naming_by_spelling ren here k (mapped f g b)) there) (variables_scope k (mapped f g b) here)
-  agrees_variables there here j k jk agrees (has_body (declares cs ts vs ps) statements) =
-      let b : Tree Name block = mapped f g (has_body (declares cs ts vs ps) statements) in
+      → Agrees (variables_scope j (relabel_block naming_by_spelling ren here k (mapped_tree f g b)) there) (variables_scope k (mapped_tree f g b) here)
+  agrees_variables there here j k jk agrees (forms_block (declares cs ts vs ps) statements) =
+      let b : Tree Name block = mapped_tree f g (forms_block (declares cs ts vs ps) statements) in
       let b' : Tree Name block = relabel_block naming_by_spelling ren here k b in
       agrees_listed (first_type_ordinal j b') (first_type_ordinal k b) (first_type_ordinal-relabel naming_by_spelling ren here j k b jk) _ _
-      (ap declared_type_names (types-section naming_by_spelling ren (types_scope k b here) (first_type_ordinal k b) (mapped f g ts)) ∙ types-labels naming_by_spelling ren (types_scope k b here) (first_type_ordinal k b) (section_types (mapped f g ts)))
+      (ap declared_type_names (types-section naming_by_spelling ren (types_scope k b here) (first_type_ordinal k b) (mapped_tree f g ts)) ∙ types-labels naming_by_spelling ren (types_scope k b here) (first_type_ordinal k b) (section_types (mapped_tree f g ts)))
       (new_type_section ts) (types_scope j b' there) (types_scope k b here)
-      (agrees_types there here j k jk agrees (has_body (declares cs ts vs ps) statements))
+      (agrees_types there here j k jk agrees (forms_block (declares cs ts vs ps) statements))
 
   agrees_procedures : (there here : Scope Name) (j k : ℕ) → j ≡ k → Agrees there here → (b : Tree ℕ block)
-      → Agrees (procedures_scope j (relabel_block naming_by_spelling ren here k (mapped f g b)) there) (procedures_scope k (mapped f g b) here)
-  agrees_procedures there here j k jk agrees (has_body (declares cs ts vs ps) statements) =
-      let b : Tree Name block = mapped f g (has_body (declares cs ts vs ps) statements) in
+      → Agrees (procedures_scope j (relabel_block naming_by_spelling ren here k (mapped_tree f g b)) there) (procedures_scope k (mapped_tree f g b) here)
+  agrees_procedures there here j k jk agrees (forms_block (declares cs ts vs ps) statements) =
+      let b : Tree Name block = mapped_tree f g (forms_block (declares cs ts vs ps) statements) in
       let b' : Tree Name block = relabel_block naming_by_spelling ren here k b in
       agrees_listed (first_variable_ordinal j b') (first_variable_ordinal k b) (first_variable_ordinal-relabel naming_by_spelling ren here j k b jk) _ _
-      (ap variable_names (variables-section naming_by_spelling ren (variables_scope k b here) (first_variable_ordinal k b) (mapped f g vs))
-      ∙ variables-labels naming_by_spelling ren (variables_scope k b here) (first_variable_ordinal k b) (section_variables (mapped f g vs)))
+      (ap variable_names (variables-section naming_by_spelling ren (variables_scope k b here) (first_variable_ordinal k b) (mapped_tree f g vs))
+      ∙ variables-labels naming_by_spelling ren (variables_scope k b here) (first_variable_ordinal k b) (section_variables (mapped_tree f g vs)))
       (new_variable_section vs) (variables_scope j b' there) (variables_scope k b here)
-      (agrees_variables there here j k jk agrees (has_body (declares cs ts vs ps) statements))
+      (agrees_variables there here j k jk agrees (forms_block (declares cs ts vs ps) statements))
 
   agrees_procedure_names : (visible there here : Scope Name) (j k : ℕ) → j ≡ k → Agrees there here → (ps : Tree ℕ (items procedure))
-      → Agrees (declare_procedure_names j (relabel_procedures naming_by_spelling ren visible k (mapped f g ps)) there) (declare_procedure_names k (mapped f g ps) here)
+      → Agrees (declare_procedure_names j (relabel_procedures naming_by_spelling ren visible k (mapped_tree f g ps)) there) (declare_procedure_names k (mapped_tree f g ps) here)
   agrees_procedure_names visible there here j k jk agrees end = agrees
   agrees_procedure_names visible there here j k jk agrees (more (declares_procedure x fs b closing) ps) =
-      let p : Tree Name (item procedure) = mapped f g (declares_procedure x fs b closing) in
+      let p : Tree Name (item procedure) = mapped_tree f g (declares_procedure x fs b closing) in
       agrees_procedure_names ((f x, k) ∷ visible) ((ren (Some k) (f x), j) ∷ there) ((f x, k) ∷ here) (ordinal_after_procedure (suc j) (relabel_procedure naming_by_spelling ren visible k p)) (ordinal_after_procedure (suc k) p)
       (ordinal_after_procedure-relabel naming_by_spelling ren visible j k p jk) (agrees_one there here (f x) j k (fresh x) jk agrees) ps
 
   agrees_body : (there here : Scope Name) (j k : ℕ) → j ≡ k → Agrees there here → (b : Tree ℕ block)
-      → Agrees (body_scope j (relabel_block naming_by_spelling ren here k (mapped f g b)) there) (body_scope k (mapped f g b) here)
-  agrees_body there here j k jk agrees (has_body (declares cs ts vs ps) statements) =
-      let b : Tree Name block = mapped f g (has_body (declares cs ts vs ps) statements) in
+      → Agrees (body_scope j (relabel_block naming_by_spelling ren here k (mapped_tree f g b)) there) (body_scope k (mapped_tree f g b) here)
+  agrees_body there here j k jk agrees (forms_block (declares cs ts vs ps) statements) =
+      let b : Tree Name block = mapped_tree f g (forms_block (declares cs ts vs ps) statements) in
       let b' : Tree Name block = relabel_block naming_by_spelling ren here k b in
       agrees_procedure_names (procedures_scope k b here) (procedures_scope j b' there) (procedures_scope k b here) (first_procedure_ordinal j b') (first_procedure_ordinal k b) (first_procedure_ordinal-relabel naming_by_spelling ren here j k b jk)
-      (agrees_procedures there here j k jk agrees (has_body (declares cs ts vs ps) statements)) ps
+      (agrees_procedures there here j k jk agrees (forms_block (declares cs ts vs ps) statements)) ps
 
   -- Each relabelled part has the same numbers.
 
@@ -250,87 +250,87 @@ module _ (d : ℕ) (new : Name) (f : ℕ → Name) (g : ℕ → ℕ) (fresh : (i
   label-kept (Some k) x = refl
 
   uses_same : (there here : Scope Name) → Agrees there here → {s : Sort} (t : Tree ℕ s)
-      → relabel_uses naming_by_spelling label there (relabel_uses naming_by_spelling ren here (mapped f g t)) ≡ relabel_uses naming_by_spelling label here (mapped f g t)
+      → relabel_uses naming_by_spelling label there (relabel_uses naming_by_spelling ren here (mapped_tree f g t)) ≡ relabel_uses naming_by_spelling label here (mapped_tree f g t)
   uses_same there here agrees t =
       twice f g (label_of naming_by_spelling ren here) (ren None) (label_of naming_by_spelling label there) (label None) (label_of naming_by_spelling label here) (label None)
       (λ i. ap (λ o. label o (ren (ordinal_of naming_by_spelling here (f i)) (f i))) (agrees (f i) (fresh i)) ∙ label-kept (ordinal_of naming_by_spelling here (f i)) (f i)) (λ i. refl) t
 
   constants_same : (there here : Scope Name) (j k : ℕ) → j ≡ k → Agrees there here → (cs : Tree ℕ (items constant))
-      → relabel_constants naming_by_spelling label there j (relabel_constants naming_by_spelling ren here k (mapped f g cs)) ≡ relabel_constants naming_by_spelling label here k (mapped f g cs)
+      → relabel_constants naming_by_spelling label there j (relabel_constants naming_by_spelling ren here k (mapped_tree f g cs)) ≡ relabel_constants naming_by_spelling label here k (mapped_tree f g cs)
   constants_same there here j k jk agrees end = refl
   constants_same there here j k jk agrees (more (declares_constant x e) cs) = λ i.
       more (declares_constant (declared (jk i)) (uses_same there here agrees e i))
       (constants_same ((ren (Some k) (f x), j) ∷ there) ((f x, k) ∷ here) (suc j) (suc k) (ap suc jk) (agrees_one there here (f x) j k (fresh x) jk agrees) cs i)
 
-  types_same : (there here : Scope Name) (j k : ℕ) → j ≡ k → Agrees there here → (ts : Tree ℕ (items type_name))
-      → relabel_types naming_by_spelling label there j (relabel_types naming_by_spelling ren here k (mapped f g ts)) ≡ relabel_types naming_by_spelling label here k (mapped f g ts)
+  types_same : (there here : Scope Name) (j k : ℕ) → j ≡ k → Agrees there here → (ts : Tree ℕ (items type_definition))
+      → relabel_types naming_by_spelling label there j (relabel_types naming_by_spelling ren here k (mapped_tree f g ts)) ≡ relabel_types naming_by_spelling label here k (mapped_tree f g ts)
   types_same there here j k jk agrees end = refl
   types_same there here j k jk agrees (more (declares_type x t) ts) = λ i.
       more (declares_type (declared (jk i)) (uses_same there here agrees t i))
       (types_same ((ren (Some k) (f x), j) ∷ there) ((f x, k) ∷ here) (suc j) (suc k) (ap suc jk) (agrees_one there here (f x) j k (fresh x) jk agrees) ts i)
 
   variables_same : (there here : Scope Name) (j k : ℕ) → j ≡ k → Agrees there here → (vs : Tree ℕ (items variable))
-      → relabel_variables naming_by_spelling label there j (relabel_variables naming_by_spelling ren here k (mapped f g vs)) ≡ relabel_variables naming_by_spelling label here k (mapped f g vs)
+      → relabel_variables naming_by_spelling label there j (relabel_variables naming_by_spelling ren here k (mapped_tree f g vs)) ≡ relabel_variables naming_by_spelling label here k (mapped_tree f g vs)
   variables_same there here j k jk agrees end = refl
   variables_same there here j k jk agrees (more (declares_variable ns t) vs) =
-      let ns' : Tree Name names = mapped f g ns in λ i.
+      let ns' : Tree Name names = mapped_tree f g ns in λ i.
       more (declares_variable (names-twice naming_by_spelling ren j k jk ns' i) (uses_same there here agrees t i))
       (variables_same (declare_names j (names_in_list (relabel_names ren k ns')) there) (declare_names k (names_in_list ns') here) (ordinal_after_names j (names_in_list (relabel_names ren k ns'))) (ordinal_after_names k (names_in_list ns'))
       (after_listed ren j k jk ns') (agrees_listed j k jk _ _ (names-relabel ren k ns') (new_listed ns) there here agrees) vs i)
 
   section_same : (there here : Scope Name) (j k : ℕ) → j ≡ k → Agrees there here → (s : Tree ℕ section)
-      → relabel_section naming_by_spelling label there j (relabel_section naming_by_spelling ren here k (mapped f g s)) ≡ relabel_section naming_by_spelling label here k (mapped f g s)
-  section_same there here j k jk agrees (value_section ns t) = λ i. value_section (names-twice naming_by_spelling ren j k jk (mapped f g ns) i) (uses_same there here agrees t i)
-  section_same there here j k jk agrees (variable_section ns t) = λ i. variable_section (names-twice naming_by_spelling ren j k jk (mapped f g ns) i) (uses_same there here agrees t i)
+      → relabel_section naming_by_spelling label there j (relabel_section naming_by_spelling ren here k (mapped_tree f g s)) ≡ relabel_section naming_by_spelling label here k (mapped_tree f g s)
+  section_same there here j k jk agrees (value_section ns t) = λ i. value_section (names-twice naming_by_spelling ren j k jk (mapped_tree f g ns) i) (uses_same there here agrees t i)
+  section_same there here j k jk agrees (variable_section ns t) = λ i. variable_section (names-twice naming_by_spelling ren j k jk (mapped_tree f g ns) i) (uses_same there here agrees t i)
 
   sections_same : (there here : Scope Name) (j k : ℕ) → j ≡ k → Agrees there here → (fs : Tree ℕ (items further_section))
-      → relabel_sections naming_by_spelling label there j (relabel_sections naming_by_spelling ren here k (mapped f g fs)) ≡ relabel_sections naming_by_spelling label here k (mapped f g fs)
+      → relabel_sections naming_by_spelling label there j (relabel_sections naming_by_spelling ren here k (mapped_tree f g fs)) ≡ relabel_sections naming_by_spelling label here k (mapped_tree f g fs)
   sections_same there here j k jk agrees end = refl
   sections_same there here j k jk agrees (more (then_section s) fs) =
-      let s' : Tree Name section = mapped f g s in λ i.
+      let s' : Tree Name section = mapped_tree f g s in λ i.
       more (then_section (section_same there here j k jk agrees s i))
       (sections_same (declare_names j (section_names (relabel_section naming_by_spelling ren here k s')) there) (declare_names k (section_names s') here)
       (ordinal_after_names j (section_names (relabel_section naming_by_spelling ren here k s'))) (ordinal_after_names k (section_names s')) (after_section naming_by_spelling ren here j k jk s')
       (agrees_listed j k jk _ _ (section_names-relabel naming_by_spelling ren here k s') (new_section s) there here agrees) fs i)
 
   formals_same : (there here : Scope Name) (j k : ℕ) → j ≡ k → Agrees there here → (fs : Tree ℕ (maybe formals))
-      → relabel_formals naming_by_spelling label there j (relabel_formals naming_by_spelling ren here k (mapped f g fs)) ≡ relabel_formals naming_by_spelling label here k (mapped f g fs)
+      → relabel_formals naming_by_spelling label there j (relabel_formals naming_by_spelling ren here k (mapped_tree f g fs)) ≡ relabel_formals naming_by_spelling label here k (mapped_tree f g fs)
   formals_same there here j k jk agrees none = refl
   formals_same there here j k jk agrees (one no_formals) = refl
   formals_same there here j k jk agrees (one (some_formals s fs)) =
-      let s' : Tree Name section = mapped f g s in λ i.
+      let s' : Tree Name section = mapped_tree f g s in λ i.
       one (some_formals (section_same there here j k jk agrees s i)
       (sections_same (declare_names j (section_names (relabel_section naming_by_spelling ren here k s')) there) (declare_names k (section_names s') here)
       (ordinal_after_names j (section_names (relabel_section naming_by_spelling ren here k s'))) (ordinal_after_names k (section_names s')) (after_section naming_by_spelling ren here j k jk s')
       (agrees_listed j k jk _ _ (section_names-relabel naming_by_spelling ren here k s') (new_section s) there here agrees) fs i))
 
   constant_section_same : (there here : Scope Name) (j k : ℕ) → j ≡ k → Agrees there here → (cs : Tree ℕ (maybe constants))
-      → relabel_constant_section naming_by_spelling label there j (relabel_constant_section naming_by_spelling ren here k (mapped f g cs)) ≡ relabel_constant_section naming_by_spelling label here k (mapped f g cs)
+      → relabel_constant_section naming_by_spelling label there j (relabel_constant_section naming_by_spelling ren here k (mapped_tree f g cs)) ≡ relabel_constant_section naming_by_spelling label here k (mapped_tree f g cs)
   constant_section_same there here j k jk agrees none = refl
   constant_section_same there here j k jk agrees (one (declares_constants cs)) = λ i. one (declares_constants (constants_same there here j k jk agrees cs i))
 
-  type_section_same : (there here : Scope Name) (j k : ℕ) → j ≡ k → Agrees there here → (ts : Tree ℕ (maybe type_names))
-      → relabel_type_section naming_by_spelling label there j (relabel_type_section naming_by_spelling ren here k (mapped f g ts)) ≡ relabel_type_section naming_by_spelling label here k (mapped f g ts)
+  type_section_same : (there here : Scope Name) (j k : ℕ) → j ≡ k → Agrees there here → (ts : Tree ℕ (maybe type_definitions))
+      → relabel_type_section naming_by_spelling label there j (relabel_type_section naming_by_spelling ren here k (mapped_tree f g ts)) ≡ relabel_type_section naming_by_spelling label here k (mapped_tree f g ts)
   type_section_same there here j k jk agrees none = refl
   type_section_same there here j k jk agrees (one (declares_types ts)) = λ i. one (declares_types (types_same there here j k jk agrees ts i))
 
   variable_section_same : (there here : Scope Name) (j k : ℕ) → j ≡ k → Agrees there here → (vs : Tree ℕ (maybe variables))
-      → relabel_variable_section naming_by_spelling label there j (relabel_variable_section naming_by_spelling ren here k (mapped f g vs)) ≡ relabel_variable_section naming_by_spelling label here k (mapped f g vs)
+      → relabel_variable_section naming_by_spelling label there j (relabel_variable_section naming_by_spelling ren here k (mapped_tree f g vs)) ≡ relabel_variable_section naming_by_spelling label here k (mapped_tree f g vs)
   variable_section_same there here j k jk agrees none = refl
   variable_section_same there here j k jk agrees (one (declares_variables vs)) = λ i. one (declares_variables (variables_same there here j k jk agrees vs i))
 
   agrees_procedure : (there here : Scope Name) (j k : ℕ) → j ≡ k → Agrees there here → (p : Tree ℕ (item procedure))
-      → Agrees ((procedure_name (relabel_procedure naming_by_spelling ren here k (mapped f g p)), j) ∷ there) ((procedure_name (mapped f g p), k) ∷ here)
+      → Agrees ((procedure_name (relabel_procedure naming_by_spelling ren here k (mapped_tree f g p)), j) ∷ there) ((procedure_name (mapped_tree f g p), k) ∷ here)
   agrees_procedure there here j k jk agrees (declares_procedure x fs b closing) = agrees_one there here (f x) j k (fresh x) jk agrees
 
   mutual
     block_same : (there here : Scope Name) (j k : ℕ) → j ≡ k → Agrees there here → (b : Tree ℕ block)
-        → relabel_block naming_by_spelling label there j (relabel_block naming_by_spelling ren here k (mapped f g b)) ≡ relabel_block naming_by_spelling label here k (mapped f g b)
-    block_same there here j k jk agrees (has_body (declares cs ts vs ps) statements) =
-        let b₀ : Tree ℕ block = has_body (declares cs ts vs ps) statements in
-        let b : Tree Name block = mapped f g b₀ in
+        → relabel_block naming_by_spelling label there j (relabel_block naming_by_spelling ren here k (mapped_tree f g b)) ≡ relabel_block naming_by_spelling label here k (mapped_tree f g b)
+    block_same there here j k jk agrees (forms_block (declares cs ts vs ps) statements) =
+        let b₀ : Tree ℕ block = forms_block (declares cs ts vs ps) statements in
+        let b : Tree Name block = mapped_tree f g b₀ in
         let b' : Tree Name block = relabel_block naming_by_spelling ren here k b in λ i.
-        has_body
+        forms_block
         (declares (constant_section_same there here j k jk agrees cs i)
         (type_section_same (types_scope j b' there) (types_scope k b here) (first_type_ordinal j b') (first_type_ordinal k b) (first_type_ordinal-relabel naming_by_spelling ren here j k b jk) (agrees_types there here j k jk agrees b₀) ts i)
         (variable_section_same (variables_scope j b' there) (variables_scope k b here) (first_variable_ordinal j b') (first_variable_ordinal k b) (first_variable_ordinal-relabel naming_by_spelling ren here j k b jk) (agrees_variables there here j k jk agrees b₀) vs i)
@@ -338,19 +338,19 @@ module _ (d : ℕ) (new : Name) (f : ℕ → Name) (g : ℕ → ℕ) (fresh : (i
         (uses_same (body_scope j b' there) (body_scope k b here) (agrees_body there here j k jk agrees b₀) statements i)
 
     procedures_same : (there here : Scope Name) (j k : ℕ) → j ≡ k → Agrees there here → (ps : Tree ℕ (items procedure))
-        → relabel_procedures naming_by_spelling label there j (relabel_procedures naming_by_spelling ren here k (mapped f g ps)) ≡ relabel_procedures naming_by_spelling label here k (mapped f g ps)
+        → relabel_procedures naming_by_spelling label there j (relabel_procedures naming_by_spelling ren here k (mapped_tree f g ps)) ≡ relabel_procedures naming_by_spelling label here k (mapped_tree f g ps)
     procedures_same there here j k jk agrees end = refl
     procedures_same there here j k jk agrees (more p₀ ps) =
-        let p : Tree Name (item procedure) = mapped f g p₀ in
+        let p : Tree Name (item procedure) = mapped_tree f g p₀ in
         let p' : Tree Name (item procedure) = relabel_procedure naming_by_spelling ren here k p in λ i.
         more (procedure_same there here j k jk agrees p₀ i)
         (procedures_same ((procedure_name p', j) ∷ there) ((procedure_name p, k) ∷ here) (ordinal_after_procedure (suc j) p') (ordinal_after_procedure (suc k) p)
         (ordinal_after_procedure-relabel naming_by_spelling ren here j k p jk) (agrees_procedure there here j k jk agrees p₀) ps i)
 
     procedure_same : (there here : Scope Name) (j k : ℕ) → j ≡ k → Agrees there here → (p : Tree ℕ (item procedure))
-        → relabel_procedure naming_by_spelling label there j (relabel_procedure naming_by_spelling ren here k (mapped f g p)) ≡ relabel_procedure naming_by_spelling label here k (mapped f g p)
+        → relabel_procedure naming_by_spelling label there j (relabel_procedure naming_by_spelling ren here k (mapped_tree f g p)) ≡ relabel_procedure naming_by_spelling label here k (mapped_tree f g p)
     procedure_same there here j k jk agrees (declares_procedure x fs b closing) =
-        let fs₁ : Tree Name (maybe formals) = mapped f g fs in
+        let fs₁ : Tree Name (maybe formals) = mapped_tree f g fs in
         let own : List Name = formal_names (formal_sections fs₁) in
         let fs' : Tree Name (maybe formals) = relabel_formals naming_by_spelling ren here (suc k) fs₁ in
         let own' : List Name = formal_names (formal_sections fs') in
@@ -385,7 +385,7 @@ module _ (d : ℕ) (new : Name) (f : ℕ → Name) (g : ℕ → ℕ) (fresh : (i
   agrees_predeclared h y fy =
       ap (λ b. ordinal_of naming_by_spelling (predeclared_scope naming_by_spelling) (if b then new else y)) (bound_to_others (predeclared_scope naming_by_spelling) (other_scope h) y)
 
-  bindings_same : 7 ≤ d → (m : Tree ℕ module_text) → bindings (renamed (mapped f g m) d new) ≡ bindings (mapped f g m)
+  bindings_same : 7 ≤ d → (m : Tree ℕ module_text) → bindings (renamed (mapped_tree f g m) d new) ≡ bindings (mapped_tree f g m)
   bindings_same h (is_module x b closing) =
       let scope : Scope Name = predeclared_scope naming_by_spelling in
       ap occurrences (λ i. is_module (as_written (f x)) (block_same scope scope 7 7 refl (agrees_predeclared h) b i) (as_written (f closing)))
@@ -404,33 +404,33 @@ module _ (d : ℕ) (new : Name) (f : ℕ → Name) (g : ℕ → ℕ) (fresh : (i
   new_names k [] scope all others = others
   new_names k (x ∷ xs) scope all others = new_names (suc k) xs ((x, k) ∷ scope) all.1 (all.0, others)
 
-  new_procedures : (k : ℕ) (ps : Tree ℕ (items procedure)) (scope : Scope Name) → NewScope scope → NewScope (declare_procedure_names k (mapped f g ps) scope)
+  new_procedures : (k : ℕ) (ps : Tree ℕ (items procedure)) (scope : Scope Name) → NewScope scope → NewScope (declare_procedure_names k (mapped_tree f g ps) scope)
   new_procedures k end scope others = others
   new_procedures k (more (declares_procedure x fs b closing) ps) scope others =
-      new_procedures (ordinal_after_procedure (suc k) (mapped f g (declares_procedure x fs b closing))) ps ((f x, k) ∷ scope) (fresh x, others)
+      new_procedures (ordinal_after_procedure (suc k) (mapped_tree f g (declares_procedure x fs b closing))) ps ((f x, k) ∷ scope) (fresh x, others)
 
   abbrev clashes : Scope Name → Bool
   clashes own = declares_ordinal own d && another_has_name own d new
 
   mutual
-    no_clash-block : (k : ℕ) (own : Scope Name) → NewScope own → (b : Tree ℕ block) → list_any clashes (blocks_in k own (mapped f g b)) ≡ false
-    no_clash-block k own others (has_body (declares cs ts vs ps) statements) =
-        let b : Tree Name block = mapped f g (has_body (declares cs ts vs ps) statements) in
+    no_clash-block : (k : ℕ) (own : Scope Name) → NewScope own → (b : Tree ℕ block) → list_any clashes (scopes_in_block k own (mapped_tree f g b)) ≡ false
+    no_clash-block k own others (forms_block (declares cs ts vs ps) statements) =
+        let b : Tree Name block = mapped_tree f g (forms_block (declares cs ts vs ps) statements) in
         let mine : NewScope (body_scope k b own) =
         new_procedures (first_procedure_ordinal k b) ps (procedures_scope k b own)
-        (new_names (first_variable_ordinal k b) (variable_names (section_variables (mapped f g vs))) (variables_scope k b own) (new_variable_section vs)
-        (new_names (first_type_ordinal k b) (declared_type_names (section_types (mapped f g ts))) (types_scope k b own) (new_type_section ts)
-        (new_names k (constant_names (section_constants (mapped f g cs))) own (new_constant_section cs) others))) in λ i.
+        (new_names (first_variable_ordinal k b) (variable_names (section_variables (mapped_tree f g vs))) (variables_scope k b own) (new_variable_section vs)
+        (new_names (first_type_ordinal k b) (declared_type_names (section_types (mapped_tree f g ts))) (types_scope k b own) (new_type_section ts)
+        (new_names k (constant_names (section_constants (mapped_tree f g cs))) own (new_constant_section cs) others))) in λ i.
         and-false (declares_ordinal (body_scope k b own) d) _ (none_named (body_scope k b own) mine) i || no_clash-procedures (first_procedure_ordinal k b) ps i
 
-    no_clash-procedures : (k : ℕ) (ps : Tree ℕ (items procedure)) → list_any clashes (blocks_in_procedures k (mapped f g ps)) ≡ false
+    no_clash-procedures : (k : ℕ) (ps : Tree ℕ (items procedure)) → list_any clashes (scopes_in_procedures k (mapped_tree f g ps)) ≡ false
     no_clash-procedures k end = refl
     no_clash-procedures k (more (declares_procedure x fs b closing) ps) =
-        let p : Tree Name (item procedure) = mapped f g (declares_procedure x fs b closing) in
-        list_any-append clashes (blocks_in_procedure (suc k) p) (blocks_in_procedures (ordinal_after_procedure (suc k) p) (mapped f g ps))
-        ∙ (λ i. no_clash-block (ordinal_after_names (suc k) (formal_names (formal_sections (mapped f g fs)))) (declare_names (suc k) (formal_names (formal_sections (mapped f g fs))) []) (new_names (suc k) (formal_names (formal_sections (mapped f g fs))) [] (new_formals fs) tt) b i
+        let p : Tree Name (item procedure) = mapped_tree f g (declares_procedure x fs b closing) in
+        list_any-append clashes (scopes_in_procedure (suc k) p) (scopes_in_procedures (ordinal_after_procedure (suc k) p) (mapped_tree f g ps))
+        ∙ (λ i. no_clash-block (ordinal_after_names (suc k) (formal_names (formal_sections (mapped_tree f g fs)))) (declare_names (suc k) (formal_names (formal_sections (mapped_tree f g fs))) []) (new_names (suc k) (formal_names (formal_sections (mapped_tree f g fs))) [] (new_formals fs) tt) b i
         || no_clash-procedures (ordinal_after_procedure (suc k) p) ps i)
 
   -- A name that no token has is free.
-  pub new_is_free : 7 ≤ d → (m : Tree ℕ module_text) → Free (mapped f g m) d new
+  pub new_is_free : 7 ≤ d → (m : Tree ℕ module_text) → Free (mapped_tree f g m) d new
   new_is_free h (is_module x b closing) = (no_clash-block 7 [] tt b, bindings_same h (is_module x b closing))

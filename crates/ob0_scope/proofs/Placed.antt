@@ -9,11 +9,11 @@ use Rattle.ob0_scan.specs.declared.lexeme.TokenKind.{TokenKind}
 use Rattle.ob0_scan.specs.declared.lexeme.TokenKind.TheVariants as kind
 use Rattle.ob0_tree.proofs.Leaves.{leaves_parsed, leaves_spelled, lexeme_names}
 use Rattle.ob0_tree.proofs.Mapped.{spell_mapped}
-use Rattle.ob0_tree.specs.Lexeme.{EndOfText, Terminal, Mark, Name, Number, mapped_terminal}
-use Rattle.ob0_tree.specs.Order.{identifier_index, identifier_indexes_from, leaves, names_without_roles}
+use Rattle.ob0_tree.specs.Lexeme.{EndOfText, Terminal, WordOrSymbol, Name, Number, mapped_terminal}
+use Rattle.ob0_tree.specs.Order.{identifier_index, identifier_indexes_from, identifier_names, names_without_roles}
 use Rattle.ob0_tree.specs.ParsedModule.{tree_of}
-use Rattle.ob0_tree.specs.Places.{text_at, value_at}
-use Rattle.ob0_tree.specs.Tree.{Sort, Tree, identifiers, mapped, spell}
+use Rattle.ob0_tree.specs.Places.{token_text_at, token_value_at}
+use Rattle.ob0_tree.specs.Tree.{Sort, Tree, identifiers, mapped_tree, spell}
 use Rattle.ob0_tree.specs.declared.tree.Role.{Role}
 use Rattle.ob0_tree.specs.declared.tree.Role.TheVariants as role
 use Rattle.ob0_tree.proofs.MappedIdentifiers.{leaves_mapped}
@@ -23,9 +23,9 @@ use Rattle.ob0_scope_table.specs.Resolution.{IsResolution, Resolution, label_at,
 use Rattle.ob0_scope_table.specs.Spans.{span_or_empty}
 use Rattle.ob0_language_names.specs.Scopes.{label_from_ordinal, same_ordinal}
 use Rattle.ob0_scope.specs.declared.naming.Named as named
-use Rattle.ob0_scope.specs.Listing.{is_identifier, is_identifier_on}
-use Rattle.ob0_scope_table.specs.Spans.{is_on}
-use Rattle.ob0_scope.specs.NamesAtPlaces.{BoundIdentifier, is_declaring, name_on, bound_name_of, is_bound_to, bound_identifiers, tokens_bound_to}
+use Rattle.ob0_scope.specs.Listing.{is_identifier, is_identifier_at_offset}
+use Rattle.ob0_scope_table.specs.Spans.{is_on_span}
+use Rattle.ob0_scope.specs.NamesAtPlaces.{BoundIdentifier, is_declaring, name_at_offset, bound_name_of, is_bound_to, bound_identifiers, tokens_bound_to}
 
 -- returns an identifier with the label of its token
 abbrev bound_by : (ℕ → Label) → Role × ℕ → BoundIdentifier
@@ -39,7 +39,7 @@ pub bound_by_table : (r : Resolution) → IsResolution r → bound_identifiers r
 bound_by_table r is =
     let m = r.module_read in
     let ids = identifiers role.Declaring (tree_of m) in
-    ap (zip ids) (ap leaves is.numbering ∙ leaves_mapped (label_at m.source r.ordinals) (value_at m.source) (tree_of m))
+    ap (zip ids) (ap identifier_names is.numbering ∙ leaves_mapped (label_at m.source r.ordinals) (token_value_at m.source) (tree_of m))
     ∙ zipped (label_at m.source r.ordinals) ids
 
 -- references
@@ -47,7 +47,7 @@ bound_by_table r is =
 bound_to : (source : TextWithTokens) (ordinals : List (Option ℕ)) (d i : ℕ) → same_label (label_at source ordinals i) (declared d) ≡ same_ordinal (ordinal_in ordinals i) d
 bound_to source ordinals d i = one (ordinal_in ordinals i)
   where
-    one : (o : Option ℕ) → same_label (label_from_ordinal naming_by_spelling o (text_at source i)) (declared d) ≡ same_ordinal o d
+    one : (o : Option ℕ) → same_label (label_from_ordinal naming_by_spelling o (token_text_at source i)) (declared d) ≡ same_ordinal o d
     one None = refl
     one (Some k) = refl
 
@@ -107,14 +107,14 @@ identifier_first i (kind.ReservedWord word) = refl
 identifier_first i (kind.Integer value) = refl
 identifier_first i (kind.Symbol symbol) = refl
 
-found_from : (offset : ℕ) (span : ℕ → Span) (i : ℕ) (ts : List Token) → SpansAre span i ts → find (λ i. is_on offset (span i)) (identifier_indexes_from i ts) ≡ position_from (is_identifier_on offset) i ts
+found_from : (offset : ℕ) (span : ℕ → Span) (i : ℕ) (ts : List Token) → SpansAre span i ts → find (λ i. is_on_span offset (span i)) (identifier_indexes_from i ts) ≡ position_from (is_identifier_at_offset offset) i ts
 found_from offset span i [] h = refl
 found_from offset span i (t ∷ ts) h =
     let later = identifier_indexes_from (i + 1) ts in
-    ap (λ z. find (λ i. is_on offset (span i)) (z ++ later)) (identifier_first i t.kind)
-    ∙ (one (is_identifier t.kind) later ∙ (λ j. cond (is_identifier t.kind && is_on offset (h.0 j)) (Some i) (found_from offset span (i + 1) ts h.1 j)))
+    ap (λ z. find (λ i. is_on_span offset (span i)) (z ++ later)) (identifier_first i t.kind)
+    ∙ (one (is_identifier t.kind) later ∙ (λ j. cond (is_identifier t.kind && is_on_span offset (h.0 j)) (Some i) (found_from offset span (i + 1) ts h.1 j)))
   where
-    one : (b : Bool) (later : List ℕ) → find (λ i. is_on offset (span i)) (cond b (i ∷ []) [] ++ later) ≡ cond (b && is_on offset (span i)) (Some i) (find (λ i. is_on offset (span i)) later)
+    one : (b : Bool) (later : List ℕ) → find (λ i. is_on_span offset (span i)) (cond b (i ∷ []) [] ++ later) ≡ cond (b && is_on_span offset (span i)) (Some i) (find (λ i. is_on_span offset (span i)) later)
     one true later = refl
     one false later = refl
 
@@ -125,15 +125,15 @@ named_so ordinals i = option_map {U = named.Named} (λ ordinal. record { token =
 label_back : (source : TextWithTokens) (ordinals : List (Option ℕ)) (x : Role × ℕ) → bound_name_of (bound_by (label_at source ordinals) x) ≡ named_so ordinals x.1
 label_back source ordinals x = one (ordinal_in ordinals x.1)
   where
-    one : (o : Option ℕ) → option_map {U = named.Named} (λ ordinal. record { token = x.1; ordinal = ordinal }) (label_ordinal (label_from_ordinal naming_by_spelling o (text_at source x.1))) ≡ option_map {U = named.Named} (λ ordinal. record { token = x.1; ordinal = ordinal }) o
+    one : (o : Option ℕ) → option_map {U = named.Named} (λ ordinal. record { token = x.1; ordinal = ordinal }) (label_ordinal (label_from_ordinal naming_by_spelling o (token_text_at source x.1))) ≡ option_map {U = named.Named} (λ ordinal. record { token = x.1; ordinal = ordinal }) o
     one None = refl
     one (Some k) = refl
 
 found_named : (source : TextWithTokens) (ordinals : List (Option ℕ)) (offset : ℕ) (xs : List (Role × ℕ))
-    → option_and_then bound_name_of (find (λ (s : BoundIdentifier). is_on offset (span_at source s.0.1)) (map (bound_by (label_at source ordinals)) xs))
-    ≡ option_and_then (named_so ordinals) (find (λ i. is_on offset (span_at source i)) (names_without_roles xs))
+    → option_and_then bound_name_of (find (λ (s : BoundIdentifier). is_on_span offset (span_at source s.0.1)) (map (bound_by (label_at source ordinals)) xs))
+    ≡ option_and_then (named_so ordinals) (find (λ i. is_on_span offset (span_at source i)) (names_without_roles xs))
 found_named source ordinals offset [] = refl
-found_named source ordinals offset (x ∷ xs) = one (is_on offset (span_at source x.1)) _ _ (found_named source ordinals offset xs)
+found_named source ordinals offset (x ∷ xs) = one (is_on_span offset (span_at source x.1)) _ _ (found_named source ordinals offset xs)
   where
     one : (b : Bool) (found : Option BoundIdentifier) (later : Option ℕ) → option_and_then bound_name_of found ≡ option_and_then (named_so ordinals) later
         → option_and_then bound_name_of (cond b (Some (bound_by (label_at source ordinals) x)) found) ≡ option_and_then (named_so ordinals) (cond b (Some x.1) later)
@@ -141,10 +141,10 @@ found_named source ordinals offset (x ∷ xs) = one (is_on offset (span_at sourc
     one false found later e = e
 
 -- The name at a place is the name at the token of the first identifier there.
-pub name_found : (r : Resolution) (offset : ℕ) → IsResolution r → option_and_then (named_so r.ordinals) (position_from (is_identifier_on offset) 0 r.module_read.source.tokens) ≡ name_on r.module_read offset
+pub name_found : (r : Resolution) (offset : ℕ) → IsResolution r → option_and_then (named_so r.ordinals) (position_from (is_identifier_at_offset offset) 0 r.module_read.source.tokens) ≡ name_at_offset r.module_read offset
 name_found r offset is =
     let m = r.module_read in
     let spans = all_spans [] m.source.tokens in
-    sym (ap (λ xs. option_and_then bound_name_of (find (λ (s : BoundIdentifier). is_on offset (span_at m.source s.0.1)) xs)) (bound_by_table r is)
+    sym (ap (λ xs. option_and_then bound_name_of (find (λ (s : BoundIdentifier). is_on_span offset (span_at m.source s.0.1)) xs)) (bound_by_table r is)
     ∙ (found_named m.source r.ordinals offset (identifiers role.Declaring (tree_of m))
-    ∙ ap (option_and_then (named_so r.ordinals)) (ap (find (λ i. is_on offset (span_at m.source i))) (leaves_parsed m is.parsed) ∙ found_from offset (span_at m.source) 0 m.source.tokens spans)))
+    ∙ ap (option_and_then (named_so r.ordinals)) (ap (find (λ i. is_on_span offset (span_at m.source i))) (leaves_parsed m is.parsed) ∙ found_from offset (span_at m.source) 0 m.source.tokens spans)))

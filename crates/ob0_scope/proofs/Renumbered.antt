@@ -3,11 +3,11 @@
 use Rattle.std.proofs.Common.{◌≡◌, ℕ, suc, ◌+◌, Bool, true, false, not, cond, if◌then◌else◌, Option, Some, None, List, [], ◌∷◌, map, length, replicate, refl, sym, ap, ◌∙◌, option_map, arith}
 use Rattle.std.specs.List.{position_from}
 use Rattle.ob0_tree.specs.ParsedModule.{named_tree_of, tree_of}
-use Rattle.ob0_tree.specs.Places.{text_at, value_at}
-use Rattle.ob0_tree.specs.Tree.{mapped, occurrences}
+use Rattle.ob0_tree.specs.Places.{token_text_at, token_value_at}
+use Rattle.ob0_tree.specs.Tree.{mapped_tree, occurrences}
 use Rattle.ob0_language_names.specs.Names.{Label, Name, naming_by_spelling, as_written}
 use Rattle.ob0_language_names.specs.Occurrences.{bindings, first_difference, label_ordinal, same_binding}
-use Rattle.ob0_scope.specs.Renames.{IsRenumbering, have_same_binding, renamed_writing}
+use Rattle.ob0_scope.specs.Renames.{IsRenumbering, have_same_binding, spellings_after_rename}
 use Rattle.ob0_scope_table.specs.Resolution.{IsResolution, Resolution, binding_at, label_at, ordinal_in, ordinal_and_spelling}
 use Rattle.ob0_language_names.specs.Scopes.{label_from_ordinal, numbered, renamed, same_ordinal}
 use Rattle.ob0_scope_numbering.specs.Marks.{with_marks}
@@ -15,8 +15,8 @@ use Rattle.ob0_scope_numbering.specs.MarkWalk.{WalkState, initial_walk, visit_mo
 use Rattle.ob0_scope_numbering.specs.Written.{spelling_at, spelled_tree}
 use Rattle.ob0_scope_table.proofs.Bound.{bindings_by_table}
 use Rattle.ob0_scope.proofs.FirstCaptures.{same_binding-refl}
-use Rattle.ob0_scope.proofs.Fused.{mapped-mapped, relabel_module-mapped}
-use Rattle.ob0_language_names.proofs.OccurrencesMapped.{occurrences-mapped}
+use Rattle.ob0_scope.proofs.Fused.{mapped_tree-mapped_tree, relabel_module-mapped_tree}
+use Rattle.ob0_language_names.proofs.OccurrencesMapped.{occurrences-mapped_tree}
 use Rattle.ob0_scope_numbering.proofs.Passing.{at_start, module_passed}
 use Rattle.ob0_scope_numbering.proofs.Tables.{marks_in_table}
 
@@ -24,27 +24,27 @@ abbrev new_or : ℕ → Name → Option ℕ × Name → Name
 new_or d new p = if same_ordinal p.0 d then new else p.1
 
 -- The renamed module is the tree with its names as they are spelled.
-pub renamed_spelled : (r : Resolution) (d : ℕ) (new : Name) → IsResolution r → renamed (named_tree_of r.module_read) d new ≡ spelled_tree (renamed_writing r d new) (tree_of r.module_read)
+pub renamed_spelled : (r : Resolution) (d : ℕ) (new : Name) → IsResolution r → renamed (named_tree_of r.module_read) d new ≡ spelled_tree (spellings_after_rename r d new) (tree_of r.module_read)
 renamed_spelled r d new is =
     let m = r.module_read in
-    relabel_module-mapped naming_by_spelling (new_or d new) ordinal_and_spelling (named_tree_of m)
-    ∙ (ap (mapped (new_or d new) (λ n. n)) is.binding ∙ mapped-mapped (new_or d new) (binding_at m.source r.ordinals) (value_at m.source) (tree_of m))
+    relabel_module-mapped_tree naming_by_spelling (new_or d new) ordinal_and_spelling (named_tree_of m)
+    ∙ (ap (mapped_tree (new_or d new) (λ n. n)) is.binding ∙ mapped_tree-mapped_tree (new_or d new) (binding_at m.source r.ordinals) (token_value_at m.source) (tree_of m))
 
-pub renumbered : (r : Resolution) (d : ℕ) (new : Name) (v : WalkState) (ordinals : List (Option ℕ)) → IsResolution r → v ≡ visit_module (tree_of r.module_read) (initial_walk (renamed_writing r d new))
+pub renumbered : (r : Resolution) (d : ℕ) (new : Name) (v : WalkState) (ordinals : List (Option ℕ)) → IsResolution r → v ≡ visit_module (tree_of r.module_read) (initial_walk (spellings_after_rename r d new))
     → ordinals ≡ with_marks (replicate (length r.module_read.source.tokens) None) v.marks → IsRenumbering r d new ordinals
 renumbered r d new v ordinals is gone tabled =
     let m = r.module_read in
-    let w = renamed_writing r d new in
+    let w = spellings_after_rename r d new in
     let passed = module_passed (ordinal_in ordinals) (label_from_ordinal naming_by_spelling) w (tree_of m) (initial_walk w) (at_start w) in
     ap numbered (renamed_spelled r d new is) ∙ (passed.agree (marks_in_table m w v ordinals is.parsed gone tabled)).1
 
 -- The bindings of the renamed module are the table's labels at the occurrences.
 renamed_bindings : (r : Resolution) (d : ℕ) (new : Name) (ordinals : List (Option ℕ)) → IsResolution r → IsRenumbering r d new ordinals
-    → bindings (renamed (named_tree_of r.module_read) d new) ≡ map (λ i. label_from_ordinal naming_by_spelling (ordinal_in ordinals i) (spelling_at (renamed_writing r d new) i)) r.uses
+    → bindings (renamed (named_tree_of r.module_read) d new) ≡ map (λ i. label_from_ordinal naming_by_spelling (ordinal_in ordinals i) (spelling_at (spellings_after_rename r d new) i)) r.uses
 renamed_bindings r d new ordinals is numbering =
     let m = r.module_read in
-    let label : ℕ → Label = λ i. label_from_ordinal naming_by_spelling (ordinal_in ordinals i) (spelling_at (renamed_writing r d new) i) in
-    ap occurrences numbering ∙ (occurrences-mapped label (value_at m.source) (tree_of m) ∙ ap (map label) (sym is.occurring))
+    let label : ℕ → Label = λ i. label_from_ordinal naming_by_spelling (ordinal_in ordinals i) (spelling_at (spellings_after_rename r d new) i) in
+    ap occurrences numbering ∙ (occurrences-mapped_tree label (token_value_at m.source) (tree_of m) ∙ ap (map label) (sym is.occurring))
 
 pub ordinals_back : (written : ℕ → Name) (ordinals : List (Option ℕ)) (is : List ℕ) → map label_ordinal (map (λ i. label_from_ordinal naming_by_spelling (ordinal_in ordinals i) (written i)) is) ≡ map (ordinal_in ordinals) is
 ordinals_back written ordinals [] = refl
@@ -58,7 +58,7 @@ ordinals_back written ordinals (i ∷ is) = λ j. back (ordinal_in ordinals i) (
 pub ordinals_renamed : (r : Resolution) (d : ℕ) (new : Name) (ordinals : List (Option ℕ)) → IsResolution r → IsRenumbering r d new ordinals
     → map (ordinal_in ordinals) r.uses ≡ map label_ordinal (bindings (renamed (named_tree_of r.module_read) d new))
 ordinals_renamed r d new ordinals is numbering =
-    sym (ap (map label_ordinal) (renamed_bindings r d new ordinals is numbering) ∙ ordinals_back (spelling_at (renamed_writing r d new)) ordinals r.uses)
+    sym (ap (map label_ordinal) (renamed_bindings r d new ordinals is numbering) ∙ ordinals_back (spelling_at (spellings_after_rename r d new)) ordinals r.uses)
 
 alike : (d : ℕ) (new x : Name) (o old : Option ℕ) → same_binding (label_from_ordinal naming_by_spelling o (if same_ordinal old d then new else x)) (label_from_ordinal naming_by_spelling old x) ≡ have_same_binding o old
 alike d new x None None = same_binding-refl (as_written x)
@@ -96,5 +96,5 @@ pub first_changed_is : (r : Resolution) (d : ℕ) (new : Name) (ordinals : List 
 first_changed_is r d new ordinals is numbering =
     let m = r.module_read in
     let here = bindings_by_table m r.ordinals is.numbering ∙ ap (map (label_at m.source r.ordinals)) (sym is.occurring) in
-    first_by_index d new (text_at m.source) ordinals r.ordinals 0 r.uses
+    first_by_index d new (token_text_at m.source) ordinals r.ordinals 0 r.uses
     ∙ (onward-zero _ ∙ (λ i. first_difference (sym (renamed_bindings r d new ordinals is numbering) i) (sym here i)))

@@ -15,15 +15,15 @@ use Rattle.ob0_tree.specs.declared.tree.Role.{Role}
 use Rattle.ob0_tree.specs.declared.tree.Role.TheVariants as role
 use Rattle.ob0_tree.specs.Order.{AreIdentifierTokens, names_without_roles}
 use Rattle.ob0_tree.specs.ParsedModule.{ParsedModule, named_tree_of, parsed_module, tree_of}
-use Rattle.ob0_tree.specs.Places.{text_at, token_text_or_empty, value_at}
-use Rattle.ob0_tree.specs.Tree.{Tree, identifiers, mapped, module_text, occurrences}
+use Rattle.ob0_tree.specs.Places.{token_text_at, token_text_or_empty, token_value_at}
+use Rattle.ob0_tree.specs.Tree.{Tree, identifiers, mapped_tree, module_text, occurrences}
 use Rattle.ob0_tree.proofs.Leaves.{leaves_are_identifiers}
 use Rattle.std.proofs.lemmas.Simd.{map-map}
 use Rattle.ob0_scope_table.specs.Bindings.{resolution_with}
 use Rattle.ob0_scope_table.specs.FaultTokens.{AreWrittenAlike, moved_faults}
 use Rattle.ob0_scope_table.proofs.FaultTokens.{names_same}
 use Rattle.ob0_scope_table.proofs.TokenOrder.{faults_move}
-use Rattle.ob0_language_names.specs.DeclaredOnce.{declared_once}
+use Rattle.ob0_language_names.specs.ConsistentNames.{has_consistent_names}
 use Rattle.ob0_scope_table.specs.DeclaredTwice.{declaration_faults}
 use Rattle.ob0_language_names.specs.Names.{Name, naming_by_spelling}
 use Rattle.ob0_scope_table.specs.Resolution.{AreFaultsOf, IsBindingTable, IsNumberingTable, IsResolution, OnlyNamesHaveOrdinals, is_declaration_fault, is_undeclared_fault, ordinal_in, undeclared_faults, undeclared_faults_by_table, ordinal_and_spelling}
@@ -57,7 +57,7 @@ texts a b (t ∷ ts) [] i k n less h = absurd (omega (arith, ap length k))
 texts a b (t ∷ ts) (u ∷ us) zero k n less h = same_text u t (text_in_span b u.span) (text_in_span a t.span) (ap (λ l. get_or l 0 kind.Identifier) k) (h t) (ap (λ l. get_or l 0 []) n)
 texts a b (t ∷ ts) (u ∷ us) (suc i) k n less h = texts a b ts us i (ap (drop 1) k) (ap (drop 1) n) (omega (arith, less)) h
 
-all_texts : (old new : TextWithTokens) → AreNamedAlike old new → (g : ℕ → ℕ) (xs : List (Role × ℕ)) → AreIdentifierTokens old.tokens (names_without_roles xs) → AllAlike (text_at new) (text_at old) g xs
+all_texts : (old new : TextWithTokens) → AreNamedAlike old new → (g : ℕ → ℕ) (xs : List (Role × ℕ)) → AreIdentifierTokens old.tokens (names_without_roles xs) → AllAlike (token_text_at new) (token_text_at old) g xs
 all_texts old new w g [] h = tt
 all_texts old new w g (x ∷ xs) h = (texts old.text new.text old.tokens new.tokens x.1 w.same_kinds w.same_names h.0.0 h.0.1, all_texts old new w g xs h.1)
 
@@ -90,19 +90,19 @@ module _ (old new : TextWithTokens) (tree : ModuleTree) (b : Bindings) (w : AreN
   abbrev read : Tree ℕ module_text
   read = tree_of (parsed_module old tree)
 
-  written_alike : AllAlike (text_at new) (text_at old) (value_at new) (identifiers role.Declaring read)
-  written_alike = all_texts old new w (value_at new) (identifiers role.Declaring read) (leaves_are_identifiers (parsed_module old tree) r.parsed)
+  written_alike : AllAlike (token_text_at new) (token_text_at old) (token_value_at new) (identifiers role.Declaring read)
+  written_alike = all_texts old new w (token_value_at new) (identifiers role.Declaring read) (leaves_are_identifiers (parsed_module old tree) r.parsed)
 
-  same_names : named_tree_of (parsed_module new tree) ≡ mapped (text_at old) (value_at new) read
-  same_names = (alike (text_at new) (text_at old) (value_at new) role.Declaring read).reads written_alike
+  same_names : named_tree_of (parsed_module new tree) ≡ mapped_tree (token_text_at old) (token_value_at new) read
+  same_names = (alike (token_text_at new) (token_text_at old) (token_value_at new) role.Declaring read).reads written_alike
 
-  labelled : {M : Type 0} (label : Labelling Name M) → relabel_module naming_by_spelling label (named_tree_of (parsed_module new tree)) ≡ mapped (λ i. label (ordinal_in b.ordinals.items i) (text_at new i)) (value_at new) read
+  labelled : {M : Type 0} (label : Labelling Name M) → relabel_module naming_by_spelling label (named_tree_of (parsed_module new tree)) ≡ mapped_tree (λ i. label (ordinal_in b.ordinals.items i) (token_text_at new i)) (token_value_at new) read
   labelled {M} label =
       let by : ℕ → Name → M = λ i x. label (ordinal_in b.ordinals.items i) x in
-      let passed = module_passed_with (ordinal_in b.ordinals.items) label (original_spellings old) (value_at new) read (initial_walk (original_spellings old)) (at_start (original_spellings old)) in
+      let passed = module_passed_with (ordinal_in b.ordinals.items) label (original_spellings old) (token_value_at new) read (initial_walk (original_spellings old)) (at_start (original_spellings old)) in
       ap (relabel_module naming_by_spelling label) same_names
       ∙ ((passed.agree (marks_resolved (resolution_with (parsed_module old tree) b) r)).1
-      ∙ (alike (λ i. by i (text_at old i)) (λ i. by i (text_at new i)) (value_at new) role.Declaring read).reads (all_through by (text_at new) (text_at old) (value_at new) (identifiers role.Declaring read) written_alike))
+      ∙ (alike (λ i. by i (token_text_at old i)) (λ i. by i (token_text_at new i)) (token_value_at new) role.Declaring read).reads (all_through by (token_text_at new) (token_text_at old) (token_value_at new) (identifiers role.Declaring read) written_alike))
 
   numbering : IsNumberingTable (parsed_module new tree) b.ordinals.items
   numbering = labelled (label_from_ordinal naming_by_spelling)
@@ -110,7 +110,7 @@ module _ (old new : TextWithTokens) (tree : ModuleTree) (b : Bindings) (w : AreN
   module _ (none : b.faults.items ≡ []) where
     nothing_twice : declaration_faults (parsed_module new tree) ≡ []
     nothing_twice =
-        let once : declared_once (named_tree_of (parsed_module new tree)) ≡ declared_once (named_tree_of (parsed_module old tree)) = ap declared_once same_names ∙ once_with old (value_at new) (value_at old) read in
+        let once : has_consistent_names (named_tree_of (parsed_module new tree)) ≡ has_consistent_names (named_tree_of (parsed_module old tree)) = ap has_consistent_names same_names ∙ once_with old (token_value_at new) (token_value_at old) read in
         none_reported (declaration_faults (parsed_module new tree))
         (twice_where (parsed_module new tree) ∙ (ap not once ∙ (sym r.reported.declared_twice ∙ ap (list_any is_declaration_fault) none)))
         (twice_alone (parsed_module new tree))
@@ -129,7 +129,7 @@ bindings_depend_on_names old new tree b w parsed r none = record {
   parsed = parsed;
   numbering = numbering old new tree b w r;
   binding = labelled old new tree b w r ordinal_and_spelling;
-  names_alone = r.names_alone;
+  ordinals_only_at_names = r.ordinals_only_at_names;
   declaring = r.declaring;
   occurring = r.occurring;
   reported = nothing_at_fault old new tree b w r none;
@@ -169,7 +169,7 @@ bindings_move_with_tokens old new tree b c w parsed r m = record {
   parsed = parsed;
   numbering = subst (IsNumberingTable (parsed_module new tree)) (sym m.ordinals) (numbered_alike old new tree b c w r m);
   binding = subst (IsBindingTable (parsed_module new tree)) (sym m.ordinals) (labelled old new tree b (named_alike old new w) r ordinal_and_spelling);
-  names_alone = subst (OnlyNamesHaveOrdinals (parsed_module new tree)) (sym m.ordinals) r.names_alone;
+  ordinals_only_at_names = subst (OnlyNamesHaveOrdinals (parsed_module new tree)) (sym m.ordinals) r.ordinals_only_at_names;
   declaring = m.declarations ∙ r.declaring;
   occurring = m.occurrences ∙ r.occurring;
   reported = faults_moved old new tree b c w r m;

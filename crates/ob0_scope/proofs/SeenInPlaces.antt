@@ -14,8 +14,8 @@ use Rattle.ob0_tree.specs.declared.tree.Role.{Role}
 use Rattle.ob0_tree.specs.declared.tree.Role.TheVariants as role
 use Rattle.ob0_tree.specs.Order.{AreAscending, names_without_roles}
 use Rattle.ob0_tree.specs.ParsedModule.{named_tree_of, tree_of}
-use Rattle.ob0_tree.specs.Places.{text_at, value_at}
-use Rattle.ob0_tree.specs.Tree.{Sort, Tree, mapped, occurrences, identifiers, block, constant, constants, declares, declares_constant, declares_constants, declares_procedure, declares_type, declares_types, declares_variable, declares_variables, end, formals, further_name, further_section, has_body, is_module, item, items, listed, maybe, module_text, more, names, no_formals, none, one, procedure, section, some_formals, then_name, then_section, type_name, type_names, value_section, variable, variable_section, variables}
+use Rattle.ob0_tree.specs.Places.{token_text_at, token_value_at}
+use Rattle.ob0_tree.specs.Tree.{Sort, Tree, mapped_tree, occurrences, identifiers, block, constant, constants, declares, declares_constant, declares_constants, declares_procedure, declares_type, declares_types, declares_variable, declares_variables, end, formals, further_name, further_section, forms_block, is_module, item, items, listed, maybe, module_text, more, names, no_formals, none, one, procedure, section, some_formals, then_name, then_section, type_definition, type_definitions, value_section, variable, variable_section, variables}
 use Rattle.ob0_language_names.specs.Names.{Label, Name, Naming, naming_by_spelling, same_name}
 use Rattle.ob0_language_names.specs.Occurrences.{label_ordinal}
 use Rattle.ob0_language_names.specs.Parts.{constant_names, formal_names, formal_sections, further_names, declared_type_names, names_in_list, procedure_name, section_constants, section_names, section_types, section_variables, variable_names}
@@ -26,9 +26,9 @@ use Rattle.ob0_scope_numbering.specs.Marks.{zero_mark_at}
 use Rattle.ob0_scope_numbering.specs.Marks.{with_marks}
 use Rattle.ob0_scope_numbering.specs.MarkWalk.{WalkState, initial_walk, visit_module}
 use Rattle.ob0_scope_numbering.specs.Written.{Spellings, spelling_at}
-use Rattle.ob0_scope.proofs.Fused.{relabel_module-mapped}
+use Rattle.ob0_scope.proofs.Fused.{relabel_module-mapped_tree}
 use Rattle.ob0_language_names.proofs.OccurrenceNames.{occurrences-map_names}
-use Rattle.ob0_language_names.proofs.OccurrencesMapped.{occurrences-mapped}
+use Rattle.ob0_language_names.proofs.OccurrencesMapped.{occurrences-mapped_tree}
 use Rattle.ob0_scope_numbering.proofs.Passing.{at_start, module_passed, tokens_of}
 use Rattle.ob0_scope_numbering.proofs.Tables.{kept_below, marks_in_table}
 
@@ -76,70 +76,70 @@ module _ (y : Name) (f h : ℕ → Name) (g : ℕ → ℕ) where
   names_alike scope (i ∷ is) a = λ j. (ap (ordinal_of naming_by_spelling scope) a.0 ∙ looked y scope (h i)) j ∷ names_alike scope is a.1 j
 
   uses_alike : {s : Sort} (r : Role) → ((n : ℕ) (xs : List (Role × ℕ)) → looked_up_only ((r, n) ∷ xs) ≡ looked_up_only xs) → (scope : Scope Name) (t : Tree ℕ s) → AllSought y f h (identifiers r t)
-      → occurrences (relabel_uses naming_by_spelling forget scope (mapped f g t)) ≡ occurrences (relabel_uses (lookup_naming y) forget scope (mapped h g t))
+      → occurrences (relabel_uses naming_by_spelling forget scope (mapped_tree f g t)) ≡ occurrences (relabel_uses (lookup_naming y) forget scope (mapped_tree h g t))
   uses_alike r other scope t a =
       let written = subst (AllWritten y f) (looked_up-occurrences r other t) (looked_up-written y f h (identifiers r t) a) in
-      occurrences-map_names (label_of naming_by_spelling forget scope) (forget None) (mapped f g t)
-      ∙ (ap (map (label_of naming_by_spelling forget scope)) (occurrences-mapped f g t)
+      occurrences-map_names (label_of naming_by_spelling forget scope) (forget None) (mapped_tree f g t)
+      ∙ (ap (map (label_of naming_by_spelling forget scope)) (occurrences-mapped_tree f g t)
       ∙ (names_alike scope (occurrences t) written
-      ∙ (sym (ap (map (label_of (lookup_naming y) forget scope)) (occurrences-mapped h g t))
-      ∙ sym (occurrences-map_names (label_of (lookup_naming y) forget scope) (forget None) (mapped h g t)))))
+      ∙ (sym (ap (map (label_of (lookup_naming y) forget scope)) (occurrences-mapped_tree h g t))
+      ∙ sym (occurrences-map_names (label_of (lookup_naming y) forget scope) (forget None) (mapped_tree h g t)))))
 
   part_alike : {s : Sort} (scope : Scope Name) (t : Tree ℕ s) → AllSought y f h (identifiers role.Declaring t)
-      → occurrences (relabel_uses naming_by_spelling forget scope (mapped f g t)) ≡ occurrences (relabel_uses (lookup_naming y) forget scope (mapped h g t))
+      → occurrences (relabel_uses naming_by_spelling forget scope (mapped_tree f g t)) ≡ occurrences (relabel_uses (lookup_naming y) forget scope (mapped_tree h g t))
   part_alike scope t a = uses_alike role.Declaring (λ n xs. refl) scope t a
 
   -- The declared names are the names of the text.
-  further_same : (ns : Tree ℕ (items further_name)) → AllSought y f h (identifiers role.Declaring ns) → further_names (mapped f g ns) ≡ further_names (mapped h g ns)
+  further_same : (ns : Tree ℕ (items further_name)) → AllSought y f h (identifiers role.Declaring ns) → further_names (mapped_tree f g ns) ≡ further_names (mapped_tree h g ns)
   further_same end a = refl
   further_same (more (then_name x) rest) a = λ i. a.0 i ∷ further_same rest a.1 i
 
-  names_same : (ns : Tree ℕ names) → AllSought y f h (identifiers role.Declaring ns) → names_in_list (mapped f g ns) ≡ names_in_list (mapped h g ns)
+  names_same : (ns : Tree ℕ names) → AllSought y f h (identifiers role.Declaring ns) → names_in_list (mapped_tree f g ns) ≡ names_in_list (mapped_tree h g ns)
   names_same (listed x rest) a = λ i. a.0 i ∷ further_same rest a.1 i
 
-  constants_same : (cs : Tree ℕ (items constant)) → AllSought y f h (identifiers role.Declaring cs) → constant_names (mapped f g cs) ≡ constant_names (mapped h g cs)
+  constants_same : (cs : Tree ℕ (items constant)) → AllSought y f h (identifiers role.Declaring cs) → constant_names (mapped_tree f g cs) ≡ constant_names (mapped_tree h g cs)
   constants_same end a = refl
   constants_same (more (declares_constant x e) cs) a =
       let b = split y f h ((role.Declaring, x) ∷ identifiers role.Declaring e) (identifiers role.Declaring cs) a in
       λ i. b.0.0 i ∷ constants_same cs b.1 i
 
-  types_same : (ts : Tree ℕ (items type_name)) → AllSought y f h (identifiers role.Declaring ts) → declared_type_names (mapped f g ts) ≡ declared_type_names (mapped h g ts)
+  types_same : (ts : Tree ℕ (items type_definition)) → AllSought y f h (identifiers role.Declaring ts) → declared_type_names (mapped_tree f g ts) ≡ declared_type_names (mapped_tree h g ts)
   types_same end a = refl
   types_same (more (declares_type x t) ts) a =
       let b = split y f h ((role.Declaring, x) ∷ identifiers role.Declaring t) (identifiers role.Declaring ts) a in
       λ i. b.0.0 i ∷ types_same ts b.1 i
 
-  variables_same : (gs : Tree ℕ (items variable)) → AllSought y f h (identifiers role.Declaring gs) → variable_names (mapped f g gs) ≡ variable_names (mapped h g gs)
+  variables_same : (gs : Tree ℕ (items variable)) → AllSought y f h (identifiers role.Declaring gs) → variable_names (mapped_tree f g gs) ≡ variable_names (mapped_tree h g gs)
   variables_same end a = refl
   variables_same (more (declares_variable ns t) gs) a =
       let b = split y f h (identifiers role.Declaring ns ++ identifiers role.Declaring t) (identifiers role.Declaring gs) a in
       let c = split y f h (identifiers role.Declaring ns) (identifiers role.Declaring t) b.0 in
       λ i. names_same ns c.0 i ++ variables_same gs b.1 i
 
-  section_same : (s : Tree ℕ section) → AllSought y f h (identifiers role.Declaring s) → section_names (mapped f g s) ≡ section_names (mapped h g s)
+  section_same : (s : Tree ℕ section) → AllSought y f h (identifiers role.Declaring s) → section_names (mapped_tree f g s) ≡ section_names (mapped_tree h g s)
   section_same (value_section ns t) a = names_same ns (split y f h (identifiers role.Declaring ns) (identifiers role.Declaring t) a).0
   section_same (variable_section ns t) a = names_same ns (split y f h (identifiers role.Declaring ns) (identifiers role.Declaring t) a).0
 
-  sections_same : (fs : Tree ℕ (items further_section)) → AllSought y f h (identifiers role.Declaring fs) → formal_names (mapped f g fs) ≡ formal_names (mapped h g fs)
+  sections_same : (fs : Tree ℕ (items further_section)) → AllSought y f h (identifiers role.Declaring fs) → formal_names (mapped_tree f g fs) ≡ formal_names (mapped_tree h g fs)
   sections_same end a = refl
   sections_same (more (then_section s) fs) a =
       let b = split y f h (identifiers role.Declaring s) (identifiers role.Declaring fs) a in
       λ i. section_same s b.0 i ++ sections_same fs b.1 i
 
-  formals_same : (fs : Tree ℕ (maybe formals)) → AllSought y f h (identifiers role.Declaring fs) → formal_names (formal_sections (mapped f g fs)) ≡ formal_names (formal_sections (mapped h g fs))
+  formals_same : (fs : Tree ℕ (maybe formals)) → AllSought y f h (identifiers role.Declaring fs) → formal_names (formal_sections (mapped_tree f g fs)) ≡ formal_names (formal_sections (mapped_tree h g fs))
   formals_same none a = refl
   formals_same (one no_formals) a = refl
   formals_same (one (some_formals s fs)) a = sections_same (more (then_section s) fs) a
 
-  constant_section_same : (cs : Tree ℕ (maybe constants)) → AllSought y f h (identifiers role.Declaring cs) → constant_names (section_constants (mapped f g cs)) ≡ constant_names (section_constants (mapped h g cs))
+  constant_section_same : (cs : Tree ℕ (maybe constants)) → AllSought y f h (identifiers role.Declaring cs) → constant_names (section_constants (mapped_tree f g cs)) ≡ constant_names (section_constants (mapped_tree h g cs))
   constant_section_same none a = refl
   constant_section_same (one (declares_constants cs)) a = constants_same cs a
 
-  type_section_same : (ts : Tree ℕ (maybe type_names)) → AllSought y f h (identifiers role.Declaring ts) → declared_type_names (section_types (mapped f g ts)) ≡ declared_type_names (section_types (mapped h g ts))
+  type_section_same : (ts : Tree ℕ (maybe type_definitions)) → AllSought y f h (identifiers role.Declaring ts) → declared_type_names (section_types (mapped_tree f g ts)) ≡ declared_type_names (section_types (mapped_tree h g ts))
   type_section_same none a = refl
   type_section_same (one (declares_types ts)) a = types_same ts a
 
-  variable_section_same : (vs : Tree ℕ (maybe variables)) → AllSought y f h (identifiers role.Declaring vs) → variable_names (section_variables (mapped f g vs)) ≡ variable_names (section_variables (mapped h g vs))
+  variable_section_same : (vs : Tree ℕ (maybe variables)) → AllSought y f h (identifiers role.Declaring vs) → variable_names (section_variables (mapped_tree f g vs)) ≡ variable_names (section_variables (mapped_tree h g vs))
   variable_section_same none a = refl
   variable_section_same (one (declares_variables vs)) a = variables_same vs a
 
@@ -171,126 +171,126 @@ module _ (y : Name) (f h : ℕ → Name) (g : ℕ → ℕ) where
       record { name_is = a.0; formals_are = c.0; block_is = d.0 }
 
   mutual
-    after_block_same : (k : ℕ) (b : Tree ℕ block) → AllSought y f h (identifiers role.Declaring b) → ordinal_after_block k (mapped f g b) ≡ ordinal_after_block k (mapped h g b)
-    after_block_same k (has_body (declares cs ts vs ps) statements) a =
+    after_block_same : (k : ℕ) (b : Tree ℕ block) → AllSought y f h (identifiers role.Declaring b) → ordinal_after_block k (mapped_tree f g b) ≡ ordinal_after_block k (mapped_tree h g b)
+    after_block_same k (forms_block (declares cs ts vs ps) statements) a =
         let o = of_block (identifiers role.Declaring cs) (identifiers role.Declaring ts) (identifiers role.Declaring vs) (identifiers role.Declaring ps) (identifiers role.Declaring statements) a in
-        ap (λ n. ordinal_after_procedures n (mapped f g ps))
+        ap (λ n. ordinal_after_procedures n (mapped_tree f g ps))
         (λ i. ordinal_after_names (ordinal_after_names (ordinal_after_names k (constant_section_same cs o.constants_are i)) (type_section_same ts o.types_are i)) (variable_section_same vs o.variables_are i))
         ∙ after_procedures_same _ ps o.procedures_are
 
-    after_procedures_same : (k : ℕ) (ps : Tree ℕ (items procedure)) → AllSought y f h (identifiers role.Declaring ps) → ordinal_after_procedures k (mapped f g ps) ≡ ordinal_after_procedures k (mapped h g ps)
+    after_procedures_same : (k : ℕ) (ps : Tree ℕ (items procedure)) → AllSought y f h (identifiers role.Declaring ps) → ordinal_after_procedures k (mapped_tree f g ps) ≡ ordinal_after_procedures k (mapped_tree h g ps)
     after_procedures_same k end a = refl
     after_procedures_same k (more p rest) a =
         let b = split y f h (identifiers role.Declaring p) (identifiers role.Declaring rest) a in
-        ap (λ n. ordinal_after_procedures n (mapped f g rest)) (after_procedure_same (suc k) p b.0) ∙ after_procedures_same _ rest b.1
+        ap (λ n. ordinal_after_procedures n (mapped_tree f g rest)) (after_procedure_same (suc k) p b.0) ∙ after_procedures_same _ rest b.1
 
-    after_procedure_same : (k : ℕ) (p : Tree ℕ (item procedure)) → AllSought y f h (identifiers role.Declaring p) → ordinal_after_procedure k (mapped f g p) ≡ ordinal_after_procedure k (mapped h g p)
+    after_procedure_same : (k : ℕ) (p : Tree ℕ (item procedure)) → AllSought y f h (identifiers role.Declaring p) → ordinal_after_procedure k (mapped_tree f g p) ≡ ordinal_after_procedure k (mapped_tree h g p)
     after_procedure_same k (declares_procedure x fs b closing) a =
         let o = of_procedure x closing (identifiers role.Declaring fs) (identifiers role.Declaring b) a in
-        ap (λ xs. ordinal_after_block (ordinal_after_names k xs) (mapped f g b)) (formals_same fs o.formals_are) ∙ after_block_same _ b o.block_is
+        ap (λ xs. ordinal_after_block (ordinal_after_names k xs) (mapped_tree f g b)) (formals_same fs o.formals_are) ∙ after_block_same _ b o.block_is
 
-  procedure_same : (p : Tree ℕ (item procedure)) → AllSought y f h (identifiers role.Declaring p) → procedure_name (mapped f g p) ≡ procedure_name (mapped h g p)
+  procedure_same : (p : Tree ℕ (item procedure)) → AllSought y f h (identifiers role.Declaring p) → procedure_name (mapped_tree f g p) ≡ procedure_name (mapped_tree h g p)
   procedure_same (declares_procedure x fs b closing) a = a.0
 
-  procedures_declared : (k : ℕ) (ps : Tree ℕ (items procedure)) (scope : Scope Name) → AllSought y f h (identifiers role.Declaring ps) → declare_procedure_names k (mapped f g ps) scope ≡ declare_procedure_names k (mapped h g ps) scope
+  procedures_declared : (k : ℕ) (ps : Tree ℕ (items procedure)) (scope : Scope Name) → AllSought y f h (identifiers role.Declaring ps) → declare_procedure_names k (mapped_tree f g ps) scope ≡ declare_procedure_names k (mapped_tree h g ps) scope
   procedures_declared k end scope a = refl
   procedures_declared k (more p rest) scope a =
       let b = split y f h (identifiers role.Declaring p) (identifiers role.Declaring rest) a in
-      (λ i. declare_procedure_names (after_procedure_same (suc k) p b.0 i) (mapped f g rest) ((procedure_same p b.0 i, k) ∷ scope))
-      ∙ procedures_declared (ordinal_after_procedure (suc k) (mapped h g p)) rest ((procedure_name (mapped h g p), k) ∷ scope) b.1
+      (λ i. declare_procedure_names (after_procedure_same (suc k) p b.0 i) (mapped_tree f g rest) ((procedure_same p b.0 i, k) ∷ scope))
+      ∙ procedures_declared (ordinal_after_procedure (suc k) (mapped_tree h g p)) rest ((procedure_name (mapped_tree h g p), k) ∷ scope) b.1
 
   -- Each occurrence of a part has the same ordinal in both.
   constants_alike : (scope : Scope Name) (k : ℕ) (cs : Tree ℕ (items constant)) → AllSought y f h (identifiers role.Declaring cs)
-      → occurrences (relabel_constants naming_by_spelling forget scope k (mapped f g cs)) ≡ occurrences (relabel_constants (lookup_naming y) forget scope k (mapped h g cs))
+      → occurrences (relabel_constants naming_by_spelling forget scope k (mapped_tree f g cs)) ≡ occurrences (relabel_constants (lookup_naming y) forget scope k (mapped_tree h g cs))
   constants_alike scope k end a = refl
   constants_alike scope k (more (declares_constant x e) cs) a =
       let b = split y f h ((role.Declaring, x) ∷ identifiers role.Declaring e) (identifiers role.Declaring cs) a in
-      λ i. part_alike scope e b.0.1 i ++ (ap (λ z. occurrences (relabel_constants naming_by_spelling forget ((z, k) ∷ scope) (suc k) (mapped f g cs))) b.0.0 ∙ constants_alike ((h x, k) ∷ scope) (suc k) cs b.1) i
+      λ i. part_alike scope e b.0.1 i ++ (ap (λ z. occurrences (relabel_constants naming_by_spelling forget ((z, k) ∷ scope) (suc k) (mapped_tree f g cs))) b.0.0 ∙ constants_alike ((h x, k) ∷ scope) (suc k) cs b.1) i
 
-  types_alike : (scope : Scope Name) (k : ℕ) (ts : Tree ℕ (items type_name)) → AllSought y f h (identifiers role.Declaring ts)
-      → occurrences (relabel_types naming_by_spelling forget scope k (mapped f g ts)) ≡ occurrences (relabel_types (lookup_naming y) forget scope k (mapped h g ts))
+  types_alike : (scope : Scope Name) (k : ℕ) (ts : Tree ℕ (items type_definition)) → AllSought y f h (identifiers role.Declaring ts)
+      → occurrences (relabel_types naming_by_spelling forget scope k (mapped_tree f g ts)) ≡ occurrences (relabel_types (lookup_naming y) forget scope k (mapped_tree h g ts))
   types_alike scope k end a = refl
   types_alike scope k (more (declares_type x t) ts) a =
       let b = split y f h ((role.Declaring, x) ∷ identifiers role.Declaring t) (identifiers role.Declaring ts) a in
-      λ i. part_alike scope t b.0.1 i ++ (ap (λ z. occurrences (relabel_types naming_by_spelling forget ((z, k) ∷ scope) (suc k) (mapped f g ts))) b.0.0 ∙ types_alike ((h x, k) ∷ scope) (suc k) ts b.1) i
+      λ i. part_alike scope t b.0.1 i ++ (ap (λ z. occurrences (relabel_types naming_by_spelling forget ((z, k) ∷ scope) (suc k) (mapped_tree f g ts))) b.0.0 ∙ types_alike ((h x, k) ∷ scope) (suc k) ts b.1) i
 
   variables_alike : (scope : Scope Name) (k : ℕ) (gs : Tree ℕ (items variable)) → AllSought y f h (identifiers role.Declaring gs)
-      → occurrences (relabel_variables naming_by_spelling forget scope k (mapped f g gs)) ≡ occurrences (relabel_variables (lookup_naming y) forget scope k (mapped h g gs))
+      → occurrences (relabel_variables naming_by_spelling forget scope k (mapped_tree f g gs)) ≡ occurrences (relabel_variables (lookup_naming y) forget scope k (mapped_tree h g gs))
   variables_alike scope k end a = refl
   variables_alike scope k (more (declares_variable ns t) gs) a =
       let b = split y f h (identifiers role.Declaring ns ++ identifiers role.Declaring t) (identifiers role.Declaring gs) a in
       let c = split y f h (identifiers role.Declaring ns) (identifiers role.Declaring t) b.0 in
       λ i. part_alike scope t c.1 i
-      ++ (ap (λ xs. occurrences (relabel_variables naming_by_spelling forget (declare_names k xs scope) (ordinal_after_names k xs) (mapped f g gs))) (names_same ns c.0) ∙ variables_alike (declare_names k (names_in_list (mapped h g ns)) scope) (ordinal_after_names k (names_in_list (mapped h g ns))) gs b.1) i
+      ++ (ap (λ xs. occurrences (relabel_variables naming_by_spelling forget (declare_names k xs scope) (ordinal_after_names k xs) (mapped_tree f g gs))) (names_same ns c.0) ∙ variables_alike (declare_names k (names_in_list (mapped_tree h g ns)) scope) (ordinal_after_names k (names_in_list (mapped_tree h g ns))) gs b.1) i
 
   section_alike : (scope : Scope Name) (k : ℕ) (s : Tree ℕ section) → AllSought y f h (identifiers role.Declaring s)
-      → occurrences (relabel_section naming_by_spelling forget scope k (mapped f g s)) ≡ occurrences (relabel_section (lookup_naming y) forget scope k (mapped h g s))
+      → occurrences (relabel_section naming_by_spelling forget scope k (mapped_tree f g s)) ≡ occurrences (relabel_section (lookup_naming y) forget scope k (mapped_tree h g s))
   section_alike scope k (value_section ns t) a = part_alike scope t (split y f h (identifiers role.Declaring ns) (identifiers role.Declaring t) a).1
   section_alike scope k (variable_section ns t) a = part_alike scope t (split y f h (identifiers role.Declaring ns) (identifiers role.Declaring t) a).1
 
   sections_alike : (scope : Scope Name) (k : ℕ) (fs : Tree ℕ (items further_section)) → AllSought y f h (identifiers role.Declaring fs)
-      → occurrences (relabel_sections naming_by_spelling forget scope k (mapped f g fs)) ≡ occurrences (relabel_sections (lookup_naming y) forget scope k (mapped h g fs))
+      → occurrences (relabel_sections naming_by_spelling forget scope k (mapped_tree f g fs)) ≡ occurrences (relabel_sections (lookup_naming y) forget scope k (mapped_tree h g fs))
   sections_alike scope k end a = refl
   sections_alike scope k (more (then_section s) fs) a =
       let b = split y f h (identifiers role.Declaring s) (identifiers role.Declaring fs) a in
       λ i. section_alike scope k s b.0 i
-      ++ (ap (λ xs. occurrences (relabel_sections naming_by_spelling forget (declare_names k xs scope) (ordinal_after_names k xs) (mapped f g fs))) (section_same s b.0) ∙ sections_alike (declare_names k (section_names (mapped h g s)) scope) (ordinal_after_names k (section_names (mapped h g s))) fs b.1) i
+      ++ (ap (λ xs. occurrences (relabel_sections naming_by_spelling forget (declare_names k xs scope) (ordinal_after_names k xs) (mapped_tree f g fs))) (section_same s b.0) ∙ sections_alike (declare_names k (section_names (mapped_tree h g s)) scope) (ordinal_after_names k (section_names (mapped_tree h g s))) fs b.1) i
 
   formals_alike : (scope : Scope Name) (k : ℕ) (fs : Tree ℕ (maybe formals)) → AllSought y f h (identifiers role.Declaring fs)
-      → occurrences (relabel_formals naming_by_spelling forget scope k (mapped f g fs)) ≡ occurrences (relabel_formals (lookup_naming y) forget scope k (mapped h g fs))
+      → occurrences (relabel_formals naming_by_spelling forget scope k (mapped_tree f g fs)) ≡ occurrences (relabel_formals (lookup_naming y) forget scope k (mapped_tree h g fs))
   formals_alike scope k none a = refl
   formals_alike scope k (one no_formals) a = refl
   formals_alike scope k (one (some_formals s fs)) a = sections_alike scope k (more (then_section s) fs) a
 
   constant_section_alike : (scope : Scope Name) (k : ℕ) (cs : Tree ℕ (maybe constants)) → AllSought y f h (identifiers role.Declaring cs)
-      → occurrences (relabel_constant_section naming_by_spelling forget scope k (mapped f g cs)) ≡ occurrences (relabel_constant_section (lookup_naming y) forget scope k (mapped h g cs))
+      → occurrences (relabel_constant_section naming_by_spelling forget scope k (mapped_tree f g cs)) ≡ occurrences (relabel_constant_section (lookup_naming y) forget scope k (mapped_tree h g cs))
   constant_section_alike scope k none a = refl
   constant_section_alike scope k (one (declares_constants cs)) a = constants_alike scope k cs a
 
-  type_section_alike : (scope : Scope Name) (k : ℕ) (ts : Tree ℕ (maybe type_names)) → AllSought y f h (identifiers role.Declaring ts)
-      → occurrences (relabel_type_section naming_by_spelling forget scope k (mapped f g ts)) ≡ occurrences (relabel_type_section (lookup_naming y) forget scope k (mapped h g ts))
+  type_section_alike : (scope : Scope Name) (k : ℕ) (ts : Tree ℕ (maybe type_definitions)) → AllSought y f h (identifiers role.Declaring ts)
+      → occurrences (relabel_type_section naming_by_spelling forget scope k (mapped_tree f g ts)) ≡ occurrences (relabel_type_section (lookup_naming y) forget scope k (mapped_tree h g ts))
   type_section_alike scope k none a = refl
   type_section_alike scope k (one (declares_types ts)) a = types_alike scope k ts a
 
   variable_section_alike : (scope : Scope Name) (k : ℕ) (vs : Tree ℕ (maybe variables)) → AllSought y f h (identifiers role.Declaring vs)
-      → occurrences (relabel_variable_section naming_by_spelling forget scope k (mapped f g vs)) ≡ occurrences (relabel_variable_section (lookup_naming y) forget scope k (mapped h g vs))
+      → occurrences (relabel_variable_section naming_by_spelling forget scope k (mapped_tree f g vs)) ≡ occurrences (relabel_variable_section (lookup_naming y) forget scope k (mapped_tree h g vs))
   variable_section_alike scope k none a = refl
   variable_section_alike scope k (one (declares_variables vs)) a = variables_alike scope k vs a
 
   mutual
     block_alike : (scope : Scope Name) (k : ℕ) (b : Tree ℕ block) → AllSought y f h (identifiers role.Declaring b)
-        → occurrences (relabel_block naming_by_spelling forget scope k (mapped f g b)) ≡ occurrences (relabel_block (lookup_naming y) forget scope k (mapped h g b))
-    block_alike scope k (has_body (declares cs ts vs ps) statements) a =
+        → occurrences (relabel_block naming_by_spelling forget scope k (mapped_tree f g b)) ≡ occurrences (relabel_block (lookup_naming y) forget scope k (mapped_tree h g b))
+    block_alike scope k (forms_block (declares cs ts vs ps) statements) a =
         let o = of_block (identifiers role.Declaring cs) (identifiers role.Declaring ts) (identifiers role.Declaring vs) (identifiers role.Declaring ps) (identifiers role.Declaring statements) a in
         let xs = constant_section_same cs o.constants_are in
         let ys = type_section_same ts o.types_are in
         let zs = variable_section_same vs o.variables_are in
         λ i.
         (constant_section_alike scope k cs o.constants_are i
-        ++ ((ap (λ l. occurrences (relabel_type_section naming_by_spelling forget (declare_names k l scope) (ordinal_after_names k l) (mapped f g ts))) xs ∙ type_section_alike _ _ ts o.types_are) i
-        ++ (((λ j. occurrences (relabel_variable_section naming_by_spelling forget (declare_names (ordinal_after_names k (xs j)) (ys j) (declare_names k (xs j) scope)) (ordinal_after_names (ordinal_after_names k (xs j)) (ys j)) (mapped f g vs))) ∙ variable_section_alike _ _ vs o.variables_are) i
-        ++ ((λ j. occurrences (relabel_procedures naming_by_spelling forget (declare_names (ordinal_after_names (ordinal_after_names k (xs j)) (ys j)) (zs j) (declare_names (ordinal_after_names k (xs j)) (ys j) (declare_names k (xs j) scope))) (ordinal_after_names (ordinal_after_names (ordinal_after_names k (xs j)) (ys j)) (zs j)) (mapped f g ps)))
+        ++ ((ap (λ l. occurrences (relabel_type_section naming_by_spelling forget (declare_names k l scope) (ordinal_after_names k l) (mapped_tree f g ts))) xs ∙ type_section_alike _ _ ts o.types_are) i
+        ++ (((λ j. occurrences (relabel_variable_section naming_by_spelling forget (declare_names (ordinal_after_names k (xs j)) (ys j) (declare_names k (xs j) scope)) (ordinal_after_names (ordinal_after_names k (xs j)) (ys j)) (mapped_tree f g vs))) ∙ variable_section_alike _ _ vs o.variables_are) i
+        ++ ((λ j. occurrences (relabel_procedures naming_by_spelling forget (declare_names (ordinal_after_names (ordinal_after_names k (xs j)) (ys j)) (zs j) (declare_names (ordinal_after_names k (xs j)) (ys j) (declare_names k (xs j) scope))) (ordinal_after_names (ordinal_after_names (ordinal_after_names k (xs j)) (ys j)) (zs j)) (mapped_tree f g ps)))
         ∙ procedures_alike _ _ ps o.procedures_are) i)))
-        ++ ((λ j. occurrences (relabel_uses naming_by_spelling forget (declare_procedure_names (ordinal_after_names (ordinal_after_names (ordinal_after_names k (xs j)) (ys j)) (zs j)) (mapped f g ps) (declare_names (ordinal_after_names (ordinal_after_names k (xs j)) (ys j)) (zs j) (declare_names (ordinal_after_names k (xs j)) (ys j) (declare_names k (xs j) scope)))) (mapped f g statements)))
-        ∙ (ap (λ sc. occurrences (relabel_uses naming_by_spelling forget sc (mapped f g statements))) (procedures_declared _ ps _ o.procedures_are) ∙ part_alike _ statements o.statements_are)) i
+        ++ ((λ j. occurrences (relabel_uses naming_by_spelling forget (declare_procedure_names (ordinal_after_names (ordinal_after_names (ordinal_after_names k (xs j)) (ys j)) (zs j)) (mapped_tree f g ps) (declare_names (ordinal_after_names (ordinal_after_names k (xs j)) (ys j)) (zs j) (declare_names (ordinal_after_names k (xs j)) (ys j) (declare_names k (xs j) scope)))) (mapped_tree f g statements)))
+        ∙ (ap (λ sc. occurrences (relabel_uses naming_by_spelling forget sc (mapped_tree f g statements))) (procedures_declared _ ps _ o.procedures_are) ∙ part_alike _ statements o.statements_are)) i
 
     procedures_alike : (scope : Scope Name) (k : ℕ) (ps : Tree ℕ (items procedure)) → AllSought y f h (identifiers role.Declaring ps)
-        → occurrences (relabel_procedures naming_by_spelling forget scope k (mapped f g ps)) ≡ occurrences (relabel_procedures (lookup_naming y) forget scope k (mapped h g ps))
+        → occurrences (relabel_procedures naming_by_spelling forget scope k (mapped_tree f g ps)) ≡ occurrences (relabel_procedures (lookup_naming y) forget scope k (mapped_tree h g ps))
     procedures_alike scope k end a = refl
     procedures_alike scope k (more p rest) a =
         let b = split y f h (identifiers role.Declaring p) (identifiers role.Declaring rest) a in
         λ i. procedure_alike scope k p b.0 i
-        ++ ((λ j. occurrences (relabel_procedures naming_by_spelling forget ((procedure_same p b.0 j, k) ∷ scope) (after_procedure_same (suc k) p b.0 j) (mapped f g rest))) ∙ procedures_alike ((procedure_name (mapped h g p), k) ∷ scope) (ordinal_after_procedure (suc k) (mapped h g p)) rest b.1) i
+        ++ ((λ j. occurrences (relabel_procedures naming_by_spelling forget ((procedure_same p b.0 j, k) ∷ scope) (after_procedure_same (suc k) p b.0 j) (mapped_tree f g rest))) ∙ procedures_alike ((procedure_name (mapped_tree h g p), k) ∷ scope) (ordinal_after_procedure (suc k) (mapped_tree h g p)) rest b.1) i
 
     procedure_alike : (scope : Scope Name) (k : ℕ) (p : Tree ℕ (item procedure)) → AllSought y f h (identifiers role.Declaring p)
-        → occurrences (relabel_procedure naming_by_spelling forget scope k (mapped f g p)) ≡ occurrences (relabel_procedure (lookup_naming y) forget scope k (mapped h g p))
+        → occurrences (relabel_procedure naming_by_spelling forget scope k (mapped_tree f g p)) ≡ occurrences (relabel_procedure (lookup_naming y) forget scope k (mapped_tree h g p))
     procedure_alike scope k (declares_procedure x fs b closing) a =
         let o = of_procedure x closing (identifiers role.Declaring fs) (identifiers role.Declaring b) a in
         let xs = formals_same fs o.formals_are in
         λ i. formals_alike scope (suc k) fs o.formals_are i
-        ++ ((λ j. occurrences (relabel_block naming_by_spelling forget (declare_names (suc k) (xs j) ((o.name_is j, k) ∷ scope)) (ordinal_after_names (suc k) (xs j)) (mapped f g b))) ∙ block_alike _ _ b o.block_is) i
+        ++ ((λ j. occurrences (relabel_block naming_by_spelling forget (declare_names (suc k) (xs j) ((o.name_is j, k) ∷ scope)) (ordinal_after_names (suc k) (xs j)) (mapped_tree f g b))) ∙ block_alike _ _ b o.block_is) i
 
-  module_alike : (m : Tree ℕ module_text) → AllSought y f h (identifiers role.Declaring m) → occurrences (relabel_module naming_by_spelling forget (mapped f g m)) ≡ occurrences (relabel_module (lookup_naming y) forget (mapped h g m))
+  module_alike : (m : Tree ℕ module_text) → AllSought y f h (identifiers role.Declaring m) → occurrences (relabel_module naming_by_spelling forget (mapped_tree f g m)) ≡ occurrences (relabel_module (lookup_naming y) forget (mapped_tree h g m))
   module_alike (is_module x b closing) a =
       block_alike (predeclared_scope naming_by_spelling) 7 b (split y f h (identifiers role.Declaring b) ((role.ModuleName, closing) ∷ []) a.1).0
 
@@ -298,7 +298,7 @@ module _ (y : Name) (f h : ℕ → Name) (g : ℕ → ℕ) where
 forgotten : (naming : Naming Name) (m : Tree Name module_text) → occurrences (relabel_module naming forget m) ≡ map label_ordinal (occurrences (relabel_module naming (label_from_ordinal naming) m))
 forgotten naming m =
     ap (λ (l : Labelling Name (Option ℕ)). occurrences (relabel_module naming l m)) (λ i o x. sym (back o x) i)
-    ∙ (ap occurrences (relabel_module-mapped naming label_ordinal (label_from_ordinal naming) m) ∙ occurrences-mapped label_ordinal (λ n. n) (relabel_module naming (label_from_ordinal naming) m))
+    ∙ (ap occurrences (relabel_module-mapped_tree naming label_ordinal (label_from_ordinal naming) m) ∙ occurrences-mapped_tree label_ordinal (λ n. n) (relabel_module naming (label_from_ordinal naming) m))
   where
     back : (o : Option ℕ) (x : Name) → label_ordinal (label_from_ordinal naming o x) ≡ o
     back None x = refl
@@ -383,13 +383,13 @@ uses_reported r is =
 
 -- The identifiers have the sought spellings.
 all_sought : (source : TextWithTokens) (table : List (Option ℕ)) (y : Name) (xs : List (Role × ℕ)) → AllMarked table xs
-    → AllSought y (spelling_at (record { source = source; ordinals = table; declaration = Some 0; new = y })) (text_at source) xs
+    → AllSought y (spelling_at (record { source = source; ordinals = table; declaration = Some 0; new = y })) (token_text_at source) xs
 all_sought source table y [] a = tt
-all_sought source table y ((role.LookedUp, i) ∷ xs) a = (ap (λ o. if same_ordinal o 0 then y else text_at source i) a.0, all_sought source table y xs a.1)
-all_sought source table y ((role.Declaring, i) ∷ xs) a = (ap (λ o. if same_ordinal o 0 then y else text_at source i) a.0, all_sought source table y xs a.1)
-all_sought source table y ((role.ClosingName, i) ∷ xs) a = (ap (λ o. if same_ordinal o 0 then y else text_at source i) a.0, all_sought source table y xs a.1)
-all_sought source table y ((role.FieldName, i) ∷ xs) a = (ap (λ o. if same_ordinal o 0 then y else text_at source i) a.0, all_sought source table y xs a.1)
-all_sought source table y ((role.ModuleName, i) ∷ xs) a = (ap (λ o. if same_ordinal o 0 then y else text_at source i) a.0, all_sought source table y xs a.1)
+all_sought source table y ((role.LookedUp, i) ∷ xs) a = (ap (λ o. if same_ordinal o 0 then y else token_text_at source i) a.0, all_sought source table y xs a.1)
+all_sought source table y ((role.Declaring, i) ∷ xs) a = (ap (λ o. if same_ordinal o 0 then y else token_text_at source i) a.0, all_sought source table y xs a.1)
+all_sought source table y ((role.ClosingName, i) ∷ xs) a = (ap (λ o. if same_ordinal o 0 then y else token_text_at source i) a.0, all_sought source table y xs a.1)
+all_sought source table y ((role.FieldName, i) ∷ xs) a = (ap (λ o. if same_ordinal o 0 then y else token_text_at source i) a.0, all_sought source table y xs a.1)
+all_sought source table y ((role.ModuleName, i) ∷ xs) a = (ap (λ o. if same_ordinal o 0 then y else token_text_at source i) a.0, all_sought source table y xs a.1)
 
 -- Visiting a module with one name at all occurrences gives the bindings of that name in place of
 -- each.
@@ -404,9 +404,9 @@ seen_in_places r y v sought ordinals is table gone tabled =
     let agree = (passed.agree (marks_in_table m w v ordinals is.parsed gone tabled)).1 in
     let reported_so : AllMarked sought ids = subst (λ (t : List (Option ℕ)). AllMarked t ids) (sym table) (uses_reported r is) in
     ap (map (ordinal_in ordinals)) is.occurring
-    ∙ (sym (occurrences-mapped (ordinal_in ordinals) (value_at m.source) (tree_of m))
+    ∙ (sym (occurrences-mapped_tree (ordinal_in ordinals) (token_value_at m.source) (tree_of m))
     ∙ (sym (ap occurrences agree)
-    ∙ (module_alike y (spelling_at w) (text_at m.source) (value_at m.source) (tree_of m) (all_sought m.source sought y ids reported_so)
+    ∙ (module_alike y (spelling_at w) (token_text_at m.source) (token_value_at m.source) (tree_of m) (all_sought m.source sought y ids reported_so)
     ∙ forgotten (lookup_naming y) (named_tree_of m))))
 
 -- Each entry of the list is the binding of the name in that place.

@@ -11,35 +11,35 @@ use Rattle.ob0_scan.specs.declared.lexeme.LexemeKind.{LexemeKind}
 use Rattle.ob0_scan.specs.declared.lexeme.LexemeKind.TheVariants as lexeme
 use Rattle.ob0_scan.specs.declared.lexeme.Token.{Token}
 use Rattle.ob0_scan.proofs.AtLexemes.{Full, full}
-use Rattle.ob0_scope_table.specs.Spans.{is_on}
-use Rattle.ob0_scope.specs.Listing.{TokensAreApart, is_identifier, is_identifier_on}
+use Rattle.ob0_scope_table.specs.Spans.{is_on_span}
+use Rattle.ob0_scope.specs.Listing.{TokensAreDisjoint, is_identifier, is_identifier_at_offset}
 
 -- ---- the tokens of a text
 
-apart_lower : (less from : ℕ) (ts : List Token) → less ≤ from → TokensAreApart from ts → TokensAreApart less ts
+apart_lower : (less from : ℕ) (ts : List Token) → less ≤ from → TokensAreDisjoint from ts → TokensAreDisjoint less ts
 apart_lower less from [] low h = tt
 apart_lower less from (t ∷ ts) low h = (omega (arith, low, h.0), h.1)
 
-apart_one : (k : LexemeKind) (from len : ℕ) (ts : List Token) → 0 < len → TokensAreApart (from + len) ts → TokensAreApart from (token_at k (span_from from len) ++ ts)
+apart_one : (k : LexemeKind) (from len : ℕ) (ts : List Token) → 0 < len → TokensAreDisjoint (from + len) ts → TokensAreDisjoint from (token_at k (span_from from len) ++ ts)
 apart_one lexeme.Space from len ts some h = apart_lower from (from + len) ts (omega arith) h
 apart_one lexeme.Comment from len ts some h = apart_lower from (from + len) ts (omega arith) h
 apart_one (lexeme.Token k) from len ts some h = (omega arith, (omega (arith, some), h))
 
-apart_from : (from : ℕ) (ls : List Lexeme) → Full ls → TokensAreApart from (tokens_from from ls)
+apart_from : (from : ℕ) (ls : List Lexeme) → Full ls → TokensAreDisjoint from (tokens_from from ls)
 apart_from from [] h = tt
 apart_from from (l ∷ ls) h = apart_one l.kind from (length l.text) (tokens_from (from + length l.text) ls) h.0 (apart_from (from + length l.text) ls h.1)
 
-pub scan_apart : (s : TextWithTokens) → IsScan s → TokensAreApart 0 s.tokens
-scan_apart s scan = subst (TokensAreApart 0) (sym scan.tokens) (apart_from 0 scan.lexemes (full scan.lexemes [] scan.lexed.each))
+pub scan_apart : (s : TextWithTokens) → IsScan s → TokensAreDisjoint 0 s.tokens
+scan_apart s scan = subst (TokensAreDisjoint 0) (sym scan.tokens) (apart_from 0 scan.lexemes (full scan.lexemes [] scan.lexed.each))
 
-beyond : (from : ℕ) (ts : List Token) (j : ℕ) (d : Token) → TokensAreApart from ts → j < length ts → from ≤ (get_or ts j d).span.end
+beyond : (from : ℕ) (ts : List Token) (j : ℕ) (d : Token) → TokensAreDisjoint from ts → j < length ts → from ≤ (get_or ts j d).span.end
 beyond from [] j d h less = absurd (omega (arith, less))
 beyond from (t ∷ ts) zero d h less = omega (arith, h.0, h.1.0)
 beyond from (t ∷ ts) (suc j) d h less =
     let later = beyond t.span.end ts j d h.1.1 (omega (arith, less)) in
     omega (arith, h.0, h.1.0, later)
 
-pub ends_rise : (from : ℕ) (ts : List Token) → TokensAreApart from ts → IsNonDecreasingBy (λ (t : Token). t.span.end) ts
+pub ends_rise : (from : ℕ) (ts : List Token) → TokensAreDisjoint from ts → IsNonDecreasingBy (λ (t : Token). t.span.end) ts
 ends_rise from [] h i j d le less = absurd (omega (arith, less))
 ends_rise from (t ∷ ts) h zero zero d le less = omega arith
 ends_rise from (t ∷ ts) h (suc i) zero d le less = absurd (omega (arith, le))
@@ -50,14 +50,14 @@ ends_rise from (t ∷ ts) h (suc i) (suc j) d le less = ends_rise t.span.end ts 
 
 module _ (offset : ℕ) where
   abbrev on : Token → Bool
-  on t = is_identifier_on offset t
+  on t = is_identifier_at_offset offset t
 
   abbrev Splits : List Token → ℕ → Type 0
   Splits ts i = IsPartitionPoint (λ (t : Token). nat_lt t.span.end offset ≡ true) (λ (t : Token). nat_lt t.span.end offset ≡ false) ts i
 
   bounds : (t : Token) → on t ≡ true → (t.span.start ≤ offset) × (offset ≤ t.span.end)
   bounds t h =
-      let inside = and_parts (nat_le t.span.start offset) (nat_le offset t.span.end) (and_parts (is_identifier t.kind) (is_on offset t.span) h).1 in
+      let inside = and_parts (nat_le t.span.start offset) (nat_le offset t.span.end) (and_parts (is_identifier t.kind) (is_on_span offset t.span) h).1 in
       (leb-true t.span.start offset inside.0, leb-true offset t.span.end inside.1)
 
   off : (t : Token) → ((t.span.start ≤ offset) × (offset ≤ t.span.end) → ⊥) → on t ≡ false
@@ -67,7 +67,7 @@ module _ (offset : ℕ) where
       one false e = refl
       one true e = absurd (h (bounds t e))
 
-  none_past : (from k : ℕ) (ts : List Token) → offset < from → TokensAreApart from ts → position_from on k ts ≡ None
+  none_past : (from k : ℕ) (ts : List Token) → offset < from → TokensAreDisjoint from ts → position_from on k ts ≡ None
   none_past from k [] low h = refl
   none_past from k (t ∷ ts) low h =
       ap (λ b. cond b (Some k) (position_from on (k + 1) ts)) (off t (λ w. omega (arith, low, h.0, w.0)))
@@ -94,7 +94,7 @@ module _ (offset : ℕ) where
   found_next k (t ∷ ts) (suc i) d point less h g =
       passed t ts i k point ∙ (found_next (k + 1) ts i d (tail_splits t ts i point) (omega (arith, less)) h g ∙ ap Some (omega arith))
 
-  pub found_none : (from k : ℕ) (ts : List Token) (i : ℕ) (d : Token) → TokensAreApart from ts → Splits ts i → i < length ts → on (get_or ts i d) ≡ false → (suc i < length ts → on (get_or ts (suc i) d) ≡ false) → position_from on k ts ≡ None
+  pub found_none : (from k : ℕ) (ts : List Token) (i : ℕ) (d : Token) → TokensAreDisjoint from ts → Splits ts i → i < length ts → on (get_or ts i d) ≡ false → (suc i < length ts → on (get_or ts (suc i) d) ≡ false) → position_from on k ts ≡ None
   found_none from k [] i d apart point less h g = refl
   found_none from k (t ∷ []) zero d apart point less h g = ap (λ b. cond b (Some k) None) h
   found_none from k (t ∷ u ∷ ts) zero d apart point less h g =

@@ -1,6 +1,6 @@
 -- Proves that the tokens that are bound to a declaration are those at which the table has its
 -- ordinal. The declaring token is the first of them. A table has no ordinals at tokens that aren't
--- names (`names_alone`). Each declaring identifier has the next ordinal, and every other one has
+-- names (`ordinals_only_at_names`). Each declaring identifier has the next ordinal, and every other one has
 -- the ordinal of an earlier declaration or none (`AreInOrder`). So the first of the identifiers
 -- with an ordinal is the declaring one.
 use Rattle.std.proofs.Common.{◌≡◌, ◌≢◌, ◌==◌, ◌<◌, ◌≤◌, ℕ, zero, suc, ◌+◌, ◌-◌, Bool, true, false, not, cond, ◌&&◌, ◌||◌, if◌then◌else◌, Option, Some, None, List, [], ◌∷◌, map, length, drop, get_or, refl, sym, ap, ◌∙◌, subst, arith, append-nil, replicate, slice_get, eq-eqb, eqb-true, le_refl}
@@ -10,10 +10,10 @@ use Rattle.std.proofs.lemmas.List.{drop_more, get_or-drop, get_or_past}
 use Rattle.std.specs.List.{filter, list_any}
 use Rattle.ob0_tree.specs.declared.tree.Role.{Role}
 use Rattle.ob0_tree.specs.declared.tree.Role.TheVariants as role
-use Rattle.ob0_tree.specs.Order.{AreAscending, leaves, names_without_roles}
+use Rattle.ob0_tree.specs.Order.{AreAscending, identifier_names, names_without_roles}
 use Rattle.ob0_tree.specs.ParsedModule.{tree_of}
-use Rattle.ob0_tree.specs.Places.{text_at, value_at}
-use Rattle.ob0_tree.specs.Tree.{identifiers, mapped}
+use Rattle.ob0_tree.specs.Places.{token_text_at, token_value_at}
+use Rattle.ob0_tree.specs.Tree.{identifiers, mapped_tree}
 use Rattle.ob0_tree.proofs.Leaves.{leaves_ascend}
 use Rattle.ob0_tree.proofs.MappedIdentifiers.{leaves_mapped}
 use Rattle.ob0_language_names.specs.Names.{naming_by_spelling}
@@ -45,10 +45,10 @@ marks_resolved r is =
     let made = with_marks (replicate (length m.source.tokens) None) marks in
     let are_there = marks_in_table m w (visit_module (tree_of m) (initial_walk w)) made is.parsed refl refl in
     let passed = module_passed (ordinal_in made) (label_from_ordinal naming_by_spelling) w (tree_of m) (initial_walk w) (at_start w) in
-    let same : mapped (label_at m.source made) (value_at m.source) (tree_of m) ≡ mapped (label_at m.source r.ordinals) (value_at m.source) (tree_of m) = sym (passed.agree are_there).1 ∙ is.numbering in
-    let read : (ordinals : List (Option ℕ)) → map label_ordinal (leaves (mapped (label_at m.source ordinals) (value_at m.source) (tree_of m))) ≡ map (ordinal_in ordinals) (leaves (tree_of m)) =
-    λ ordinals. ap (map label_ordinal) (leaves_mapped (label_at m.source ordinals) (value_at m.source) (tree_of m)) ∙ ordinals_back (λ i. text_at m.source i) ordinals (leaves (tree_of m)) in
-    let each : map (ordinal_in made) (leaves (tree_of m)) ≡ map (ordinal_in r.ordinals) (leaves (tree_of m)) = sym (read made) ∙ (ap (λ t. map label_ordinal (leaves t)) same ∙ read r.ordinals) in
+    let same : mapped_tree (label_at m.source made) (token_value_at m.source) (tree_of m) ≡ mapped_tree (label_at m.source r.ordinals) (token_value_at m.source) (tree_of m) = sym (passed.agree are_there).1 ∙ is.numbering in
+    let read : (ordinals : List (Option ℕ)) → map label_ordinal (identifier_names (mapped_tree (label_at m.source ordinals) (token_value_at m.source) (tree_of m))) ≡ map (ordinal_in ordinals) (identifier_names (tree_of m)) =
+    λ ordinals. ap (map label_ordinal) (leaves_mapped (label_at m.source ordinals) (token_value_at m.source) (tree_of m)) ∙ ordinals_back (λ i. token_text_at m.source i) ordinals (identifier_names (tree_of m)) in
+    let each : map (ordinal_in made) (identifier_names (tree_of m)) ≡ map (ordinal_in r.ordinals) (identifier_names (tree_of m)) = sym (read made) ∙ (ap (λ t. map label_ordinal (identifier_names t)) same ∙ read r.ordinals) in
     marks_same (ordinal_in made) (ordinal_in r.ordinals) marks (subst (λ ts. map (ordinal_in made) ts ≡ map (ordinal_in r.ordinals) ts) (sym passed.tokens) each) are_there
 
 in_order : (r : Resolution) → IsResolution r → AreInOrder (ordinal_in r.ordinals) 7 (identifiers role.Declaring (tree_of r.module_read))
@@ -270,7 +270,7 @@ pub bound_with : (r : Resolution) (d : ℕ) (include : Bool) → IsResolution r
     → tokens_bound_from (omitted_token include (declaration_token r.declarations d)) d (first_bound_token (declaration_token r.declarations d)) r.ordinals ≡ tokens_bound_to r.module_read d include
 bound_with r d include is =
     let ids = identifiers role.Declaring (tree_of r.module_read) in
-    one (ltb d 7) refl ids (in_order r is) (rising 0 (names_without_roles ids) (length r.module_read.source.tokens) (leaves_ascend r.module_read is.parsed)) (λ j le. is.names_alone j) is.declaring ∙ bound_listed r d include is
+    one (ltb d 7) refl ids (in_order r is) (rising 0 (names_without_roles ids) (length r.module_read.source.tokens) (leaves_ascend r.module_read is.parsed)) (λ j le. is.ordinals_only_at_names j) is.declaring ∙ bound_listed r d include is
   where
     all_of : (ids : List (Role × ℕ)) → Rising 0 (names_without_roles ids) → Alone r.ordinals d 0 (names_without_roles ids) → tokens_with_ordinal None d 0 r.ordinals ≡ tokens_listed r.ordinals true d ids
     all_of ids rise alone = all_from r.ordinals d r.ordinals 0 ids (λ k. let same : k ≡ 0 + k = omega arith in ap (ordinal_in r.ordinals) same) rise alone

@@ -6,12 +6,12 @@ use Rattle.ob0_scan.specs.declared.lexeme.Token.{Token}
 use Rattle.ob0_tree.proofs.Leaves.{ascending_lower, leaves_are_identifiers, leaves_ascend}
 use Rattle.ob0_tree.specs.Order.{AreIdentifierTokens, AreAscending, names_without_roles}
 use Rattle.ob0_tree.specs.ParsedModule.{tree_of}
-use Rattle.ob0_tree.specs.Places.{text_at, value_at}
+use Rattle.ob0_tree.specs.Places.{token_text_at, token_value_at}
 use Rattle.ob0_tree.specs.Tree.{identifiers}
 use Rattle.ob0_tree.specs.declared.tree.Role.{Role}
 use Rattle.ob0_tree.specs.declared.tree.Role.TheVariants as role
 use Rattle.ob0_language_names.specs.Names.{Name}
-use Rattle.ob0_scope.specs.Renames.{renamed_writing}
+use Rattle.ob0_scope.specs.Renames.{spellings_after_rename}
 use Rattle.ob0_scope_table.specs.Resolution.{IsResolution, Resolution, ordinal_in}
 use Rattle.ob0_language_names.specs.Scopes.{same_ordinal}
 use Rattle.ob0_scope_numbering.specs.Written.{spelling_at}
@@ -96,11 +96,11 @@ among_self (x ∷ xs) = (ap (λ b. b || is_among x xs) same, among_more x xs xs 
 
 all_alike : (r : Resolution) (d : ℕ) (new : Name) (places all : List ℕ) (xs : List (Role × ℕ))
     → ((i : ℕ) → is_among i places ≡ (same_ordinal (ordinal_in r.ordinals i) d && is_among i all)) → AllAmong all (names_without_roles xs)
-    → AllAlike (spelling_at (renamed_writing r d new)) (λ i. if is_among i places then new else text_at r.module_read.source i) (value_at r.module_read.source) xs
+    → AllAlike (spelling_at (spellings_after_rename r d new)) (λ i. if is_among i places then new else token_text_at r.module_read.source i) (token_value_at r.module_read.source) xs
 all_alike r d new places all [] h among = tt
 all_alike r d new places all (x ∷ xs) h among =
     let bound = same_ordinal (ordinal_in r.ordinals x.1) d in (
-      ap (λ b. if b then new else text_at r.module_read.source x.1) (sym (h x.1 ∙ (ap (λ b. bound && b) among.0 ∙ and_true bound))),
+      ap (λ b. if b then new else token_text_at r.module_read.source x.1) (sym (h x.1 ∙ (ap (λ b. bound && b) among.0 ∙ and_true bound))),
       all_alike r d new places all xs h among.1,
     )
   where
@@ -114,6 +114,6 @@ renamed_there r d is new =
     let ids = identifiers role.Declaring (tree_of m) in
     let places = tokens_bound_to m d true in
     let among = λ (i : ℕ). ap (is_among i) (sym (bound_listed r d true is)) ∙ among_kept r.ordinals d i ids in
-    let f = spelling_at (renamed_writing r d new) in
-    let f' = λ (i : ℕ). if is_among i places then new else text_at m.source i in
-    renamed_spelled r d new is ∙ (alike f f' (value_at m.source) role.Declaring (tree_of m)).reads (all_alike r d new places (names_without_roles ids) ids among (among_self (names_without_roles ids)))
+    let f = spelling_at (spellings_after_rename r d new) in
+    let f' = λ (i : ℕ). if is_among i places then new else token_text_at m.source i in
+    renamed_spelled r d new is ∙ (alike f f' (token_value_at m.source) role.Declaring (tree_of m)).reads (all_alike r d new places (names_without_roles ids) ids among (among_self (names_without_roles ids)))

@@ -5,9 +5,9 @@ use Rattle.std.specs.Prelude.{ℕ, Bool, not, ◌&&◌, if◌then◌else◌, Lis
 use Rattle.std.specs.List.{list_any}
 use Rattle.std.specs.Option.{option_or}
 use Rattle.ob0_scan.specs.TextWithTokens.{TextWithTokens}
-use Rattle.ob0_tree.specs.Places.{text_at}
-use Rattle.ob0_tree.specs.Tree.{Tree, block, declares, declares_procedure, end, has_body, item, items, more, procedure}
-use Rattle.ob0_language_names.specs.DeclaredOnce.{block_names}
+use Rattle.ob0_tree.specs.Places.{token_text_at}
+use Rattle.ob0_tree.specs.Tree.{Tree, block, declares, declares_procedure, end, forms_block, item, items, more, procedure}
+use Rattle.ob0_language_names.specs.ConsistentNames.{block_names}
 use Rattle.ob0_language_names.specs.Names.{Name, same_name}
 use Rattle.ob0_language_names.specs.Parts.{formal_names, formal_sections}
 use Rattle.ob0_scope_table.specs.Resolution.{ordinal_in}
@@ -32,7 +32,7 @@ is_bound_to_declaration s i = same_ordinal (ordinal_in_search s i) s.declaration
 
 -- returns whether a token has the sought name and isn't bound to the declaration whose block is searched
 abbrev pub has_name_and_other_binding : BlockSearch → ℕ → Bool
-has_name_and_other_binding s i = same_name (text_at s.source i) s.new && not (is_bound_to_declaration s i)
+has_name_and_other_binding s i = same_name (token_text_at s.source i) s.new && not (is_bound_to_declaration s i)
 
 -- Searches these tokens for the last one that has the sought name and isn't bound to the declaration itself. Returns
 -- that token's ordinal, or `found` if there is no such token.
@@ -51,19 +51,19 @@ namesake_among s is = if list_any (is_bound_to_declaration s) is then last_names
 abbrev mutual
   -- returns the ordinal found among the parameters `own` and the names that a block declares,
   -- otherwise the ordinal found in the blocks inside it; None if there is none
-  pub found_in_block : BlockSearch → List ℕ → Tree ℕ block → Option ℕ
-  found_in_block s own (has_body (declares cs ts vs ps) statements) =
-      option_or (namesake_among s (own ++ block_names (has_body (declares cs ts vs ps) statements)))
-      (found_in_procedures s ps)
+  pub namesake_in_block : BlockSearch → List ℕ → Tree ℕ block → Option ℕ
+  namesake_in_block s own (forms_block (declares cs ts vs ps) statements) =
+      option_or (namesake_among s (own ++ block_names (forms_block (declares cs ts vs ps) statements)))
+      (namesake_in_procedures s ps)
 
   -- returns the ordinal found in the first of these procedures that has one; None if there is none
-  pub found_in_procedures : BlockSearch → Tree ℕ (items procedure) → Option ℕ
-  found_in_procedures s end = None
-  found_in_procedures s (more p rest) =
-      option_or (found_in_procedure s p) (found_in_procedures s rest)
+  pub namesake_in_procedures : BlockSearch → Tree ℕ (items procedure) → Option ℕ
+  namesake_in_procedures s end = None
+  namesake_in_procedures s (more p rest) =
+      option_or (namesake_in_procedure s p) (namesake_in_procedures s rest)
 
   -- returns the ordinal found in a procedure's block, to which the parameters belong; None if there
   -- is none
-  pub found_in_procedure : BlockSearch → Tree ℕ (item procedure) → Option ℕ
-  found_in_procedure s (declares_procedure x fs b closing) =
-      found_in_block s (formal_names (formal_sections fs)) b
+  pub namesake_in_procedure : BlockSearch → Tree ℕ (item procedure) → Option ℕ
+  namesake_in_procedure s (declares_procedure x fs b closing) =
+      namesake_in_block s (formal_names (formal_sections fs)) b

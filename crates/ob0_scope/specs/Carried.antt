@@ -2,15 +2,15 @@
 -- data about the tokens before that body, and about the tokens after it, which have moved.
 -- Rule: none; for private contracts about bindings that are kept when one body is replaced.
 use Rattle.std.specs.Prelude.{◌≡◌, ℕ, ◌+◌, ◌-◌, ◌^◌, min, nat_lt, List, [], ◌∷◌, ◌++◌, Option, Some, None, if◌then◌else◌, is_some, length, take, drop, replicate}
-use Rattle.ob0_scan.specs.declared.tokens.SameTokens.{SameTokens}
+use Rattle.ob0_scan.specs.declared.tokens.SameParts.{SameParts}
 use Rattle.ob0_tree.specs.declared.tree.Role.{Role}
 use Rattle.ob0_tree.specs.declared.tree.Role.TheVariants as role
 use Rattle.ob0_tree.specs.ParsedModule.{ParsedModule, tree_of}
 use Rattle.ob0_tree.specs.Tree.{identifiers, occurrences}
 use Rattle.ob0_tree.specs.FirstIdentifier.{first_token_of}
-use Rattle.ob0_scope_table.specs.BodyReplaced.{body_at, closing_name_in_module, way_in_module}
+use Rattle.ob0_scope_table.specs.BodyReplaced.{body_at_path, closing_name_in_module, path_to_body_in_module}
 use Rattle.ob0_scope_table.specs.declared.resolved.Bindings.{Bindings}
-use Rattle.ob0_scope.specs.NewBody.{WasBoundElsewhere}
+use Rattle.ob0_scope.specs.NewBody.{WasBoundBeforeNewBody}
 use Rattle.ob0_scope.specs.declared.body_range.BodyRange.{BodyRange}
 
 -- the first identifier of a body, if one has been seen, and the body's occurrences so far
@@ -74,16 +74,16 @@ carried_ordinals range table =
 
 -- returns the old token index of the closing name after the replaced statements, given its index in the changed text;
 -- at most 2^64 - 1
-abbrev pub old_closing_token : SameTokens → ℕ → ℕ
+abbrev pub old_closing_token : SameParts → ℕ → ℕ
 old_closing_token same closing = min (closing - same.new_suffix + same.old_suffix) (2 ^ 64 - 1)
 
 -- States that `range` is the range of the new statements in a module in which one body's statements were replaced.
 -- `own` has the occurrences in these statements, and `b` has the bindings of the old module.
 pub record IsNewBody (m : ParsedModule) (b : Bindings) (range : BodyRange) (own : List ℕ) : Type 0 where
-  pub same : SameTokens
-  pub was : WasBoundElsewhere m b same
-  pub first : first_token_of (identifiers role.Declaring (body_at (way_in_module same.prefix (tree_of m)) (tree_of m)))
+  pub same : SameParts
+  pub was_bound : WasBoundBeforeNewBody m b same
+  pub first : first_token_of (identifiers role.Declaring (body_at_path (path_to_body_in_module same.prefix (tree_of m)) (tree_of m)))
       ≡ Some range.first
-  pub closing : range.closing ≡ closing_name_in_module (way_in_module same.prefix (tree_of m)) (tree_of m)
+  pub closing : range.closing ≡ closing_name_in_module (path_to_body_in_module same.prefix (tree_of m)) (tree_of m)
   pub old_closing : range.old_closing ≡ old_closing_token same range.closing
-  pub uses : own ≡ occurrences (body_at (way_in_module same.prefix (tree_of m)) (tree_of m))
+  pub uses : own ≡ occurrences (body_at_path (path_to_body_in_module same.prefix (tree_of m)) (tree_of m))

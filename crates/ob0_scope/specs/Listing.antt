@@ -5,7 +5,7 @@ use Rattle.ob0_scan.specs.declared.lexeme.Token.{Token}
 use Rattle.ob0_scan.specs.declared.lexeme.TokenKind.{TokenKind}
 use Rattle.ob0_scan.specs.declared.lexeme.TokenKind.TheVariants as kind
 use Rattle.ob0_language_names.specs.Scopes.{same_ordinal}
-use Rattle.ob0_scope_table.specs.Spans.{is_on}
+use Rattle.ob0_scope_table.specs.Spans.{is_on_span}
 
 -- returns whether this is the kind of an identifier
 abbrev pub is_identifier : TokenKind → Bool
@@ -15,15 +15,15 @@ is_identifier (kind.Integer value) = false
 is_identifier (kind.Symbol symbol) = false
 
 -- returns whether a token is an identifier that contains the byte offset `offset` or ends there
-abbrev pub is_identifier_on : ℕ → Token → Bool
-is_identifier_on offset t = is_identifier t.kind && is_on offset t.span
+abbrev pub is_identifier_at_offset : ℕ → Token → Bool
+is_identifier_at_offset offset t = is_identifier t.kind && is_on_span offset t.span
 
 -- States that each token has at least one byte and begins at or after the end of the token before it. The first token
 -- begins at or after the byte offset `from`.
-abbrev pub TokensAreApart : ℕ → List Token → Type 0
-TokensAreApart from [] = Unit {0}
-TokensAreApart from (t ∷ ts) =
-    (from ≤ t.span.start) × ((t.span.start < t.span.end) × TokensAreApart t.span.end ts)
+abbrev pub TokensAreDisjoint : ℕ → List Token → Type 0
+TokensAreDisjoint from [] = Unit {0}
+TokensAreDisjoint from (t ∷ ts) =
+    (from ≤ t.span.start) × ((t.span.start < t.span.end) × TokensAreDisjoint t.span.end ts)
 
 -- Returns the index of each entry of a table that equals the ordinal `d`, except the index `omitted`. Indexes are
 -- counted from `i`, the index of the first entry.

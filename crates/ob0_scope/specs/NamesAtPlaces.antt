@@ -4,14 +4,14 @@ use Rattle.std.specs.Prelude.{ℕ, Bool, true, false, not, ◌&&◌, ◌||◌, �
 use Rattle.std.specs.List.{filter, find, zip}
 use Rattle.ob0_tree.specs.declared.tree.Role.{Role}
 use Rattle.ob0_tree.specs.declared.tree.Role.TheVariants as role
-use Rattle.ob0_tree.specs.Order.{leaves}
+use Rattle.ob0_tree.specs.Order.{identifier_names}
 use Rattle.ob0_tree.specs.ParsedModule.{ParsedModule, named_tree_of, tree_of}
-use Rattle.ob0_tree.specs.Places.{text_at, value_at}
-use Rattle.ob0_tree.specs.Tree.{identifiers, mapped}
+use Rattle.ob0_tree.specs.Places.{token_text_at, token_value_at}
+use Rattle.ob0_tree.specs.Tree.{identifiers, mapped_tree}
 use Rattle.ob0_language_names.specs.Names.{Label, Name, declared, same_label}
 use Rattle.ob0_language_names.specs.Occurrences.{label_ordinal}
 use Rattle.ob0_scope_table.specs.Resolution.{span_at}
-use Rattle.ob0_scope_table.specs.Spans.{is_on}
+use Rattle.ob0_scope_table.specs.Spans.{is_on_span}
 use Rattle.ob0_language_names.specs.Scopes.{numbered, renamed}
 use Rattle.ob0_scope.specs.declared.naming.Named as named
 
@@ -22,11 +22,11 @@ BoundIdentifier = (Role × ℕ) × Label
 -- returns the identifiers of a module in text order, each with its role, its token and its label
 abbrev pub bound_identifiers : ParsedModule → List BoundIdentifier
 bound_identifiers m =
-    zip (identifiers role.Declaring (tree_of m)) (leaves (numbered (named_tree_of m)))
+    zip (identifiers role.Declaring (tree_of m)) (identifier_names (numbered (named_tree_of m)))
 
 -- returns the first identifier that contains a byte offset or ends there; None if there is none
-abbrev pub identifier_on : ParsedModule → ℕ → Option BoundIdentifier
-identifier_on m offset = find (λ s. is_on offset (span_at m.source s.0.1)) (bound_identifiers m)
+abbrev pub identifier_at_offset : ParsedModule → ℕ → Option BoundIdentifier
+identifier_at_offset m offset = find (λ s. is_on_span offset (span_at m.source s.0.1)) (bound_identifiers m)
 
 -- returns the token of an identifier and the ordinal of its declaration; None if the identifier is
 -- unbound
@@ -35,8 +35,8 @@ bound_name_of s = option_map (λ ordinal. record { token = s.0.1; ordinal = ordi
 
 -- returns the name that contains a byte offset or ends there; None if there is none, or if it is a
 -- field, the module's name or an unbound name
-abbrev pub name_on : ParsedModule → ℕ → Option named.Named
-name_on m offset = option_and_then bound_name_of (identifier_on m offset)
+abbrev pub name_at_offset : ParsedModule → ℕ → Option named.Named
+name_at_offset m offset = option_and_then bound_name_of (identifier_at_offset m offset)
 
 -- returns whether this is the role of a declaring identifier
 abbrev pub is_declaring : Role → Bool
@@ -67,5 +67,5 @@ abbrev pub IsRenamedAt : ParsedModule → ℕ → List ℕ → Type 0
 IsRenamedAt m d tokens =
     (new : Name)
     → renamed (named_tree_of m) d new
-    ≡ mapped (λ i. if is_among i tokens then new else text_at m.source i) (value_at m.source)
+    ≡ mapped_tree (λ i. if is_among i tokens then new else token_text_at m.source i) (token_value_at m.source)
     (tree_of m)

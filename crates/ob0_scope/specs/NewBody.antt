@@ -1,6 +1,6 @@
 -- The bindings of a module before the statements of one body were replaced.
 -- Rule: none; for contracts of `rebind_new_body`.
-use Rattle.ob0_scan.specs.declared.tokens.SameTokens.{SameTokens}
+use Rattle.ob0_scan.specs.declared.tokens.SameParts.{SameParts}
 use Rattle.ob0_tree.specs.ParsedModule.{ParsedModule}
 use Rattle.ob0_scope_table.specs.Bindings.{resolution_with}
 use Rattle.ob0_scope_table.specs.BodyReplaced.{IsBodyReplaced, PathToBody}
@@ -9,8 +9,8 @@ use Rattle.ob0_scope_table.specs.declared.resolved.Bindings.{Bindings}
 
 -- States that `b` has the bindings of an older module, and that `m` is that module with the statements of one body
 -- replaced. `s` states which tokens at the start and at the end are the same in both modules.
-pub record WasBoundElsewhere (m : ParsedModule) (b : Bindings) (s : SameTokens) : Type 0 where
+pub record WasBoundBeforeNewBody (m : ParsedModule) (b : Bindings) (s : SameParts) : Type 0 where
   pub old : ParsedModule
-  pub way : PathToBody
-  pub replaced : IsBodyReplaced old m way s
+  pub path : PathToBody
+  pub replaced : IsBodyReplaced old m path s
   pub resolved : IsResolution (resolution_with old b)

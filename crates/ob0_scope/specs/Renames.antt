@@ -3,14 +3,14 @@
 -- Rule: docs/PROTOCOL.md, Refusals of edits (Duplicate, Captures).
 use Rattle.std.specs.Prelude.{◌≡◌, ℕ, Bool, true, false, not, ◌&&◌, if◌then◌else◌, ◌==◌, List, [], ◌∷◌, Option, Some, None}
 use Rattle.std.specs.Option.{option_or}
-use Rattle.ob0_tree.specs.Tree.{Tree, mapped, module_text}
+use Rattle.ob0_tree.specs.Tree.{Tree, mapped_tree, module_text}
 use Rattle.ob0_tree.specs.ParsedModule.{named_tree_of, tree_of}
 use Rattle.ob0_scan.specs.TextWithTokens.{TextWithTokens}
-use Rattle.ob0_tree.specs.Places.{text_at, value_at}
+use Rattle.ob0_tree.specs.Places.{token_text_at, token_value_at}
 use Rattle.ob0_scope.specs.declared.name_conflicts.FirstConflict as reported
 use Rattle.ob0_scope.specs.declared.name_conflicts.FirstConflict.TheVariants as reports
 use Rattle.ob0_language_names.specs.Names.{Name, naming_by_spelling, same_name}
-use Rattle.ob0_language_names.specs.Occurrences.{NameConflict, at_declaration, at_occurrence, blocks_in, declares_ordinal}
+use Rattle.ob0_language_names.specs.Occurrences.{NameConflict, at_declaration, at_occurrence, scopes_in_block, declares_ordinal}
 use Rattle.ob0_language_names.specs.Parts.{module_block}
 use Rattle.ob0_scope_table.specs.Resolution.{Resolution, ordinal_in}
 use Rattle.ob0_language_names.specs.Scopes.{Scope, label_from_ordinal, numbered, predeclared_count, renamed}
@@ -34,7 +34,7 @@ namesake_in (own ∷ others) d new =
 -- returns the ordinal of the last declaration with the name `new`, other than `d`, in the block
 -- that declares `d`; None if there is none
 abbrev pub namesake : Tree Name module_text → ℕ → Name → Option ℕ
-namesake m d new = namesake_in (blocks_in predeclared_count [] (module_block m)) d new
+namesake m d new = namesake_in (scopes_in_block predeclared_count [] (module_block m)) d new
 
 -- converts a conflict of the code to a conflict of the definitions; this drops the ordinal of the other declaration
 abbrev pub conflict_of : reported.FirstConflict → NameConflict
@@ -56,18 +56,18 @@ have_same_binding (Some j) None = false
 have_same_binding (Some j) (Some k) = j == k
 
 -- returns the spellings of a module's identifiers after the declaration `d` is renamed to `new`
-abbrev pub renamed_writing : Resolution → ℕ → Name → Spellings
-renamed_writing r d new =
+abbrev pub spellings_after_rename : Resolution → ℕ → Name → Spellings
+spellings_after_rename r d new =
     record { source = r.module_read.source; ordinals = r.ordinals; declaration = Some d; new = new }
 
 -- states that no token of a text has this spelling
 abbrev pub OccursNowhere : TextWithTokens → Name → Type 0
-OccursNowhere source x = (i : ℕ) → same_name (text_at source i) x ≡ false
+OccursNowhere source x = (i : ℕ) → same_name (token_text_at source i) x ≡ false
 
 -- States that the table has, for each identifier, the ordinal to which it is bound after the declaration `d` is renamed
 -- to `new`.
 abbrev pub IsRenumbering : Resolution → ℕ → Name → List (Option ℕ) → Type 0
 IsRenumbering r d new ordinals =
     numbered (renamed (named_tree_of r.module_read) d new)
-    ≡ mapped (λ i. label_from_ordinal naming_by_spelling (ordinal_in ordinals i) (spelling_at (renamed_writing r d new) i))
-    (value_at r.module_read.source) (tree_of r.module_read)
+    ≡ mapped_tree (λ i. label_from_ordinal naming_by_spelling (ordinal_in ordinals i) (spelling_at (spellings_after_rename r d new) i))
+    (token_value_at r.module_read.source) (tree_of r.module_read)

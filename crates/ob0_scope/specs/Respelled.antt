@@ -16,8 +16,8 @@ pub record AreNamedAlike (old new : TextWithTokens) : Type 0 where
   pub same_kinds : kinds new.tokens ≡ kinds old.tokens
   pub same_names : names_in new.text new.tokens ≡ names_in old.text old.tokens
 
--- States that the bindings of a module without faults of scopes are also the bindings of the same tree with the tokens
--- of another text. The tokens of both texts must have the same kinds, and their identifiers the same spellings. The
+-- States that the bindings of a module that has no fault of scopes are also the bindings of the same tree with the
+-- tokens of another text. The tokens of both texts must have the same kinds, and their identifiers the same spellings. The
 -- tree must spell the other text's tokens.
 abbrev pub BindingsDependOnNames : Type 0
 BindingsDependOnNames =

@@ -2,10 +2,10 @@
 
 ghost use Rattle.std.specs.Prelude.{◌≡◌, ◌++◌, ◌∷◌, [], IfOk, OnOk};
 ghost use Rattle.ob0_tree.specs.View.{block_of, body_of, procedure_of};
-ghost use Rattle.ob0_scope_table.specs.BodyReplaced.{body_in, body_inside, closing_name_in_block, closing_name_in_procedure, way_in_block, way_in_procedure};
+ghost use Rattle.ob0_scope_table.specs.BodyReplaced.{body_at_path_in_block, body_at_path_in_procedure, closing_name_in_block, closing_name_in_procedure, path_to_body_in_block, path_to_body_in_procedure};
 ghost use Rattle.ob0_scope.specs.Carried.{tokens_after_body, tokens_before_body, carried_tokens, carried_ordinals, old_closing_token, shifted_token, with_use};
 
-use ob0_scan::SameTokens;
+use ob0_scan::SameParts;
 use ob0_scope_table::OrdinalEntry;
 use ob0_tree::walk::Visitor;
 use ob0_tree::{Block, Procedure, Role, Statement};
@@ -77,15 +77,15 @@ impl BodyNames {
 /// procedure whose closing name isn't before `low`. If there is no such procedure, the result is
 /// this block's own body. `own` is this block's closing name.
 #[cycle(blocks)]
-pub(crate) fn body_in<'t>(inner: &'t Block, own: usize, low: usize) -> ReplacedBody<'t>
+pub(crate) fn find_body_in_block<'t>(inner: &'t Block, own: usize, low: usize) -> ReplacedBody<'t>
     ensures statements { body_of result.statements.now
-        ≡ body_in (way_in_block low (block_of inner.now)) (block_of inner.now) }
+        ≡ body_at_path_in_block (path_to_body_in_block low (block_of inner.now)) (block_of inner.now) }
     ensures closing { result.closing
-        ≡ closing_name_in_block (way_in_block low (block_of inner.now)) own (block_of inner.now) }
+        ≡ closing_name_in_block (path_to_body_in_block low (block_of inner.now)) own (block_of inner.now) }
 {
     for p in &inner.procedures {
         if p.closing >= low {
-            return body_inside(p, low);
+            return find_body_in_procedure(p, low);
         }
     }
     ReplacedBody {
@@ -97,18 +97,18 @@ pub(crate) fn body_in<'t>(inner: &'t Block, own: usize, low: usize) -> ReplacedB
 /// Returns the body that contains the token `low`, if there is one: the body of this procedure, or
 /// of a procedure inside it.
 #[cycle(blocks)]
-fn body_inside<'t>(p: &'t Procedure, low: usize) -> ReplacedBody<'t>
+fn find_body_in_procedure<'t>(p: &'t Procedure, low: usize) -> ReplacedBody<'t>
     ensures statements { body_of result.statements.now
-        ≡ body_inside (way_in_procedure low (procedure_of p.now)) (procedure_of p.now) }
+        ≡ body_at_path_in_procedure (path_to_body_in_procedure low (procedure_of p.now)) (procedure_of p.now) }
     ensures closing { result.closing
-        ≡ closing_name_in_procedure (way_in_procedure low (procedure_of p.now)) (procedure_of p.now) }
+        ≡ closing_name_in_procedure (path_to_body_in_procedure low (procedure_of p.now)) (procedure_of p.now) }
 {
-    body_in(&p.block, p.closing, low)
+    find_body_in_block(&p.block, p.closing, low)
 }
 
 /// Returns the old token index of the closing name that follows the replaced statements, given its
 /// index in the changed text. A result over 2^64 - 1 becomes 2^64 - 1.
-pub(crate) fn old_closing_token(same: SameTokens, closing: usize) -> usize
+pub(crate) fn old_closing_token(same: SameParts, closing: usize) -> usize
     ensures { result ≡ old_closing_token same closing }
 {
     closing

@@ -4,15 +4,15 @@
 ghost use Rattle.std.specs.Prelude.{IfOk};
 ghost use Rattle.ob0_scope_table.specs.Resolution.{IsResolution};
 ghost use Rattle.ob0_scope_table.specs.Bindings.{resolution_with};
-ghost use Rattle.ob0_scope.specs.Rebound.{WasBound};
-ghost use Rattle.ob0_scope.specs.NewBody.{WasBoundElsewhere};
+ghost use Rattle.ob0_scope.specs.Rebound.{WasBoundBeforeChange};
+ghost use Rattle.ob0_scope.specs.NewBody.{WasBoundBeforeNewBody};
 ghost use Rattle.ob0_scope.specs.Carried.{IsNewBody};
 
-use crate::body_range::{BodyNames, BodyRange, body_in, old_closing_token};
+use crate::body_range::{BodyNames, BodyRange, find_body_in_block, old_closing_token};
 use crate::checks::recheck_declarations;
 use crate::module_resolution::bindings_of;
 use crate::table::report_undeclared;
-use ob0_scan::SameTokens;
+use ob0_scan::SameParts;
 use ob0_scope_numbering::renumber_body;
 use ob0_scope_table::Bindings;
 use ob0_tree::Module;
@@ -21,15 +21,15 @@ use std::alloc::{AllocError, Global};
 
 /// Returns the bindings of a module after tokens of one body changed. `old` has the bindings before
 /// the change. The changed tokens have the indexes from `low` up to, but not including,
-/// `_high`, which only the contract uses. Only that body is numbered again.
+/// `_changed_end`, which only the contract uses. Only that body is numbered again.
 pub fn rebind_body(
     alloc: Global,
     read: &Module<'_>,
     old: Bindings,
     low: usize,
-    _high: usize,
+    _changed_end: usize,
 ) -> Result<Bindings, AllocError>
-    requires { WasBound read.now old low _high }
+    requires { WasBoundBeforeChange read.now old low _changed_end }
     ensures { IfOk result (λ b. IsResolution (resolution_with read.now b)) }
 {
     let tokens = read.tokens();
@@ -60,12 +60,12 @@ pub fn rebind_new_body(
     alloc: Global,
     read: &Module<'_>,
     old: Bindings,
-    same: SameTokens,
+    same: SameParts,
 ) -> Result<Bindings, AllocError>
-    requires { WasBoundElsewhere read.now old same }
+    requires { WasBoundBeforeNewBody read.now old same }
     ensures { IfOk result (λ b. IsResolution (resolution_with read.now b)) }
 {
-    let found = body_in(read.block(), read.closing_name(), same.prefix);
+    let found = find_body_in_block(read.block(), read.closing_name(), same.prefix);
     let mut names = BodyNames {
         first: None,
         uses: Vec::new(alloc),

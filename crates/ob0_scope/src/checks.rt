@@ -7,19 +7,19 @@
 ghost use Rattle.std.specs.Prelude.{◌≡◌, ◌++◌, [], IfOk, OnOk, map, not};
 ghost use Rattle.std.specs.List.{list_any};
 ghost use Rattle.ob0_tree.specs.ParsedModule.{named_tree_of};
-ghost use Rattle.ob0_tree.specs.Places.{text_at};
+ghost use Rattle.ob0_tree.specs.Places.{token_text_at};
 ghost use Rattle.ob0_tree.specs.View.{items_of, names_of, type_of, record_type_of, fields_of, constants_of, types_of, variables_of, formals_of, procedure_of, block_of};
 ghost use Rattle.ob0_language_names.specs.Names.{same_name};
 ghost use Rattle.ob0_language_names.specs.Parts.{names_in_list, constant_names, declared_type_names, variable_names, formal_names, formal_sections, section_constants, section_types, section_variables};
-ghost use Rattle.ob0_language_names.specs.DeclaredOnce.{block_names, declared_once, group_fields, is_among, procedure_names};
+ghost use Rattle.ob0_language_names.specs.ConsistentNames.{block_names, has_consistent_names, group_field_names, is_among, procedure_names};
 ghost use Rattle.ob0_scope_table.specs.Resolution.{is_declaration_fault};
-ghost use Rattle.ob0_scope_table.specs.DeclaredTwice.{duplicate_faults, block_declaration_faults, closing_name_faults, duplicate_fault, duplicate_fields, duplicate_fields_in_formals, duplicate_fields_in_group, procedure_declaration_faults, declaration_faults, duplicate_fields_in_types, fault_unless, duplicate_fields_in_variables};
+ghost use Rattle.ob0_scope_table.specs.DeclaredTwice.{duplicate_faults, block_declaration_faults, closing_name_faults, duplicate_fault, duplicate_field_faults, duplicate_field_faults_in_formals, duplicate_field_faults_in_group, procedure_declaration_faults, declaration_faults, duplicate_field_faults_in_types, fault_unless, duplicate_field_faults_in_variables};
 
 use ob0_scan::{Fault, FaultCode, Tokens};
 use ob0_scope_table::token_span;
 use ob0_tree::{
     Block, Constant, Fields, Module, Names, ParameterSection, Procedure, RecordType,
-    TypeDeclaration, VariableDeclaration, WrittenType, text_at,
+    TypeDeclaration, VariableDeclaration, WrittenType, token_text_at,
 };
 use std::alloc::{AllocError, Global};
 use std::collections::BTreeSet;
@@ -56,8 +56,8 @@ pub(crate) fn check_declarations<'t>(
         alloc,
         faults: Vec::new(alloc),
     };
-    checks.closing(read.tokens(), read.name(), read.closing_name())?;
-    checks.block(read.tokens(), Vec::new(alloc), read.block())?;
+    checks.check_closing_name(read.tokens(), read.name(), read.closing_name())?;
+    checks.check_block(read.tokens(), Vec::new(alloc), read.block())?;
     Ok(checks.into_faults())
 }
 
@@ -69,7 +69,7 @@ pub(crate) fn recheck_declarations<'t>(
     known: &[Fault],
 ) -> Result<Vec<Fault>, AllocError>
     requires { list_any is_declaration_fault known.now
-        ≡ not (declared_once (named_tree_of read.now)) }
+        ≡ not (has_consistent_names (named_tree_of read.now)) }
     ensures { IfOk result (λ faults. faults.items ≡ declaration_faults read.now) }
 {
     if has_declaration_fault(known) {
@@ -99,9 +99,9 @@ fn is_declaration_fault(fault: &Fault) -> bool
 
 /// Returns whether two identifiers have the same spelling.
 fn have_same_spelling(tokens: &Tokens, a: usize, b: usize) -> bool
-    ensures { result ≡ same_name (text_at tokens.now a) (text_at tokens.now b) }
+    ensures { result ≡ same_name (token_text_at tokens.now a) (token_text_at tokens.now b) }
 {
-    text_at(tokens, a) == text_at(tokens, b)
+    token_text_at(tokens, a) == token_text_at(tokens, b)
 }
 
 /// Returns the fault `Duplicate` at a name.
@@ -116,10 +116,10 @@ fn duplicate_fault(tokens: &Tokens, name: usize) -> Fault
 
 /// Returns whether one of these identifiers has the spelling `text`.
 fn contains_spelling(tokens: &Tokens, names: &[usize], text: &str) -> bool
-    ensures { result ≡ is_among text.now (map (text_at tokens.now) names.now) }
+    ensures { result ≡ is_among text.now (map (token_text_at tokens.now) names.now) }
 {
     for name in names {
-        if text == text_at(tokens, *name) {
+        if text == token_text_at(tokens, *name) {
             return true;
         }
     }
@@ -139,7 +139,7 @@ fn append_names(out: &mut Vec<usize>, ns: &Names) -> Result<(), AllocError>
 
 /// Appends the tokens of the names in a group of fields.
 fn append_field_names(out: &mut Vec<usize>, group: &Fields) -> Result<(), AllocError>
-    ensures { OnOk result (out.new.items ≡ out.old.items ++ group_fields (fields_of group.now)) }
+    ensures { OnOk result (out.new.items ≡ out.old.items ++ group_field_names (fields_of group.now)) }
 {
     match group {
         Fields::Empty => Ok(()),
@@ -253,7 +253,12 @@ impl FoundFaults {
     }
 
     /// Reports the closing name if it differs from the name of its module or procedure.
-    fn closing(&mut self, tokens: &Tokens, name: usize, closing: usize) -> Result<(), AllocError>
+    fn check_closing_name(
+        &mut self,
+        tokens: &Tokens,
+        name: usize,
+        closing: usize,
+    ) -> Result<(), AllocError>
         ensures { OnOk result (self.new ≡ self.old ++ closing_name_faults tokens.now name closing) }
     {
         let fault = Fault {
@@ -284,7 +289,11 @@ impl FoundFaults {
         ensures { OnOk result (self.new ≡ self.old ++ duplicate_faults tokens.now [] names.now) }
     {
         for (index, name) in names.iter().enumerate() {
-            let is_second = contains_spelling(tokens, &names[..index], text_at(tokens, *name));
+            let is_second = contains_spelling(
+                tokens,
+                &names[..index],
+                token_text_at(tokens, *name),
+            );
             self.report_unless(!is_second, duplicate_fault(tokens, *name))?;
         }
         Ok(())
@@ -301,7 +310,7 @@ impl FoundFaults {
     {
         let mut seen = BTreeSet::new(self.alloc);
         for name in names {
-            let added = seen.insert(text_at(tokens, *name))?;
+            let added = seen.insert(token_text_at(tokens, *name))?;
             self.report_unless(added, duplicate_fault(tokens, *name))?;
         }
         Ok(())
@@ -310,19 +319,19 @@ impl FoundFaults {
     /// Reports the duplicate fields of the records in a written type.
     #[cycle(types)]
     fn check_type_fields(&mut self, tokens: &Tokens, t: &WrittenType) -> Result<(), AllocError>
-        ensures { OnOk result (self.new ≡ self.old ++ duplicate_fields tokens.now (type_of t.now)) }
+        ensures { OnOk result (self.new ≡ self.old ++ duplicate_field_faults tokens.now (type_of t.now)) }
     {
         match t {
             WrittenType::Named(_) => Ok(()),
             WrittenType::Array(a) => self.check_type_fields(tokens, &a.element),
-            WrittenType::Record(r) => self.record(tokens, r),
+            WrittenType::Record(r) => self.check_record_fields(tokens, r),
         }
     }
 
     /// Reports the duplicate fields of a record, and of the records in it.
     #[cycle(types)]
-    fn record(&mut self, tokens: &Tokens, r: &RecordType) -> Result<(), AllocError>
-        ensures { OnOk result (self.new ≡ self.old ++ duplicate_fields tokens.now (record_type_of r.now)) }
+    fn check_record_fields(&mut self, tokens: &Tokens, r: &RecordType) -> Result<(), AllocError>
+        ensures { OnOk result (self.new ≡ self.old ++ duplicate_field_faults tokens.now (record_type_of r.now)) }
     {
         let mut names = Vec::with_capacity(self.alloc, MAX_PAIRWISE)?;
         for group in &r.groups {
@@ -330,15 +339,15 @@ impl FoundFaults {
         }
         self.report_duplicates(tokens, &names)?;
         for group in &r.groups {
-            self.group(tokens, group)?;
+            self.check_group_fields(tokens, group)?;
         }
         Ok(())
     }
 
     /// Reports the duplicate fields of the records in the type of a group of fields.
     #[cycle(types)]
-    fn group(&mut self, tokens: &Tokens, f: &Fields) -> Result<(), AllocError>
-        ensures { OnOk result (self.new ≡ self.old ++ duplicate_fields_in_group tokens.now (fields_of f.now)) }
+    fn check_group_fields(&mut self, tokens: &Tokens, f: &Fields) -> Result<(), AllocError>
+        ensures { OnOk result (self.new ≡ self.old ++ duplicate_field_faults_in_group tokens.now (fields_of f.now)) }
     {
         match f {
             Fields::Empty => Ok(()),
@@ -347,13 +356,13 @@ impl FoundFaults {
     }
 
     /// Reports the duplicate fields of the records in a TYPE section.
-    fn types(
+    fn check_type_section_fields(
         &mut self,
         tokens: &Tokens,
         section: &Option<Vec<TypeDeclaration>>,
     ) -> Result<(), AllocError>
         ensures { OnOk result
-            (self.new ≡ self.old ++ duplicate_fields_in_types tokens.now (section_types (types_of section.now))) }
+            (self.new ≡ self.old ++ duplicate_field_faults_in_types tokens.now (section_types (types_of section.now))) }
     {
         if let Some(types) = section {
             for t in types {
@@ -364,14 +373,14 @@ impl FoundFaults {
     }
 
     /// Reports the duplicate fields of the records in the types of a VAR section.
-    fn variables(
+    fn check_variable_section_fields(
         &mut self,
         tokens: &Tokens,
         section: &Option<Vec<VariableDeclaration>>,
     ) -> Result<(), AllocError>
         ensures { OnOk result (self.new
             ≡ self.old
-            ++ duplicate_fields_in_variables tokens.now (section_variables (variables_of section.now))) }
+            ++ duplicate_field_faults_in_variables tokens.now (section_variables (variables_of section.now))) }
     {
         if let Some(variables) = section {
             for v in variables {
@@ -382,13 +391,13 @@ impl FoundFaults {
     }
 
     /// Reports the duplicate fields of the records in the types of formal parameters.
-    fn formals(
+    fn check_formal_fields(
         &mut self,
         tokens: &Tokens,
         formals: &Option<Vec<ParameterSection>>,
     ) -> Result<(), AllocError>
         ensures { OnOk result (self.new
-            ≡ self.old ++ duplicate_fields_in_formals tokens.now (formal_sections (formals_of formals.now))) }
+            ≡ self.old ++ duplicate_field_faults_in_formals tokens.now (formal_sections (formals_of formals.now))) }
     {
         if let Some(sections) = formals {
             for s in sections {
@@ -405,17 +414,17 @@ impl FoundFaults {
         ensures { OnOk result
             (self.new ≡ self.old ++ procedure_declaration_faults tokens.now (procedure_of p.now)) }
     {
-        self.closing(tokens, p.name, p.closing)?;
-        self.formals(tokens, &p.formals)?;
+        self.check_closing_name(tokens, p.name, p.closing)?;
+        self.check_formal_fields(tokens, &p.formals)?;
         let mut own = Vec::with_capacity(self.alloc, MAX_PAIRWISE)?;
         append_formal_names(&mut own, &p.formals)?;
-        self.block(tokens, own, &p.block)
+        self.check_block(tokens, own, &p.block)
     }
 
     /// Reports the duplicate declarations of a block and of the blocks inside it. `own` has the
     /// tokens of the parameters, which count as declared in the block.
     #[cycle(blocks)]
-    fn block(&mut self, tokens: &Tokens, own: Vec<usize>, b: &Block) -> Result<(), AllocError>
+    fn check_block(&mut self, tokens: &Tokens, own: Vec<usize>, b: &Block) -> Result<(), AllocError>
         ensures { OnOk result
             (self.new ≡ self.old ++ block_declaration_faults tokens.now own.items (block_of b.now)) }
     {
@@ -425,8 +434,8 @@ impl FoundFaults {
         append_variable_names(&mut names, &b.variables)?;
         append_procedure_names(&mut names, &b.procedures)?;
         self.report_duplicates(tokens, &names)?;
-        self.types(tokens, &b.types)?;
-        self.variables(tokens, &b.variables)?;
+        self.check_type_section_fields(tokens, &b.types)?;
+        self.check_variable_section_fields(tokens, &b.variables)?;
         for p in &b.procedures {
             self.check_procedure(tokens, p)?;
         }

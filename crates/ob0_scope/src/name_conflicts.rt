@@ -15,13 +15,13 @@ ghost use Rattle.ob0_scope.specs.declared.name_conflicts.FirstConflict.TheVarian
 ghost use Rattle.ob0_scope.specs.Renames.{OccursNowhere, have_same_binding, namesake, other_declaration, conflict_of};
 ghost use Rattle.ob0_scope_table.specs.Resolution.{ordinal_in};
 ghost use Rattle.ob0_language_names.specs.Scopes.{renamed};
-ghost use Rattle.ob0_scope.specs.BlockSearches.{found_in_block, found_in_procedure, has_name_and_other_binding, is_bound_to_declaration, namesake_among};
+ghost use Rattle.ob0_scope.specs.BlockSearches.{namesake_in_block, namesake_in_procedure, has_name_and_other_binding, is_bound_to_declaration, namesake_among};
 
 use crate::checks::{append_block_names, append_formal_names};
-use crate::renamed::renumber;
+use crate::renamed::ordinals_after_rename;
 use ob0_scan::Tokens;
 use ob0_scope_table::{OrdinalEntry, PREDECLARED_COUNT, Resolved, ordinal_at};
-use ob0_tree::{Block, Procedure, text_at};
+use ob0_tree::{Block, Procedure, token_text_at};
 use std::alloc::{AllocError, Global};
 use std::marker::Model;
 
@@ -71,7 +71,7 @@ fn occurs_nowhere(tokens: &Tokens, name: &str) -> bool
         return false;
     }
     for index in 0..tokens.tokens().len() {
-        if text_at(tokens, index) == name {
+        if token_text_at(tokens, index) == name {
             return false;
         }
     }
@@ -91,7 +91,7 @@ fn first_captured_occurrence(
         (bindings (renamed (named_tree_of names.now.module_read) declaration new.now))
         (bindings (named_tree_of names.now.module_read)))) }
 {
-    let ordinals = renumber(alloc, names, declaration, new)?;
+    let ordinals = ordinals_after_rename(alloc, names, declaration, new)?;
     match first_changed_occurrence(names, &ordinals) {
         Some(occurrence) => Ok(Some(FirstConflict::Occurrence(occurrence))),
         None => Ok(None),
@@ -144,7 +144,7 @@ fn namesake(
         declaration,
         new,
     };
-    sought.block(alloc, Vec::new(alloc), names.module().block())
+    sought.find_in_block(alloc, Vec::new(alloc), names.module().block())
 }
 
 /// A search for another declaration with a given name: the text, the ordinal to which each token is
@@ -186,13 +186,13 @@ impl<'t> NamesakeSearch<'t> {
     fn has_name_and_other_binding(&self, token: usize) -> bool
         ensures { result ≡ has_name_and_other_binding self.now token }
     {
-        text_at(self.tokens, token) == self.new && !self.is_bound_to_declaration(token)
+        token_text_at(self.tokens, token) == self.new && !self.is_bound_to_declaration(token)
     }
 
     /// Finds the last token in `tokens` that has the sought name and isn't bound to the declaration
     /// whose block is searched. Returns the ordinal to which this token is bound. Returns None if
     /// there is no such token, or if no token in `tokens` is bound to that declaration.
-    fn find_among(&self, tokens: &[usize]) -> Option<usize>
+    fn find_namesake_among(&self, tokens: &[usize]) -> Option<usize>
         ensures { result ≡ namesake_among self.now tokens.now }
     {
         let mut is_here = false;
@@ -210,13 +210,18 @@ impl<'t> NamesakeSearch<'t> {
     /// found, or None if no declaration is found. `own` has the tokens of the parameters, which
     /// count as declared in the block.
     #[cycle(blocks)]
-    fn block(&self, alloc: Global, own: Vec<usize>, b: &Block) -> Result<Option<usize>, AllocError>
+    fn find_in_block(
+        &self,
+        alloc: Global,
+        own: Vec<usize>,
+        b: &Block,
+    ) -> Result<Option<usize>, AllocError>
         ensures { IfOk result
-            (λ other. other ≡ found_in_block self.now own.items (block_of b.now)) }
+            (λ other. other ≡ namesake_in_block self.now own.items (block_of b.now)) }
     {
         let mut tokens = own;
         append_block_names(&mut tokens, b)?;
-        let mut found = self.find_among(&tokens);
+        let mut found = self.find_namesake_among(&tokens);
         for p in &b.procedures {
             found = found.or(self.find_in_procedure(alloc, p)?);
         }
@@ -228,10 +233,10 @@ impl<'t> NamesakeSearch<'t> {
     /// found.
     #[cycle(blocks)]
     fn find_in_procedure(&self, alloc: Global, p: &Procedure) -> Result<Option<usize>, AllocError>
-        ensures { IfOk result (λ other. other ≡ found_in_procedure self.now (procedure_of p.now)) }
+        ensures { IfOk result (λ other. other ≡ namesake_in_procedure self.now (procedure_of p.now)) }
     {
         let mut own = Vec::new(alloc);
         append_formal_names(&mut own, &p.formals)?;
-        self.block(alloc, own, &p.block)
+        self.find_in_block(alloc, own, &p.block)
     }
 }

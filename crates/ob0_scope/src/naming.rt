@@ -10,8 +10,8 @@ ghost use Rattle.std.specs.List.{position_from};
 ghost use Rattle.std.specs.List.Sorted.{IsNonDecreasingBy, IsPartitionPoint};
 ghost use Rattle.ob0_scan.specs.declared.lexeme.Token as token;
 ghost use Rattle.ob0_tree.specs.Order.{AreIdentifierTokens, AreAscending};
-ghost use Rattle.ob0_scope.specs.Listing.{TokensAreApart, first_bound_token, is_identifier, is_identifier_on, omitted_token, tokens_bound_from};
-ghost use Rattle.ob0_scope.specs.NamesAtPlaces.{IsRenamedAt, name_on, tokens_bound_to};
+ghost use Rattle.ob0_scope.specs.Listing.{TokensAreDisjoint, first_bound_token, is_identifier, is_identifier_at_offset, omitted_token, tokens_bound_from};
+ghost use Rattle.ob0_scope.specs.NamesAtPlaces.{IsRenamedAt, name_at_offset, tokens_bound_to};
 
 use ob0_scan::{Token, TokenKind};
 use ob0_scope_table::{OrdinalEntry, Resolved, same_ordinal};
@@ -28,12 +28,12 @@ pub struct Named {
 /// predeclared. A closing name of a procedure counts as the procedure's name. Returns None at a
 /// field, at the module's name, at an unbound name, and if there is no name.
 pub fn name_at(names: &Resolved, offset: usize) -> Option<Named>
-    ensures { result ≡ name_on names.now.module_read offset }
+    ensures { result ≡ name_at_offset names.now.module_read offset }
 {
     let tokens = names.module().tokens();
     // The proof needs the contract of this call.
     let _scanned = tokens.text();
-    match first_identifier_on(tokens.tokens(), offset) {
+    match first_identifier_at_offset(tokens.tokens(), offset) {
         Some(token) => match names.ordinal_at(token) {
             Some(ordinal) => Some(Named { token, ordinal }),
             None => None,
@@ -129,22 +129,22 @@ pub fn tokens_changed_by_rename(
 /// Returns the token index of the first identifier that contains the byte offset `offset` or ends
 /// there, found by binary search. Only the first token that doesn't end before `offset`, and the
 /// token after it, can be that identifier. Returns None if neither token is.
-fn first_identifier_on(tokens: &[Token], offset: usize) -> Option<usize>
-    ensures { TokensAreApart 0 tokens.now
-        → result ≡ position_from (is_identifier_on offset) 0 tokens.now }
+fn first_identifier_at_offset(tokens: &[Token], offset: usize) -> Option<usize>
+    ensures { TokensAreDisjoint 0 tokens.now
+        → result ≡ position_from (is_identifier_at_offset offset) 0 tokens.now }
 {
     let place = count_ended_before(tokens, offset);
     if place >= tokens.len() {
         return None;
     }
-    if is_identifier_on(&tokens[place], offset) {
+    if is_identifier_at_offset(&tokens[place], offset) {
         return Some(place);
     }
     let next = place + 1;
     if next >= tokens.len() {
         return None;
     }
-    if is_identifier_on(&tokens[next], offset) {
+    if is_identifier_at_offset(&tokens[next], offset) {
         return Some(next);
     }
     None
@@ -161,8 +161,8 @@ fn count_ended_before(tokens: &[Token], offset: usize) -> usize
 }
 
 /// Returns whether the token is an identifier that contains the byte offset `offset` or ends there.
-fn is_identifier_on(token: &Token, offset: usize) -> bool
-    ensures { result ≡ is_identifier_on offset token.now }
+fn is_identifier_at_offset(token: &Token, offset: usize) -> bool
+    ensures { result ≡ is_identifier_at_offset offset token.now }
 {
     is_identifier(token.kind)
         && token.span.start as usize <= offset

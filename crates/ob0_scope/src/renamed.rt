@@ -25,13 +25,13 @@ pub fn resolve_renamed(
         ≡ map label_ordinal
         (bindings (renamed (named_tree_of names.now.module_read) declaration new.now))) }
 {
-    let ordinals = renumber(alloc, names, declaration, new)?;
+    let ordinals = ordinals_after_rename(alloc, names, declaration, new)?;
     ordinals_at(alloc, &ordinals, names.occurrences())
 }
 
 /// Returns the table of ordinals, by token, after the declaration with the ordinal `declaration` is
 /// renamed to `new`.
-pub(crate) fn renumber(
+pub(crate) fn ordinals_after_rename(
     alloc: Global,
     names: &Resolved,
     declaration: usize,

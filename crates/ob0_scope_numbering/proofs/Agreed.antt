@@ -3,7 +3,7 @@
 use Rattle.std.proofs.Common.{◌≡◌, ℕ, Option, None, List, [], ◌∷◌, ◌++◌, refl, sym}
 use Rattle.ob0_tree.specs.declared.tree.Role.{Role}
 use Rattle.ob0_tree.specs.declared.tree.Role.TheVariants as role
-use Rattle.ob0_tree.specs.Tree.{Sort, Tree, identifiers, mapped, adds, array_type, assigns, begins, branches, calls, compares, declares, declares_constant, declares_constants, declares_procedure, declares_type, declares_types, declares_variable, declares_variables, designator, else_branch, elsif_branch, empty, end, field, has_body, index, integer, is_module, listed, more, multiplies, named_type, negation, no_arguments, no_fields, no_formals, none, one, parenthesised, product, record_type, relates, repeat_loop, runs, some_arguments, some_fields, some_formals, sum, then_argument, then_fields, then_name, then_section, then_statement, value_section, variable_section, while_loop}
+use Rattle.ob0_tree.specs.Tree.{Sort, Tree, identifiers, mapped_tree, adds, array_type, assigns, begins, branches, calls, compares, declares, declares_constant, declares_constants, declares_procedure, declares_type, declares_types, declares_variable, declares_variables, designator, else_branch, elsif_branch, empty, end, field, forms_block, index, integer, is_module, listed, more, multiplies, named_type, negation, no_arguments, no_fields, no_formals, none, one, parenthesised, product, record_type, relates, repeat_loop, runs, some_arguments, some_fields, some_formals, sum, then_argument, then_fields, then_name, then_section, then_statement, value_section, variable_section, while_loop}
 use Rattle.ob0_scope_numbering.specs.Written.{Spellings, spelling_at}
 use Rattle.ob0_language_names.specs.Names.{Name, naming_by_spelling}
 use Rattle.ob0_language_names.specs.Scopes.{Labelling, Scope, ordinal_of, relabel_uses}
@@ -43,7 +43,7 @@ module _ {M : Type 0} (table : ℕ → Option ℕ) (label : Labelling Name M) (s
   to p f = record { reads = λ h. f (p.reads h) }
 
   pub agreed : {s : Sort} (r : Role) → ((i : ℕ) → Fits table src scope r i → table i ≡ None) → (t : Tree ℕ s)
-      → Reads (identifiers r t) (relabel_uses naming_by_spelling label scope (mapped (spelling_at src) value t) ≡ mapped (λ i. label (table i) (spelling_at src i)) value t)
+      → Reads (identifiers r t) (relabel_uses naming_by_spelling label scope (mapped_tree (spelling_at src) value t) ≡ mapped_tree (λ i. label (table i) (spelling_at src i)) value t)
   agreed r other none = nothing refl
   agreed r other (one a) = to (agreed r other a) (λ p i. one (p i))
   agreed r other end = nothing refl
@@ -95,5 +95,5 @@ module _ {M : Type 0} (table : ℕ → Option ℕ) (label : Labelling Name M) (s
   agreed r other (declares_procedure a b c d) = to (first (both (agreed r other b) (both (agreed r other c) (first (nothing {P = Unit {0}} tt))))) (λ p i. declares_procedure (label (sym p.first i) (spelling_at src a)) (p.second.first i) (p.second.second.first i) (label (sym p.second.second.second.first i) (spelling_at src d)))
   agreed r other (declares a b c d) = to (both (agreed r other a) (both (agreed r other b) (both (agreed r other c) (agreed r other d)))) (λ p i. declares (p.first i) (p.second.first i) (p.second.second.first i) (p.second.second.second i))
   agreed r other (begins a) = to (agreed r other a) (λ p i. begins (p i))
-  agreed r other (has_body a b) = to (both (agreed r other a) (agreed r other b)) (λ p i. has_body (p.first i) (p.second i))
+  agreed r other (forms_block a b) = to (both (agreed r other a) (agreed r other b)) (λ p i. forms_block (p.first i) (p.second i))
   agreed r other (is_module a b c) = to (first (both (agreed r other b) (first (nothing {P = Unit {0}} tt)))) (λ p i. is_module (label (sym p.first i) (spelling_at src a)) (p.second.first i) (label (sym p.second.second.first i) (spelling_at src c)))

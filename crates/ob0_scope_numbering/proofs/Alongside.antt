@@ -4,12 +4,12 @@
 use Rattle.std.proofs.Common.{◌≡◌, ℕ, zero, suc, ◌+◌, ◌-◌, Bool, true, Option, Some, None, List, [], ◌∷◌, ◌++◌, map, length, drop, refl, sym, ap, ◌∙◌, subst, append_assoc, append-nil}
 use Rattle.ob0_tree.specs.declared.tree.Role.{Role}
 use Rattle.ob0_tree.specs.declared.tree.Role.TheVariants as role
-use Rattle.ob0_tree.specs.Order.{leaves, names_without_roles}
-use Rattle.ob0_tree.specs.Tree.{Sort, Tree, block, constant, constants, declares, declares_constant, declares_constants, declares_procedure, declares_type, declares_types, declares_variable, declares_variables, end, formals, further_name, further_section, has_body, identifiers, item, items, listed, maybe, more, names, no_formals, none, one, procedure, section, some_formals, then_name, then_section, type_name, type_names, value_section, variable, variable_section, variables}
+use Rattle.ob0_tree.specs.Order.{identifier_names, names_without_roles}
+use Rattle.ob0_tree.specs.Tree.{Sort, Tree, block, constant, constants, declares, declares_constant, declares_constants, declares_procedure, declares_type, declares_types, declares_variable, declares_variables, end, formals, further_name, further_section, forms_block, identifiers, item, items, listed, maybe, more, names, no_formals, none, one, procedure, section, some_formals, then_name, then_section, type_definition, type_definitions, value_section, variable, variable_section, variables}
 use Rattle.ob0_language_names.specs.Names.{naming_by_spelling}
 use Rattle.ob0_language_names.specs.Parts.{further_names, names_in_list}
 use Rattle.ob0_language_names.specs.Scopes.{declare_names, ordinal_of}
-use Rattle.ob0_scope_numbering.specs.MarkWalk.{WalkState, state_after_heading, visit_identifier, visit_identifiers, leave_block, truncate_scope, with_mark, number_declarations, number_declaration, visit_part, show_declarations_from, visit_block, visit_constant, visit_constant_section, visit_constants, visit_formals, visit_procedure, visit_procedures, visit_section, visit_sections, visit_type, visit_type_section, visit_types, visit_variable, visit_variable_section, visit_variables}
+use Rattle.ob0_scope_numbering.specs.MarkWalk.{WalkState, state_after_heading, visit_identifier, visit_identifiers, leave_block, truncate_scope, with_mark, number_declarations, number_declaration, visit_part, with_visible_names_from, visit_block, visit_constant, visit_constant_section, visit_constants, visit_formals, visit_procedure, visit_procedures, visit_section, visit_sections, visit_type, visit_type_section, visit_types, visit_variable, visit_variable_section, visit_variables}
 use Rattle.ob0_scope_numbering.specs.Marks.{OrdinalMark}
 use Rattle.ob0_scope_numbering.specs.Written.{Spellings, spelling_at}
 
@@ -192,7 +192,7 @@ module _ (out : ℕ → Bool) (a b : Spellings) (same_name : (i : ℕ) → out i
   names_same (i ∷ is) o = λ j. same_name i o.0 j ∷ names_same is o.1 j
 
   -- Making the declarations visible, starting at one of them, keeps two walks at the same place.
-  shown_goes : (n m : ℕ) (x y : WalkState) → n ≡ m → Beside x y → Beside (show_declarations_from n x) (show_declarations_from m y)
+  shown_goes : (n m : ℕ) (x y : WalkState) → n ≡ m → Beside x y → Beside (with_visible_names_from n x) (with_visible_names_from m y)
   shown_goes n m x y e at =
       let later = out_later out n x.declarations at.outside in
       record {
@@ -205,37 +205,37 @@ module _ (out : ℕ → Bool) (a b : Spellings) (same_name : (i : ℕ) → out i
         outside = at.outside;
       }
 
-  then_shown : (n m : ℕ) {x y x' y' : WalkState} → n ≡ m → Goes x y x' y' → Goes x y (show_declarations_from n x') (show_declarations_from m y')
+  then_shown : (n m : ℕ) {x y x' y' : WalkState} → n ≡ m → Goes x y x' y' → Goes x y (with_visible_names_from n x') (with_visible_names_from m y')
   then_shown n m {x' = x'} {y' = y'} e p = record { at = shown_goes n m x' y' e p.at; adds = record { firsts = p.adds.firsts; seconds = p.adds.seconds; first_is = p.adds.first_is; second_is = p.adds.second_is; alike = p.adds.alike } }
 
   group_goes : {s : Sort} (is : List ℕ) (t : Tree ℕ s) (x y : WalkState) → AllOut out is → Beside x y
-      → Goes x y (show_declarations_from (length x.declarations) (visit_part t (number_declarations is x))) (show_declarations_from (length y.declarations) (visit_part t (number_declarations is y)))
+      → Goes x y (with_visible_names_from (length x.declarations) (visit_part t (number_declarations is x))) (with_visible_names_from (length y.declarations) (visit_part t (number_declarations is y)))
   group_goes is t x y o at =
       let one = all_numbered is x y o at in
       then_shown (length x.declarations) (length y.declarations) (ap length at.declarations) (goes_then one (used_goes t (number_declarations is x) (number_declarations is y) one.at))
 
-  further_out : (ns : Tree ℕ (items further_name)) → AllOut out (leaves ns) → AllOut out (further_names ns)
+  further_out : (ns : Tree ℕ (items further_name)) → AllOut out (identifier_names ns) → AllOut out (further_names ns)
   further_out end o = tt
   further_out (more (then_name x) rest) o = (o.0, further_out rest o.1)
 
-  listed_out : (ns : Tree ℕ names) → AllOut out (leaves ns) → AllOut out (names_in_list ns)
+  listed_out : (ns : Tree ℕ names) → AllOut out (identifier_names ns) → AllOut out (names_in_list ns)
   listed_out (listed x rest) o = (o.0, further_out rest o.1)
 
-  constants_go : (cs : Tree ℕ (items constant)) (x y : WalkState) → AllOut out (leaves cs) → Beside x y → Goes x y (visit_constants cs x) (visit_constants cs y)
+  constants_go : (cs : Tree ℕ (items constant)) (x y : WalkState) → AllOut out (identifier_names cs) → Beside x y → Goes x y (visit_constants cs x) (visit_constants cs y)
   constants_go end x y o at = goes_nowhere x y at
   constants_go (more (declares_constant n e) cs) x y o at =
       let parts = out_parts out (identifiers role.Declaring (declares_constant n e)) (identifiers role.Declaring cs) o in
       let one = group_goes (n ∷ []) e x y (parts.0.0, tt) at in
       goes_then one (constants_go cs (visit_constant (declares_constant n e) x) (visit_constant (declares_constant n e) y) parts.1 one.at)
 
-  types_go : (ts : Tree ℕ (items type_name)) (x y : WalkState) → AllOut out (leaves ts) → Beside x y → Goes x y (visit_types ts x) (visit_types ts y)
+  types_go : (ts : Tree ℕ (items type_definition)) (x y : WalkState) → AllOut out (identifier_names ts) → Beside x y → Goes x y (visit_types ts x) (visit_types ts y)
   types_go end x y o at = goes_nowhere x y at
   types_go (more (declares_type n t) ts) x y o at =
       let parts = out_parts out (identifiers role.Declaring (declares_type n t)) (identifiers role.Declaring ts) o in
       let one = group_goes (n ∷ []) t x y (parts.0.0, tt) at in
       goes_then one (types_go ts (visit_type (declares_type n t) x) (visit_type (declares_type n t) y) parts.1 one.at)
 
-  variables_go : (gs : Tree ℕ (items variable)) (x y : WalkState) → AllOut out (leaves gs) → Beside x y → Goes x y (visit_variables gs x) (visit_variables gs y)
+  variables_go : (gs : Tree ℕ (items variable)) (x y : WalkState) → AllOut out (identifier_names gs) → Beside x y → Goes x y (visit_variables gs x) (visit_variables gs y)
   variables_go end x y o at = goes_nowhere x y at
   variables_go (more (declares_variable ns t) gs) x y o at =
       let parts = out_parts out (identifiers role.Declaring (declares_variable ns t)) (identifiers role.Declaring gs) o in
@@ -243,18 +243,18 @@ module _ (out : ℕ → Bool) (a b : Spellings) (same_name : (i : ℕ) → out i
       let one = group_goes (names_in_list ns) t x y (listed_out ns named.0) at in
       goes_then one (variables_go gs (visit_variable (declares_variable ns t) x) (visit_variable (declares_variable ns t) y) parts.1 one.at)
 
-  section_goes : (f : Tree ℕ section) (x y : WalkState) → AllOut out (leaves f) → Beside x y → Goes x y (visit_section f x) (visit_section f y)
+  section_goes : (f : Tree ℕ section) (x y : WalkState) → AllOut out (identifier_names f) → Beside x y → Goes x y (visit_section f x) (visit_section f y)
   section_goes (value_section ns t) x y o at = group_goes (names_in_list ns) t x y (listed_out ns (out_parts out (identifiers role.Declaring ns) (identifiers role.Declaring t) o).0) at
   section_goes (variable_section ns t) x y o at = group_goes (names_in_list ns) t x y (listed_out ns (out_parts out (identifiers role.Declaring ns) (identifiers role.Declaring t) o).0) at
 
-  sections_go : (fs : Tree ℕ (items further_section)) (x y : WalkState) → AllOut out (leaves fs) → Beside x y → Goes x y (visit_sections fs x) (visit_sections fs y)
+  sections_go : (fs : Tree ℕ (items further_section)) (x y : WalkState) → AllOut out (identifier_names fs) → Beside x y → Goes x y (visit_sections fs x) (visit_sections fs y)
   sections_go end x y o at = goes_nowhere x y at
   sections_go (more (then_section f) fs) x y o at =
       let parts = out_parts out (identifiers role.Declaring f) (identifiers role.Declaring fs) o in
       let one = section_goes f x y parts.0 at in
       goes_then one (sections_go fs (visit_section f x) (visit_section f y) parts.1 one.at)
 
-  pub formals_go : (fs : Tree ℕ (maybe formals)) (x y : WalkState) → AllOut out (leaves fs) → Beside x y → Goes x y (visit_formals fs x) (visit_formals fs y)
+  pub formals_go : (fs : Tree ℕ (maybe formals)) (x y : WalkState) → AllOut out (identifier_names fs) → Beside x y → Goes x y (visit_formals fs x) (visit_formals fs y)
   formals_go none x y o at = goes_nowhere x y at
   formals_go (one no_formals) x y o at = goes_nowhere x y at
   formals_go (one (some_formals f fs)) x y o at =
@@ -262,22 +262,22 @@ module _ (out : ℕ → Bool) (a b : Spellings) (same_name : (i : ℕ) → out i
       let one = section_goes f x y parts.0 at in
       goes_then one (sections_go fs (visit_section f x) (visit_section f y) parts.1 one.at)
 
-  pub constant_section_goes : (cs : Tree ℕ (maybe constants)) (x y : WalkState) → AllOut out (leaves cs) → Beside x y → Goes x y (visit_constant_section cs x) (visit_constant_section cs y)
+  pub constant_section_goes : (cs : Tree ℕ (maybe constants)) (x y : WalkState) → AllOut out (identifier_names cs) → Beside x y → Goes x y (visit_constant_section cs x) (visit_constant_section cs y)
   constant_section_goes none x y o at = goes_nowhere x y at
   constant_section_goes (one (declares_constants cs)) x y o at = constants_go cs x y o at
 
-  pub type_section_goes : (ts : Tree ℕ (maybe type_names)) (x y : WalkState) → AllOut out (leaves ts) → Beside x y → Goes x y (visit_type_section ts x) (visit_type_section ts y)
+  pub type_section_goes : (ts : Tree ℕ (maybe type_definitions)) (x y : WalkState) → AllOut out (identifier_names ts) → Beside x y → Goes x y (visit_type_section ts x) (visit_type_section ts y)
   type_section_goes none x y o at = goes_nowhere x y at
   type_section_goes (one (declares_types ts)) x y o at = types_go ts x y o at
 
-  pub variable_section_goes : (vs : Tree ℕ (maybe variables)) (x y : WalkState) → AllOut out (leaves vs) → Beside x y → Goes x y (visit_variable_section vs x) (visit_variable_section vs y)
+  pub variable_section_goes : (vs : Tree ℕ (maybe variables)) (x y : WalkState) → AllOut out (identifier_names vs) → Beside x y → Goes x y (visit_variable_section vs x) (visit_variable_section vs y)
   variable_section_goes none x y o at = goes_nowhere x y at
   variable_section_goes (one (declares_variables vs)) x y o at = variables_go vs x y o at
 
   -- ---- blocks
 
   -- Two walks through the sections of a block end at the same place.
-  pub declared_goes : (cs : Tree ℕ (maybe constants)) (ts : Tree ℕ (maybe type_names)) (vs : Tree ℕ (maybe variables)) (x y : WalkState) → AllOut out (leaves cs) → AllOut out (leaves ts) → AllOut out (leaves vs) → Beside x y
+  pub declared_goes : (cs : Tree ℕ (maybe constants)) (ts : Tree ℕ (maybe type_definitions)) (vs : Tree ℕ (maybe variables)) (x y : WalkState) → AllOut out (identifier_names cs) → AllOut out (identifier_names ts) → AllOut out (identifier_names vs) → Beside x y
       → Goes x y (visit_variable_section vs (visit_type_section ts (visit_constant_section cs x))) (visit_variable_section vs (visit_type_section ts (visit_constant_section cs y)))
   declared_goes cs ts vs x y c t v at =
       let p = constant_section_goes cs x y c at in
@@ -289,7 +289,7 @@ module _ (out : ℕ → Bool) (a b : Spellings) (same_name : (i : ℕ) → out i
   left_goes n m x y e at = record { first = at.first; second = at.second; scope = λ j. drop (length (at.scope j) - e j) (at.scope j); declarations = at.declarations; outside = at.outside }
 
   -- Two walks through a procedure's name and parameters end at the same place.
-  pub heading_goes : (n : ℕ) (fs : Tree ℕ (maybe formals)) (x y : WalkState) → out n ≡ true → AllOut out (leaves fs) → Beside x y
+  pub heading_goes : (n : ℕ) (fs : Tree ℕ (maybe formals)) (x y : WalkState) → out n ≡ true → AllOut out (identifier_names fs) → Beside x y
       → Goes x y (state_after_heading (length x.declarations) (length x.scope) (visit_formals fs (number_declaration n x))) (state_after_heading (length y.declarations) (length y.scope) (visit_formals fs (number_declaration n y)))
   heading_goes n fs x y o f at =
       let p = numbered_goes n x y o at in
@@ -317,8 +317,8 @@ module _ (out : ℕ → Bool) (a b : Spellings) (same_name : (i : ℕ) → out i
       record { at = last.at; adds = record { firsts = last.adds.firsts; seconds = last.adds.seconds; first_is = last.adds.first_is; second_is = last.adds.second_is; alike = last.adds.alike } }
 
   mutual
-    pub block_goes : (t : Tree ℕ block) (x y : WalkState) → AllOut out (leaves t) → Beside x y → Goes x y (visit_block t x) (visit_block t y)
-    block_goes (has_body (declares cs ts vs ps) statements) x y o at =
+    pub block_goes : (t : Tree ℕ block) (x y : WalkState) → AllOut out (identifier_names t) → Beside x y → Goes x y (visit_block t x) (visit_block t y)
+    block_goes (forms_block (declares cs ts vs ps) statements) x y o at =
         let whole = out_parts out (identifiers role.Declaring (declares cs ts vs ps)) (identifiers role.Declaring statements) o in
         let c = out_parts out (identifiers role.Declaring cs) (identifiers role.Declaring ts ++ (identifiers role.Declaring vs ++ identifiers role.Declaring ps)) whole.0 in
         let t = out_parts out (identifiers role.Declaring ts) (identifiers role.Declaring vs ++ identifiers role.Declaring ps) c.1 in
@@ -329,14 +329,14 @@ module _ (out : ℕ → Bool) (a b : Spellings) (same_name : (i : ℕ) → out i
         let q = procedures_go ps x₁ y₁ v.1 p.at in
         goes_then p (goes_then q (used_goes statements (visit_procedures ps x₁) (visit_procedures ps y₁) q.at))
 
-    pub procedures_go : (ps : Tree ℕ (items procedure)) (x y : WalkState) → AllOut out (leaves ps) → Beside x y → Goes x y (visit_procedures ps x) (visit_procedures ps y)
+    pub procedures_go : (ps : Tree ℕ (items procedure)) (x y : WalkState) → AllOut out (identifier_names ps) → Beside x y → Goes x y (visit_procedures ps x) (visit_procedures ps y)
     procedures_go end x y o at = goes_nowhere x y at
     procedures_go (more p ps) x y o at =
         let parts = out_parts out (identifiers role.Declaring p) (identifiers role.Declaring ps) o in
         let one = procedure_goes p x y parts.0 at in
         goes_then one (procedures_go ps (visit_procedure p x) (visit_procedure p y) parts.1 one.at)
 
-    pub procedure_goes : (p : Tree ℕ (item procedure)) (x y : WalkState) → AllOut out (leaves p) → Beside x y → Goes x y (visit_procedure p x) (visit_procedure p y)
+    pub procedure_goes : (p : Tree ℕ (item procedure)) (x y : WalkState) → AllOut out (identifier_names p) → Beside x y → Goes x y (visit_procedure p x) (visit_procedure p y)
     procedure_goes (declares_procedure n fs t closing) x y o at =
         let f = out_parts out (identifiers role.Declaring fs) (identifiers role.Declaring t ++ ((role.ClosingName, closing) ∷ [])) o.1 in
         let g = out_parts out (identifiers role.Declaring t) ((role.ClosingName, closing) ∷ []) f.1 in

@@ -7,8 +7,8 @@ use Rattle.std.proofs.Math.Seq.{drop-append_seam}
 use Rattle.std.proofs.lemmas.Bool.{and_parts, lt-ltb}
 use Rattle.ob0_tree.specs.declared.tree.Role.{Role}
 use Rattle.ob0_tree.specs.declared.tree.Role.TheVariants as role
-use Rattle.ob0_tree.specs.Order.{AreAscending, leaves, names_without_roles}
-use Rattle.ob0_tree.specs.Tree.{Tree, block, body, declares, declares_procedure, end, has_body, identifiers, is_module, item, items, maybe, module_text, more, procedure}
+use Rattle.ob0_tree.specs.Order.{AreAscending, identifier_names, names_without_roles}
+use Rattle.ob0_tree.specs.Tree.{Tree, block, body, declares, declares_procedure, end, forms_block, identifiers, is_module, item, items, maybe, module_text, more, procedure}
 use Rattle.ob0_tree.proofs.AscendingNumbers.{AllBelow, ascend_first, ascend_past, ascend_second, before_one, below_more, below_second, leaves_append}
 use Rattle.ob0_language_names.specs.Names.{Name}
 use Rattle.ob0_language_names.specs.Parts.{procedure_name}
@@ -62,10 +62,10 @@ stops_at x (y ∷ ys) extra h =
 abbrev inside : Tree ℕ (item procedure) → List ℕ
 inside (declares_procedure x fs b closing) = x ∷ names_without_roles (identifiers role.Declaring fs ++ identifiers role.Declaring b)
 
-procedure_ends : (p : Tree ℕ (item procedure)) → leaves p ≡ inside p ++ (closing_name p ∷ [])
+procedure_ends : (p : Tree ℕ (item procedure)) → identifier_names p ≡ inside p ++ (closing_name p ∷ [])
 procedure_ends (declares_procedure x fs b closing) = simp (leaves_append, append_assoc)
 
-procedure_below : (low : ℕ) (p : Tree ℕ (item procedure)) (from to : ℕ) → closing_name p < low → AreAscending from (leaves p) to → AllBelow low (leaves p)
+procedure_below : (low : ℕ) (p : Tree ℕ (item procedure)) (from to : ℕ) → closing_name p < low → AreAscending from (identifier_names p) to → AllBelow low (identifier_names p)
 procedure_below low p from to less h =
     let ends = before_one from (inside p) (closing_name p) [] to (subst (λ l. AreAscending from l to) (procedure_ends p) h) in
     subst (AllBelow low) (sym (procedure_ends p)) (both (inside p) (below_more (closing_name p) low (inside p) (omega (arith, less)) ends))
@@ -75,9 +75,9 @@ procedure_below low p from to less h =
     both (x ∷ xs) h = (h.0, both xs h.1)
 
 -- The tokens after a procedure ascend from its closing name.
-ascend_after : (p : Tree ℕ (item procedure)) (rest : List ℕ) (from to : ℕ) → AreAscending from (leaves p ++ rest) to → AreAscending (closing_name p + 1) rest to
+ascend_after : (p : Tree ℕ (item procedure)) (rest : List ℕ) (from to : ℕ) → AreAscending from (identifier_names p ++ rest) to → AreAscending (closing_name p + 1) rest to
 ascend_after p rest from to h =
-    let split : leaves p ++ rest ≡ inside p ++ (closing_name p ∷ rest) = ap (λ l. l ++ rest) (procedure_ends p) ∙ append_assoc (inside p) (closing_name p ∷ []) rest in
+    let split : identifier_names p ++ rest ≡ inside p ++ (closing_name p ∷ rest) = ap (λ l. l ++ rest) (procedure_ends p) ∙ append_assoc (inside p) (closing_name p ∷ []) rest in
     ascend_past from (inside p) (closing_name p) rest to (subst (λ l. AreAscending from l to) split h)
 
 -- ---- the walks
@@ -177,20 +177,20 @@ module _ (old new : Spellings) (all : List ℕ) (bound low high : ℕ) (same : (
   -- one procedure
   abbrev Rest : Tree ℕ (items procedure) → Tree ℕ (maybe body) → Type 0
   Rest ps statements =
-      (o w v : WalkState) (from to : ℕ) (extra : List ℕ) → is_in_procedures low high ps statements ≡ true → AreAscending from (leaves ps ++ leaves statements) to
+      (o w v : WalkState) (from to : ℕ) (extra : List ℕ) → is_in_procedures low high ps statements ≡ true → AreAscending from (identifier_names ps ++ identifier_names statements) to
       → all ≡ w.declarations ++ (declaring_names (identifiers role.Declaring ps) ++ extra) → Itself w → Near o w → Behind v w
       → Reaches o w v (visit_part statements (visit_procedures ps o)) (visit_part statements (visit_procedures ps w)) (renumber_procedures put_ordinal all low ps statements v)
 
   abbrev Here : Tree ℕ (item procedure) → Type 0
   Here q =
-      (o w v : WalkState) (from to : ℕ) (extra : List ℕ) → is_in_procedure low high q ≡ true → high ≤ closing_name q → AreAscending from (leaves q) to
+      (o w v : WalkState) (from to : ℕ) (extra : List ℕ) → is_in_procedure low high q ≡ true → high ≤ closing_name q → AreAscending from (identifier_names q) to
       → all ≡ w.declarations ++ (declaring_names (identifiers role.Declaring q) ++ extra) → Itself w → Near o w → On v w
       → Reaches o w v (visit_procedure q o) (visit_procedure q w) (renumber_procedure put_ordinal all low q v)
 
   -- One more procedure is either skipped, or has the body in it.
   one_procedure : (q : Tree ℕ (item procedure)) (ps : Tree ℕ (items procedure)) (statements : Tree ℕ (maybe body)) (o w v : WalkState) (from to : ℕ) (rest : List ℕ) → Rest ps statements → Here q
       → all ≡ w.declarations ++ (declaring_names (identifiers role.Declaring q) ++ (declaring_names (identifiers role.Declaring ps) ++ rest)) → Itself w → Near o w → On (with_declarations_before all (procedure_name q) v) w
-      → AreAscending from (leaves q ++ (leaves ps ++ leaves statements)) to → (b : Bool) → nat_lt (closing_name q) low ≡ b
+      → AreAscending from (identifier_names q ++ (identifier_names ps ++ identifier_names statements)) to → (b : Bool) → nat_lt (closing_name q) low ≡ b
       → (if b then is_in_procedures low high ps statements else nat_le high (closing_name q) && is_in_procedure low high q) ≡ true
       → Reaches o w v (visit_part statements (visit_procedures ps (visit_procedure q o))) (visit_part statements (visit_procedures ps (visit_procedure q w)))
       (if b then renumber_procedures put_ordinal all low ps statements (with_procedure_skipped (procedure_name q) (with_declarations_before all (procedure_name q) v)) else renumber_procedure put_ordinal all low q (with_declarations_before all (procedure_name q) v))
@@ -204,7 +204,7 @@ module _ (old new : Spellings) (all : List ℕ) (bound low high : ℕ) (same : (
       ∙ (sym (append_assoc w.declarations (declaring_names (identifiers role.Declaring q)) (declaring_names (identifiers role.Declaring ps) ++ rest))
       ∙ ap (λ l. l ++ (declaring_names (identifiers role.Declaring ps) ++ rest)) (sym passed.declared)) in
       let less : closing_name q < low = grind (arith, nat_tests) in
-      let outside = below_out low high (leaves q) (procedure_below low q from to less (ascend_first from (leaves q) (leaves ps ++ leaves statements) to parts)) in
+      let outside = below_out low high (identifier_names q) (procedure_below low q from to less (ascend_first from (identifier_names q) (identifier_names ps ++ identifier_names statements) to parts)) in
       let n = procedure_goes out old new same q o w outside near in
       let behind₁ : Behind (with_procedure_skipped x v₁) w₁ = record {
         first = on.first;
@@ -213,9 +213,9 @@ module _ (old new : Spellings) (all : List ℕ) (bound low high : ℕ) (same : (
         behind = declaring_names (identifiers role.Declaring q);
         is = passed.declared ∙ ap (λ ds. ds ++ declaring_names (identifiers role.Declaring q)) (sym on.declarations);
       } in
-      let tokens : tokens_of n.adds.seconds ≡ leaves q = tokens_added w.marks w₁.marks n.adds.seconds (leaves q) n.adds.second_is passed.tokens in
+      let tokens : tokens_of n.adds.seconds ≡ identifier_names q = tokens_added w.marks w₁.marks n.adds.seconds (identifier_names q) n.adds.second_is passed.tokens in
       let covered = covers_all out n.adds.seconds (subst (AllOut out) (sym tokens) outside) in
-      let r = later (visit_procedure q o) w₁ (with_procedure_skipped x v₁) from to rest inside_them (ascend_second from (leaves q) (leaves ps ++ leaves statements) to parts) next (at_itself passed.at) n.at behind₁ in
+      let r = later (visit_procedure q o) w₁ (with_procedure_skipped x v₁) from to rest inside_them (ascend_second from (identifier_names q) (identifier_names ps ++ identifier_names statements) to parts) next (at_itself passed.at) n.at behind₁ in
       record { near = goes_then out old new same n r.near; added = r.added; is = r.is; covers = covers_both out covered r.covers }
   one_procedure q ps statements o w v from to rest later here first at near on parts false e inside_it =
       let v₁ = with_declarations_before all (procedure_name q) v in
@@ -223,17 +223,17 @@ module _ (old new : Spellings) (all : List ℕ) (bound low high : ℕ) (same : (
       let reaches_end = both.0 in
       let le : high ≤ closing_name q = grind (arith, nat_tests) in
       let passed = procedure_passed nowhere written new value q w w.scope (7 + length w.declarations) at in
-      let h = here o w v₁ from to (declaring_names (identifiers role.Declaring ps) ++ rest) both.1 le (ascend_first from (leaves q) (leaves ps ++ leaves statements) to parts) first at near on in
+      let h = here o w v₁ from to (declaring_names (identifiers role.Declaring ps) ++ rest) both.1 le (ascend_first from (identifier_names q) (identifier_names ps ++ identifier_names statements) to parts) first at near on in
       let w₁ = visit_procedure q w in
       let w₂ = visit_procedures ps w₁ in
-      let beyond = ascend_after q (leaves ps ++ leaves statements) from to parts in
-      let outside = out_split out (leaves ps) (leaves statements) (above_out low high (closing_name q + 1) (leaves ps ++ leaves statements) to (omega (arith, le)) beyond) in
+      let beyond = ascend_after q (identifier_names ps ++ identifier_names statements) from to parts in
+      let outside = out_split out (identifier_names ps) (identifier_names statements) (above_out low high (closing_name q + 1) (identifier_names ps ++ identifier_names statements) to (omega (arith, le)) beyond) in
       let n = procedures_go out old new same ps (visit_procedure q o) w₁ outside.0 h.near.at in
       let m = used_goes out old new same statements (visit_procedures ps (visit_procedure q o)) w₂ n.at in
       let p₁ = procedures_passed nowhere written new value ps w₁ w₁.scope (7 + length w₁.declarations) (at_itself passed.at) in
       let p₂ = used_passed nowhere written new value statements w₂ w₂.scope (7 + length w₂.declarations) tt (at_itself p₁.at) in
-      let t₁ : tokens_of n.adds.seconds ≡ leaves ps = tokens_added w₁.marks w₂.marks n.adds.seconds (leaves ps) n.adds.second_is p₁.tokens in
-      let t₂ : tokens_of m.adds.seconds ≡ leaves statements = tokens_added w₂.marks (visit_part statements w₂).marks m.adds.seconds (leaves statements) m.adds.second_is p₂.tokens in
+      let t₁ : tokens_of n.adds.seconds ≡ identifier_names ps = tokens_added w₁.marks w₂.marks n.adds.seconds (identifier_names ps) n.adds.second_is p₁.tokens in
+      let t₂ : tokens_of m.adds.seconds ≡ identifier_names statements = tokens_added w₂.marks (visit_part statements w₂).marks m.adds.seconds (identifier_names statements) m.adds.second_is p₂.tokens in
       let c₁ = covers_all out n.adds.seconds (subst (AllOut out) (sym t₁) outside.0) in
       let c₂ = covers_all out m.adds.seconds (subst (AllOut out) (sym t₂) outside.1) in
       record {
@@ -244,9 +244,9 @@ module _ (old new : Spellings) (all : List ℕ) (bound low high : ℕ) (same : (
       }
 
   mutual
-    pub block_reached : (b : Tree ℕ block) (o w v : WalkState) (from to : ℕ) (extra : List ℕ) → is_in_block low high b ≡ true → AreAscending from (leaves b) to
+    pub block_reached : (b : Tree ℕ block) (o w v : WalkState) (from to : ℕ) (extra : List ℕ) → is_in_block low high b ≡ true → AreAscending from (identifier_names b) to
         → all ≡ w.declarations ++ (declaring_names (identifiers role.Declaring b) ++ extra) → Itself w → Near o w → On v w → Reaches o w v (visit_block b o) (visit_block b w) (renumber_block put_ordinal all low b v)
-    block_reached (has_body (declares cs ts vs ps) statements) o w v from to extra inside_it rising declared at near on =
+    block_reached (forms_block (declares cs ts vs ps) statements) o w v from to extra inside_it rising declared at near on =
         let c = identifiers role.Declaring cs in
         let t = identifiers role.Declaring ts in
         let g = identifiers role.Declaring vs in
@@ -258,7 +258,7 @@ module _ (old new : Spellings) (all : List ℕ) (bound low high : ℕ) (same : (
         let oc = out_parts out c (t ++ g) before in
         let ot = out_parts out t g oc.1 in
         let n = declared_goes out old new same cs ts vs o w oc.0 ot.0 ot.1 near in
-        let m = declared_goes (λ i. true) new new nothing_new cs ts vs v w (all_in (leaves cs)) (all_in (leaves ts)) (all_in (leaves vs)) on in
+        let m = declared_goes (λ i. true) new new nothing_new cs ts vs v w (all_in (identifier_names cs)) (all_in (identifier_names ts)) (all_in (identifier_names vs)) on in
         let w₁ = visit_constant_section cs w in
         let w₂ = visit_type_section ts w₁ in
         let w₃ = visit_variable_section vs w₂ in
@@ -280,7 +280,7 @@ module _ (old new : Spellings) (all : List ℕ) (bound low high : ℕ) (same : (
         let rest = procedures_reached ps statements o₃ w₃ v₃ from to extra inside_it (ascend_second from (names_without_roles (c ++ (t ++ g))) (names_without_roles p ++ names_without_roles s) to parts) here (at_itself passed.at) n.at (on_behind v₃ w₃ m.at) in
         joined_reach o w v o₃ w₃ v₃ _ _ _ n m.adds rest
 
-    pub procedures_reached : (ps : Tree ℕ (items procedure)) (statements : Tree ℕ (maybe body)) (o w v : WalkState) (from to : ℕ) (extra : List ℕ) → is_in_procedures low high ps statements ≡ true → AreAscending from (leaves ps ++ leaves statements) to
+    pub procedures_reached : (ps : Tree ℕ (items procedure)) (statements : Tree ℕ (maybe body)) (o w v : WalkState) (from to : ℕ) (extra : List ℕ) → is_in_procedures low high ps statements ≡ true → AreAscending from (identifier_names ps ++ identifier_names statements) to
         → all ≡ w.declarations ++ (declaring_names (identifiers role.Declaring ps) ++ extra) → Itself w → Near o w → Behind v w
         → Reaches o w v (visit_part statements (visit_procedures ps o)) (visit_part statements (visit_procedures ps w)) (renumber_procedures put_ordinal all low ps statements v)
     procedures_reached end statements o w v from to extra inside_it rising declared at near behind =
@@ -290,14 +290,14 @@ module _ (old new : Spellings) (all : List ℕ) (bound low high : ℕ) (same : (
     procedures_reached (more q ps) statements o w v from to rest inside_it rising declared at near behind =
         let iq = identifiers role.Declaring q in
         let ips = identifiers role.Declaring ps in
-        let split : names_without_roles (iq ++ ips) ++ leaves statements ≡ leaves q ++ (leaves ps ++ leaves statements) = simp (leaves_append, append_assoc) in
+        let split : names_without_roles (iq ++ ips) ++ identifier_names statements ≡ identifier_names q ++ (identifier_names ps ++ identifier_names statements) = simp (leaves_append, append_assoc) in
         let parts = subst (λ l. AreAscending from l to) split rising in
         let first : all ≡ w.declarations ++ (declaring_names iq ++ (declaring_names ips ++ rest)) =
         declared ∙ (ap (λ l. w.declarations ++ (l ++ rest)) (declaring_names-append iq ips) ∙ ap (λ l. w.declarations ++ l) (append_assoc (declaring_names iq) (declaring_names ips) rest)) in
         let on = caught (procedure_name q) (others_declared q ++ (declaring_names ips ++ rest)) v w behind (first ∙ ap (λ l. w.declarations ++ (l ++ (declaring_names ips ++ rest))) (name_first q)) in
         one_procedure q ps statements o w v from to rest (procedures_reached ps statements) (procedure_reached q) first at near on parts (nat_lt (closing_name q) low) refl inside_it
 
-    pub procedure_reached : (q : Tree ℕ (item procedure)) (o w v : WalkState) (from to : ℕ) (extra : List ℕ) → is_in_procedure low high q ≡ true → high ≤ closing_name q → AreAscending from (leaves q) to
+    pub procedure_reached : (q : Tree ℕ (item procedure)) (o w v : WalkState) (from to : ℕ) (extra : List ℕ) → is_in_procedure low high q ≡ true → high ≤ closing_name q → AreAscending from (identifier_names q) to
         → all ≡ w.declarations ++ (declaring_names (identifiers role.Declaring q) ++ extra) → Itself w → Near o w → On v w
         → Reaches o w v (visit_procedure q o) (visit_procedure q w) (renumber_procedure put_ordinal all low q v)
     procedure_reached (declares_procedure x fs b closing) o w v from to extra inside_it le rising declared at near on =
@@ -310,7 +310,7 @@ module _ (old new : Spellings) (all : List ℕ) (bound low high : ℕ) (same : (
         let joined : (x ∷ names_without_roles f) ++ (names_without_roles i ++ (closing ∷ [])) ≡ ((x ∷ names_without_roles f) ++ names_without_roles i) ++ (closing ∷ []) = sym (append_assoc (x ∷ names_without_roles f) (names_without_roles i) (closing ∷ [])) in
         let before = below_out low high (x ∷ names_without_roles f) (below_block low high b (x ∷ names_without_roles f) from to inside_it (ascend_first from ((x ∷ names_without_roles f) ++ names_without_roles i) (closing ∷ []) to (subst (λ l. AreAscending from l to) joined parts))) in
         let n = heading_goes out old new same x fs o w before.0 before.1 near in
-        let m = heading_goes (λ i. true) new new nothing_new x fs v w refl (all_in (leaves fs)) on in
+        let m = heading_goes (λ i. true) new new nothing_new x fs v w refl (all_in (identifier_names fs)) on in
         let passed = heading_passed nowhere written new value x fs w w.scope (7 + length w.declarations) at in
         let o₁ = state_after_heading (length o.declarations) (length o.scope) (visit_formals fs (number_declaration x o)) in
         let w₁ = state_after_heading (length w.declarations) (length w.scope) (visit_formals fs (number_declaration x w)) in
@@ -342,7 +342,7 @@ module _ (old new : Spellings) (all : List ℕ) (bound low high : ℕ) (same : (
     pub alike : Alike out (visit_module m (initial_walk old)).marks (visit_module m (initial_walk new)).marks
     pub covers : Covers out (visit_module m (initial_walk new)).marks (marks_again all low m new)
 
-  pub module_marked : (m : Tree ℕ module_text) (to : ℕ) → is_in_body low high m ≡ true → AreAscending 0 (leaves m) to → all ≡ declaring_names (identifiers role.Declaring m) → Marked m
+  pub module_marked : (m : Tree ℕ module_text) (to : ℕ) → is_in_body low high m ≡ true → AreAscending 0 (identifier_names m) to → all ≡ declaring_names (identifiers role.Declaring m) → Marked m
   module_marked (is_module x b closing) to lies rising declared =
       let i = identifiers role.Declaring b in
       let last : List (Role × ℕ) = (role.ModuleName, closing) ∷ [] in

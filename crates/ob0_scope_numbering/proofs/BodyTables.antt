@@ -5,7 +5,7 @@ use Rattle.std.proofs.Math.ListN.{length-set}
 use Rattle.std.specs.List.{list_any}
 use Rattle.ob0_scan.specs.TextWithTokens.{IsScan, TextWithTokens}
 use Rattle.ob0_tree.specs.declared.tree.Role.TheVariants as role
-use Rattle.ob0_tree.specs.Order.{AreAscending, leaves}
+use Rattle.ob0_tree.specs.Order.{AreAscending, identifier_names}
 use Rattle.ob0_tree.specs.ParsedModule.{IsParsed, ParsedModule, tree_of}
 use Rattle.ob0_tree.specs.Tree.{identifiers}
 use Rattle.ob0_tree.proofs.Leaves.{ascending_bounds, ascending_lower, leaves_ascend}
@@ -100,7 +100,7 @@ body_alike old m low high parsed change =
 -- states that a table has all marks after a body was numbered again
 pub record Renumbered (m : ParsedModule) (table : List (Option ℕ)) (made : List (Option ℕ)) : Type 0 where
   pub marks : HasMarks (ordinal_in made) (visit_module (tree_of m) (initial_walk (original_spellings m.source))).marks
-  pub elsewhere : (i : ℕ) → list_any (λ j. j == i) (leaves (tree_of m)) ≡ false → ordinal_in made i ≡ ordinal_in table i
+  pub elsewhere : (i : ℕ) → list_any (λ j. j == i) (identifier_names (tree_of m)) ≡ false → ordinal_in made i ≡ ordinal_in table i
 
 -- If a table has the marks outside a range, it has all marks after the body with the range is
 -- numbered again.

@@ -6,8 +6,8 @@ use Rattle.std.proofs.lemmas.Bool.Decides.{nat_tests}
 use Rattle.std.proofs.lemmas.Bool.{and_parts}
 use Rattle.ob0_tree.specs.declared.tree.Role.{Role}
 use Rattle.ob0_tree.specs.declared.tree.Role.TheVariants as role
-use Rattle.ob0_tree.specs.Order.{AreAscending, leaves, names_without_roles}
-use Rattle.ob0_tree.specs.Tree.{Tree, block, body, declares, declares_procedure, end, has_body, identifiers, item, items, maybe, more, procedure}
+use Rattle.ob0_tree.specs.Order.{AreAscending, identifier_names, names_without_roles}
+use Rattle.ob0_tree.specs.Tree.{Tree, block, body, declares, declares_procedure, end, forms_block, identifiers, item, items, maybe, more, procedure}
 use Rattle.ob0_tree.proofs.Leaves.{ascending_lower}
 use Rattle.ob0_tree.proofs.AscendingNumbers.{AllBelow, ascend_first, ascend_second, before_one, below_first, below_more, leaves_append}
 use Rattle.ob0_scope_table.specs.OneBody.{begins_at_or_before, closing_name, is_in_block, is_in_procedure, is_in_procedures, is_outside}
@@ -56,12 +56,12 @@ begun low high pre (x ∷ xs) from to e h = let le : x.1 ≤ low = grind (arith,
 
 -- returns the identifiers of a block before its procedures and statements
 abbrev pub sections : Tree ℕ block → List (Role × ℕ)
-sections (has_body (declares cs ts vs ps) statements) = identifiers role.Declaring cs ++ (identifiers role.Declaring ts ++ identifiers role.Declaring vs)
+sections (forms_block (declares cs ts vs ps) statements) = identifiers role.Declaring cs ++ (identifiers role.Declaring ts ++ identifiers role.Declaring vs)
 
 module _ (low high : ℕ) where
   mutual
-    pub below_block : (b : Tree ℕ block) (pre : List ℕ) (from to : ℕ) → is_in_block low high b ≡ true → AreAscending from (pre ++ leaves b) to → AllBelow low pre
-    below_block (has_body (declares cs ts vs ps) statements) pre from to e h =
+    pub below_block : (b : Tree ℕ block) (pre : List ℕ) (from to : ℕ) → is_in_block low high b ≡ true → AreAscending from (pre ++ identifier_names b) to → AllBelow low pre
+    below_block (forms_block (declares cs ts vs ps) statements) pre from to e h =
         let c = identifiers role.Declaring cs in
         let t = identifiers role.Declaring ts in
         let v = identifiers role.Declaring vs in
@@ -72,22 +72,22 @@ module _ (low high : ℕ) where
         below_first low pre (names_without_roles (c ++ (t ++ v)))
         (below_procedures ps statements (pre ++ names_without_roles (c ++ (t ++ v))) from to e (subst (λ l. AreAscending from l to) split h))
 
-    pub below_procedures : (ps : Tree ℕ (items procedure)) (statements : Tree ℕ (maybe body)) (pre : List ℕ) (from to : ℕ) → is_in_procedures low high ps statements ≡ true → AreAscending from (pre ++ (leaves ps ++ leaves statements)) to → AllBelow low pre
+    pub below_procedures : (ps : Tree ℕ (items procedure)) (statements : Tree ℕ (maybe body)) (pre : List ℕ) (from to : ℕ) → is_in_procedures low high ps statements ≡ true → AreAscending from (pre ++ (identifier_names ps ++ identifier_names statements)) to → AllBelow low pre
     below_procedures end statements pre from to e h = begun low high pre (identifiers role.Declaring statements) from to e h
     below_procedures (more p ps) statements pre from to e h =
-        one (below_procedures ps statements (pre ++ leaves p) from to) (below_procedure p pre from to) (nat_lt (closing_name p) low) e
+        one (below_procedures ps statements (pre ++ identifier_names p) from to) (below_procedure p pre from to) (nat_lt (closing_name p) low) e
       where
-        one : (is_in_procedures low high ps statements ≡ true → AreAscending from ((pre ++ leaves p) ++ (leaves ps ++ leaves statements)) to → AllBelow low (pre ++ leaves p))
-            → (is_in_procedure low high p ≡ true → AreAscending from (pre ++ leaves p) to → AllBelow low pre)
+        one : (is_in_procedures low high ps statements ≡ true → AreAscending from ((pre ++ identifier_names p) ++ (identifier_names ps ++ identifier_names statements)) to → AllBelow low (pre ++ identifier_names p))
+            → (is_in_procedure low high p ≡ true → AreAscending from (pre ++ identifier_names p) to → AllBelow low pre)
             → (b : Bool) → (if b then is_in_procedures low high ps statements else nat_le high (closing_name p) && is_in_procedure low high p) ≡ true → AllBelow low pre
         one later here true g =
-            let split : pre ++ (names_without_roles (identifiers role.Declaring p ++ identifiers role.Declaring ps) ++ leaves statements) ≡ (pre ++ leaves p) ++ (leaves ps ++ leaves statements) = simp (leaves_append, append_assoc) in
-            below_first low pre (leaves p) (later g (subst (λ l. AreAscending from l to) split h))
+            let split : pre ++ (names_without_roles (identifiers role.Declaring p ++ identifiers role.Declaring ps) ++ identifier_names statements) ≡ (pre ++ identifier_names p) ++ (identifier_names ps ++ identifier_names statements) = simp (leaves_append, append_assoc) in
+            below_first low pre (identifier_names p) (later g (subst (λ l. AreAscending from l to) split h))
         one later here false g =
-            let split : pre ++ (names_without_roles (identifiers role.Declaring p ++ identifiers role.Declaring ps) ++ leaves statements) ≡ (pre ++ leaves p) ++ (leaves ps ++ leaves statements) = simp (leaves_append, append_assoc) in
-            here (and_parts (nat_le high (closing_name p)) (is_in_procedure low high p) g).1 (ascend_first from (pre ++ leaves p) (leaves ps ++ leaves statements) to (subst (λ l. AreAscending from l to) split h))
+            let split : pre ++ (names_without_roles (identifiers role.Declaring p ++ identifiers role.Declaring ps) ++ identifier_names statements) ≡ (pre ++ identifier_names p) ++ (identifier_names ps ++ identifier_names statements) = simp (leaves_append, append_assoc) in
+            here (and_parts (nat_le high (closing_name p)) (is_in_procedure low high p) g).1 (ascend_first from (pre ++ identifier_names p) (identifier_names ps ++ identifier_names statements) to (subst (λ l. AreAscending from l to) split h))
 
-    pub below_procedure : (p : Tree ℕ (item procedure)) (pre : List ℕ) (from to : ℕ) → is_in_procedure low high p ≡ true → AreAscending from (pre ++ leaves p) to → AllBelow low pre
+    pub below_procedure : (p : Tree ℕ (item procedure)) (pre : List ℕ) (from to : ℕ) → is_in_procedure low high p ≡ true → AreAscending from (pre ++ identifier_names p) to → AllBelow low pre
     below_procedure (declares_procedure x fs b closing) pre from to e h =
         let f = identifiers role.Declaring fs in
         let i = identifiers role.Declaring b in

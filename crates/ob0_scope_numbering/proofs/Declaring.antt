@@ -5,7 +5,7 @@ use Rattle.ob0_tree.specs.Tree.{one, then_name}
 use Rattle.ob0_tree.specs.declared.tree.ParameterSection.{ParameterSection}
 use Rattle.ob0_tree.specs.View.{items_of, formals_of_list, further_section_of}
 use Rattle.ob0_language_names.specs.Parts.{further_names}
-use Rattle.ob0_scope_numbering.specs.TableWalk.{WalkState, show_declarations_from, visit_formals, visit_sections}
+use Rattle.ob0_scope_numbering.specs.TableWalk.{WalkState, with_visible_names_from, visit_formals, visit_sections}
 
 pub names_further : (xs : List ℕ) → further_names (items_of then_name xs) ≡ xs
 names_further [] = refl
@@ -13,7 +13,7 @@ names_further (x ∷ xs) = ap (λ l. x ∷ l) (names_further xs)
 
 -- states that the declarations from an index onwards are still to be shown
 pub record Showing (first : ℕ) (start : WalkState) (index : ℕ) (now : WalkState) : Type 0 where
-  pub so_far : show_declarations_from index now ≡ show_declarations_from first start
+  pub so_far : with_visible_names_from index now ≡ with_visible_names_from first start
   pub kept : now.declarations ≡ start.declarations
 
 pub sections_first : (ss : List ParameterSection) (v : WalkState) → visit_sections (items_of further_section_of ss) v ≡ visit_formals (one (formals_of_list ss)) v

@@ -5,9 +5,9 @@ use Rattle.std.proofs.lemmas.List.{map-append}
 use Rattle.std.proofs.Math.Seq.{drop-append-add}
 use Rattle.ob0_tree.specs.declared.tree.Role.{Role}
 use Rattle.ob0_tree.specs.declared.tree.Role.TheVariants as role
-use Rattle.ob0_tree.specs.Tree.{Sort, Tree, block, constant, constants, declares, declares_constant, declares_constants, declares_procedure, declares_type, declares_types, declares_variable, declares_variables, end, formals, further_name, further_section, has_body, identifiers, is_module, item, items, listed, mapped, maybe, module_text, more, names, no_formals, none, one, procedure, section, some_formals, then_name, then_section, type_name, type_names, value_section, variable, variable_section, variables, written_type}
+use Rattle.ob0_tree.specs.Tree.{Sort, Tree, block, constant, constants, declares, declares_constant, declares_constants, declares_procedure, declares_type, declares_types, declares_variable, declares_variables, end, formals, further_name, further_section, forms_block, identifiers, is_module, item, items, listed, mapped_tree, maybe, module_text, more, names, no_formals, none, one, procedure, section, some_formals, then_name, then_section, type_definition, type_definitions, value_section, variable, variable_section, variables, written_type}
 use Rattle.ob0_tree.specs.Order.{names_without_roles}
-use Rattle.ob0_tree.specs.Places.{value_at}
+use Rattle.ob0_tree.specs.Places.{token_value_at}
 use Rattle.ob0_scope_numbering.specs.Written.{Spellings, spelling_at, spelled_tree}
 use Rattle.ob0_tree.proofs.Occurring.{looked_up_only, looked_up_only-append}
 use Rattle.ob0_scope_numbering.specs.Marks.{OrdinalMark}
@@ -15,7 +15,7 @@ use Rattle.ob0_language_names.specs.Names.{Name, naming_by_spelling, same_name}
 use Rattle.ob0_language_names.specs.Parts.{constant_names, formal_names, formal_sections, further_names, module_block, declared_type_names, names_in_list, procedure_name, section_constants, section_names, section_types, section_variables, variable_names}
 use Rattle.ob0_scope_table.specs.Resolution.{declaring_names}
 use Rattle.ob0_language_names.specs.Scopes.{Labelling, Scope, ordinal_after_block, ordinal_after_names, ordinal_after_procedure, ordinal_after_procedures, body_scope, declare_names, declare_procedure_names, ordinal_of, predeclared_scope, relabel_block, relabel_constant_section, relabel_constants, relabel_formals, relabel_further_names, relabel_names, relabel_procedure, relabel_procedures, relabel_section, relabel_sections, relabel_type_section, relabel_types, relabel_uses, relabel_variable_section, relabel_variables, relabel_module}
-use Rattle.ob0_scope_numbering.specs.MarkWalk.{WalkState, initial_walk, leave_block, state_after_heading, visit_identifier, visit_identifiers, truncate_scope, with_mark, number_declarations, number_declaration, show_declarations_from, visit_part, visit_block, visit_constant, visit_constant_section, visit_constants, visit_formals, visit_module, visit_procedure, visit_procedures, visit_section, visit_sections, visit_type, visit_type_section, visit_types, visit_variable, visit_variable_section, visit_variables}
+use Rattle.ob0_scope_numbering.specs.MarkWalk.{WalkState, initial_walk, leave_block, state_after_heading, visit_identifier, visit_identifiers, truncate_scope, with_mark, number_declarations, number_declaration, with_visible_names_from, visit_part, visit_block, visit_constant, visit_constant_section, visit_constants, visit_formals, visit_module, visit_procedure, visit_procedures, visit_section, visit_sections, visit_type, visit_type_section, visit_types, visit_variable, visit_variable_section, visit_variables}
 use Rattle.ob0_scope_numbering.proofs.Agreed.{AllFit, agreed}
 use Rattle.ob0_language_names.proofs.Ordinals.{ordinal_after_names-append, declare_names-append, le-ordinal_after_block, le-ordinal_after_names}
 use Rattle.ob0_language_names.proofs.OccurrenceNames.{length-map}
@@ -128,7 +128,7 @@ procedures_extend k end s = extends_nothing s
 procedures_extend k (more p rest) s = extends_then (one_extends (procedure_name p, k) s) (procedures_extend (ordinal_after_procedure (suc k) p) rest ((procedure_name p, k) ∷ s))
 
 block_extends : (k : ℕ) (b : Tree Name block) (s : Scope Name) → Extends s (body_scope k b s)
-block_extends k (has_body (declares cs ts vs ps) statements) s =
+block_extends k (forms_block (declares cs ts vs ps) statements) s =
     let xs = constant_names (section_constants cs) in
     let ys = declared_type_names (section_types ts) in
     let zs = variable_names (section_variables vs) in
@@ -208,11 +208,11 @@ module _ {M : Type 0} (table : ℕ → Option ℕ) (label : Labelling Name M) (s
 
   -- returns a part with the spellings as its names, and any numbers
   abbrev pub spelled : {s : Sort} → Tree ℕ s → Tree Name s
-  spelled t = mapped (spelling_at src) value t
+  spelled t = mapped_tree (spelling_at src) value t
 
   -- returns a part with the table's ordinals as labels
   abbrev by_table : {s : Sort} → Tree ℕ s → Tree M s
-  by_table t = mapped (λ i. label (table i) (spelling_at src i)) value t
+  by_table t = mapped_tree (λ i. label (table i) (spelling_at src i)) value t
 
   pass_nothing : (v : WalkState) (s : Scope Name) (k : ℕ) → At v src s k → Passes v v [] s k (Unit {0})
   pass_nothing v s k at = record { at = at; declared = sym (append-nil v.declarations); used = sym (append-nil v.uses); tokens = sym (append-nil (tokens_of v.marks)); agree = λ h. (h, tt); in_order = λ h later. subst (λ n. AreInOrder table n later) (sym at.next) }
@@ -335,7 +335,7 @@ module _ {M : Type 0} (table : ℕ → Option ℕ) (label : Labelling Name M) (s
 
   -- The declarations of a part are visible after it.
   show_passed : {a b : WalkState} {xs : List (Role × ℕ)} {s s' : Scope Name} {k k' : ℕ} {P : Type 0} (ns : List Name) → At a src s k → map (spelling_at src) (declaring_names xs) ≡ ns → Passes a b xs s' k' P
-      → Passes a (show_declarations_from (length a.declarations) b) xs (declare_names k ns s') k' P
+      → Passes a (with_visible_names_from (length a.declarations) b) xs (declare_names k ns s') k' P
   show_passed {a = a} {b = b} {xs = xs} {s' = s'} {k = k} {k' = k'} ns at are p =
       let left : drop (length a.declarations) b.declarations ≡ declaring_names xs = ap (drop (length a.declarations)) p.declared ∙ drop_past a.declarations (declaring_names xs) in
       let visible : declare_names (7 + length a.declarations) (map (spelling_at b.writing) (drop (length a.declarations) b.declarations)) b.scope ≡ declare_names k ns s' =
@@ -361,7 +361,7 @@ module _ {M : Type 0} (table : ℕ → Option ℕ) (label : Labelling Name M) (s
 
   -- Names of one type are visible after their type.
   group_passed : (ns : Tree ℕ names) (t : Tree ℕ written_type) (v : WalkState) (s : Scope Name) (k : ℕ) → At v src s k
-      → Passes v (show_declarations_from (length v.declarations) (visit_part t (number_declarations (names_in_list ns) v))) (identifiers role.Declaring ns ++ identifiers role.Declaring t)
+      → Passes v (with_visible_names_from (length v.declarations) (visit_part t (number_declarations (names_in_list ns) v))) (identifiers role.Declaring ns ++ identifiers role.Declaring t)
       (declare_names k (names_in_list (spelled ns)) s) (ordinal_after_names k (names_in_list (spelled ns)))
       (Two (relabel_names label k (spelled ns) ≡ by_table ns) (relabel_uses naming_by_spelling label s (spelled t) ≡ by_table t))
   group_passed ns t v s k at =
@@ -380,7 +380,7 @@ module _ {M : Type 0} (table : ℕ → Option ℕ) (label : Labelling Name M) (s
       pass_to (pass_then c (constants_passed cs (visit_constant (declares_constant x e) v) ((spelling_at src x, k) ∷ s) (suc k) c.at))
       (λ p i. more (declares_constant (label (sym p.first.first i) (spelling_at src x)) (p.first.second i)) (p.second i))
 
-  types_passed : (ts : Tree ℕ (items type_name)) (v : WalkState) (s : Scope Name) (k : ℕ) → At v src s k
+  types_passed : (ts : Tree ℕ (items type_definition)) (v : WalkState) (s : Scope Name) (k : ℕ) → At v src s k
       → Passes v (visit_types ts v) (identifiers role.Declaring ts) (declare_names k (declared_type_names (spelled ts)) s) (ordinal_after_names k (declared_type_names (spelled ts)))
       (relabel_types naming_by_spelling label s k (spelled ts) ≡ by_table ts)
   types_passed end v s k at = pass_to (pass_nothing v s k at) (λ h. refl)
@@ -456,7 +456,7 @@ module _ {M : Type 0} (table : ℕ → Option ℕ) (label : Labelling Name M) (s
   constant_section_passed none v s k at = pass_to (pass_nothing v s k at) (λ h. refl)
   constant_section_passed (one (declares_constants cs)) v s k at = pass_to (constants_passed cs v s k at) (λ p i. one (declares_constants (p i)))
 
-  pub type_section_passed : (ts : Tree ℕ (maybe type_names)) (v : WalkState) (s : Scope Name) (k : ℕ) → At v src s k
+  pub type_section_passed : (ts : Tree ℕ (maybe type_definitions)) (v : WalkState) (s : Scope Name) (k : ℕ) → At v src s k
       → Passes v (visit_type_section ts v) (identifiers role.Declaring ts) (declare_names k (declared_type_names (section_types (spelled ts))) s) (ordinal_after_names k (declared_type_names (section_types (spelled ts))))
       (relabel_type_section naming_by_spelling label s k (spelled ts) ≡ by_table ts)
   type_section_passed none v s k at = pass_to (pass_nothing v s k at) (λ h. refl)
@@ -496,7 +496,7 @@ module _ {M : Type 0} (table : ℕ → Option ℕ) (label : Labelling Name M) (s
     pub block_passed : (b : Tree ℕ block) (v : WalkState) (s : Scope Name) (k : ℕ) → At v src s k
         → Passes v (visit_block b v) (identifiers role.Declaring b) (body_scope k (spelled b) s) (ordinal_after_block k (spelled b))
         (relabel_block naming_by_spelling label s k (spelled b) ≡ by_table b)
-    block_passed (has_body (declares cs ts vs ps) statements) v s k at =
+    block_passed (forms_block (declares cs ts vs ps) statements) v s k at =
         let xs = constant_names (section_constants (spelled cs)) in
         let ys = declared_type_names (section_types (spelled ts)) in
         let zs = variable_names (section_variables (spelled vs)) in
@@ -507,9 +507,9 @@ module _ {M : Type 0} (table : ℕ → Option ℕ) (label : Labelling Name M) (s
         let c = variable_section_passed vs v₂ (declare_names (ordinal_after_names k xs) ys (declare_names k xs s)) (ordinal_after_names (ordinal_after_names k xs) ys) b.at in
         let v₃ = visit_variable_section vs v₂ in
         let d = procedures_passed ps v₃ (declare_names (ordinal_after_names (ordinal_after_names k xs) ys) zs (declare_names (ordinal_after_names k xs) ys (declare_names k xs s))) (ordinal_after_names (ordinal_after_names (ordinal_after_names k xs) ys) zs) c.at in
-        let e = used_passed statements (visit_procedures ps v₃) (body_scope k (spelled (has_body (declares cs ts vs ps) statements)) s) (ordinal_after_block k (spelled (has_body (declares cs ts vs ps) statements))) tt d.at in
+        let e = used_passed statements (visit_procedures ps v₃) (body_scope k (spelled (forms_block (declares cs ts vs ps) statements)) s) (ordinal_after_block k (spelled (forms_block (declares cs ts vs ps) statements))) tt d.at in
         pass_to (pass_then (pass_then a (pass_then b (pass_then c d))) e)
-        (λ p i. has_body (declares (p.first.first i) (p.first.second.first i) (p.first.second.second.first i) (p.first.second.second.second i)) (p.second i))
+        (λ p i. forms_block (declares (p.first.first i) (p.first.second.first i) (p.first.second.second.first i) (p.first.second.second.second i)) (p.second i))
 
     pub procedures_passed : (ps : Tree ℕ (items procedure)) (v : WalkState) (s : Scope Name) (k : ℕ) → At v src s k
         → Passes v (visit_procedures ps v) (identifiers role.Declaring ps) (declare_procedure_names k (spelled ps) s) (ordinal_after_procedures k (spelled ps))
@@ -560,5 +560,5 @@ module _ {M : Type 0} (table : ℕ → Option ℕ) (label : Labelling Name M) (s
 
 pub module_passed : {M : Type 0} (table : ℕ → Option ℕ) (label : Labelling Name M) (src : Spellings) (m : Tree ℕ module_text) (v : WalkState) → At v src (predeclared_scope naming_by_spelling) 7
     → Passed table src v (visit_module m v) (identifiers role.Declaring m) (body_scope 7 (module_block (spelled_tree src m)) (predeclared_scope naming_by_spelling)) (ordinal_after_block 7 (module_block (spelled_tree src m)))
-    (relabel_module naming_by_spelling label (spelled_tree src m) ≡ mapped (λ i. label (table i) (spelling_at src i)) (value_at src.source) m)
-module_passed table label src = module_passed_with table label src (value_at src.source)
+    (relabel_module naming_by_spelling label (spelled_tree src m) ≡ mapped_tree (λ i. label (table i) (spelling_at src i)) (token_value_at src.source) m)
+module_passed table label src = module_passed_with table label src (token_value_at src.source)

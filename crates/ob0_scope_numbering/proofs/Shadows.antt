@@ -7,9 +7,9 @@ use Rattle.std.proofs.lemmas.Slice.Eq.{bytes_eq-Decides}
 use Rattle.ob0_scope_numbering.specs.declared.newest.NameEntry.{NameEntry}
 use Rattle.ob0_scope_numbering.specs.declared.visible.Binding.{Binding}
 use Rattle.ob0_language_names.specs.Names.{Name, naming_by_spelling, same_name}
-use Rattle.ob0_scope_numbering.specs.NewestNames.{SetsNewest, KeepsNewest, KeepsPlaces, newest_binding_in, place_of}
+use Rattle.ob0_scope_numbering.specs.NewestNames.{SetsNewestBinding, KeepsNewestBindings, KeepsNamePositions, newest_binding_in, position_of_name}
 use Rattle.ob0_language_names.specs.Scopes.{ordinal_of}
-use Rattle.ob0_scope_numbering.specs.StoredScopes.{HaveHiddenIndexes, HaveNamePlaces, HasNewestBindings, newest_binding_index, scope_of}
+use Rattle.ob0_scope_numbering.specs.StoredScopes.{HaveHiddenIndexes, HaveNamePositions, HasNewestBindings, newest_binding_index, scope_of}
 use Rattle.ob0_language_names.proofs.NameEquality.{same_name-comm}
 
 abbrev pub shown : Binding → Name × ℕ
@@ -66,7 +66,7 @@ chosen false true a b c d e f g = absurd (cc)
 chosen false false a b c d e f g = g
 
 pub bound_again : (newest next : List NameEntry) (items : List Binding) (b : Binding) → HasNewestBindings newest items → b.hidden ≡ newest_binding_index b.name.now (reverse items)
-    → SetsNewest newest next b.name.now (Some (length items)) → HasNewestBindings next (items ++ (b ∷ []))
+    → SetsNewestBinding newest next b.name.now (Some (length items)) → HasNewestBindings next (items ++ (b ∷ []))
 bound_again newest next items b w hidden renewed =
     let turned : reverse (items ++ (b ∷ [])) ≡ b ∷ reverse items = reverse-append items (b ∷ []) in
     record {
@@ -82,7 +82,7 @@ left_step true false a b c n e f g = absurd (cc)
 left_step false true a b c n e f g = absurd (cc)
 left_step false false a b c n e f g = g
 
-pub binding_dropped : (newest next : List NameEntry) (items : List Binding) (b : Binding) → HasNewestBindings newest (items ++ (b ∷ [])) → SetsNewest newest next b.name.now b.hidden → HasNewestBindings next items
+pub binding_dropped : (newest next : List NameEntry) (items : List Binding) (b : Binding) → HasNewestBindings newest (items ++ (b ∷ [])) → SetsNewestBinding newest next b.name.now b.hidden → HasNewestBindings next items
 binding_dropped newest next items b w renewed =
     let turned : reverse (items ++ (b ∷ [])) ≡ b ∷ reverse items = reverse-append items (b ∷ []) in
     let trail : HaveHiddenIndexes (b ∷ reverse items) = subst HaveHiddenIndexes turned w.hidden in
@@ -94,20 +94,20 @@ binding_dropped newest next items b w renewed =
     }
 
 -- Each binding still has its name's position after the list of names has changed.
-pub still_placed : (before after : List NameEntry) (bs : List Binding) → KeepsPlaces before after → HaveNamePlaces before bs → HaveNamePlaces after bs
+pub still_placed : (before after : List NameEntry) (bs : List Binding) → KeepsNamePositions before after → HaveNamePositions before bs → HaveNamePositions after bs
 still_placed before after [] kept h = tt
-still_placed before after (b ∷ bs) kept h = (kept b.name.now b.place h.0, still_placed before after bs kept h.1)
+still_placed before after (b ∷ bs) kept h = (kept b.name.now b.name_position h.0, still_placed before after bs kept h.1)
 
-pub one_more_placed : (newest : List NameEntry) (items : List Binding) (b : Binding) → HaveNamePlaces newest items → place_of newest b.name.now ≡ Some b.place → HaveNamePlaces newest (items ++ (b ∷ []))
+pub one_more_placed : (newest : List NameEntry) (items : List Binding) (b : Binding) → HaveNamePositions newest items → position_of_name newest b.name.now ≡ Some b.name_position → HaveNamePositions newest (items ++ (b ∷ []))
 one_more_placed newest [] b h at = (at, tt)
 one_more_placed newest (x ∷ items) b h at = (h.0, one_more_placed newest items b h.1 at)
 
-pub one_less_placed : (newest : List NameEntry) (items : List Binding) (b : Binding) → HaveNamePlaces newest (items ++ (b ∷ [])) → HaveNamePlaces newest items × (place_of newest b.name.now ≡ Some b.place)
+pub one_less_placed : (newest : List NameEntry) (items : List Binding) (b : Binding) → HaveNamePositions newest (items ++ (b ∷ [])) → HaveNamePositions newest items × (position_of_name newest b.name.now ≡ Some b.name_position)
 one_less_placed newest [] b h = (tt, h.0)
 one_less_placed newest (x ∷ items) b h = let rest = one_less_placed newest items b h.1 in ((h.0, rest.0), rest.1)
 
 -- The newest bindings are right after names were added to the list.
-pub still_newest : (before after : List NameEntry) (items : List Binding) → KeepsNewest before after → HasNewestBindings before items → HasNewestBindings after items
+pub still_newest : (before after : List NameEntry) (items : List Binding) → KeepsNewestBindings before after → HasNewestBindings before items → HasNewestBindings after items
 still_newest before after items kept w = record { found = λ x. kept x ∙ w.found x; hidden = w.hidden }
 
 pub looked_up_below : (newest : List NameEntry) (items : List Binding) (x : Name) (i : ℕ) → HasNewestBindings newest items → Some i ≡ newest_binding_in newest x → i < length items

@@ -4,7 +4,7 @@ use Rattle.std.proofs.Common.{◌≡◌, ℕ, ◌+◌, Bool, true, false, nat_lt
 use Rattle.ob0_scan.specs.TextWithTokens.{IsScan}
 use Rattle.ob0_tree.specs.declared.tree.Role.{Role}
 use Rattle.ob0_tree.specs.declared.tree.Role.TheVariants as role
-use Rattle.ob0_tree.specs.Tree.{Sort, Tree, block, body, constant, constants, declares, declares_constant, declares_constants, declares_procedure, declares_type, declares_types, declares_variable, declares_variables, end, formals, further_section, has_body, identifiers, is_module, item, items, maybe, module_text, more, no_formals, none, one, procedure, section, some_formals, then_section, type_name, type_names, value_section, variable, variable_section, variables}
+use Rattle.ob0_tree.specs.Tree.{Sort, Tree, block, body, constant, constants, declares, declares_constant, declares_constants, declares_procedure, declares_type, declares_types, declares_variable, declares_variables, end, formals, further_section, forms_block, identifiers, is_module, item, items, maybe, module_text, more, no_formals, none, one, procedure, section, some_formals, then_section, type_definition, type_definitions, value_section, variable, variable_section, variables}
 use Rattle.ob0_tree.specs.ParsedModule.{IsParsed, ParsedModule, tree_of}
 use Rattle.ob0_scope_numbering.specs.MarkWalk as listing
 use Rattle.ob0_scope_numbering.specs.Marks.{OrdinalMark}
@@ -54,8 +54,8 @@ module _ (table : List (Option ℕ)) where
 
   -- Visiting names and the part after them with a table enters their listed marks.
   names-entered : {s : Sort} (is : List ℕ) (t : Tree ℕ s) (v : listing.WalkState)
-      → tabling.show_declarations_from (length v.declarations) (tabling.visit_part t (tabling.number_declarations is (entered table v))) ≡ entered table (listing.show_declarations_from (length v.declarations) (listing.visit_part t (listing.number_declarations is v)))
-  names-entered is t v = ap (tabling.show_declarations_from (length v.declarations)) (ap (tabling.visit_part t) (number_declarations-entered is v) ∙ used-entered t (listing.number_declarations is v))
+      → tabling.with_visible_names_from (length v.declarations) (tabling.visit_part t (tabling.number_declarations is (entered table v))) ≡ entered table (listing.with_visible_names_from (length v.declarations) (listing.visit_part t (listing.number_declarations is v)))
+  names-entered is t v = ap (tabling.with_visible_names_from (length v.declarations)) (ap (tabling.visit_part t) (number_declarations-entered is v) ∙ used-entered t (listing.number_declarations is v))
 
   constant-entered : (c : Tree ℕ (item constant)) (v : listing.WalkState) → tabling.visit_constant c (entered table v) ≡ entered table (listing.visit_constant c v)
   constant-entered (declares_constant x e) v = names-entered (x ∷ []) e v
@@ -64,10 +64,10 @@ module _ (table : List (Option ℕ)) where
   constants-entered end v = refl
   constants-entered (more c cs) v = ap (tabling.visit_constants cs) (constant-entered c v) ∙ constants-entered cs (listing.visit_constant c v)
 
-  type-entered : (t : Tree ℕ (item type_name)) (v : listing.WalkState) → tabling.visit_type t (entered table v) ≡ entered table (listing.visit_type t v)
+  type-entered : (t : Tree ℕ (item type_definition)) (v : listing.WalkState) → tabling.visit_type t (entered table v) ≡ entered table (listing.visit_type t v)
   type-entered (declares_type x t) v = names-entered (x ∷ []) t v
 
-  types-entered : (ts : Tree ℕ (items type_name)) (v : listing.WalkState) → tabling.visit_types ts (entered table v) ≡ entered table (listing.visit_types ts v)
+  types-entered : (ts : Tree ℕ (items type_definition)) (v : listing.WalkState) → tabling.visit_types ts (entered table v) ≡ entered table (listing.visit_types ts v)
   types-entered end v = refl
   types-entered (more t ts) v = ap (tabling.visit_types ts) (type-entered t v) ∙ types-entered ts (listing.visit_type t v)
 
@@ -95,7 +95,7 @@ module _ (table : List (Option ℕ)) where
   constant_section-entered none v = refl
   constant_section-entered (one (declares_constants cs)) v = constants-entered cs v
 
-  type_section-entered : (ts : Tree ℕ (maybe type_names)) (v : listing.WalkState) → tabling.visit_type_section ts (entered table v) ≡ entered table (listing.visit_type_section ts v)
+  type_section-entered : (ts : Tree ℕ (maybe type_definitions)) (v : listing.WalkState) → tabling.visit_type_section ts (entered table v) ≡ entered table (listing.visit_type_section ts v)
   type_section-entered none v = refl
   type_section-entered (one (declares_types ts)) v = types-entered ts v
 
@@ -105,7 +105,7 @@ module _ (table : List (Option ℕ)) where
 
   -- Visiting the declarations of a block before its procedures with a table enters their listed
   -- marks.
-  declarations-entered : (cs : Tree ℕ (maybe constants)) (ts : Tree ℕ (maybe type_names)) (vs : Tree ℕ (maybe variables)) (v : listing.WalkState)
+  declarations-entered : (cs : Tree ℕ (maybe constants)) (ts : Tree ℕ (maybe type_definitions)) (vs : Tree ℕ (maybe variables)) (v : listing.WalkState)
       → tabling.visit_variable_section vs (tabling.visit_type_section ts (tabling.visit_constant_section cs (entered table v)))
       ≡ entered table (listing.visit_variable_section vs (listing.visit_type_section ts (listing.visit_constant_section cs v)))
   declarations-entered cs ts vs v =
@@ -122,7 +122,7 @@ module _ (table : List (Option ℕ)) where
 
   mutual
     block-entered : (b : Tree ℕ block) (v : listing.WalkState) → tabling.visit_block b (entered table v) ≡ entered table (listing.visit_block b v)
-    block-entered (has_body (declares cs ts vs ps) statements) v =
+    block-entered (forms_block (declares cs ts vs ps) statements) v =
         let w = listing.visit_variable_section vs (listing.visit_type_section ts (listing.visit_constant_section cs v)) in
         ap (tabling.visit_part statements) (ap (tabling.visit_procedures ps) (declarations-entered cs ts vs v) ∙ procedures-entered ps w) ∙ used-entered statements (listing.visit_procedures ps w)
 
@@ -149,7 +149,7 @@ module _ (table : List (Option ℕ)) where
 
   mutual
     revisit_block-entered : (all : List ℕ) (low : ℕ) (b : Tree ℕ block) (v : listing.WalkState) → renumber_block tabling.put_ordinal all low b (entered table v) ≡ entered table (renumber_block listing.put_ordinal all low b v)
-    revisit_block-entered all low (has_body (declares cs ts vs ps) statements) v =
+    revisit_block-entered all low (forms_block (declares cs ts vs ps) statements) v =
         let w = listing.visit_variable_section vs (listing.visit_type_section ts (listing.visit_constant_section cs v)) in
         ap (renumber_procedures tabling.put_ordinal all low ps statements) (declarations-entered cs ts vs v) ∙ procedures_again-entered all low ps statements w
 

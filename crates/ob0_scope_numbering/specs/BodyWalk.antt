@@ -2,12 +2,12 @@
 -- the declarations on the way to the body, and the body's statements.
 -- Rule: none; for contracts of the walk over identifiers.
 use Rattle.std.specs.Prelude.{ℕ, ◌+◌, nat_lt, List, [], ◌∷◌, ◌++◌, Option, length, drop, if◌then◌else◌}
-use Rattle.ob0_tree.specs.Tree.{Tree, block, body, declares, declares_procedure, end, has_body, is_module, item, items, maybe, module_text, more, procedure}
+use Rattle.ob0_tree.specs.Tree.{Tree, block, body, declares, declares_procedure, end, forms_block, is_module, item, items, maybe, module_text, more, procedure}
 use Rattle.ob0_language_names.specs.Names.{naming_by_spelling}
 use Rattle.ob0_language_names.specs.Parts.{procedure_name}
 use Rattle.ob0_language_names.specs.Scopes.{predeclared_count, predeclared_scope}
 use Rattle.ob0_scope_numbering.specs.TableWalk as tabling
-use Rattle.ob0_scope_numbering.specs.IdentifierWalk.{WalkState, state_after_heading, number_declaration, visit_part, show_declaration, visit_constant_section, visit_formals, visit_type_section, visit_variable_section}
+use Rattle.ob0_scope_numbering.specs.IdentifierWalk.{WalkState, state_after_heading, number_declaration, visit_part, with_visible_name, visit_constant_section, visit_formals, visit_type_section, visit_variable_section}
 use Rattle.ob0_scope_numbering.specs.Written.{Spellings}
 use Rattle.ob0_scope_table.specs.OneBody.{closing_name}
 
@@ -31,7 +31,7 @@ with_declaration token v = record v { declarations = v.declarations ++ (token �
 -- makes the name of the procedure that is declared at the token `x` visible with the next ordinal,
 -- without visiting the procedure
 abbrev pub with_procedure_skipped : {M : Type 0} → ℕ → WalkState M → WalkState M
-with_procedure_skipped x v = show_declaration x (predeclared_count + length v.declarations) v
+with_procedure_skipped x v = with_visible_name x (predeclared_count + length v.declarations) v
 
 -- In the following definitions, `put_ordinal` adds the ordinal of the identifier at a token to the
 -- ordinals so far. `all` has the declaring tokens of the whole module. The walk goes to the body
@@ -42,7 +42,7 @@ module _ {M : Type 0} (put_ordinal : ℕ → Option ℕ → M → M) (all : List
     -- closing name isn't before the token `low`. If there is no such procedure, visits the block's
     -- statements.
     pub renumber_block : Tree ℕ block → WalkState M → WalkState M
-    renumber_block (has_body (declares cs ts vs ps) statements) v =
+    renumber_block (forms_block (declares cs ts vs ps) statements) v =
         renumber_procedures ps statements
         (visit_variable_section put_ordinal vs (visit_type_section put_ordinal ts (visit_constant_section put_ordinal cs v)))
 

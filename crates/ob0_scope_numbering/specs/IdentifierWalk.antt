@@ -5,7 +5,7 @@
 use Rattle.std.specs.Prelude.{ℕ, ◌+◌, ◌-◌, List, [], ◌∷◌, ◌++◌, Option, Some, None, map, length, drop}
 use Rattle.ob0_tree.specs.declared.tree.Role.{Role}
 use Rattle.ob0_tree.specs.declared.tree.Role.TheVariants as role
-use Rattle.ob0_tree.specs.Tree.{Sort, Tree, block, constant, constants, declares, declares_constant, declares_constants, declares_procedure, declares_type, declares_types, declares_variable, declares_variables, end, formals, further_section, has_body, is_module, item, items, maybe, module_text, more, no_formals, none, one, procedure, section, some_formals, then_section, type_name, type_names, value_section, variable, variable_section, variables}
+use Rattle.ob0_tree.specs.Tree.{Sort, Tree, block, constant, constants, declares, declares_constant, declares_constants, declares_procedure, declares_type, declares_types, declares_variable, declares_variables, end, formals, further_section, forms_block, is_module, item, items, maybe, module_text, more, no_formals, none, one, procedure, section, some_formals, then_section, type_definition, type_definitions, value_section, variable, variable_section, variables}
 use Rattle.ob0_tree.specs.Visited.{state_after_visit, state_after_identifiers}
 use Rattle.ob0_scope_numbering.specs.Written.{Spellings, spelling_at}
 use Rattle.ob0_language_names.specs.Names.{Name, naming_by_spelling}
@@ -24,13 +24,13 @@ pub record WalkState (M : Type 0) : Type 0 where
   pub marks : M
 
 -- makes the name at the token `i` visible, bound to the declaration with this ordinal
-abbrev pub show_declaration : {M : Type 0} → ℕ → ℕ → WalkState M → WalkState M
-show_declaration i ordinal v = record v { scope = (spelling_at v.writing i, ordinal) ∷ v.scope }
+abbrev pub with_visible_name : {M : Type 0} → ℕ → ℕ → WalkState M → WalkState M
+with_visible_name i ordinal v = record v { scope = (spelling_at v.writing i, ordinal) ∷ v.scope }
 
 -- Makes the names of the declarations so far visible, in order. The first `first` declarations are
 -- left out. Predeclared names don't count as declarations here.
-abbrev pub show_declarations_from : {M : Type 0} → ℕ → WalkState M → WalkState M
-show_declarations_from first v =
+abbrev pub with_visible_names_from : {M : Type 0} → ℕ → WalkState M → WalkState M
+with_visible_names_from first v =
     record v {
       scope
           = declare_names (predeclared_count + first) (map (spelling_at v.writing) (drop first v.declarations)) v.scope;
@@ -44,12 +44,12 @@ truncate_scope len v = record v { scope = drop (length v.scope - len) v.scope }
 -- removed. Then the procedure and its parameters are bound, in this order. `own` is the number of
 -- declarations before the procedure, and `outside` the number of bindings before the procedure.
 abbrev pub state_after_heading : {M : Type 0} → ℕ → ℕ → WalkState M → WalkState M
-state_after_heading own outside v = show_declarations_from own (truncate_scope outside v)
+state_after_heading own outside v = with_visible_names_from own (truncate_scope outside v)
 
 -- Returns the state after the block of the procedure whose name is at the token `x`. Only the
 -- `outside` oldest bindings are kept, and then the procedure's name is bound to `ordinal`.
 abbrev pub leave_block : {M : Type 0} → ℕ → ℕ → ℕ → WalkState M → WalkState M
-leave_block x ordinal outside v = show_declaration x ordinal (truncate_scope outside v)
+leave_block x ordinal outside v = with_visible_name x ordinal (truncate_scope outside v)
 
 -- The following definitions are for any collection `M` of ordinals. The function `put_ordinal` adds
 -- the ordinal of the identifier at a token (None if it has no ordinal) to the collection.
@@ -94,22 +94,22 @@ module _ {M : Type 0} (put_ordinal : ℕ → Option ℕ → M → M) where
   -- visits the declaration of a constant, and then makes the constant's name visible
   abbrev pub visit_constant : Tree ℕ (item constant) → WalkState M → WalkState M
   visit_constant (declares_constant x e) v =
-      show_declarations_from (length v.declarations) (visit_part e (number_declaration x v))
+      with_visible_names_from (length v.declarations) (visit_part e (number_declaration x v))
 
   abbrev pub visit_constants : Tree ℕ (items constant) → WalkState M → WalkState M
   visit_constants end v = v
   visit_constants (more c cs) v = visit_constants cs (visit_constant c v)
 
-  abbrev pub visit_type : Tree ℕ (item type_name) → WalkState M → WalkState M
-  visit_type (declares_type x t) v = show_declarations_from (length v.declarations) (visit_part t (number_declaration x v))
+  abbrev pub visit_type : Tree ℕ (item type_definition) → WalkState M → WalkState M
+  visit_type (declares_type x t) v = with_visible_names_from (length v.declarations) (visit_part t (number_declaration x v))
 
-  abbrev pub visit_types : Tree ℕ (items type_name) → WalkState M → WalkState M
+  abbrev pub visit_types : Tree ℕ (items type_definition) → WalkState M → WalkState M
   visit_types end v = v
   visit_types (more t ts) v = visit_types ts (visit_type t v)
 
   abbrev pub visit_variable : Tree ℕ (item variable) → WalkState M → WalkState M
   visit_variable (declares_variable ns t) v =
-      show_declarations_from (length v.declarations) (visit_part t (number_declarations (names_in_list ns) v))
+      with_visible_names_from (length v.declarations) (visit_part t (number_declarations (names_in_list ns) v))
 
   abbrev pub visit_variables : Tree ℕ (items variable) → WalkState M → WalkState M
   visit_variables end v = v
@@ -117,9 +117,9 @@ module _ {M : Type 0} (put_ordinal : ℕ → Option ℕ → M → M) where
 
   abbrev pub visit_section : Tree ℕ section → WalkState M → WalkState M
   visit_section (value_section ns t) v =
-      show_declarations_from (length v.declarations) (visit_part t (number_declarations (names_in_list ns) v))
+      with_visible_names_from (length v.declarations) (visit_part t (number_declarations (names_in_list ns) v))
   visit_section (variable_section ns t) v =
-      show_declarations_from (length v.declarations) (visit_part t (number_declarations (names_in_list ns) v))
+      with_visible_names_from (length v.declarations) (visit_part t (number_declarations (names_in_list ns) v))
 
   abbrev pub visit_sections : Tree ℕ (items further_section) → WalkState M → WalkState M
   visit_sections end v = v
@@ -134,7 +134,7 @@ module _ {M : Type 0} (put_ordinal : ℕ → Option ℕ → M → M) where
   visit_constant_section none v = v
   visit_constant_section (one (declares_constants cs)) v = visit_constants cs v
 
-  abbrev pub visit_type_section : Tree ℕ (maybe type_names) → WalkState M → WalkState M
+  abbrev pub visit_type_section : Tree ℕ (maybe type_definitions) → WalkState M → WalkState M
   visit_type_section none v = v
   visit_type_section (one (declares_types ts)) v = visit_types ts v
 
@@ -145,7 +145,7 @@ module _ {M : Type 0} (put_ordinal : ℕ → Option ℕ → M → M) where
   abbrev mutual
     -- visits a block: its sections, its procedures and its statements, in text order
     pub visit_block : Tree ℕ block → WalkState M → WalkState M
-    visit_block (has_body (declares cs ts vs ps) statements) v =
+    visit_block (forms_block (declares cs ts vs ps) statements) v =
         visit_part statements (visit_procedures ps
         (visit_variable_section vs (visit_type_section ts (visit_constant_section cs v))))
 

@@ -4,7 +4,7 @@
 use Rattle.std.specs.Prelude.{ℕ, List, [], ◌∷◌, ◌++◌, Option}
 use Rattle.ob0_scope_numbering.specs.Marks.{OrdinalMark}
 use Rattle.ob0_tree.specs.declared.tree.Role.{Role}
-use Rattle.ob0_tree.specs.Tree.{Sort, Tree, block, constant, constants, formals, further_section, item, items, maybe, module_text, procedure, section, type_name, type_names, variable, variables}
+use Rattle.ob0_tree.specs.Tree.{Sort, Tree, block, constant, constants, formals, further_section, item, items, maybe, module_text, procedure, section, type_definition, type_definitions, variable, variables}
 use Rattle.ob0_language_names.specs.Names.{naming_by_spelling}
 use Rattle.ob0_language_names.specs.Scopes.{predeclared_scope}
 use Rattle.ob0_scope_numbering.specs.IdentifierWalk as visit
@@ -55,11 +55,11 @@ abbrev pub visit_constants : Tree ℕ (items constant) → WalkState → WalkSta
 visit_constants = visit.visit_constants put_ordinal
 
 -- returns the state after the declaration of a type, in the walk that collects marks
-abbrev pub visit_type : Tree ℕ (item type_name) → WalkState → WalkState
+abbrev pub visit_type : Tree ℕ (item type_definition) → WalkState → WalkState
 visit_type = visit.visit_type put_ordinal
 
 -- returns the state after declarations of types, in the walk that collects marks
-abbrev pub visit_types : Tree ℕ (items type_name) → WalkState → WalkState
+abbrev pub visit_types : Tree ℕ (items type_definition) → WalkState → WalkState
 visit_types = visit.visit_types put_ordinal
 
 -- returns the state after the declaration of a group of variables, in the walk that collects marks
@@ -88,7 +88,7 @@ abbrev pub visit_constant_section : Tree ℕ (maybe constants) → WalkState →
 visit_constant_section = visit.visit_constant_section put_ordinal
 
 -- returns the state after the section of types, if there is one, in the walk that collects marks
-abbrev pub visit_type_section : Tree ℕ (maybe type_names) → WalkState → WalkState
+abbrev pub visit_type_section : Tree ℕ (maybe type_definitions) → WalkState → WalkState
 visit_type_section = visit.visit_type_section put_ordinal
 
 -- returns the state after the section of variables, if there is one, in the walk that collects
@@ -114,8 +114,8 @@ visit_module = visit.visit_module put_ordinal
 
 -- Returns the state after making the declarations so far visible, in the walk that collects marks.
 -- The number says how many of the first declarations are left out.
-abbrev pub show_declarations_from : ℕ → WalkState → WalkState
-show_declarations_from = visit.show_declarations_from
+abbrev pub with_visible_names_from : ℕ → WalkState → WalkState
+with_visible_names_from = visit.with_visible_names_from
 
 -- returns the state after removing all bindings except this many of the oldest ones, in the walk
 -- that collects marks

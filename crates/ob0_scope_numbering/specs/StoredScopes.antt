@@ -4,7 +4,7 @@
 use Rattle.std.specs.Prelude.{◌≡◌, ℕ, List, [], ◌∷◌, Option, Some, None, if◌then◌else◌, map, length, reverse}
 use Rattle.ob0_scope_numbering.specs.declared.visible.Binding.{Binding}
 use Rattle.ob0_scope_numbering.specs.declared.newest.NameEntry.{NameEntry}
-use Rattle.ob0_scope_numbering.specs.NewestNames.{newest_binding_in, place_of}
+use Rattle.ob0_scope_numbering.specs.NewestNames.{newest_binding_in, position_of_name}
 use Rattle.ob0_language_names.specs.Names.{Name, same_name}
 use Rattle.ob0_language_names.specs.Scopes.{Scope}
 
@@ -40,15 +40,15 @@ abbrev pub with_scope : VisibleNames → Scope Name → VisibleNames
 with_scope v scope = record { new_name = v.new_name; scope = scope }
 
 -- states that each binding has the position of its name in the list `newest`
-abbrev pub HaveNamePlaces : List NameEntry → List Binding → Type 0
-HaveNamePlaces newest [] = Unit {0}
-HaveNamePlaces newest (b ∷ bs) =
-    (place_of newest b.name.now ≡ Some b.place) × HaveNamePlaces newest bs
+abbrev pub HaveNamePositions : List NameEntry → List Binding → Type 0
+HaveNamePositions newest [] = Unit {0}
+HaveNamePositions newest (b ∷ bs) =
+    (position_of_name newest b.name.now ≡ Some b.name_position) × HaveNamePositions newest bs
 
 -- States that the list `newest` has the index of each name's newest binding. Each binding has the
 -- index of the binding that it hides, and the position of its name in the list. The name `new` that
 -- the renaming introduces has the first position.
 pub record IsConsistentScope (new : Name) (newest : List NameEntry) (bindings : List Binding) : Type 0 where
   pub is : HasNewestBindings newest bindings
-  pub placed : HaveNamePlaces newest bindings
-  pub first : place_of newest new ≡ Some 0
+  pub placed : HaveNamePositions newest bindings
+  pub first : position_of_name newest new ≡ Some 0

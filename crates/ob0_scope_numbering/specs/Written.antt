@@ -3,8 +3,8 @@
 -- Rule: none; for contracts: identifiers as they are written.
 use Rattle.std.specs.Prelude.{ℕ, Bool, false, if◌then◌else◌, List, [], Option, Some, None}
 use Rattle.ob0_scan.specs.TextWithTokens.{TextWithTokens}
-use Rattle.ob0_tree.specs.Tree.{Sort, Tree, mapped}
-use Rattle.ob0_tree.specs.Places.{text_at, value_at}
+use Rattle.ob0_tree.specs.Tree.{Sort, Tree, mapped_tree}
+use Rattle.ob0_tree.specs.Places.{token_text_at, token_value_at}
 use Rattle.ob0_language_names.specs.Names.{Name}
 use Rattle.ob0_scope_table.specs.Resolution.{ordinal_in}
 use Rattle.ob0_language_names.specs.Scopes.{same_ordinal}
@@ -28,7 +28,7 @@ is_renamed (Some d) ordinal = same_ordinal ordinal d
 -- renamed declaration, otherwise its spelling in the text
 abbrev pub spelling_at : Spellings → ℕ → Name
 spelling_at w i =
-    if is_renamed w.declaration (ordinal_in w.ordinals i) then w.new else text_at w.source i
+    if is_renamed w.declaration (ordinal_in w.ordinals i) then w.new else token_text_at w.source i
 
 -- returns the spellings of the identifiers as in the text, without a renaming
 abbrev pub original_spellings : TextWithTokens → Spellings
@@ -36,4 +36,4 @@ original_spellings source = record { source = source; ordinals = []; declaration
 
 -- returns a tree of token indexes in which each identifier has its spelling in place of its index
 abbrev pub spelled_tree : {s : Sort} → Spellings → Tree ℕ s → Tree Name s
-spelled_tree w t = mapped (spelling_at w) (value_at w.source) t
+spelled_tree w t = mapped_tree (spelling_at w) (token_value_at w.source) t

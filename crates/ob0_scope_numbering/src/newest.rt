@@ -16,7 +16,7 @@
 
 ghost use Rattle.std.specs.Prelude.{◌≡◌, [], IfOk, IfSome, OnErr, OnOk, None, Some};
 ghost use Rattle.ob0_scope_numbering.specs.Keys.{suffix_number, append_byte, append_bytes};
-ghost use Rattle.ob0_scope_numbering.specs.NewestNames.{AppendsName, SetsNewest, KeepsNewest, KeepsPlaces, newest_binding_in, place_of};
+ghost use Rattle.ob0_scope_numbering.specs.NewestNames.{AppendsName, SetsNewestBinding, KeepsNewestBindings, KeepsNamePositions, newest_binding_in, position_of_name};
 ghost use Rattle.ob0_language_names.specs.Names.{Name};
 
 use std::alloc::{AllocError, Global};
@@ -108,20 +108,20 @@ pub(crate) struct NameEntry<'t> {
 #[derive(Drop)]
 pub(crate) struct NewestBindings<'t> {
     entries: Vec<NameEntry<'t>>,
-    places: BTreeMap<Key<'t>, usize>,
+    name_positions: BTreeMap<Key<'t>, usize>,
     recent: Vec<usize>,
 }
 
 impl<'t> Model for NewestBindings<'t> {
     ghost use Rattle.std.specs.Prelude.{List};
     ghost use Rattle.ob0_scope_numbering.specs.declared.newest.NameEntry.{NameEntry};
-    ghost use Rattle.ob0_scope_numbering.specs.NewestNames.{ArePlaces};
+    ghost use Rattle.ob0_scope_numbering.specs.NewestNames.{AreNamePositions};
 
     ghost Value = { List NameEntry };
 
     ghost view = { λ t. t.entries.items };
 
-    ghost invariant = { λ t. ArePlaces t.places t.entries.items };
+    ghost invariant = { λ t. AreNamePositions t.name_positions t.entries.items };
 }
 
 impl<'t> NewestBindings<'t> {
@@ -129,7 +129,7 @@ impl<'t> NewestBindings<'t> {
     /// of this name is found without reading the name.
     pub(crate) fn new(alloc: Global, first: &'t str) -> Result<NewestBindings<'t>, AllocError>
         ensures none { IfOk result (λ t. (x : Name) → newest_binding_in t x ≡ None) }
-        ensures first { IfOk result (λ t. place_of t first.now ≡ Some 0) }
+        ensures first { IfOk result (λ t. position_of_name t first.now ≡ Some 0) }
     {
         let mut newest = NewestBindings::with_no_names(alloc)?;
         newest.add_name(first)?;
@@ -142,15 +142,15 @@ impl<'t> NewestBindings<'t> {
     {
         Ok(NewestBindings {
             entries: Vec::new(alloc),
-            places: BTreeMap::new(alloc),
+            name_positions: BTreeMap::new(alloc),
             recent: empty_recent_slots(alloc)?,
         })
     }
 
     /// Returns the index of the newest binding of the name at the first position. Returns None if
     /// that name has no binding.
-    pub(crate) fn first_newest_binding(&self) -> Option<usize>
-        ensures { (x : Name) → place_of self.now x ≡ Some 0 → result ≡ newest_binding_in self.now x }
+    pub(crate) fn newest_binding_of_first_name(&self) -> Option<usize>
+        ensures { (x : Name) → position_of_name self.now x ≡ Some 0 → result ≡ newest_binding_in self.now x }
     {
         if self.entries.is_empty() {
             return None;
@@ -162,37 +162,37 @@ impl<'t> NewestBindings<'t> {
     /// None.
     #[inline(always)]
     fn find_in_recent(&self, slot: usize, name: &'t str) -> Option<usize>
-        ensures { IfSome result (λ place. place_of self.now name.now ≡ Some place) }
+        ensures { IfSome result (λ name_position. position_of_name self.now name.now ≡ Some name_position) }
     {
-        let place = match self.recent.get(slot) {
+        let name_position = match self.recent.get(slot) {
             None => return None,
-            Some(place) => *place,
+            Some(name_position) => *name_position,
         };
-        if place < self.entries.len() && self.entries[place].name == name {
-            Some(place)
+        if name_position < self.entries.len() && self.entries[name_position].name == name {
+            Some(name_position)
         } else {
             None
         }
     }
 
     /// Writes the position of a name into a slot of the recent names.
-    fn remember_place(&mut self, slot: usize, place: usize)
+    fn remember_position(&mut self, slot: usize, name_position: usize)
         ensures { self.new ≡ self.old }
     {
         if slot < self.recent.len() {
-            self.recent[slot] = place;
+            self.recent[slot] = name_position;
         }
     }
 
     /// Returns the position of a name, or None if the name isn't in the list.
     #[inline(always)]
-    fn find_place(&mut self, name: &'t str) -> Option<usize>
-        ensures found { result ≡ place_of self.old name.now }
+    fn find_name_position(&mut self, name: &'t str) -> Option<usize>
+        ensures found { result ≡ position_of_name self.old name.now }
         ensures same { self.new ≡ self.old }
     {
         let slot = slot_of(name);
         match self.find_in_recent(slot, name) {
-            Some(place) => Some(place),
+            Some(name_position) => Some(name_position),
             None => self.find_in_map(slot, name),
         }
     }
@@ -201,65 +201,71 @@ impl<'t> NewestBindings<'t> {
     /// names. Returns None if the name isn't in the list.
     #[cold]
     fn find_in_map(&mut self, slot: usize, name: &'t str) -> Option<usize>
-        ensures found { result ≡ place_of self.old name.now }
+        ensures found { result ≡ position_of_name self.old name.now }
         ensures same { self.new ≡ self.old }
     {
-        let place = match self.places.get(&key_of(name)) {
+        let name_position = match self.name_positions.get(&key_of(name)) {
             None => return None,
-            Some(place) => *place,
+            Some(name_position) => *name_position,
         };
-        self.remember_place(slot, place);
-        Some(place)
+        self.remember_position(slot, name_position);
+        Some(name_position)
     }
 
     /// Adds a name without a binding at the end of the list. The name must not be in the list. If
     /// an allocation fails, the list is unchanged.
     fn add_name(&mut self, name: &'t str) -> Result<(), AllocError>
-        requires { place_of self.old name.now ≡ None }
+        requires { position_of_name self.old name.now ≡ None }
         ensures added { OnOk result (AppendsName self.old self.new name.now) }
-        ensures newest { OnOk result (KeepsNewest self.old self.new) }
+        ensures newest { OnOk result (KeepsNewestBindings self.old self.new) }
         ensures same { OnErr result (self.new ≡ self.old) }
     {
         self.entries.reserve(1)?;
-        self.places.insert(key_of(name), self.entries.len())?;
+        self.name_positions
+            .insert(key_of(name), self.entries.len())?;
         self.entries.push_reserved(NameEntry { name, newest: None });
         Ok(())
     }
 
     /// Returns the position of a name. If the name isn't in the list, it is added first. If an
     /// allocation fails, the list is unchanged.
-    pub(crate) fn place_or_add(&mut self, name: &'t str) -> Result<usize, AllocError>
-        ensures placed { IfOk result (λ place. place_of self.new name.now ≡ Some place) }
-        ensures places { OnOk result (KeepsPlaces self.old self.new) }
-        ensures newest { OnOk result (KeepsNewest self.old self.new) }
+    pub(crate) fn find_or_add_name(&mut self, name: &'t str) -> Result<usize, AllocError>
+        ensures placed { IfOk result (λ name_position. position_of_name self.new name.now ≡ Some name_position) }
+        ensures name_positions { OnOk result (KeepsNamePositions self.old self.new) }
+        ensures newest { OnOk result (KeepsNewestBindings self.old self.new) }
         ensures same { OnErr result (self.new ≡ self.old) }
     {
-        if let Some(place) = self.find_place(name) {
-            return Ok(place);
+        if let Some(name_position) = self.find_name_position(name) {
+            return Ok(name_position);
         }
-        let place = self.entries.len();
+        let name_position = self.entries.len();
         self.add_name(name)?;
-        self.remember_place(slot_of(name), place);
-        Ok(place)
+        self.remember_position(slot_of(name), name_position);
+        Ok(name_position)
     }
 
     /// Returns the index of the newest binding of the name at a position. Returns None if that name
     /// has no binding.
-    pub(crate) fn newest_binding_at(&self, place: usize, name: &'t str) -> Option<usize>
-        requires { place_of self.now name.now ≡ Some place }
+    pub(crate) fn newest_binding_at(&self, name_position: usize, name: &'t str) -> Option<usize>
+        requires { position_of_name self.now name.now ≡ Some name_position }
         ensures { result ≡ newest_binding_in self.now name.now }
     {
-        self.entries[place].newest
+        self.entries[name_position].newest
     }
 
     /// Sets the index of the newest binding of the name at a position. None means that the name has
     /// no binding.
-    pub(crate) fn set_newest(&mut self, place: usize, name: &'t str, newest: Option<usize>)
-        requires { place_of self.old name.now ≡ Some place }
-        ensures renewed { SetsNewest self.old self.new name.now newest }
-        ensures places { KeepsPlaces self.old self.new }
+    pub(crate) fn set_newest_binding(
+        &mut self,
+        name_position: usize,
+        name: &'t str,
+        newest: Option<usize>,
+    )
+        requires { position_of_name self.old name.now ≡ Some name_position }
+        ensures renewed { SetsNewestBinding self.old self.new name.now newest }
+        ensures name_positions { KeepsNamePositions self.old self.new }
     {
-        self.entries[place] = NameEntry { name, newest };
+        self.entries[name_position] = NameEntry { name, newest };
     }
 
     /// Returns the index of a name's newest binding. Returns None if the name has no binding.
@@ -267,10 +273,10 @@ impl<'t> NewestBindings<'t> {
         ensures found { result ≡ newest_binding_in self.old name.now }
         ensures same { self.new ≡ self.old }
     {
-        let place = match self.find_place(name) {
+        let name_position = match self.find_name_position(name) {
             None => return None,
-            Some(place) => place,
+            Some(name_position) => name_position,
         };
-        self.newest_binding_at(place, name)
+        self.newest_binding_at(name_position, name)
     }
 }

@@ -6,9 +6,9 @@
 //! `self.new ≡ visit_constant c self.old`. With such contracts, most descents and loops over
 //! declarations need no proof file.
 //!
-//! Names become visible in the order of their ordinals (`show_names_from`), for
+//! Names become visible in the order of their ordinals (`make_names_visible_from`), for
 //! constants, for groups of variables, and after a procedure's heading. After a heading, the
-//! bindings of the parameters are removed. Then `show_names_from` binds the procedure, and
+//! bindings of the parameters are removed. Then `make_names_visible_from` binds the procedure, and
 //! after the procedure its parameters. So a parameter with the procedure's name hides the
 //! procedure.
 //!
@@ -34,7 +34,7 @@ ghost use Rattle.ob0_scope_table.specs.Resolution.{ordinal_in};
 ghost use Rattle.ob0_language_names.specs.Scopes.{ordinal_of, predeclared_count, predeclared_scope};
 ghost use Rattle.ob0_scope_numbering.specs.StoredScopes.{with_scope};
 ghost use Rattle.ob0_scope_numbering.specs.Written.{original_spellings, is_renamed, spelling_at};
-ghost use Rattle.ob0_scope_numbering.specs.TableWalk.{with_mark, number_declaration, number_declarations, show_declaration, show_declarations_from, truncate_scope, visit_identifier, visit_constant, visit_constant_section, visit_type, visit_type_section, visit_variable, visit_variable_section, visit_section, visit_formals, visit_procedure, visit_block, visit_module, initial_walk, number_module, put_ordinal};
+ghost use Rattle.ob0_scope_numbering.specs.TableWalk.{with_mark, number_declaration, number_declarations, with_visible_name, with_visible_names_from, truncate_scope, visit_identifier, visit_constant, visit_constant_section, visit_type, visit_type_section, visit_variable, visit_variable_section, visit_section, visit_formals, visit_procedure, visit_block, visit_module, initial_walk, number_module, put_ordinal};
 ghost use Rattle.ob0_scope_numbering.specs.BodyWalk.{with_declarations_before, with_declaration, renumber_module, with_procedure_skipped, renumber_block, renumber_procedure, initial_walk_over};
 
 use crate::visible::VisibleBindings;
@@ -44,7 +44,7 @@ use ob0_scope_table::{OrdinalEntry, PREDECLARED_COUNT, ordinal_at};
 use ob0_tree::walk::{Visitor, walk_body, walk_expression, walk_type};
 use ob0_tree::{
     Block, Constant, Module, Names, ParameterSection, Procedure, Role, TypeDeclaration,
-    VariableDeclaration, text_at,
+    VariableDeclaration, token_text_at,
 };
 use std::alloc::{AllocError, Global};
 use std::marker::Model;
@@ -93,11 +93,11 @@ impl<'t> Visitor for Numbering<'t> {
     #[inline(always)]
     fn see_identifier(&mut self, role: Role, token: usize) -> Result<(), AllocError> {
         match role {
-            Role::LookedUp => self.look_up(token),
-            Role::Declaring => self.mark_unbound(token),
-            Role::ClosingName => self.mark_unbound(token),
-            Role::FieldName => self.mark_unbound(token),
-            Role::ModuleName => self.mark_unbound(token),
+            Role::LookedUp => self.mark_looked_up_name(token),
+            Role::Declaring => self.mark_without_ordinal(token),
+            Role::ClosingName => self.mark_without_ordinal(token),
+            Role::FieldName => self.mark_without_ordinal(token),
+            Role::ModuleName => self.mark_without_ordinal(token),
         }
     }
 }
@@ -113,7 +113,10 @@ fn ordinal_at_index(index: usize) -> usize
 
 /// Returns a scope in which only the predeclared names are bound. The scope also has the name `new`
 /// that a renaming introduces, but it isn't bound to the renamed declaration yet.
-fn predeclared_names<'t>(alloc: Global, new: &'t str) -> Result<VisibleBindings<'t>, AllocError>
+fn scope_with_predeclared_names<'t>(
+    alloc: Global,
+    new: &'t str,
+) -> Result<VisibleBindings<'t>, AllocError>
     ensures { IfOk result
         (λ v. v ≡ record { new_name = new.entry.now; scope = predeclared_scope naming_by_spelling }) }
 {
@@ -151,14 +154,14 @@ fn visit_module<'t>(
         tokens: writing.tokens,
         ordinals: writing.ordinals,
         declaration: writing.declaration,
-        visible: predeclared_names(alloc, writing.new)?,
+        visible: scope_with_predeclared_names(alloc, writing.new)?,
         declarations: Vec::new(alloc),
         occurrences: Vec::new(alloc),
         table,
     };
-    numbering.mark(read.name(), None);
+    numbering.mark_ordinal(read.name(), None);
     numbering.walk_block(read.block())?;
-    numbering.mark(read.closing_name(), None);
+    numbering.mark_ordinal(read.closing_name(), None);
     Ok(numbering)
 }
 
@@ -180,7 +183,7 @@ pub fn renumber_body(
         tokens: read.tokens(),
         ordinals: &[],
         declaration: None,
-        visible: predeclared_names(alloc, "")?,
+        visible: scope_with_predeclared_names(alloc, "")?,
         declarations: Vec::new(alloc),
         occurrences: Vec::new(alloc),
         table,
@@ -240,7 +243,7 @@ impl<'t> Numbering<'t> {
     }
 
     /// Writes an ordinal, or None, into the table at the index of a token.
-    fn mark(&mut self, token: usize, ordinal: Option<usize>)
+    fn mark_ordinal(&mut self, token: usize, ordinal: Option<usize>)
         ensures { self.new ≡ with_mark token ordinal self.old }
     {
         if token < self.table.len() {
@@ -256,29 +259,30 @@ impl<'t> Numbering<'t> {
     {
         let ordinal = ordinal_at_index(self.declarations.len());
         self.declarations.push(token)?;
-        self.mark(token, Some(ordinal));
+        self.mark_ordinal(token, Some(ordinal));
         Ok(ordinal)
     }
 
     /// Makes the name at a token visible, bound to the declaration with this ordinal.
-    fn show_name(&mut self, token: usize, ordinal: usize) -> Result<(), AllocError>
-        ensures { OnOk result (self.new ≡ show_declaration token ordinal self.old) }
+    fn make_name_visible(&mut self, token: usize, ordinal: usize) -> Result<(), AllocError>
+        ensures { OnOk result (self.new ≡ with_visible_name token ordinal self.old) }
     {
         if self.is_renamed(token) {
             self.visible.declare_new_name(ordinal)
         } else {
-            self.visible.declare(text_at(self.tokens, token), ordinal)
+            self.visible
+                .declare(token_text_at(self.tokens, token), ordinal)
         }
     }
 
     /// Makes the names of the declarations so far visible, in order. The first `first` declarations
     /// are left out.
-    fn show_names_from(&mut self, first: usize) -> Result<(), AllocError>
-        ensures { OnOk result (self.new ≡ show_declarations_from first self.old) }
+    fn make_names_visible_from(&mut self, first: usize) -> Result<(), AllocError>
+        ensures { OnOk result (self.new ≡ with_visible_names_from first self.old) }
     {
         for index in first..self.declarations.len() {
             let token = self.declarations[index];
-            self.show_name(token, ordinal_at_index(index))?;
+            self.make_name_visible(token, ordinal_at_index(index))?;
         }
         Ok(())
     }
@@ -302,35 +306,35 @@ impl<'t> Numbering<'t> {
     /// Returns the ordinal of the declaration to which the name at a token is bound. Returns None
     /// if the name is unbound.
     fn bound_ordinal(&mut self, token: usize) -> Option<usize>
-        ensures visit_identifier { result
+        ensures bound { result
             ≡ ordinal_of naming_by_spelling self.old.scope (spelling_at self.old.writing token) }
         ensures same { self.new ≡ self.old }
     {
         if self.is_renamed(token) {
             self.visible.look_up_new_name()
         } else {
-            self.visible.look_up(text_at(self.tokens, token))
+            self.visible.look_up(token_text_at(self.tokens, token))
         }
     }
 
     /// Writes None into the table at the token of an identifier that has no ordinal.
     #[inline(always)]
-    fn mark_unbound(&mut self, token: usize) -> Result<(), AllocError>
+    fn mark_without_ordinal(&mut self, token: usize) -> Result<(), AllocError>
         ensures { OnOk result (self.new ≡ with_mark token None self.old) }
     {
-        self.mark(token, None);
+        self.mark_ordinal(token, None);
         Ok(())
     }
 
     /// Looks up the name at a token. Writes the ordinal of its declaration into the table, or None
     /// if the name is unbound.
     #[inline(always)]
-    fn look_up(&mut self, token: usize) -> Result<(), AllocError>
+    fn mark_looked_up_name(&mut self, token: usize) -> Result<(), AllocError>
         ensures { OnOk result (self.new ≡ visit_identifier roles.LookedUp token self.old) }
     {
         let ordinal = self.bound_ordinal(token);
         self.occurrences.push(token)?;
-        self.mark(token, ordinal);
+        self.mark_ordinal(token, ordinal);
         Ok(())
     }
 
@@ -352,7 +356,7 @@ impl<'t> Numbering<'t> {
         let first = self.declaration_count();
         self.number_name(c.name)?;
         walk_expression(self, &c.value)?;
-        self.show_names_from(first)
+        self.make_names_visible_from(first)
     }
 
     fn walk_type_declaration(&mut self, t: &TypeDeclaration) -> Result<(), AllocError>
@@ -361,7 +365,7 @@ impl<'t> Numbering<'t> {
         let first = self.declaration_count();
         self.number_name(t.name)?;
         walk_type(self, &t.written)?;
-        self.show_names_from(first)
+        self.make_names_visible_from(first)
     }
 
     fn walk_variables(&mut self, v: &VariableDeclaration) -> Result<(), AllocError>
@@ -370,7 +374,7 @@ impl<'t> Numbering<'t> {
         let first = self.declaration_count();
         self.number_names(&v.names)?;
         walk_type(self, &v.written)?;
-        self.show_names_from(first)
+        self.make_names_visible_from(first)
     }
 
     fn walk_section(&mut self, s: &ParameterSection) -> Result<(), AllocError>
@@ -379,7 +383,7 @@ impl<'t> Numbering<'t> {
         let first = self.declaration_count();
         self.number_names(&s.names)?;
         walk_type(self, &s.written)?;
-        self.show_names_from(first)
+        self.make_names_visible_from(first)
     }
 
     fn walk_constant_section(&mut self, section: &Option<Vec<Constant>>) -> Result<(), AllocError>
@@ -448,11 +452,11 @@ impl<'t> Numbering<'t> {
         let ordinal = self.number_name(p.name)?;
         self.walk_heading(&p.formals)?;
         self.truncate_bindings(outside);
-        self.show_names_from(own)?;
+        self.make_names_visible_from(own)?;
         self.walk_block(&p.block)?;
         self.truncate_bindings(outside);
-        self.show_name(p.name, ordinal)?;
-        self.mark(p.closing, Some(ordinal));
+        self.make_name_visible(p.name, ordinal)?;
+        self.mark_ordinal(p.closing, Some(ordinal));
         Ok(())
     }
 
@@ -472,7 +476,7 @@ impl<'t> Numbering<'t> {
     /// Appends the declarations before the token `token` that aren't in the list of declarations
     /// yet, without visiting them. `all` has the declaring tokens of the whole module, in text
     /// order.
-    fn count_declarations_before(&mut self, all: &[usize], token: usize) -> Result<(), AllocError>
+    fn append_declarations_before(&mut self, all: &[usize], token: usize) -> Result<(), AllocError>
         ensures { OnOk result (self.new ≡ with_declarations_before all.now token self.old) }
     {
         for index in self.declaration_count()..all.len() {
@@ -480,14 +484,14 @@ impl<'t> Numbering<'t> {
             if declared >= token {
                 return Ok(());
             }
-            self.count_declaration(declared)?;
+            self.append_declaration(declared)?;
         }
         Ok(())
     }
 
     /// Appends the declaring token `token` to the list of declarations, without visiting the
     /// declaration.
-    fn count_declaration(&mut self, token: usize) -> Result<(), AllocError>
+    fn append_declaration(&mut self, token: usize) -> Result<(), AllocError>
         ensures { OnOk result (self.new ≡ with_declaration token self.old) }
     {
         self.declarations.push(token)?;
@@ -500,7 +504,7 @@ impl<'t> Numbering<'t> {
         ensures { OnOk result (self.new ≡ with_procedure_skipped token self.old) }
     {
         let next = self.declarations.len();
-        self.show_name(token, ordinal_at_index(next))
+        self.make_name_visible(token, ordinal_at_index(next))
     }
 
     /// Visits again a procedure's name, its parameters, and the parts of its block that
@@ -521,7 +525,7 @@ impl<'t> Numbering<'t> {
         self.number_name(p.name)?;
         self.walk_heading(&p.formals)?;
         self.truncate_bindings(outside);
-        self.show_names_from(first)?;
+        self.make_names_visible_from(first)?;
         self.revisit_block(&p.block, all, low)
     }
 
@@ -537,7 +541,7 @@ impl<'t> Numbering<'t> {
         self.walk_type_section(&inner.types)?;
         self.walk_variable_section(&inner.variables)?;
         for p in &inner.procedures {
-            self.count_declarations_before(all, p.name)?;
+            self.append_declarations_before(all, p.name)?;
             if p.closing >= low {
                 return self.revisit_procedure(p, all, low);
             }

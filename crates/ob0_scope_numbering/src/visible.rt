@@ -10,13 +10,13 @@ use crate::newest::NewestBindings;
 use std::alloc::{AllocError, Global};
 use std::marker::Model;
 
-/// A binding of a name to an ordinal. `place` is the name's position in the list of names
+/// A binding of a name to an ordinal. `name_position` is the name's position in the list of names
 /// (`NewestBindings`). `hidden` is the index of the older binding that this binding hides, or None
 /// if there is none.
 #[derive(Drop)]
 pub(crate) struct Binding<'t> {
     name: &'t str,
-    place: usize,
+    name_position: usize,
     ordinal: usize,
     hidden: Option<usize>,
 }
@@ -79,7 +79,7 @@ impl<'t> VisibleBindings<'t> {
     pub(crate) fn look_up_new_name(&self) -> Option<usize>
         ensures { result ≡ ordinal_of naming_by_spelling self.now.scope self.now.new_name }
     {
-        let index = match self.newest.first_newest_binding() {
+        let index = match self.newest.newest_binding_of_first_name() {
             None => return None,
             Some(index) => index,
         };
@@ -104,13 +104,13 @@ impl<'t> VisibleBindings<'t> {
         ensures err { OnErr result (self.new ≡ self.old) }
     {
         self.bindings.reserve(1)?;
-        let place = self.newest.place_or_add(name)?;
-        let hidden = self.newest.newest_binding_at(place, name);
+        let name_position = self.newest.find_or_add_name(name)?;
+        let hidden = self.newest.newest_binding_at(name_position, name);
         self.newest
-            .set_newest(place, name, Some(self.bindings.len()));
+            .set_newest_binding(name_position, name, Some(self.bindings.len()));
         self.bindings.push_reserved(Binding {
             name,
-            place,
+            name_position,
             ordinal,
             hidden,
         });
@@ -135,6 +135,7 @@ impl<'t> VisibleBindings<'t> {
         let Some(left) = self.bindings.pop() else {
             return;
         };
-        self.newest.set_newest(left.place, left.name, left.hidden);
+        self.newest
+            .set_newest_binding(left.name_position, left.name, left.hidden);
     }
 }

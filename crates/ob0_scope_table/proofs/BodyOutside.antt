@@ -5,12 +5,12 @@ use Rattle.std.proofs.Common.{◌≡◌, ◌<◌, ◌≤◌, ℕ, zero, ◌+◌,
 use Rattle.std.proofs.lemmas.Bool.{and_parts, or_left, or_right}
 use Rattle.ob0_tree.specs.declared.tree.Role.{Role}
 use Rattle.ob0_tree.specs.declared.tree.Role.TheVariants as role
-use Rattle.ob0_tree.specs.Lexeme.{EndOfText, Mark, Name, Number, Terminal}
+use Rattle.ob0_tree.specs.Lexeme.{EndOfText, WordOrSymbol, Name, Number, Terminal}
 use Rattle.ob0_tree.specs.Order.{AreAscending, names_without_roles}
-use Rattle.ob0_tree.specs.Tree.{Tree, block, body, constants, declares, declares_procedure, end, has_body, identifiers, is_module, item, items, maybe, module_text, more, procedure, spell, type_names, variables}
+use Rattle.ob0_tree.specs.Tree.{Tree, block, body, constants, declares, declares_procedure, end, forms_block, identifiers, is_module, item, items, maybe, module_text, more, procedure, spell, type_definitions, variables}
 use Rattle.ob0_tree.proofs.Leaves.{ascending_bounds, ascending_higher, leaves_spelled, lexeme_names}
 use Rattle.ob0_scope_table.specs.TokenProperty.{EachTokenHas}
-use Rattle.ob0_scope_table.specs.BodyReplaced.{PathToBody, block_without, shift_way, procedure_without, procedures_without, way_in_procedures, way_in_block, way_in_procedure, way_in_module, module_without_body}
+use Rattle.ob0_scope_table.specs.BodyReplaced.{PathToBody, block_without, shift_path, procedure_without, procedures_without, path_to_body_in_procedures, path_to_body_in_block, path_to_body_in_procedure, path_to_body_in_module, module_without_body}
 use Rattle.ob0_scope_table.specs.OneBody.{begins_at_or_before, closing_name, is_in_block, is_in_body, is_in_procedure, is_in_procedures, is_outside}
 use Rattle.ob0_scope_table.proofs.Placed.{AllOf, each_of, places, places_spelled, token_places}
 
@@ -69,7 +69,7 @@ begins_terminals least low (Name n ∷ xs) high h b = b
 begins_terminals least low (Number n ∷ xs) high h b =
     let le = before_first (n + 1) low (token_places xs) high h.1 (begins_terminals (n + 1) low xs high h.1 b) in
     omega (arith, le)
-begins_terminals least low (Mark k ∷ xs) high h b = begins_terminals least low xs high h b
+begins_terminals least low (WordOrSymbol k ∷ xs) high h b = begins_terminals least low xs high h b
 begins_terminals least low (EndOfText ∷ xs) high h b = begins_terminals least low xs high h b
 
 -- ---- the tokens of a block without a body
@@ -79,16 +79,16 @@ module _ (P : ℕ → Type 0) where
   -- which a way leads
   abbrev pub Among : PathToBody → Tree ℕ (items procedure) → Tree ℕ (maybe body) → Type 0
   Among [] ps statements = EachTokenHas P ps
-  Among (k ∷ way) ps statements = EachTokenHas P (procedures_without k way ps) × EachTokenHas P statements
+  Among (k ∷ path) ps statements = EachTokenHas P (procedures_without k path ps) × EachTokenHas P statements
 
-  among_later : (way : PathToBody) (p : Tree ℕ (item procedure)) (ps : Tree ℕ (items procedure)) (statements : Tree ℕ (maybe body)) → EachTokenHas P p → Among way ps statements → Among (shift_way way) (more p ps) statements
+  among_later : (path : PathToBody) (p : Tree ℕ (item procedure)) (ps : Tree ℕ (items procedure)) (statements : Tree ℕ (maybe body)) → EachTokenHas P p → Among path ps statements → Among (shift_path path) (more p ps) statements
   among_later [] p ps statements first h = (first, h)
-  among_later (k ∷ way) p ps statements first h = ((first, h.0), h.1)
+  among_later (k ∷ path) p ps statements first h = ((first, h.0), h.1)
 
-  block_among : (way : PathToBody) (cs : Tree ℕ (maybe constants)) (ts : Tree ℕ (maybe type_names)) (vs : Tree ℕ (maybe variables)) (ps : Tree ℕ (items procedure)) (statements : Tree ℕ (maybe body))
-      → EachTokenHas P cs → EachTokenHas P ts → EachTokenHas P vs → Among way ps statements → EachTokenHas P (block_without way (has_body (declares cs ts vs ps) statements))
+  block_among : (path : PathToBody) (cs : Tree ℕ (maybe constants)) (ts : Tree ℕ (maybe type_definitions)) (vs : Tree ℕ (maybe variables)) (ps : Tree ℕ (items procedure)) (statements : Tree ℕ (maybe body))
+      → EachTokenHas P cs → EachTokenHas P ts → EachTokenHas P vs → Among path ps statements → EachTokenHas P (block_without path (forms_block (declares cs ts vs ps) statements))
   block_among [] cs ts vs ps statements c t v h = ((c, t, v, h), tt)
-  block_among (k ∷ way) cs ts vs ps statements c t v h = ((c, t, v, h.0), h.1)
+  block_among (k ∷ path) cs ts vs ps statements c t v h = ((c, t, v, h.0), h.1)
 
 -- ---- inside the body and outside
 
@@ -124,10 +124,10 @@ module _ (low high : ℕ) (P : ℕ → Type 0) (out : (k : ℕ) → is_outside l
     pub begins : Begins low xs
 
   abbrev BlockFound : Tree ℕ block → Type 0
-  BlockFound b = Found (EachTokenHas P (block_without (way_in_block low b) b)) (places b)
+  BlockFound b = Found (EachTokenHas P (block_without (path_to_body_in_block low b) b)) (places b)
 
   abbrev ProceduresFound : Tree ℕ (items procedure) → Tree ℕ (maybe body) → Type 0
-  ProceduresFound ps statements = Found (Among P (way_in_procedures low ps) ps statements) (places ps ++ places statements)
+  ProceduresFound ps statements = Found (Among P (path_to_body_in_procedures low ps) ps statements) (places ps ++ places statements)
 
   own_found : (least top : ℕ) (statements : Tree ℕ (maybe body)) → AreAscending least (places statements) top → begins_at_or_before low (identifiers role.Declaring statements) ≡ true → ProceduresFound end statements
   own_found least top statements h e = record {
@@ -154,7 +154,7 @@ module _ (low high : ℕ) (P : ℕ → Type 0) (out : (k : ℕ) → is_outside l
   -- A procedure has the property if its block has it.
   with_block : (x : ℕ) (fs : List ℕ) (b : Tree ℕ block) (closing least top : ℕ) → AreAscending least (x ∷ (fs ++ (places b ++ (closing ∷ [])))) top → high ≤ closing
       → ((start : ℕ) → AreAscending start (places b) closing → BlockFound b)
-      → AllOf P (x ∷ fs) × EachTokenHas P (block_without (way_in_block low b) b) × P closing × Begins low (x ∷ (fs ++ (places b ++ (closing ∷ []))))
+      → AllOf P (x ∷ fs) × EachTokenHas P (block_without (path_to_body_in_block low b) b) × P closing × Begins low (x ∷ (fs ++ (places b ++ (closing ∷ []))))
   with_block x fs b closing least top h le found =
       let last = places b ++ (closing ∷ []) in
       let s = split least (x ∷ fs) last top h in
@@ -165,11 +165,11 @@ module _ (low high : ℕ) (P : ℕ → Type 0) (out : (k : ℕ) → is_outside l
 
   mutual
     block_found : (least top : ℕ) (b : Tree ℕ block) → AreAscending least (places b) top → high ≤ top → is_in_block low high b ≡ true → BlockFound b
-    block_found least top (has_body (declares cs ts vs ps) statements) h le is =
+    block_found least top (forms_block (declares cs ts vs ps) statements) h le is =
         let of_procedures = places ps ++ places statements in
         let of_variables = places vs ++ of_procedures in
         let of_types = places ts ++ of_variables in
-        let e : places (has_body (declares cs ts vs ps) statements) ≡ places cs ++ of_types =
+        let e : places (forms_block (declares cs ts vs ps) statements) ≡ places cs ++ of_types =
         append_assoc (places cs) (places ts ++ (places vs ++ places ps)) (places statements)
         ∙ ap (λ l. places cs ++ l) (append_assoc (places ts) (places vs ++ places ps) (places statements) ∙ ap (λ l. places ts ++ l) (append_assoc (places vs) (places ps) (places statements))) in
         let all = subst (λ l. AreAscending least l top) e h in
@@ -180,7 +180,7 @@ module _ (low high : ℕ) (P : ℕ → Type 0) (out : (k : ℕ) → is_outside l
         let begins₁ = begins_before b.middle low (places vs) of_procedures top b.last f.begins in
         let begins₂ = begins_before a.middle low (places ts) of_variables top a.last begins₁ in
         record {
-          outside = block_among P (way_in_procedures low ps) cs ts vs ps statements
+          outside = block_among P (path_to_body_in_procedures low ps) cs ts vs ps statements
               (each_of P cs (all_before least (places cs) of_types top all begins₂))
               (each_of P ts (all_before a.middle (places ts) of_variables top a.last begins₁))
               (each_of P vs (all_before b.middle (places vs) of_procedures top b.last f.begins))
@@ -197,11 +197,11 @@ module _ (low high : ℕ) (P : ℕ → Type 0) (out : (k : ℕ) → is_outside l
         let all = subst (λ l. AreAscending least l top) e h in
         let s = split least (places p) others top all in
         (elim (nat_lt (closing_name p) low) as (λ z. nat_lt (closing_name p) low ≡ z → (if z then is_in_procedures low high rest statements else nat_le high (closing_name p) && is_in_procedure low high p) ≡ true
-        → Found (Among P (if z then shift_way (way_in_procedures low rest) else zero ∷ way_in_procedure low p) (more p rest) statements) (places (more p rest) ++ places statements)) [
+        → Found (Among P (if z then shift_path (path_to_body_in_procedures low rest) else zero ∷ path_to_body_in_procedure low p) (more p rest) statements) (places (more p rest) ++ places statements)) [
           | true ↦ λ before is.
               let f = procedures_found s.middle top rest statements s.last le is in
               record {
-                outside = among_later P (way_in_procedures low rest) p rest statements (passed_over p least s.middle s.first (ltb-true (closing_name p) low before)) f.outside;
+                outside = among_later P (path_to_body_in_procedures low rest) p rest statements (passed_over p least s.middle s.first (ltb-true (closing_name p) low before)) f.outside;
                 begins = subst (Begins low) (sym e) (begins_before least low (places p) others top all f.begins);
               }
           | false ↦ λ after is.
@@ -221,12 +221,12 @@ module _ (low high : ℕ) (P : ℕ → Type 0) (out : (k : ℕ) → is_outside l
         ]) refl is
 
     procedure_found : (least top : ℕ) (p : Tree ℕ (item procedure)) → AreAscending least (places p) top → high ≤ closing_name p → is_in_procedure low high p ≡ true
-        → Found (EachTokenHas P (procedure_without (way_in_procedure low p) p)) (places p)
+        → Found (EachTokenHas P (procedure_without (path_to_body_in_procedure low p) p)) (places p)
     procedure_found least top (declares_procedure x fs b closing) h le is =
         let w = with_block x (places fs) b closing least top h le (λ start asc. block_found start closing b asc le is) in
         record { outside = (w.0.0, each_of P fs w.0.1, w.1, w.2); begins = w.3 }
 
-  pub module_outside : (least top : ℕ) (m : Tree ℕ module_text) → AreAscending least (places m) top → is_in_body low high m ≡ true → EachTokenHas P (module_without_body (way_in_module low m) m)
+  pub module_outside : (least top : ℕ) (m : Tree ℕ module_text) → AreAscending least (places m) top → is_in_body low high m ≡ true → EachTokenHas P (module_without_body (path_to_body_in_module low m) m)
   module_outside least top (is_module x b closing) h is =
       let parts = and_parts (nat_le high closing) (is_in_block low high b) is in
       let reaches = leb-true high closing parts.0 in

@@ -4,15 +4,15 @@ use Rattle.std.proofs.lemmas.Option.{slice_get-map}
 use Rattle.ob0_scan.specs.TextWithTokens.{TextWithTokens}
 use Rattle.ob0_tree.specs.Tree.{occurrences}
 use Rattle.ob0_tree.specs.ParsedModule.{ParsedModule, tree_of, named_tree_of}
-use Rattle.ob0_tree.specs.Places.{text_at, value_at}
+use Rattle.ob0_tree.specs.Places.{token_text_at, token_value_at}
 use Rattle.ob0_language_names.specs.Names.{Name, naming_by_spelling}
 use Rattle.ob0_language_names.specs.Occurrences.{bindings, binds, label_ordinal}
 use Rattle.ob0_scope_table.specs.Resolution.{IsNumberingTable, IsResolution, Resolution, label_at, ordinal_in}
 use Rattle.ob0_language_names.specs.Scopes.{label_from_ordinal}
-use Rattle.ob0_language_names.proofs.OccurrencesMapped.{occurrences-mapped}
+use Rattle.ob0_language_names.proofs.OccurrencesMapped.{occurrences-mapped_tree}
 
 pub bindings_by_table : (m : ParsedModule) (ordinals : List (Option ℕ)) → IsNumberingTable m ordinals → bindings (named_tree_of m) ≡ map (label_at m.source ordinals) (occurrences (tree_of m))
-bindings_by_table m ordinals numbering = ap occurrences numbering ∙ occurrences-mapped (label_at m.source ordinals) (value_at m.source) (tree_of m)
+bindings_by_table m ordinals numbering = ap occurrences numbering ∙ occurrences-mapped_tree (label_at m.source ordinals) (token_value_at m.source) (tree_of m)
 
 pub label_back : (ordinal : Option ℕ) (x : Name) → label_ordinal (label_from_ordinal naming_by_spelling ordinal x) ≡ ordinal
 label_back None x = refl
@@ -20,7 +20,7 @@ label_back (Some k) x = refl
 
 bound_back : (source : TextWithTokens) (ordinals : List (Option ℕ)) (found : Option ℕ) → option_and_then label_ordinal (option_map (label_at source ordinals) found) ≡ option_and_then (ordinal_in ordinals) found
 bound_back source ordinals None = refl
-bound_back source ordinals (Some i) = label_back (ordinal_in ordinals i) (text_at source i)
+bound_back source ordinals (Some i) = label_back (ordinal_in ordinals i) (token_text_at source i)
 
 binds_by_table : (m : ParsedModule) (ordinals : List (Option ℕ)) → IsNumberingTable m ordinals → (k : ℕ) → binds (named_tree_of m) k ≡ option_and_then (ordinal_in ordinals) (slice_get (occurrences (tree_of m)) k)
 binds_by_table m ordinals numbering k =

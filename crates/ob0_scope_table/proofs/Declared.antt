@@ -2,7 +2,7 @@
 -- ordinals count them.
 use Rattle.std.proofs.Common.{◌≡◌, ℕ, suc, ◌+◌, List, [], ◌∷◌, ◌++◌, length, refl, sym, ap, ◌∙◌, arith, append-nil}
 use Rattle.ob0_tree.specs.declared.tree.Role.TheVariants as role
-use Rattle.ob0_tree.specs.Tree.{Tree, identifiers, block, constant, constants, declares, declares_constant, declares_constants, declares_procedure, declares_type, declares_types, declares_variable, declares_variables, end, formals, further_name, further_section, has_body, is_module, item, items, listed, maybe, module_text, more, names, none, one, procedure, section, some_formals, then_name, then_section, type_name, type_names, value_section, variable, variable_section, variables, written_type}
+use Rattle.ob0_tree.specs.Tree.{Tree, identifiers, block, constant, constants, declares, declares_constant, declares_constants, declares_procedure, declares_type, declares_types, declares_variable, declares_variables, end, formals, further_name, further_section, forms_block, is_module, item, items, listed, maybe, module_text, more, names, none, one, procedure, section, some_formals, then_name, then_section, type_definition, type_definitions, value_section, variable, variable_section, variables, written_type}
 use Rattle.ob0_language_names.specs.Parts.{constant_names, formal_names, formal_sections, further_names, module_block, declared_type_names, names_in_list, section_constants, section_names, section_types, section_variables, variable_names}
 use Rattle.ob0_scope_table.specs.Resolution.{declaring_names}
 use Rattle.ob0_language_names.specs.Scopes.{ordinal_after_block, ordinal_after_names, ordinal_after_procedure, ordinal_after_procedures}
@@ -11,7 +11,7 @@ use Rattle.ob0_scope_table.proofs.Plain.{declares_nothing, declaring_names-appen
 
 abbrev mutual
   pub names_in : {N : Type 0} → Tree N block → List N
-  names_in (has_body (declares cs ts vs ps) statements) =
+  names_in (forms_block (declares cs ts vs ps) statements) =
       constant_names (section_constants cs) ++ (declared_type_names (section_types ts) ++ (variable_names (section_variables vs) ++ names_in_procedures ps))
 
   pub names_in_procedures : {N : Type 0} → Tree N (items procedure) → List N
@@ -25,7 +25,7 @@ abbrev mutual
 
 mutual
   pub after_names_in : {N : Type 0} (k : ℕ) (b : Tree N block) → ordinal_after_block k b ≡ ordinal_after_names k (names_in b)
-  after_names_in k (has_body (declares cs ts vs ps) statements) =
+  after_names_in k (forms_block (declares cs ts vs ps) statements) =
       let xs = constant_names (section_constants cs) in
       let ys = declared_type_names (section_types ts) in
       let zs = variable_names (section_variables vs) in
@@ -85,12 +85,12 @@ constant_section_declared : (cs : Tree ℕ (maybe constants)) → declaring_name
 constant_section_declared none = refl
 constant_section_declared (one (declares_constants cs)) = constants_declared cs
 
-types_declared : (ts : Tree ℕ (items type_name)) → declaring_names (identifiers role.Declaring ts) ≡ declared_type_names ts
+types_declared : (ts : Tree ℕ (items type_definition)) → declaring_names (identifiers role.Declaring ts) ≡ declared_type_names ts
 types_declared end = refl
 types_declared (more (declares_type x t) ts) =
     ap (λ xs. x ∷ xs) (declaring_names-append (identifiers role.Declaring t) (identifiers role.Declaring ts) ∙ (λ i. (declares_nothing tt t).plain i ++ types_declared ts i))
 
-type_section_declared : (ts : Tree ℕ (maybe type_names)) → declaring_names (identifiers role.Declaring ts) ≡ declared_type_names (section_types ts)
+type_section_declared : (ts : Tree ℕ (maybe type_definitions)) → declaring_names (identifiers role.Declaring ts) ≡ declared_type_names (section_types ts)
 type_section_declared none = refl
 type_section_declared (one (declares_types ts)) = types_declared ts
 
@@ -105,14 +105,14 @@ variable_section_declared (one (declares_variables vs)) = variables_declared vs
 
 mutual
   pub block_declared : (b : Tree ℕ block) → declaring_names (identifiers role.Declaring b) ≡ names_in b
-  block_declared (has_body (declares cs ts vs ps) statements) =
+  block_declared (forms_block (declares cs ts vs ps) statements) =
       declaring_names-append (identifiers role.Declaring (declares cs ts vs ps)) (identifiers role.Declaring statements)
       ∙ ((λ i. (declaring_names-append (identifiers role.Declaring cs) (identifiers role.Declaring ts ++ (identifiers role.Declaring vs ++ identifiers role.Declaring ps))
       ∙ (λ j. constant_section_declared cs j
       ++ (declaring_names-append (identifiers role.Declaring ts) (identifiers role.Declaring vs ++ identifiers role.Declaring ps)
       ∙ (λ l. type_section_declared ts l ++ (declaring_names-append (identifiers role.Declaring vs) (identifiers role.Declaring ps) ∙ (λ n. variable_section_declared vs n ++ procedures_declared ps n)) l)) j)) i
       ++ (declares_nothing tt statements).plain i)
-      ∙ append-nil (names_in (has_body (declares cs ts vs ps) statements)))
+      ∙ append-nil (names_in (forms_block (declares cs ts vs ps) statements)))
 
   pub procedures_declared : (ps : Tree ℕ (items procedure)) → declaring_names (identifiers role.Declaring ps) ≡ names_in_procedures ps
   procedures_declared end = refl

@@ -11,13 +11,13 @@ use Rattle.ob0_scan.specs.Reused.{words_of_tokens}
 use Rattle.ob0_scan.specs.TextWithTokens.{TextWithTokens, Word}
 use Rattle.ob0_tree.specs.declared.tree.ModuleTree.{ModuleTree}
 use Rattle.ob0_tree.specs.ParsedModule.{named_tree_of, parsed_module, tree_of}
-use Rattle.ob0_tree.specs.Places.{text_at, token_text_or_empty, value_at, token_value_or_zero, kind_value_or_zero}
-use Rattle.ob0_tree.specs.Tree.{Tree, array_type, block, declares, declares_procedure, declares_type, declares_variable, end, fields, further_fields, further_section, has_body, is_module, item, items, mapped, module_text, more, named_type, no_fields, occurrences, procedure, record_type, some_fields, then_fields, then_section, type_name, variable, written_type}
-use Rattle.ob0_language_names.specs.DeclaredOnce.{block_names, group_fields, further_group_fields, is_among}
+use Rattle.ob0_tree.specs.Places.{token_text_at, token_text_or_empty, token_value_at, token_value_or_zero, kind_value_or_zero}
+use Rattle.ob0_tree.specs.Tree.{Tree, array_type, block, declares, declares_procedure, declares_type, declares_variable, end, fields, further_fields, further_section, forms_block, is_module, item, items, mapped_tree, module_text, more, named_type, no_fields, occurrences, procedure, record_type, some_fields, then_fields, then_section, type_definition, variable, written_type}
+use Rattle.ob0_language_names.specs.ConsistentNames.{block_names, group_field_names, further_field_names, is_among}
 use Rattle.ob0_language_names.specs.Names.{Label, Name, same_name}
 use Rattle.ob0_language_names.specs.Occurrences.{bindings}
 use Rattle.ob0_language_names.specs.Parts.{formal_names, formal_sections, section_type, section_types, section_variables}
-use Rattle.ob0_scope_table.specs.DeclaredTwice.{duplicate_faults, block_declaration_faults, closing_name_faults, duplicate_fault, end_name_fault, duplicate_fields, duplicate_fields_in_formals, duplicate_fields_in_group, duplicate_fields_in_groups, tree_declaration_faults, procedure_declaration_faults, procedures_declaration_faults, declaration_faults, duplicate_fields_in_types, fault_unless, duplicate_fields_in_variables}
+use Rattle.ob0_scope_table.specs.DeclaredTwice.{duplicate_faults, block_declaration_faults, closing_name_faults, duplicate_fault, end_name_fault, duplicate_field_faults, duplicate_field_faults_in_formals, duplicate_field_faults_in_group, duplicate_field_faults_in_groups, tree_declaration_faults, procedure_declaration_faults, procedures_declaration_faults, declaration_faults, duplicate_field_faults_in_types, fault_unless, duplicate_field_faults_in_variables}
 use Rattle.ob0_scope_table.specs.FaultTokens.{AreAtSameTokens, AreWrittenAlike, fault_at}
 use Rattle.ob0_scope_table.specs.Resolution.{is_unbound, undeclared_faults_by_labels, undeclared_faults}
 use Rattle.ob0_scope_table.specs.declared.fault_tokens.FaultByTokens.{FaultByTokens}
@@ -41,15 +41,15 @@ value_same a b (t ∷ ts) [] i e = absurd (omega (arith, ap length e))
 value_same a b (t ∷ ts) (u ∷ us) zero e = ap (λ (l : List Word). kind_value_or_zero (get_or l 0 no_word).kind) e
 value_same a b (t ∷ ts) (u ∷ us) (suc i) e = value_same a b ts us i (ap (drop 1) e)
 
-pub texts_stay : (old new : TextWithTokens) → AreWrittenAlike old new → text_at new ≡ text_at old
+pub texts_stay : (old new : TextWithTokens) → AreWrittenAlike old new → token_text_at new ≡ token_text_at old
 texts_stay old new w = λ j i. text_same old.text new.text old.tokens new.tokens i w.same_words j
 
-pub values_stay : (old new : TextWithTokens) → AreWrittenAlike old new → value_at new ≡ value_at old
+pub values_stay : (old new : TextWithTokens) → AreWrittenAlike old new → token_value_at new ≡ token_value_at old
 values_stay old new w = λ j i. value_same old.text new.text old.tokens new.tokens i w.same_words j
 
 -- The tree has the same names and numbers over both texts.
 pub tree_named : (old new : TextWithTokens) → AreWrittenAlike old new → (tree : ModuleTree) → named_tree_of (parsed_module new tree) ≡ named_tree_of (parsed_module old tree)
-tree_named old new w tree = λ j. mapped (texts_stay old new w j) (values_stay old new w j) (tree_of (parsed_module old tree))
+tree_named old new w tree = λ j. mapped_tree (texts_stay old new w j) (values_stay old new w j) (tree_of (parsed_module old tree))
 
 -- ---- faults at the same tokens
 
@@ -89,7 +89,7 @@ module _ (old new : TextWithTokens) where
   -- ---- duplicate declarations and closing names
 
   module _ (w : AreWrittenAlike old new) where
-    same_texts : text_at old ≡ text_at new
+    same_texts : token_text_at old ≡ token_text_at new
     same_texts = sym (texts_stay old new w)
 
     unless_same : (b : Bool) (f : FaultByTokens) → Same (fault_unless b (fault_at old f)) (fault_unless b (fault_at new f))
@@ -99,42 +99,42 @@ module _ (old new : TextWithTokens) where
     again_same : (before : List Name) (xs : List ℕ) → Same (duplicate_faults old before xs) (duplicate_faults new before xs)
     again_same before [] = none_same
     again_same before (x ∷ xs) = subst (λ (t : ℕ → Name). Same (duplicate_faults old before (x ∷ xs)) (fault_unless (not (is_among (t x) before)) (duplicate_fault new x) ++ duplicate_faults new (t x ∷ before) xs)) same_texts
-        (both_same (unless_same (not (is_among (text_at old x) before)) (record { code = code.Duplicate; first = x; last = x })) (again_same (text_at old x ∷ before) xs))
+        (both_same (unless_same (not (is_among (token_text_at old x) before)) (record { code = code.Duplicate; first = x; last = x })) (again_same (token_text_at old x ∷ before) xs))
 
     closing_same : (x closing : ℕ) → Same (closing_name_faults old x closing) (closing_name_faults new x closing)
     closing_same x closing = subst (λ (t : ℕ → Name). Same (closing_name_faults old x closing) (fault_unless (same_name (t x) (t closing)) (end_name_fault new closing))) same_texts
-        (unless_same (same_name (text_at old x) (text_at old closing)) (record { code = code.EndName; first = closing; last = closing }))
+        (unless_same (same_name (token_text_at old x) (token_text_at old closing)) (record { code = code.EndName; first = closing; last = closing }))
 
     mutual
-      fields_same : (t : Tree ℕ written_type) → Same (duplicate_fields old t) (duplicate_fields new t)
+      fields_same : (t : Tree ℕ written_type) → Same (duplicate_field_faults old t) (duplicate_field_faults new t)
       fields_same (named_type x) = none_same
       fields_same (array_type e t) = fields_same t
-      fields_same (record_type g rest) = both_same (again_same [] (group_fields g ++ further_group_fields rest)) (both_same (group_same g) (groups_same rest))
+      fields_same (record_type g rest) = both_same (again_same [] (group_field_names g ++ further_field_names rest)) (both_same (group_same g) (groups_same rest))
 
-      group_same : (g : Tree ℕ fields) → Same (duplicate_fields_in_group old g) (duplicate_fields_in_group new g)
+      group_same : (g : Tree ℕ fields) → Same (duplicate_field_faults_in_group old g) (duplicate_field_faults_in_group new g)
       group_same no_fields = none_same
       group_same (some_fields ns t) = fields_same t
 
-      groups_same : (gs : Tree ℕ (items further_fields)) → Same (duplicate_fields_in_groups old gs) (duplicate_fields_in_groups new gs)
+      groups_same : (gs : Tree ℕ (items further_fields)) → Same (duplicate_field_faults_in_groups old gs) (duplicate_field_faults_in_groups new gs)
       groups_same end = none_same
       groups_same (more (then_fields g) rest) = both_same (group_same g) (groups_same rest)
 
-    types_same : (ds : Tree ℕ (items type_name)) → Same (duplicate_fields_in_types old ds) (duplicate_fields_in_types new ds)
+    types_same : (ds : Tree ℕ (items type_definition)) → Same (duplicate_field_faults_in_types old ds) (duplicate_field_faults_in_types new ds)
     types_same end = none_same
     types_same (more (declares_type x t) ds) = both_same (fields_same t) (types_same ds)
 
-    variables_same : (gs : Tree ℕ (items variable)) → Same (duplicate_fields_in_variables old gs) (duplicate_fields_in_variables new gs)
+    variables_same : (gs : Tree ℕ (items variable)) → Same (duplicate_field_faults_in_variables old gs) (duplicate_field_faults_in_variables new gs)
     variables_same end = none_same
     variables_same (more (declares_variable ns t) gs) = both_same (fields_same t) (variables_same gs)
 
-    formals_same : (fs : Tree ℕ (items further_section)) → Same (duplicate_fields_in_formals old fs) (duplicate_fields_in_formals new fs)
+    formals_same : (fs : Tree ℕ (items further_section)) → Same (duplicate_field_faults_in_formals old fs) (duplicate_field_faults_in_formals new fs)
     formals_same end = none_same
     formals_same (more (then_section s) fs) = both_same (fields_same (section_type s)) (formals_same fs)
 
     mutual
       block_same : (own : List ℕ) (b : Tree ℕ block) → Same (block_declaration_faults old own b) (block_declaration_faults new own b)
-      block_same own (has_body (declares cs ts vs ps) statements) =
-          both_same (again_same [] (own ++ block_names (has_body (declares cs ts vs ps) statements)))
+      block_same own (forms_block (declares cs ts vs ps) statements) =
+          both_same (again_same [] (own ++ block_names (forms_block (declares cs ts vs ps) statements)))
           (both_same (types_same (section_types ts)) (both_same (variables_same (section_variables vs)) (procedures_same ps)))
 
       procedures_same : (ps : Tree ℕ (items procedure)) → Same (procedures_declaration_faults old ps) (procedures_declaration_faults new ps)

@@ -4,7 +4,7 @@ use Rattle.ob0_scan.specs.declared.lexeme.LexemeKind.{LexemeKind}
 use Rattle.ob0_scan.specs.declared.lexeme.LexemeKind.TheVariants as lexeme
 use Rattle.ob0_scan.specs.declared.lexeme.Span.{Span}
 use Rattle.ob0_scan.specs.declared.lexeme.Token.{Token}
-use Rattle.ob0_scan.specs.Lexed.{Lexeme, joined}
+use Rattle.ob0_scan.specs.Lexed.{Lexeme, text_of_lexemes}
 use Rattle.ob0_scan.specs.TextWithTokens.{IsScan, TextWithTokens, max_text, span_from, token_at, tokens_from}
 use Rattle.ob0_scan.proofs.AtLexemes.{Full, full}
 
@@ -13,7 +13,7 @@ one_token lexeme.Space place = omega arith
 one_token lexeme.Comment place = omega arith
 one_token (lexeme.Token k) place = omega arith
 
-few_from : (from : ℕ) (ls : List Lexeme) → Full ls → length (tokens_from from ls) ≤ length (joined ls)
+few_from : (from : ℕ) (ls : List Lexeme) → Full ls → length (tokens_from from ls) ≤ length (text_of_lexemes ls)
 few_from from [] h = omega arith
 few_from from (l ∷ ls) h =
     let place = span_from from (length l.text) in
@@ -22,13 +22,13 @@ few_from from (l ∷ ls) h =
     let one = one_token l.kind place in
     let more = few_from (from + length l.text) ls h.1 in
     let tokens = length-append (token_at l.kind place) rest in
-    let bytes = length-append l.text (joined ls) in
+    let bytes = length-append l.text (text_of_lexemes ls) in
     omega (arith, some, one, more, tokens, bytes)
 
 pub few_tokens : (s : TextWithTokens) → IsScan s → length s.tokens ≤ max_text
 few_tokens s scan =
     let few = few_from 0 scan.lexemes (full scan.lexemes [] scan.lexed.each) in
     let tokens : length s.tokens ≡ length (tokens_from 0 scan.lexemes) = ap (λ (ts : List Token). length ts) scan.tokens in
-    let bytes : length (joined scan.lexemes) ≡ length s.text = ap (λ (bs : List ℕ). length bs) scan.lexed.whole in
+    let bytes : length (text_of_lexemes scan.lexemes) ≡ length s.text = ap (λ (bs : List ℕ). length bs) scan.lexed.whole in
     let short = scan.short in
     omega (arith, few, tokens, bytes, short)

@@ -1,11 +1,11 @@
 -- Proves that a tree's names may be replaced in two steps or in one. Two replacements that agree on
 -- its tokens give the same tree.
 use Rattle.std.proofs.Common.{◌≡◌, ℕ, refl}
-use Rattle.ob0_tree.specs.Tree.{Sort, Tree, adds, array_type, assigns, begins, branches, calls, compares, declares, declares_constant, declares_constants, declares_procedure, declares_type, declares_types, declares_variable, declares_variables, designator, else_branch, elsif_branch, empty, end, field, has_body, index, integer, is_module, listed, mapped, more, multiplies, named_type, negation, no_arguments, no_fields, no_formals, none, one, parenthesised, product, record_type, relates, repeat_loop, runs, some_arguments, some_fields, some_formals, sum, then_argument, then_fields, then_name, then_section, then_statement, value_section, variable_section, while_loop}
+use Rattle.ob0_tree.specs.Tree.{Sort, Tree, adds, array_type, assigns, begins, branches, calls, compares, declares, declares_constant, declares_constants, declares_procedure, declares_type, declares_types, declares_variable, declares_variables, designator, else_branch, elsif_branch, empty, end, field, forms_block, index, integer, is_module, listed, mapped_tree, more, multiplies, named_type, negation, no_arguments, no_fields, no_formals, none, one, parenthesised, product, record_type, relates, repeat_loop, runs, some_arguments, some_fields, some_formals, sum, then_argument, then_fields, then_name, then_section, then_statement, value_section, variable_section, while_loop}
 use Rattle.ob0_scope_table.specs.TokenProperty.{EachTokenHas}
 
 -- Replacing names twice is replacing them by the composition.
-pub mapped_mapped : {N M K : Type 0} {s : Sort} (f : M → K) (g : ℕ → ℕ) (u : N → M) (v : ℕ → ℕ) (t : Tree N s) → mapped f g (mapped u v t) ≡ mapped (λ x. f (u x)) (λ n. g (v n)) t
+pub mapped_mapped : {N M K : Type 0} {s : Sort} (f : M → K) (g : ℕ → ℕ) (u : N → M) (v : ℕ → ℕ) (t : Tree N s) → mapped_tree f g (mapped_tree u v t) ≡ mapped_tree (λ x. f (u x)) (λ n. g (v n)) t
 mapped_mapped f g u v none = refl
 mapped_mapped f g u v (one t) = λ i. one (mapped_mapped f g u v t i)
 mapped_mapped f g u v end = refl
@@ -57,12 +57,12 @@ mapped_mapped f g u v (declares_variables vs) = λ i. declares_variables (mapped
 mapped_mapped f g u v (declares_procedure name fs b closing) = λ i. declares_procedure (f (u name)) (mapped_mapped f g u v fs i) (mapped_mapped f g u v b i) (f (u closing))
 mapped_mapped f g u v (declares cs ts vs ps) = λ i. declares (mapped_mapped f g u v cs i) (mapped_mapped f g u v ts i) (mapped_mapped f g u v vs i) (mapped_mapped f g u v ps i)
 mapped_mapped f g u v (begins s) = λ i. begins (mapped_mapped f g u v s i)
-mapped_mapped f g u v (has_body ds b) = λ i. has_body (mapped_mapped f g u v ds i) (mapped_mapped f g u v b i)
+mapped_mapped f g u v (forms_block ds b) = λ i. forms_block (mapped_mapped f g u v ds i) (mapped_mapped f g u v b i)
 mapped_mapped f g u v (is_module name b closing) = λ i. is_module (f (u name)) (mapped_mapped f g u v b i) (f (u closing))
 
 -- Two replacements that agree on each token give the same tree.
 module _ {M : Type 0} (P : ℕ → Type 0) (f u : ℕ → M) (g v : ℕ → ℕ) (names : (k : ℕ) → P k → f k ≡ u k) (numbers : (k : ℕ) → P k → g k ≡ v k) where
-  pub mapped_alike : {s : Sort} (t : Tree ℕ s) → EachTokenHas P t → mapped f g t ≡ mapped u v t
+  pub mapped_alike : {s : Sort} (t : Tree ℕ s) → EachTokenHas P t → mapped_tree f g t ≡ mapped_tree u v t
   mapped_alike none h = refl
   mapped_alike (one t) h = λ i. one (mapped_alike t h i)
   mapped_alike end h = refl
@@ -114,5 +114,5 @@ module _ {M : Type 0} (P : ℕ → Type 0) (f u : ℕ → M) (g v : ℕ → ℕ)
   mapped_alike (declares_procedure name fs b closing) h = λ i. declares_procedure (names name h.0 i) (mapped_alike fs h.1 i) (mapped_alike b h.2 i) (names closing h.3 i)
   mapped_alike (declares cs ts vs ps) h = λ i. declares (mapped_alike cs h.0 i) (mapped_alike ts h.1 i) (mapped_alike vs h.2 i) (mapped_alike ps h.3 i)
   mapped_alike (begins s) h = λ i. begins (mapped_alike s h i)
-  mapped_alike (has_body ds b) h = λ i. has_body (mapped_alike ds h.0 i) (mapped_alike b h.1 i)
+  mapped_alike (forms_block ds b) h = λ i. forms_block (mapped_alike ds h.0 i) (mapped_alike b h.1 i)
   mapped_alike (is_module name b closing) h = λ i. is_module (names name h.0 i) (mapped_alike b h.1 i) (names closing h.2 i)

@@ -4,11 +4,11 @@ use Rattle.std.proofs.Common.{◌≡◌, ℕ, ◌+◌, Some, None, List, [], ◌
 use Rattle.ob0_scan.specs.declared.lexeme.Token.{Token}
 use Rattle.ob0_scan.specs.declared.lexeme.TokenKind.{TokenKind}
 use Rattle.ob0_scan.specs.declared.lexeme.TokenKind.TheVariants as kind
-use Rattle.ob0_tree.specs.Lexeme.{EndOfText, Mark, Name, Number, Terminal}
+use Rattle.ob0_tree.specs.Lexeme.{EndOfText, WordOrSymbol, Name, Number, Terminal}
 use Rattle.ob0_tree.specs.Order.{AreAscending}
 use Rattle.ob0_tree.specs.ParsedModule.{IsParsed, ParsedModule, tree_of}
 use Rattle.ob0_tree.specs.Places.{index_terminal, index_terminals_from}
-use Rattle.ob0_tree.specs.Tree.{Sort, Tree, adds, array_type, assigns, begins, branches, calls, compares, declares, declares_constant, declares_constants, declares_procedure, declares_type, declares_types, declares_variable, declares_variables, designator, else_branch, elsif_branch, empty, end, field, has_body, index, integer, is_module, listed, more, multiplies, named_type, negation, no_arguments, no_fields, no_formals, none, one, parenthesised, product, record_type, relates, repeat_loop, runs, some_arguments, some_fields, some_formals, sum, then_argument, then_fields, then_name, then_section, then_statement, value_section, variable_section, while_loop, spell}
+use Rattle.ob0_tree.specs.Tree.{Sort, Tree, adds, array_type, assigns, begins, branches, calls, compares, declares, declares_constant, declares_constants, declares_procedure, declares_type, declares_types, declares_variable, declares_variables, designator, else_branch, elsif_branch, empty, end, field, forms_block, index, integer, is_module, listed, more, multiplies, named_type, negation, no_arguments, no_fields, no_formals, none, one, parenthesised, product, record_type, relates, repeat_loop, runs, some_arguments, some_fields, some_formals, sum, then_argument, then_fields, then_name, then_section, then_statement, value_section, variable_section, while_loop, spell}
 use Rattle.ob0_tree.proofs.Leaves.{ascending_higher, ascending_lower}
 use Rattle.ob0_scope_table.specs.TokenProperty.{EachTokenHas}
 
@@ -65,7 +65,7 @@ places (declares_variables vs) = places vs
 places (declares_procedure name fs b closing) = name ∷ (places fs ++ (places b ++ (closing ∷ [])))
 places (declares cs ts vs ps) = places cs ++ (places ts ++ (places vs ++ places ps))
 places (begins s) = places s
-places (has_body ds b) = places ds ++ places b
+places (forms_block ds b) = places ds ++ places b
 places (is_module name b closing) = name ∷ (places b ++ (closing ∷ []))
 
 -- returns the tokens of names and numbers among terminals
@@ -73,14 +73,14 @@ abbrev pub token_places : List (Terminal ℕ) → List ℕ
 token_places [] = []
 token_places (Name n ∷ xs) = n ∷ token_places xs
 token_places (Number n ∷ xs) = n ∷ token_places xs
-token_places (Mark k ∷ xs) = token_places xs
+token_places (WordOrSymbol k ∷ xs) = token_places xs
 token_places (EndOfText ∷ xs) = token_places xs
 
 token_places-append : (xs ys : List (Terminal ℕ)) → token_places (xs ++ ys) ≡ token_places xs ++ token_places ys
 token_places-append [] ys = refl
 token_places-append (Name n ∷ xs) ys = ap (λ z. n ∷ z) (token_places-append xs ys)
 token_places-append (Number n ∷ xs) ys = ap (λ z. n ∷ z) (token_places-append xs ys)
-token_places-append (Mark k ∷ xs) ys = token_places-append xs ys
+token_places-append (WordOrSymbol k ∷ xs) ys = token_places-append xs ys
 token_places-append (EndOfText ∷ xs) ys = token_places-append xs ys
 
 pub places_spelled : {s : Sort} (t : Tree ℕ s) → token_places (spell t) ≡ places t
@@ -136,7 +136,7 @@ places_spelled (declares_variables vs) = simp (places_spelled vs)
 places_spelled (declares_procedure name fs b closing) = simp (token_places-append, append-nil, places_spelled fs, places_spelled b)
 places_spelled (declares cs ts vs ps) = simp (token_places-append, places_spelled cs, places_spelled ts, places_spelled vs, places_spelled ps)
 places_spelled (begins s) = simp (places_spelled s)
-places_spelled (has_body ds b) = simp (token_places-append, places_spelled ds, places_spelled b)
+places_spelled (forms_block ds b) = simp (token_places-append, places_spelled ds, places_spelled b)
 places_spelled (is_module name b closing) = simp (token_places-append, append-nil, places_spelled b)
 
 -- The tokens of names and numbers in a text ascend.
@@ -218,7 +218,7 @@ each_of P (declares_variables vs) h = each_of P vs h
 each_of P (declares_procedure name fs b closing) h = let s₁ = all_parts P (places fs) (places b ++ (closing ∷ [])) h.1 in let s₂ = all_parts P (places b) (closing ∷ []) s₁.1 in (h.0, each_of P fs s₁.0, each_of P b s₂.0, s₂.1.0)
 each_of P (declares cs ts vs ps) h = let s₁ = all_parts P (places cs) (places ts ++ (places vs ++ places ps)) h in let s₂ = all_parts P (places ts) (places vs ++ places ps) s₁.1 in let s₃ = all_parts P (places vs) (places ps) s₂.1 in (each_of P cs s₁.0, each_of P ts s₂.0, each_of P vs s₃.0, each_of P ps s₃.1)
 each_of P (begins s) h = each_of P s h
-each_of P (has_body ds b) h = let s₁ = all_parts P (places ds) (places b) h in (each_of P ds s₁.0, each_of P b s₁.1)
+each_of P (forms_block ds b) h = let s₁ = all_parts P (places ds) (places b) h in (each_of P ds s₁.0, each_of P b s₁.1)
 each_of P (is_module name b closing) h = let s₁ = all_parts P (places b) (closing ∷ []) h.1 in (h.0, each_of P b s₁.0, s₁.1.0)
 
 -- A property of every token holds of each token of a part.

@@ -2,7 +2,7 @@
 use Rattle.std.proofs.Common.{◌≡◌, ℕ, List, [], ◌∷◌, ◌++◌, refl, ◌∙◌}
 use Rattle.ob0_tree.specs.declared.tree.Role.{Role}
 use Rattle.ob0_tree.specs.declared.tree.Role.TheVariants as role
-use Rattle.ob0_tree.specs.Tree.{Item, Sort, Tree, identifiers, item, items, maybe, adds, array_type, assigns, begins, branches, calls, compares, declares, declares_constant, declares_constants, declares_procedure, declares_type, declares_types, declares_variable, declares_variables, designator, else_branch, elsif_branch, empty, end, field, has_body, index, integer, is_module, listed, more, multiplies, named_type, negation, no_arguments, no_fields, no_formals, none, one, parenthesised, product, record_type, relates, repeat_loop, runs, some_arguments, some_fields, some_formals, sum, then_argument, then_fields, then_name, then_section, then_statement, value_section, variable_section, while_loop, selector, multiplier, addend, comparison, arguments, further_argument, further_statement, elsif_part, else_part, further_fields, body, further_name, formals, further_section, constant, constants, type_name, type_names, variable, variables, procedure, expression, simple, term, factor, statement, sequence, written_type, fields, names, section, declarations, block, module_text}
+use Rattle.ob0_tree.specs.Tree.{Item, Sort, Tree, identifiers, item, items, maybe, adds, array_type, assigns, begins, branches, calls, compares, declares, declares_constant, declares_constants, declares_procedure, declares_type, declares_types, declares_variable, declares_variables, designator, else_branch, elsif_branch, empty, end, field, forms_block, index, integer, is_module, listed, more, multiplies, named_type, negation, no_arguments, no_fields, no_formals, none, one, parenthesised, product, record_type, relates, repeat_loop, runs, some_arguments, some_fields, some_formals, sum, then_argument, then_fields, then_name, then_section, then_statement, value_section, variable_section, while_loop, selector, multiplier, addend, comparison, arguments, further_argument, further_statement, elsif_part, else_part, further_fields, body, further_name, formals, further_section, constant, constants, type_definition, type_definitions, variable, variables, procedure, expression, simple, term, factor, statement, sequence, written_type, fields, names, section, declarations, block, module_text}
 use Rattle.ob0_scope_table.specs.Resolution.{declaring_names}
 
 pub declaring_names-append : {N : Type 0} (xs ys : List (Role × N)) → declaring_names (xs ++ ys) ≡ declaring_names xs ++ declaring_names ys
@@ -54,8 +54,8 @@ IsPlainItem formals = ⊥
 IsPlainItem further_section = ⊥
 IsPlainItem constant = ⊥
 IsPlainItem constants = ⊥
-IsPlainItem type_name = ⊥
-IsPlainItem type_names = ⊥
+IsPlainItem type_definition = ⊥
+IsPlainItem type_definitions = ⊥
 IsPlainItem variable = ⊥
 IsPlainItem variables = ⊥
 IsPlainItem procedure = ⊥
@@ -130,5 +130,5 @@ declares_nothing h (declares_variables a) = absurd h
 declares_nothing h (declares_procedure a b c d) = absurd h
 declares_nothing h (declares a b c d) = absurd h
 declares_nothing h (begins a) = declares_nothing tt a
-declares_nothing h (has_body a b) = absurd h
+declares_nothing h (forms_block a b) = absurd h
 declares_nothing h (is_module a b c) = absurd h

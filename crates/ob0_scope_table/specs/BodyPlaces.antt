@@ -5,7 +5,7 @@ use Rattle.ob0_tree.specs.FirstIdentifier.{first_identifier}
 use Rattle.ob0_tree.specs.Tree.{Tree, block, body, is_module, item, maybe, module_text, procedure}
 use Rattle.ob0_tree.specs.View.{block_of}
 use Rattle.ob0_tree.specs.declared.tree.ModuleTree.{ModuleTree}
-use Rattle.ob0_scope_table.specs.BodyReplaced.{body_at, body_in, body_inside, closing_name_in_module, closing_name_in_block, closing_name_in_procedure, way_in_block, way_in_procedure, way_in_module}
+use Rattle.ob0_scope_table.specs.BodyReplaced.{body_at_path, body_at_path_in_block, body_at_path_in_procedure, closing_name_in_module, closing_name_in_block, closing_name_in_procedure, path_to_body_in_block, path_to_body_in_procedure, path_to_body_in_module}
 use Rattle.ob0_scope_table.specs.OneBody.{is_in_block, is_in_body, is_in_procedure}
 use Rattle.ob0_scope_table.specs.declared.one_body.BodyPlace.{BodyPlace}
 
@@ -15,10 +15,10 @@ abbrev pub module_tree_of : ModuleTree → Tree ℕ module_text
 module_tree_of t = is_module t.name (block_of t.block) t.closing
 
 -- Returns the place of a body with these statements, in a block with this closing name, if the
--- condition `sought` is true. Returns None if it is false or the statements have no identifier.
+-- condition `condition` is true. Returns None if it is false or the statements have no identifier.
 abbrev pub body_place_if : Bool → Tree ℕ (maybe body) → ℕ → Option BodyPlace
-body_place_if sought statements closing =
-    if sought
+body_place_if condition statements closing =
+    if condition
     then option_map (λ first. record { first = first; closing = closing })
     (first_identifier statements)
     else None
@@ -28,18 +28,18 @@ body_place_if sought statements closing =
 -- Returns None if no body contains the tokens.
 abbrev pub body_place_in_block : ℕ → ℕ → ℕ → Tree ℕ block → Option BodyPlace
 body_place_in_block low high closing b =
-    body_place_if (is_in_block low high b) (body_in (way_in_block low b) b)
-    (closing_name_in_block (way_in_block low b) closing b)
+    body_place_if (is_in_block low high b) (body_at_path_in_block (path_to_body_in_block low b) b)
+    (closing_name_in_block (path_to_body_in_block low b) closing b)
 
 -- Returns the place of the body, in this procedure or one inside it, that contains the tokens from
 -- `low` up to, but not including, `high`. Returns None if no body contains them.
 abbrev pub body_place_in_procedure : ℕ → ℕ → Tree ℕ (item procedure) → Option BodyPlace
 body_place_in_procedure low high p =
-    body_place_if (is_in_procedure low high p) (body_inside (way_in_procedure low p) p)
-    (closing_name_in_procedure (way_in_procedure low p) p)
+    body_place_if (is_in_procedure low high p) (body_at_path_in_procedure (path_to_body_in_procedure low p) p)
+    (closing_name_in_procedure (path_to_body_in_procedure low p) p)
 
 -- Returns the place of the body, in this module, that contains the tokens from `low` up to, but not
 -- including, `high`. Returns None if no body contains them.
 abbrev pub body_place_around : ℕ → ℕ → Tree ℕ module_text → Option BodyPlace
 body_place_around low high t =
-    body_place_if (is_in_body low high t) (body_at (way_in_module low t) t) (closing_name_in_module (way_in_module low t) t)
+    body_place_if (is_in_body low high t) (body_at_path (path_to_body_in_module low t) t) (closing_name_in_module (path_to_body_in_module low t) t)

@@ -6,9 +6,9 @@ use Rattle.ob0_scan.specs.declared.fault.FaultCode.TheVariants as code
 use Rattle.ob0_scan.specs.declared.fault.Fault.{Fault}
 use Rattle.ob0_scan.specs.TextWithTokens.{TextWithTokens}
 use Rattle.ob0_tree.specs.ParsedModule.{ParsedModule, tree_of}
-use Rattle.ob0_tree.specs.Places.{text_at}
-use Rattle.ob0_tree.specs.Tree.{Tree, array_type, block, declares, declares_procedure, declares_type, declares_variable, end, fields, further_fields, further_section, has_body, is_module, item, items, module_text, more, named_type, no_fields, procedure, record_type, some_fields, then_fields, then_section, type_name, variable, written_type}
-use Rattle.ob0_language_names.specs.DeclaredOnce.{block_names, group_fields, further_group_fields, is_among}
+use Rattle.ob0_tree.specs.Places.{token_text_at}
+use Rattle.ob0_tree.specs.Tree.{Tree, array_type, block, declares, declares_procedure, declares_type, declares_variable, end, fields, further_fields, further_section, forms_block, is_module, item, items, module_text, more, named_type, no_fields, procedure, record_type, some_fields, then_fields, then_section, type_definition, variable, written_type}
+use Rattle.ob0_language_names.specs.ConsistentNames.{block_names, group_field_names, further_field_names, is_among}
 use Rattle.ob0_language_names.specs.Names.{Name, same_name}
 use Rattle.ob0_language_names.specs.Parts.{formal_names, formal_sections, section_type, section_types, section_variables}
 use Rattle.ob0_scope_table.specs.Spans.{span_at}
@@ -30,53 +30,53 @@ end_name_fault source token = record { code = code.EndName; span = span_at sourc
 abbrev pub duplicate_faults : TextWithTokens → List Name → List ℕ → List Fault
 duplicate_faults source before [] = []
 duplicate_faults source before (x ∷ xs) =
-    fault_unless (not (is_among (text_at source x) before)) (duplicate_fault source x)
-    ++ duplicate_faults source (text_at source x ∷ before) xs
+    fault_unless (not (is_among (token_text_at source x) before)) (duplicate_fault source x)
+    ++ duplicate_faults source (token_text_at source x ∷ before) xs
 
 -- returns a list with only the fault `EndName` if a closing name differs from its opening name,
 -- otherwise an empty list
 abbrev pub closing_name_faults : TextWithTokens → ℕ → ℕ → List Fault
 closing_name_faults source x closing =
-    fault_unless (same_name (text_at source x) (text_at source closing)) (end_name_fault source closing)
+    fault_unless (same_name (token_text_at source x) (token_text_at source closing)) (end_name_fault source closing)
 
 -- Returns the faults of a record's duplicate fields, followed by the faults of the records inside
 -- it.
 abbrev mutual
   -- returns the faults of duplicate fields in a written type: of an outer record first, then of the
   -- records inside it
-  pub duplicate_fields : TextWithTokens → Tree ℕ written_type → List Fault
-  duplicate_fields source (named_type x) = []
-  duplicate_fields source (array_type e t) = duplicate_fields source t
-  duplicate_fields source (record_type g rest) =
-      duplicate_faults source [] (group_fields g ++ further_group_fields rest)
-      ++ (duplicate_fields_in_group source g ++ duplicate_fields_in_groups source rest)
+  pub duplicate_field_faults : TextWithTokens → Tree ℕ written_type → List Fault
+  duplicate_field_faults source (named_type x) = []
+  duplicate_field_faults source (array_type e t) = duplicate_field_faults source t
+  duplicate_field_faults source (record_type g rest) =
+      duplicate_faults source [] (group_field_names g ++ further_field_names rest)
+      ++ (duplicate_field_faults_in_group source g ++ duplicate_field_faults_in_groups source rest)
 
   -- returns the faults of duplicate fields in the type of a group of fields
-  pub duplicate_fields_in_group : TextWithTokens → Tree ℕ fields → List Fault
-  duplicate_fields_in_group source no_fields = []
-  duplicate_fields_in_group source (some_fields ns t) = duplicate_fields source t
+  pub duplicate_field_faults_in_group : TextWithTokens → Tree ℕ fields → List Fault
+  duplicate_field_faults_in_group source no_fields = []
+  duplicate_field_faults_in_group source (some_fields ns t) = duplicate_field_faults source t
 
   -- returns the faults of duplicate fields in the types of further groups of fields
-  pub duplicate_fields_in_groups : TextWithTokens → Tree ℕ (items further_fields) → List Fault
-  duplicate_fields_in_groups source end = []
-  duplicate_fields_in_groups source (more (then_fields g) rest) = duplicate_fields_in_group source g ++ duplicate_fields_in_groups source rest
+  pub duplicate_field_faults_in_groups : TextWithTokens → Tree ℕ (items further_fields) → List Fault
+  duplicate_field_faults_in_groups source end = []
+  duplicate_field_faults_in_groups source (more (then_fields g) rest) = duplicate_field_faults_in_group source g ++ duplicate_field_faults_in_groups source rest
 
 -- returns the faults of duplicate fields in the types of a TYPE section
-abbrev pub duplicate_fields_in_types : TextWithTokens → Tree ℕ (items type_name) → List Fault
-duplicate_fields_in_types source end = []
-duplicate_fields_in_types source (more (declares_type x t) ds) = duplicate_fields source t ++ duplicate_fields_in_types source ds
+abbrev pub duplicate_field_faults_in_types : TextWithTokens → Tree ℕ (items type_definition) → List Fault
+duplicate_field_faults_in_types source end = []
+duplicate_field_faults_in_types source (more (declares_type x t) ds) = duplicate_field_faults source t ++ duplicate_field_faults_in_types source ds
 
 -- returns the faults of duplicate fields in the types of variables
-abbrev pub duplicate_fields_in_variables : TextWithTokens → Tree ℕ (items variable) → List Fault
-duplicate_fields_in_variables source end = []
-duplicate_fields_in_variables source (more (declares_variable ns t) gs) =
-    duplicate_fields source t ++ duplicate_fields_in_variables source gs
+abbrev pub duplicate_field_faults_in_variables : TextWithTokens → Tree ℕ (items variable) → List Fault
+duplicate_field_faults_in_variables source end = []
+duplicate_field_faults_in_variables source (more (declares_variable ns t) gs) =
+    duplicate_field_faults source t ++ duplicate_field_faults_in_variables source gs
 
 -- returns the faults of duplicate fields in the types of parameters
-abbrev pub duplicate_fields_in_formals : TextWithTokens → Tree ℕ (items further_section) → List Fault
-duplicate_fields_in_formals source end = []
-duplicate_fields_in_formals source (more (then_section s) fs) =
-    duplicate_fields source (section_type s) ++ duplicate_fields_in_formals source fs
+abbrev pub duplicate_field_faults_in_formals : TextWithTokens → Tree ℕ (items further_section) → List Fault
+duplicate_field_faults_in_formals source end = []
+duplicate_field_faults_in_formals source (more (then_section s) fs) =
+    duplicate_field_faults source (section_type s) ++ duplicate_field_faults_in_formals source fs
 
 -- Returns the faults of a block's duplicate names, followed by the faults of its types, variables
 -- and procedures.
@@ -84,10 +84,10 @@ abbrev mutual
   -- Returns the faults of a block. `own` has the tokens of the names of its procedure's parameters,
   -- which count as declared in the block.
   pub block_declaration_faults : TextWithTokens → List ℕ → Tree ℕ block → List Fault
-  block_declaration_faults source own (has_body (declares cs ts vs ps) statements) =
-      duplicate_faults source [] (own ++ block_names (has_body (declares cs ts vs ps) statements))
-      ++ (duplicate_fields_in_types source (section_types ts)
-      ++ (duplicate_fields_in_variables source (section_variables vs) ++ procedures_declaration_faults source ps))
+  block_declaration_faults source own (forms_block (declares cs ts vs ps) statements) =
+      duplicate_faults source [] (own ++ block_names (forms_block (declares cs ts vs ps) statements))
+      ++ (duplicate_field_faults_in_types source (section_types ts)
+      ++ (duplicate_field_faults_in_variables source (section_variables vs) ++ procedures_declaration_faults source ps))
 
   -- returns the faults of all procedures of a block, in text order
   pub procedures_declaration_faults : TextWithTokens → Tree ℕ (items procedure) → List Fault
@@ -98,7 +98,7 @@ abbrev mutual
   pub procedure_declaration_faults : TextWithTokens → Tree ℕ (item procedure) → List Fault
   procedure_declaration_faults source (declares_procedure x fs b closing) =
       closing_name_faults source x closing
-      ++ (duplicate_fields_in_formals source (formal_sections fs)
+      ++ (duplicate_field_faults_in_formals source (formal_sections fs)
       ++ block_declaration_faults source (formal_names (formal_sections fs)) b)
 
 -- returns the faults of all duplicate declarations and wrong closing names of a module's tree

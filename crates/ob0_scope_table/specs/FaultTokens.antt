@@ -33,21 +33,21 @@ fault_at source f =
           record { start = (span_at source f.first).start; end = (span_at source f.last).end };
     }
 
--- Returns the index of the first token that begins at or after the byte offset `place`, or the
+-- Returns the index of the first token that begins at or after the byte offset `byte_offset`, or the
 -- number of tokens if there is none. Also returns the number of tokens for offset 0. No token has
 -- this index, so `span_at` returns an empty span at offset 0 for it.
 abbrev pub index_starting_at : List Token → ℕ → ℕ
-index_starting_at tokens place =
-    if place == 0 then length tokens
-    else prefix_len (λ (t : Token). nat_lt t.span.start place) tokens
+index_starting_at tokens byte_offset =
+    if byte_offset == 0 then length tokens
+    else prefix_len (λ (t : Token). nat_lt t.span.start byte_offset) tokens
 
--- Returns the index of the first token that ends at or after the byte offset `place`, or the number
+-- Returns the index of the first token that ends at or after the byte offset `byte_offset`, or the number
 -- of tokens if there is none. Also returns the number of tokens for offset 0, because no token ends
 -- there.
 abbrev pub index_ending_at : List Token → ℕ → ℕ
-index_ending_at tokens place =
-    if place == 0 then length tokens
-    else prefix_len (λ (t : Token). nat_lt t.span.end place) tokens
+index_ending_at tokens byte_offset =
+    if byte_offset == 0 then length tokens
+    else prefix_len (λ (t : Token). nat_lt t.span.end byte_offset) tokens
 
 -- returns a fault with the tokens at which it begins and ends instead of its span
 abbrev pub fault_by_tokens : List Token → Fault → FaultByTokens

@@ -2,8 +2,8 @@
 -- declaration, or the spelling of an identifier without an ordinal.
 -- Rule: none; for contracts: trees with labels.
 use Rattle.std.specs.Prelude.{ℕ}
-use Rattle.ob0_tree.specs.Tree.{Sort, Tree, mapped}
-use Rattle.ob0_tree.specs.Places.{value_at}
+use Rattle.ob0_tree.specs.Tree.{Sort, Tree, mapped_tree}
+use Rattle.ob0_tree.specs.Places.{token_value_at}
 use Rattle.ob0_language_names.specs.Names.{Label}
 use Rattle.ob0_scope_table.specs.Resolution.{Resolution, label_at}
 
@@ -14,4 +14,4 @@ label_at_token r token = label_at r.module_read.source r.ordinals token
 
 -- returns a tree with the label of each identifier in place of its token
 abbrev pub tree_with_labels : {s : Sort} → Resolution → Tree ℕ s → Tree Label s
-tree_with_labels r t = mapped (label_at_token r) (value_at r.module_read.source) t
+tree_with_labels r t = mapped_tree (label_at_token r) (token_value_at r.module_read.source) t

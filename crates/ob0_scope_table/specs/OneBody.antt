@@ -5,7 +5,7 @@ use Rattle.std.specs.Prelude.{◌≡◌, ℕ, Bool, true, false, ◌&&◌, ◌||
 use Rattle.ob0_scan.specs.Reused.{kinds, words_of_tokens}
 use Rattle.ob0_scan.specs.TextWithTokens.{IsScan, TextWithTokens}
 use Rattle.ob0_tree.specs.ParsedModule.{ParsedModule, tree_of}
-use Rattle.ob0_tree.specs.Tree.{Tree, block, body, declares, declares_procedure, end, has_body, identifiers, is_module, item, items, maybe, module_text, more, procedure}
+use Rattle.ob0_tree.specs.Tree.{Tree, block, body, declares, declares_procedure, end, forms_block, identifiers, is_module, item, items, maybe, module_text, more, procedure}
 use Rattle.ob0_tree.specs.declared.tree.Role.{Role}
 use Rattle.ob0_tree.specs.declared.tree.Role.TheVariants as role
 
@@ -28,7 +28,7 @@ abbrev mutual
   -- returns whether the tokens from `low` up to, but not including, `high` are in the statements of
   -- a block, or of a block inside it
   pub is_in_block : ℕ → ℕ → Tree ℕ block → Bool
-  is_in_block low high (has_body (declares cs ts vs ps) statements) =
+  is_in_block low high (forms_block (declares cs ts vs ps) statements) =
       is_in_procedures low high ps statements
 
   -- Returns whether the tokens from `low` up to, but not including, `high` are in a body of the

@@ -9,14 +9,14 @@ use Rattle.ob0_scan.specs.declared.lexeme.Span.{Span}
 use Rattle.ob0_scan.specs.TextWithTokens.{TextWithTokens}
 use Rattle.ob0_tree.specs.declared.tree.Role.{Role}
 use Rattle.ob0_tree.specs.declared.tree.Role.TheVariants as role
-use Rattle.ob0_tree.specs.Order.{leaves}
-use Rattle.ob0_tree.specs.Tree.{mapped, occurrences, identifiers}
+use Rattle.ob0_tree.specs.Order.{identifier_names}
+use Rattle.ob0_tree.specs.Tree.{mapped_tree, occurrences, identifiers}
 use Rattle.ob0_tree.specs.ParsedModule.{ParsedModule, IsParsed, tree_of, named_tree_of}
-use Rattle.ob0_tree.specs.Places.{text_at, value_at}
+use Rattle.ob0_tree.specs.Places.{token_text_at, token_value_at}
 use Rattle.ob0_language_names.specs.Names.{Label, Name, naming_by_spelling, as_written, declared}
 use Rattle.ob0_language_names.specs.Scopes.{Labelling, label_from_ordinal, numbered, predeclared_count, relabel_module}
 use Rattle.ob0_language_names.specs.Occurrences.{bindings}
-use Rattle.ob0_language_names.specs.DeclaredOnce.{declared_once}
+use Rattle.ob0_language_names.specs.ConsistentNames.{has_consistent_names}
 use Rattle.ob0_scope_table.specs.DeclaredTwice.{declaration_faults}
 use Rattle.ob0_scope_table.specs.Spans as spans
 
@@ -29,7 +29,7 @@ ordinal_in ordinals token = slice_index_or ordinals token None
 -- has no ordinal
 abbrev pub label_at : TextWithTokens → List (Option ℕ) → ℕ → Label
 label_at source ordinals token =
-    label_from_ordinal naming_by_spelling (ordinal_in ordinals token) (text_at source token)
+    label_from_ordinal naming_by_spelling (ordinal_in ordinals token) (token_text_at source token)
 
 -- returns the declaring names among these identifiers, in the same order
 abbrev pub declaring_names : {N : Type 0} → List (Role × N) → List N
@@ -91,7 +91,7 @@ pub record Resolution : Type 0 where
 -- is replaced by its label (`label_at`).
 abbrev pub IsNumberingTable : ParsedModule → List (Option ℕ) → Type 0
 IsNumberingTable m ordinals =
-    numbered (named_tree_of m) ≡ mapped (label_at m.source ordinals) (value_at m.source) (tree_of m)
+    numbered (named_tree_of m) ≡ mapped_tree (label_at m.source ordinals) (token_value_at m.source) (tree_of m)
 
 -- returns a pair: the ordinal of a name's declaration, or None for an unbound name, and the name's
 -- spelling
@@ -101,14 +101,14 @@ ordinal_and_spelling ordinal x = (ordinal, x)
 -- returns a pair: the ordinal to which the identifier at a token is bound, or None if it is
 -- unbound, and the identifier's spelling
 abbrev pub binding_at : TextWithTokens → List (Option ℕ) → ℕ → Option ℕ × Name
-binding_at source ordinals token = (ordinal_in ordinals token, text_at source token)
+binding_at source ordinals token = (ordinal_in ordinals token, token_text_at source token)
 
 -- States that the table of ordinals is right according to the scope rules. It gives each identifier
 -- the ordinal of its declaration, or None if the identifier is unbound.
 abbrev pub IsBindingTable : ParsedModule → List (Option ℕ) → Type 0
 IsBindingTable m ordinals =
     relabel_module naming_by_spelling ordinal_and_spelling (named_tree_of m)
-    ≡ mapped (binding_at m.source ordinals) (value_at m.source) (tree_of m)
+    ≡ mapped_tree (binding_at m.source ordinals) (token_value_at m.source) (tree_of m)
 
 -- Returns a fault `Undeclared` for each of these looked-up names whose label is an unbound name. A
 -- looked-up name and its label have the same index in the two lists.
@@ -130,12 +130,12 @@ undeclared_faults m = undeclared_faults_by_labels m.source (occurrences (tree_of
 -- the first two kinds exactly if a name is declared twice or a closing name is wrong.
 pub record AreFaultsOf (m : ParsedModule) (faults : List Fault) : Type 0 where
   pub by_kind : faults ≡ declaration_faults m ++ undeclared_faults m
-  pub declared_twice : list_any is_declaration_fault faults ≡ not (declared_once (named_tree_of m))
+  pub declared_twice : list_any is_declaration_fault faults ≡ not (has_consistent_names (named_tree_of m))
   pub undeclared : filter is_undeclared_fault faults ≡ undeclared_faults m
 
 -- returns whether this token is an identifier of the module
 abbrev pub is_identifier_token : ParsedModule → ℕ → Bool
-is_identifier_token m token = list_any (λ i. i == token) (leaves (tree_of m))
+is_identifier_token m token = list_any (λ i. i == token) (identifier_names (tree_of m))
 
 -- states that a table has no ordinal at a token that isn't an identifier of the module
 abbrev pub OnlyNamesHaveOrdinals : ParsedModule → List (Option ℕ) → Type 0
@@ -148,7 +148,7 @@ pub record IsResolution (r : Resolution) : Type 0 where
   pub parsed : IsParsed r.module_read
   pub numbering : IsNumberingTable r.module_read r.ordinals
   pub binding : IsBindingTable r.module_read r.ordinals
-  pub names_alone : OnlyNamesHaveOrdinals r.module_read r.ordinals
+  pub ordinals_only_at_names : OnlyNamesHaveOrdinals r.module_read r.ordinals
   pub declaring : r.declarations
       ≡ declaring_names (identifiers role.Declaring (tree_of r.module_read))
   pub occurring : r.uses ≡ occurrences (tree_of r.module_read)

@@ -15,5 +15,5 @@ abbrev pub span_at : TextWithTokens → ℕ → Span
 span_at source token = span_or_empty (slice_get source.tokens token)
 
 -- returns whether a byte offset is in a span or at its end
-abbrev pub is_on : ℕ → Span → Bool
-is_on offset span = nat_le span.start offset && nat_le offset span.end
+abbrev pub is_on_span : ℕ → Span → Bool
+is_on_span offset span = nat_le span.start offset && nat_le offset span.end

@@ -1,7 +1,7 @@
 -- Defines that all names and numbers in a part of a tree have a property.
 -- Rule: none; for contracts: a change of the names and numbers in some parts.
 use Rattle.std.specs.Prelude.{ℕ}
-use Rattle.ob0_tree.specs.Tree.{Sort, Tree, adds, array_type, assigns, begins, branches, calls, compares, declares, declares_constant, declares_constants, declares_procedure, declares_type, declares_types, declares_variable, declares_variables, designator, else_branch, elsif_branch, empty, end, field, has_body, index, integer, is_module, listed, more, multiplies, named_type, negation, no_arguments, no_fields, no_formals, none, one, parenthesised, product, record_type, relates, repeat_loop, runs, some_arguments, some_fields, some_formals, sum, then_argument, then_fields, then_name, then_section, then_statement, value_section, variable_section, while_loop}
+use Rattle.ob0_tree.specs.Tree.{Sort, Tree, adds, array_type, assigns, begins, branches, calls, compares, declares, declares_constant, declares_constants, declares_procedure, declares_type, declares_types, declares_variable, declares_variables, designator, else_branch, elsif_branch, empty, end, field, forms_block, index, integer, is_module, listed, more, multiplies, named_type, negation, no_arguments, no_fields, no_formals, none, one, parenthesised, product, record_type, relates, repeat_loop, runs, some_arguments, some_fields, some_formals, sum, then_argument, then_fields, then_name, then_section, then_statement, value_section, variable_section, while_loop}
 
 -- states that the token of each name and of each number in a part of a tree has the property `P`
 abbrev pub EachTokenHas : {s : Sort} → (ℕ → Type 0) → Tree ℕ s → Type 0
@@ -59,5 +59,5 @@ EachTokenHas P (declares_procedure name fs b closing) =
 EachTokenHas P (declares cs ts vs ps) =
     EachTokenHas P cs × EachTokenHas P ts × EachTokenHas P vs × EachTokenHas P ps
 EachTokenHas P (begins s) = EachTokenHas P s
-EachTokenHas P (has_body ds b) = EachTokenHas P ds × EachTokenHas P b
+EachTokenHas P (forms_block ds b) = EachTokenHas P ds × EachTokenHas P b
 EachTokenHas P (is_module name b closing) = P name × EachTokenHas P b × P closing

@@ -79,28 +79,28 @@ fn fault_from_tokens(tokens: &Tokens, fault: &FaultByTokens) -> Fault
     }
 }
 
-/// Returns the index of the first token that begins at or after the offset `place`, found by
+/// Returns the index of the first token that begins at or after the offset `byte_offset`, found by
 /// binary search. Returns the number of tokens if there is none. Also returns the number of tokens
 /// for offset 0. No token has this index, so `token_span` returns an empty span at offset 0 for it.
-fn find_token_starting_at(tokens: &[Token], place: usize) -> usize
+fn find_token_starting_at(tokens: &[Token], byte_offset: usize) -> usize
     ensures { IsNonDecreasingBy (λ (t : token.Token). t.span.start) tokens.now
-        → result ≡ index_starting_at tokens.now place }
+        → result ≡ index_starting_at tokens.now byte_offset }
 {
-    if place == 0 {
+    if byte_offset == 0 {
         return tokens.len();
     }
-    tokens.partition_point(|token| (token.span.start as usize) < place)
+    tokens.partition_point(|token| (token.span.start as usize) < byte_offset)
 }
 
-/// Returns the index of the first token that ends at or after the offset `place`, found by
+/// Returns the index of the first token that ends at or after the offset `byte_offset`, found by
 /// binary search. Returns the number of tokens if there is none. Also returns the number of tokens
 /// for offset 0, because no token ends there.
-fn find_token_ending_at(tokens: &[Token], place: usize) -> usize
+fn find_token_ending_at(tokens: &[Token], byte_offset: usize) -> usize
     ensures { IsNonDecreasingBy (λ (t : token.Token). t.span.end) tokens.now
-        → result ≡ index_ending_at tokens.now place }
+        → result ≡ index_ending_at tokens.now byte_offset }
 {
-    if place == 0 {
+    if byte_offset == 0 {
         return tokens.len();
     }
-    tokens.partition_point(|token| (token.span.end as usize) < place)
+    tokens.partition_point(|token| (token.span.end as usize) < byte_offset)
 }

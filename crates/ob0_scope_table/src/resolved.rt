@@ -110,7 +110,7 @@ impl<'t> Resolved<'t> {
     {
         // The proof needs the invariant of this value.
         let _ = &self.bindings;
-        match self.occurrence(occurrence) {
+        match self.occurrence_token(occurrence) {
             Some(token) => self.ordinal_at(token),
             None => None,
         }
@@ -118,7 +118,7 @@ impl<'t> Resolved<'t> {
 
     /// Returns the token index of the looked-up name with this number, counted from 0 in text
     /// order. Returns None if there is no such name.
-    pub fn occurrence(&self, occurrence: usize) -> Option<usize>
+    pub fn occurrence_token(&self, occurrence: usize) -> Option<usize>
         ensures { result ≡ slice_get self.now.uses occurrence }
     {
         self.bindings().occurrences.get(occurrence).copied()

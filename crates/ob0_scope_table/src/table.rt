@@ -2,14 +2,14 @@
 //! span, and compares its spelling with a name.
 
 ghost use Rattle.std.specs.Prelude.{◌≡◌};
-ghost use Rattle.ob0_tree.specs.Places.{text_at};
+ghost use Rattle.ob0_tree.specs.Places.{token_text_at};
 ghost use Rattle.ob0_language_names.specs.Names.{same_name};
 ghost use Rattle.ob0_language_names.specs.Scopes.{same_ordinal};
 ghost use Rattle.ob0_scope_table.specs.Resolution.{ordinal_in, span_at};
 
 use crate::ordinal_entry::OrdinalEntry;
 use ob0_scan::{Span, Tokens};
-use ob0_tree::text_at;
+use ob0_tree::token_text_at;
 
 /// Returns the ordinal that a table has at a token. Returns None if the token has no ordinal, or if
 /// the token is outside the table.
@@ -46,7 +46,7 @@ pub fn token_span(tokens: &Tokens, token: usize) -> Span
 /// Returns whether a token has this name as its spelling. A token that doesn't exist has the empty
 /// spelling.
 pub fn has_spelling(tokens: &Tokens, token: usize, name: &str) -> bool
-    ensures { result ≡ same_name (text_at tokens.now token) name.now }
+    ensures { result ≡ same_name (token_text_at tokens.now token) name.now }
 {
-    text_at(tokens, token) == name
+    token_text_at(tokens, token) == name
 }

@@ -6,13 +6,13 @@ use Rattle.std.specs.Prelude.{◌+◌, ◌-◌, ◌^◌, ℕ, min, max}
 -- to a read.
 pub record ReadCounts : Type 0 where
   pub count : ℕ
-  pub longest : ℕ
+  pub longest_buffer : ℕ
 
 -- The counts before any read.
 abbrev pub no_reads : ReadCounts
-no_reads = record { count = 0; longest = 0 }
+no_reads = record { count = 0; longest_buffer = 0 }
 
 -- Returns the counts after one more read into a buffer of `len` bytes. `count` stops at 2^64 - 1.
-abbrev pub with_read : ℕ → ReadCounts → ReadCounts
-with_read len reads =
-    record { count = min (reads.count + 1) (2 ^ 64 - 1); longest = max reads.longest len }
+abbrev pub counts_after_read : ℕ → ReadCounts → ReadCounts
+counts_after_read len reads =
+    record { count = min (reads.count + 1) (2 ^ 64 - 1); longest_buffer = max reads.longest_buffer len }

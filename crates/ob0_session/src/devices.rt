@@ -7,7 +7,7 @@
 ghost use Rattle.std.specs.Prelude.{◌≡◌, ◌≢◌, ◌||◌, ◌<◌, ℕ, List, [], Option, Bool, true, false, length, is_err, IfOk, OnOk, OnErr};
 ghost use Rattle.std.specs.Io.{ReadsAtMost, WritesAtMost};
 ghost use Rattle.std.specs.Io.KnownBytes.{Keeps, ReadConsumes, WriteAppends};
-ghost use Rattle.ob0_session.specs.Devices.{ReadCounts, with_read};
+ghost use Rattle.ob0_session.specs.Devices.{ReadCounts, counts_after_read};
 
 use thiserror::Error;
 
@@ -33,7 +33,7 @@ pub trait InputDevice {
         ensures bound { ReadsAtMost result buf.new }
         ensures bytes { ReadConsumes (remaining self.old) (remaining self.new) result buf.new }
         ensures noted { has_failed self.new ≡ (has_failed self.old || is_err result) }
-        ensures reads { reads self.new ≡ with_read (length buf.new) (reads self.old) };
+        ensures reads { reads self.new ≡ counts_after_read (length buf.new) (reads self.old) };
 }
 
 /// A device to which bytes are written. Its ghost members record the calls.

@@ -3,8 +3,8 @@ use Rattle.std.proofs.Common.{◌≡◌, ◌∙◌, List, [], ◌∷◌, ◌++�
 use Rattle.std.proofs.lemmas.List.{map-append}
 use mathlib.Core.List.{map-map}
 use Rattle.ob0_analysis.specs.declared.diagnoses.Diagnosis.{Diagnosis}
-use Rattle.ob0_analysis.specs.Diagnosed.{Complaint, complaint_of_diagnosis}
-use Rattle.ob0_session_json.specs.Made.{AreSameDiagnostics, diagnostic_view}
+use Rattle.ob0_analysis.specs.Diagnosed.{ReportedDiagnosis, reported_diagnosis_of}
+use Rattle.ob0_session_json.specs.JsonViews.{AreSameDiagnostics, diagnostic_view}
 use Rattle.ob0_session_json.specs.Shapes as shapes
 use Rattle.ob0_session_json.specs.declared.publication.Diagnostic.{Diagnostic}
 
@@ -14,5 +14,5 @@ pub diagnostics_next : (shown : Diagnosis → shapes.Diagnostic) (listed : List 
 diagnostics_next shown listed d vs v are is = rw (map-append shown listed (d ∷ []), map-append diagnostic_view vs (v ∷ []), are, is) refl
 
 -- The diagnostics of a list of diagnoses are the diagnostics of their complaints.
-pub diagnostics_of_all : (shown : Complaint → shapes.Diagnostic) (reported : List Diagnosis) (vs : List Diagnostic) → AreSameDiagnostics (map (λ d. shown (complaint_of_diagnosis d)) reported) vs → AreSameDiagnostics (map shown (map complaint_of_diagnosis reported)) vs
-diagnostics_of_all shown reported vs are = map-map shown complaint_of_diagnosis reported ∙ are
+pub diagnostics_of_all : (shown : ReportedDiagnosis → shapes.Diagnostic) (reported : List Diagnosis) (vs : List Diagnostic) → AreSameDiagnostics (map (λ d. shown (reported_diagnosis_of d)) reported) vs → AreSameDiagnostics (map shown (map reported_diagnosis_of reported)) vs
+diagnostics_of_all shown reported vs are = map-map shown reported_diagnosis_of reported ∙ are

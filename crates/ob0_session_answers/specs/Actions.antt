@@ -7,7 +7,7 @@ use Rattle.std.specs.Str.{bytes_eq}
 use Rattle.std.specs.declared.alloc.Global.{Global}
 use Rattle.serde_json.specs.Data.{Data, array, no_items}
 use Rattle.serde_json.specs.View.{items_of}
-use Rattle.ob0_rpc.specs.Seen.{id_data, kinds_view}
+use Rattle.ob0_rpc.specs.MessageViews.{id_data, kinds_view}
 use Rattle.ob0_rpc.specs.Shapes.{result_message}
 use Rattle.ob0_rpc.specs.Writing.{Writes}
 use Rattle.ob0_rpc.specs.declared.clients.ClientFeatures.{ClientFeatures}
@@ -22,7 +22,7 @@ use Rattle.ob0_edits.specs.Inlinings.{OffersInlining}
 use Rattle.ob0_session_json.specs.Shapes.{action_value, workspace_edit}
 use Rattle.ob0_session_answers.specs.declared.actions.ActionsRequest.{ActionsRequest}
 use Rattle.ob0_edits.specs.declared.inlinings.Inlining.{Inlining}
-use Rattle.ob0_edits.specs.declared.inlinings.Inlining.TheVariants.{Here, Everywhere}
+use Rattle.ob0_edits.specs.declared.inlinings.Inlining.TheVariants.{OneUse, Everywhere}
 
 -- ---- the request
 
@@ -78,9 +78,9 @@ actions_offset unit text range =
 
 -- ---- the message
 
--- Returns the title of the action that inlines at one use (`Here`) or at every use (`Everywhere`).
+-- Returns the title of the action that inlines at one use (`OneUse`) or at every use (`Everywhere`).
 abbrev pub title : Inlining → List ℕ
-title Here = codes "Inline here"
+title OneUse = codes "Inline here"
 title Everywhere = codes "Inline everywhere"
 
 -- Returns the JSON value of the code action with these edits, in the form that the client accepts.
@@ -102,7 +102,7 @@ abbrev pub actions_array : RequestedActions
     → Data
 actions_array requested here everywhere =
     array (items_of
-    (action_values requested Here here ++ action_values requested Everywhere everywhere))
+    (action_values requested OneUse here ++ action_values requested Everywhere everywhere))
 
 -- States that the request includes inlining and that the text is a well-typed module. The value
 -- lists the actions that are offered at the offset `actions_offset` of the request's range.
@@ -111,7 +111,7 @@ pub record ListsInlinings (unit : Unit) (requested : RequestedActions) (text : L
   pub here : Option (Vec Edit Global)
   pub everywhere : Option (Vec Edit Global)
   pub wanted : wants_inlining requested ≡ true
-  pub offers_here : OffersInlining Here unit text (actions_offset unit text requested.range) here
+  pub offers_here : OffersInlining OneUse unit text (actions_offset unit text requested.range) here
   pub offers_everywhere : OffersInlining Everywhere unit text (actions_offset unit text requested.range)
       everywhere
   pub listed : value ≡ actions_array requested here everywhere

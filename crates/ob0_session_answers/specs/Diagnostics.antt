@@ -1,29 +1,29 @@
 -- Defines the diagnostics of a text. An analysis reports complaints: diagnostics that have byte
--- offsets (`Complaint`). A `Diagnostic` has positions instead.
+-- offsets (`ReportedDiagnosis`). A `Diagnostic` has positions instead.
 -- Rule: docs/PROTOCOL.md, Publishing 3, JSON shapes 2.
 use Rattle.std.specs.Prelude.{◌≡◌, ℕ, ℤ, List, Some, map}
 use Rattle.ob0_rpc.specs.Writing.{Writes}
 use Rattle.ob0_text.specs.Texts.{position_of}
 use Rattle.ob0_text.specs.Units.{width_of}
 use Rattle.ob0_text.specs.declared.position_types.Unit.{Unit}
-use Rattle.ob0_analysis.specs.Diagnosed.{Complaint, Reports}
+use Rattle.ob0_analysis.specs.Diagnosed.{ReportedDiagnosis, Reports}
 use Rattle.ob0_analysis.specs.Texts.{utf8}
 use Rattle.ob0_session_json.specs.Shapes.{Diagnostic, publication}
 
 -- Returns the diagnostic for a complaint about the text. The diagnostic has the complaint's code and
 -- message, and the positions at which the complaint starts and ends.
-abbrev pub diagnostic_of : Unit → List ℕ → Complaint → Diagnostic
+abbrev pub diagnostic_of : Unit → List ℕ → ReportedDiagnosis → Diagnostic
 diagnostic_of unit text c = record {
   code = c.code;
-  said = c.said;
+  said = c.message;
   start = position_of (width_of unit) text c.span.start;
   end = position_of (width_of unit) text c.span.end;
 }
 
 -- States that these are the diagnostics of the text. Positions are counted in this unit.
-abbrev pub Diagnoses : Unit → List ℕ → List Diagnostic → Type 0
-Diagnoses unit text ds =
-    (reported : List Complaint)
+abbrev pub AreDiagnosticsOf : Unit → List ℕ → List Diagnostic → Type 0
+AreDiagnosticsOf unit text ds =
+    (reported : List ReportedDiagnosis)
     × Reports (utf8 text) reported
     × (ds ≡ map (diagnostic_of unit text) reported)
 
@@ -32,5 +32,5 @@ Diagnoses unit text ds =
 abbrev pub Publishes : Unit → List ℕ → ℤ → List ℕ → List ℕ → Type 0
 Publishes unit uri version text content =
     (ds : List Diagnostic)
-    × Diagnoses unit text ds
+    × AreDiagnosticsOf unit text ds
     × Writes (publication uri (Some version) ds) content

@@ -11,22 +11,22 @@ use Rattle.ob0_text.specs.declared.position_types.Unit.{Unit}
 use Rattle.ob0_edits_tokens.specs.Ranges.{range_of}
 use Rattle.ob0_scope_table.specs.Resolution.{Resolution}
 use Rattle.ob0_refs.specs.Shown.{HoverText}
-use Rattle.ob0_refs.specs.Questions.{AreReferencesAt, hover_at_place, definition_at, renamable_span_at}
+use Rattle.ob0_refs.specs.Questions.{AreReferencesAt, hover_at_offset, definition_at, renamable_span_at}
 use Rattle.ob0_rpc.specs.Requesting.{DocumentPlace}
 use Rattle.ob0_rpc.specs.Shapes.{range_value, result_message}
 use Rattle.ob0_rpc.specs.Writing.{Writes}
-use Rattle.ob0_analysis.specs.Analysed.{IsModuleIn}
+use Rattle.ob0_analysis.specs.Analysed.{IsResolvedWellTypedModule}
 use Rattle.ob0_analysis.specs.Diagnosed.{IsWellTypedModule}
 use Rattle.ob0_analysis.specs.Texts.{utf8}
-use Rattle.ob0_session_json.specs.Shapes.{hover_value, location_in}
+use Rattle.ob0_session_json.specs.Shapes.{hover_value, range_location}
 
 -- A question about the name or field at a position: hover, definition, references or prepareRename.
 pub data NameQuestion : Type 0 where
-  hover_asked : NameQuestion
-  definition_asked : NameQuestion
+  hover_question : NameQuestion
+  definition_question : NameQuestion
   -- A question for references. The Bool says whether the declaration is included.
-  references_asked : Bool → NameQuestion
-  renaming_asked : NameQuestion
+  references_question : Bool → NameQuestion
+  prepare_rename_question : NameQuestion
 
 -- ---- JSON values (arguments: the unit of positions, the uri, and the text's characters)
 
@@ -37,7 +37,7 @@ span_range unit text span =
 
 -- Returns the JSON value of a span's location in the document with this uri.
 abbrev pub span_location : Unit → List ℕ → List ℕ → Span → Data
-span_location unit uri text span = location_in uri (range_of (width_of unit) text span)
+span_location unit uri text span = range_location uri (range_of (width_of unit) text span)
 
 -- Returns the JSON value of a hover text with its range.
 abbrev pub hover_with_range : Unit → List ℕ → HoverText → Data
@@ -63,28 +63,28 @@ AnswersReferences unit text at include names value =
 -- States that the value answers the question about a well-typed module. `names` is the resolution
 -- of the module's names.
 abbrev pub AnswersInModule : Unit → List ℕ → DocumentPlace → NameQuestion → Resolution → Data → Type 0
-AnswersInModule unit text at hover_asked names value =
+AnswersInModule unit text at hover_question names value =
     value
     ≡ value_or_null
-    (option_map (hover_with_range unit text) (hover_at_place names (offset_in unit text at)))
-AnswersInModule unit text at definition_asked names value =
+    (option_map (hover_with_range unit text) (hover_at_offset names (offset_in unit text at)))
+AnswersInModule unit text at definition_question names value =
     value
     ≡ value_or_null
     (option_map (span_location unit at.uri text) (definition_at names (offset_in unit text at)))
-AnswersInModule unit text at (references_asked include) names value =
+AnswersInModule unit text at (references_question include) names value =
     AnswersReferences unit text at include names value
-AnswersInModule unit text at renaming_asked names value =
+AnswersInModule unit text at prepare_rename_question names value =
     value
     ≡ value_or_null
     (option_map (span_range unit text) (renamable_span_at names (offset_in unit text at)))
 
 -- Returns the answer to a question about a text that isn't a well-typed module: an empty list for
 -- references, otherwise null.
-abbrev pub empty_answer : NameQuestion → Data
-empty_answer hover_asked = null
-empty_answer definition_asked = null
-empty_answer (references_asked include) = array no_items
-empty_answer renaming_asked = null
+abbrev pub ill_typed_answer : NameQuestion → Data
+ill_typed_answer hover_question = null
+ill_typed_answer definition_question = null
+ill_typed_answer (references_question include) = array no_items
+ill_typed_answer prepare_rename_question = null
 
 -- ---- the answer to a question about a text
 
@@ -92,9 +92,9 @@ empty_answer renaming_asked = null
 abbrev pub AnswersQuestion : Unit → List ℕ → DocumentPlace → NameQuestion → Data → Type 0
 AnswersQuestion unit text at question value =
     ((names : Resolution)
-    × IsModuleIn (utf8 text) names
+    × IsResolvedWellTypedModule (utf8 text) names
     × AnswersInModule unit text at question names value)
-    ⊎ (¬ IsWellTypedModule (utf8 text) × (value ≡ empty_answer question))
+    ⊎ (¬ IsWellTypedModule (utf8 text) × (value ≡ ill_typed_answer question))
 
 -- States that the bytes `content` are the text of a message that answers this question. The message
 -- has the id of the request that asks the question.

@@ -3,7 +3,7 @@
 use Rattle.std.specs.Prelude.{◌≡◌, ◌⊎◌, ℕ, ℤ, List, codes}
 use Rattle.serde_json.specs.Data.{Data}
 use Rattle.ob0_rpc.specs.Requesting.{DocumentPlace}
-use Rattle.ob0_rpc.specs.Seen.{document_place_view, id_data}
+use Rattle.ob0_rpc.specs.MessageViews.{document_place_view, id_data}
 use Rattle.ob0_rpc.specs.Shapes.{result_message}
 use Rattle.ob0_rpc.specs.Writing.{Writes}
 use Rattle.ob0_rpc.specs.declared.clients.ClientFeatures.{ClientFeatures}
@@ -11,7 +11,7 @@ use Rattle.ob0_text.specs.RefusalTexts.{refusal_text}
 use Rattle.ob0_text.specs.declared.edits.Edit.{Edit}
 use Rattle.ob0_text.specs.declared.position_types.Unit.{Unit}
 use Rattle.ob0_text.specs.declared.refusals.EditRefusal.{EditRefusal}
-use Rattle.ob0_edits.specs.Renamings.{IsRefusedIn, RenamesIn}
+use Rattle.ob0_edits.specs.Renamings.{IsRenameRefusedIn, RenamesIn}
 use Rattle.ob0_analysis.specs.Diagnosed.{IsWellTypedModule}
 use Rattle.ob0_analysis.specs.Texts.{utf8}
 use Rattle.ob0_session_json.specs.Shapes.{edit_refusal, workspace_edit}
@@ -51,7 +51,7 @@ AnswersRenaming unit requested text message =
     × RenamesIn unit text requested.at.position requested.new edits
     × (message ≡ result_message requested.id (edits_for_client requested edits)))
     ⊎ (((refusal : EditRefusal)
-    × IsRefusedIn unit text requested.at.position requested.new refusal
+    × IsRenameRefusedIn unit text requested.at.position requested.new refusal
     × (message ≡ edit_refusal requested.id (refusal_text refusal)))
     ⊎ (¬ IsWellTypedModule (utf8 text) × (message ≡ edit_refusal requested.id (codes "ill-typed"))))
 

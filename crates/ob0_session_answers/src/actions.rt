@@ -2,20 +2,20 @@
 //!
 //! `inline_edits` of `ob0_edits` computes the edits. A range may end before its start, so the byte
 //! offsets of both are compared (`actions_position`, `actions_offset`). No law about the order of
-//! positions is needed. An action's title and edits depend on its `Inlining` (`Here` or
+//! positions is needed. An action's title and edits depend on its `Inlining` (`OneUse` or
 //! `Everywhere`). To add an action, add a variant of `Inlining` and its title (`title_of` and
 //! `title`).
 
 ghost use Rattle.std.specs.Prelude.{◌≡◌, IfOk, map, string_bytes};
 ghost use Rattle.std.specs.List.{list_any};
 ghost use Rattle.serde_json.specs.Data.{array, item, no_items};
-ghost use Rattle.ob0_rpc.specs.Seen.{id_data, kinds_view};
+ghost use Rattle.ob0_rpc.specs.MessageViews.{id_data, kinds_view};
 ghost use Rattle.ob0_rpc.specs.Shapes.{result_message};
 ghost use Rattle.ob0_rpc.specs.Writing.{Writes};
 ghost use Rattle.ob0_text.specs.Texts.{offset_of};
 ghost use Rattle.ob0_text.specs.Units.{width_of};
 ghost use Rattle.ob0_session_answers.specs.Actions.{RepliesToActions, action_of, actions_request_view, actions_array, allows_inlining as allows, is_inlining_kind as of_kind, actions_offset as place_in, title, accepts_inlining as wants};
-ghost use Rattle.ob0_session_json.specs.Made.{code_action_view};
+ghost use Rattle.ob0_session_json.specs.JsonViews.{code_action_view};
 
 use ob0_analysis::Analysis;
 use ob0_edits::{Inlining, Inlinings, inline_edits};
@@ -61,12 +61,12 @@ impl<'a, T: TextStore> DocumentRequest<T> for ActionsRequest<'a> {
         analysis: &Analysis,
     ) -> Result<Vec<u8>, AllocError> {
         if !self.wants_inlining() {
-            return no_actions(alloc, self.id);
+            return answer_without_actions(alloc, self.id);
         }
         let place = actions_position(text, self.range);
         match inline_edits(alloc, text, analysis, place)? {
-            Some(found) => self.list_actions(alloc, version, &found),
-            None => no_actions(alloc, self.id),
+            Some(found) => self.answer_with_actions(alloc, version, &found),
+            None => answer_without_actions(alloc, self.id),
         }
     }
 }
@@ -82,7 +82,7 @@ impl<'a> ActionsRequest<'a> {
 
     /// Returns the answer that lists the offered actions: to inline at this use, then to inline
     /// everywhere. An action whose edits are None isn't offered.
-    fn list_actions(
+    fn answer_with_actions(
         &self,
         alloc: Global,
         version: i64,
@@ -95,29 +95,29 @@ impl<'a> ActionsRequest<'a> {
         match (&found.here, &found.everywhere) {
             (Some(here), Some(everywhere)) => {
                 let actions = [
-                    self.action(version, Inlining::Here, here.as_slice()),
+                    self.action(version, Inlining::OneUse, here.as_slice()),
                     self.action(version, Inlining::Everywhere, everywhere.as_slice()),
                 ];
                 answer_text(alloc, self.id, &actions.as_slice())
             }
-            (Some(here), None) => self.list_single_action(
+            (Some(here), None) => self.answer_with_one_action(
                 alloc,
                 version,
-                Inlining::Here,
+                Inlining::OneUse,
                 here.as_slice(),
             ),
-            (None, Some(everywhere)) => self.list_single_action(
+            (None, Some(everywhere)) => self.answer_with_one_action(
                 alloc,
                 version,
                 Inlining::Everywhere,
                 everywhere.as_slice(),
             ),
-            (None, None) => no_actions(alloc, self.id),
+            (None, None) => answer_without_actions(alloc, self.id),
         }
     }
 
     /// Returns the answer that lists one action, which applies these edits.
-    fn list_single_action(
+    fn answer_with_one_action(
         &self,
         alloc: Global,
         version: i64,
@@ -149,7 +149,7 @@ impl<'a> ActionsRequest<'a> {
 }
 
 /// Returns the answer with an empty list of actions.
-fn no_actions(alloc: Global, id: &Id) -> Result<Vec<u8>, AllocError>
+fn answer_without_actions(alloc: Global, id: &Id) -> Result<Vec<u8>, AllocError>
     ensures { IfOk result
         (λ bytes. Writes (result_message (id_data id.now) (array no_items)) bytes.items) }
 {
@@ -187,12 +187,12 @@ fn is_inlining_kind(kind: &str) -> bool
     kind == "" || kind == "refactor" || kind == "refactor.inline"
 }
 
-/// Returns the title of the action that inlines at one use (`Here`) or at every use (`Everywhere`).
+/// Returns the title of the action that inlines at one use (`OneUse`) or at every use (`Everywhere`).
 fn title_of(how: Inlining) -> &'static str
     ensures { result.now ≡ title how }
 {
     match how {
-        Inlining::Here => "Inline here",
+        Inlining::OneUse => "Inline here",
         Inlining::Everywhere => "Inline everywhere",
     }
 }

@@ -7,9 +7,9 @@
 
 ghost use Rattle.std.specs.Prelude.{◌≡◌, List, IfOk, map};
 ghost use Rattle.std.specs.Str.{chars};
-ghost use Rattle.ob0_analysis.specs.Diagnosed.{complaint_of_diagnosis};
-ghost use Rattle.ob0_session_json.specs.Made.{AreSameDiagnostics, diagnostic_view};
-ghost use Rattle.ob0_session_answers.specs.Diagnostics.{Diagnoses, Publishes, diagnostic_of};
+ghost use Rattle.ob0_analysis.specs.Diagnosed.{reported_diagnosis_of};
+ghost use Rattle.ob0_session_json.specs.JsonViews.{AreSameDiagnostics, diagnostic_view};
+ghost use Rattle.ob0_session_answers.specs.Diagnostics.{AreDiagnosticsOf, Publishes, diagnostic_of};
 ghost use Rattle.ob0_session_json.specs.Shapes.{Diagnostic as Reported};
 ghost use Rattle.ob0_text.specs.Texts.{position_of};
 ghost use Rattle.ob0_text.specs.Units.{width_of};
@@ -51,7 +51,7 @@ pub fn diagnostics<T: TextStore>(
 ) -> Result<Vec<Diagnostic>, AllocError>
     requires { T.content store.now ≡ chars analysis.now }
     ensures { IfOk result (λ list. (ds : List Reported)
-        × Diagnoses (T.unit_of store.now) (T.content store.now) ds
+        × AreDiagnosticsOf (T.unit_of store.now) (T.content store.now) ds
         × AreSameDiagnostics ds list.items) }
 {
     let reported = analysis.diagnoses(alloc)?;
@@ -66,10 +66,10 @@ fn locate_diagnostics<T: TextStore>(
     reported: Vec<Diagnosis>,
 ) -> Result<Vec<Diagnostic>, AllocError>
     ensures { IfOk result (λ list. AreSameDiagnostics (map
-        (λ d. diagnostic_of (T.unit_of store.now) (T.content store.now) (complaint_of_diagnosis d))
+        (λ d. diagnostic_of (T.unit_of store.now) (T.content store.now) (reported_diagnosis_of d))
         reported.items) list.items) }
 {
-    let offsets = offsets_of(alloc, reported.as_slice())?;
+    let offsets = sorted_offsets_of(alloc, reported.as_slice())?;
     let positions = store.positions(alloc, offsets.as_slice())?;
     attach_positions(
         alloc,
@@ -81,7 +81,7 @@ fn locate_diagnostics<T: TextStore>(
 }
 
 /// Returns the byte offsets at which diagnostics start and end, in ascending order.
-fn offsets_of(alloc: Global, reported: &[Diagnosis]) -> Result<Vec<usize>, AllocError> {
+fn sorted_offsets_of(alloc: Global, reported: &[Diagnosis]) -> Result<Vec<usize>, AllocError> {
     let mut offsets = Vec::new(alloc);
     for diagnosis in reported {
         offsets.push(diagnosis.span.start as usize)?;
@@ -103,14 +103,14 @@ fn attach_positions<T: TextStore>(
     requires { positions.now
         ≡ map (position_of (width_of (T.unit_of store.now)) (T.content store.now)) offsets.now }
     ensures { IfOk result (λ list. AreSameDiagnostics (map
-        (λ d. diagnostic_of (T.unit_of store.now) (T.content store.now) (complaint_of_diagnosis d))
+        (λ d. diagnostic_of (T.unit_of store.now) (T.content store.now) (reported_diagnosis_of d))
         reported.items) list.items) }
 {
     let mut list = Vec::new(alloc);
     for diagnosis in reported {
         let start = position_at(store, offsets, positions, diagnosis.span.start as usize);
         let end = position_at(store, offsets, positions, diagnosis.span.end as usize);
-        list.push(diagnostic(diagnosis, start, end))?;
+        list.push(diagnostic_with_range(diagnosis, start, end))?;
     }
     Ok(list)
 }
@@ -134,10 +134,10 @@ fn position_at<T: TextStore>(
 }
 
 /// Converts a diagnosis to a diagnostic with this start and end. The message is moved, not copied.
-fn diagnostic(diagnosis: Diagnosis, start: Position, end: Position) -> Diagnostic
+fn diagnostic_with_range(diagnosis: Diagnosis, start: Position, end: Position) -> Diagnostic
     ensures { diagnostic_view result ≡ record {
-      code = (complaint_of_diagnosis diagnosis).code;
-      said = (complaint_of_diagnosis diagnosis).said;
+      code = (reported_diagnosis_of diagnosis).code;
+      said = (reported_diagnosis_of diagnosis).message;
       start = start;
       end = end;
     } }

@@ -1,5 +1,5 @@
 //! Answers requests for formatting.
-ghost use Rattle.ob0_rpc.specs.Seen.{id_data};
+ghost use Rattle.ob0_rpc.specs.MessageViews.{id_data};
 ghost use Rattle.ob0_session_answers.specs.Formatted.{RepliesToFormatting};
 
 use ob0_analysis::Analysis;

@@ -8,12 +8,12 @@
 ghost use Rattle.std.specs.Prelude.{◌≡◌, IfOk, option_map, map};
 ghost use Rattle.serde_json.specs.Data.{array};
 ghost use Rattle.serde_json.specs.View.{items_of};
-ghost use Rattle.ob0_rpc.specs.Seen.{document_place_view, id_data};
+ghost use Rattle.ob0_rpc.specs.MessageViews.{document_place_view, id_data};
 ghost use Rattle.ob0_rpc.specs.Shapes.{result_message};
 ghost use Rattle.ob0_rpc.specs.Writing.{Writes};
 ghost use Rattle.ob0_refs.specs.Parts.{hover_view};
-ghost use Rattle.ob0_refs.specs.Questions.{AreReferencesAt, hover_at_place, definition_at, renamable_span_at};
-ghost use Rattle.ob0_session_answers.specs.Questions.{RepliesToQuestion, definition_asked, hover_asked, hover_with_range, span_location, span_range, references_asked, renaming_asked, value_or_null};
+ghost use Rattle.ob0_refs.specs.Questions.{AreReferencesAt, hover_at_offset, definition_at, renamable_span_at};
+ghost use Rattle.ob0_session_answers.specs.Questions.{RepliesToQuestion, definition_question, hover_question, hover_with_range, span_location, span_range, references_question, prepare_rename_question, value_or_null};
 
 use ob0_analysis::{Analysis, Question, WellTyped, ask};
 use ob0_edits_tokens::{range_of, ranges};
@@ -35,7 +35,7 @@ struct HoverQuestion {
 impl Question for HoverQuestion {
     type Answer = Option<ob0_refs::Hover>;
 
-    ghost answers = { λ q names found. option_map hover_view found ≡ hover_at_place names q.offset };
+    ghost answers = { λ q names found. option_map hover_view found ≡ hover_at_offset names q.offset };
 
     fn answer(
         &self,
@@ -108,7 +108,7 @@ pub struct HoverRequest<'a> {
 
 impl<'a, T: TextStore> DocumentRequest<T> for HoverRequest<'a> {
     ghost answers = { λ r _ unit text content.
-        RepliesToQuestion unit (id_data r.id.now) (document_place_view r.place.now) hover_asked text content };
+        RepliesToQuestion unit (id_data r.id.now) (document_place_view r.place.now) hover_question text content };
 
     fn answer(
         &self,
@@ -135,7 +135,7 @@ pub struct DefinitionRequest<'a> {
 impl<'a, T: TextStore> DocumentRequest<T> for DefinitionRequest<'a> {
     ghost answers = { λ r _ unit text content.
         RepliesToQuestion unit (id_data r.id.now) (document_place_view r.place.now)
-        definition_asked text content };
+        definition_question text content };
 
     fn answer(
         &self,
@@ -163,7 +163,7 @@ pub struct ReferencesRequest<'a> {
 impl<'a, T: TextStore> DocumentRequest<T> for ReferencesRequest<'a> {
     ghost answers = { λ r _ unit text content.
         RepliesToQuestion unit (id_data r.id.now) (document_place_view r.place.now)
-        (references_asked r.include_declaration) text content };
+        (references_question r.include_declaration) text content };
 
     fn answer(
         &self,
@@ -195,7 +195,7 @@ pub struct PrepareRenameRequest<'a> {
 impl<'a, T: TextStore> DocumentRequest<T> for PrepareRenameRequest<'a> {
     ghost answers = { λ r _ unit text content.
         RepliesToQuestion unit (id_data r.id.now) (document_place_view r.place.now)
-        renaming_asked text content };
+        prepare_rename_question text content };
 
     fn answer(
         &self,

@@ -1,7 +1,7 @@
 //! Answers requests for renaming.
 
 ghost use Rattle.std.specs.Prelude.{IfOk};
-ghost use Rattle.ob0_rpc.specs.Seen.{id_data};
+ghost use Rattle.ob0_rpc.specs.MessageViews.{id_data};
 ghost use Rattle.ob0_rpc.specs.Shapes.{result_message};
 ghost use Rattle.ob0_rpc.specs.Writing.{Writes};
 ghost use Rattle.ob0_session_answers.specs.Renamed.{RepliesToRename, rename_request_view, edits_for_client};

@@ -7,7 +7,7 @@ use Rattle.std.specs.Str.{bytes_eq}
 use Rattle.std.specs.FinMap as map_of
 use Rattle.std.proofs.lemmas.Map.Text.{is_eq-slice_cmp}
 use Rattle.std.proofs.lemmas.Slice.Eq.{bytes_eq-Decides}
-use Rattle.ob0_text.specs.OpenDocuments.{Documents, Document, OpenDocuments, TextChange, InStep, OutOfStep, document_at, documents_after_open, documents_after_change, changed_document, documents_after_loss, documents_after_close, updated}
+use Rattle.ob0_text.specs.OpenDocuments.{Documents, Document, OpenDocuments, TextChange, InStep, OutOfStep, document_at, documents_after_open, documents_after_change, changed_document, documents_after_loss, documents_after_close, with_updated_document}
 use Rattle.ob0_text.proofs.EntryLaws.{updated-some, updated-none}
 use Rattle.ob0_session_documents.specs.KeptAnalyses.{AnalysesMatchTexts, KeepsOnlyOthers}
 use Rattle.ob0_session_documents.specs.declared.analyses.Analyses.{Analyses}
@@ -28,7 +28,7 @@ module _ (m : Documents) (uri u : List ℕ) (other : u ≡ uri → ⊥) where
   removed : map_of.get (map_of.remove m uri) u ≡ map_of.get m u
   removed = map_of.get-remove nat_list_cmp_total m uri u ∙ ap (λ b. cond b None (map_of.get m u)) (apart u uri other)
 
-  updated_at : (f : Document → Document) (found : Option Document) → map_of.get m uri ≡ found → map_of.get (updated m uri f) u ≡ map_of.get m u
+  updated_at : (f : Document → Document) (found : Option Document) → map_of.get m uri ≡ found → map_of.get (with_updated_document m uri f) u ≡ map_of.get m u
   updated_at f None e = ap (λ n. map_of.get n u) (updated-none m uri f e)
   updated_at f (Some d) e = ap (λ n. map_of.get n u) (updated-some m uri f d e) ∙ inserted (f d)
 

@@ -31,12 +31,12 @@ pub struct AnalysedDocuments<T: TextStore> {
 }
 
 impl<T: TextStore> Model for AnalysedDocuments<T> {
-    ghost use Rattle.ob0_text.specs.OpenDocuments.{OpenDocuments, documents_code};
+    ghost use Rattle.ob0_text.specs.OpenDocuments.{OpenDocuments, coded_open_documents};
     ghost use Rattle.ob0_session_documents.specs.KeptAnalyses.{AnalysesMatchTexts};
 
     ghost Value = { OpenDocuments };
 
-    ghost coded = { documents_code };
+    ghost coded = { coded_open_documents };
 
     ghost view = { λ d. d.documents };
 
@@ -74,7 +74,7 @@ impl<T: TextStore> AnalysedDocuments<T> {
         let before = self.analyses.take(uri);
         self.documents.did_open(uri, version, text.as_str())?;
         drop(text);
-        self.analyse(uri, before)
+        self.analyse_and_keep(uri, before)
     }
 
     /// Applies the changes to a document in order, and analyses the resulting text. The received
@@ -94,7 +94,7 @@ impl<T: TextStore> AnalysedDocuments<T> {
         let before = self.analyses.take(uri);
         self.documents.did_change(uri, version, changes.as_slice())?;
         drop(changes);
-        self.analyse(uri, before)
+        self.analyse_and_keep(uri, before)
     }
 
     /// Marks a document as out of step: the client's text isn't known any more. If the document
@@ -118,7 +118,7 @@ impl<T: TextStore> AnalysedDocuments<T> {
     /// Answers a request about the document with this uri. If an analysis of the document's text is
     /// kept, it is used. Otherwise an analysis is made and kept. If the document isn't open or is
     /// out of step, returns `Unopened` or `OutOfStep`.
-    pub fn ask<Q: DocumentRequest<T>>(
+    pub fn answer_request<Q: DocumentRequest<T>>(
         &mut self,
         uri: &str,
         request: &Q,
@@ -133,7 +133,7 @@ impl<T: TextStore> AnalysedDocuments<T> {
                     let message = request.answer(self.alloc, version, text, analysis)?;
                     return Ok(RequestOutcome::Answered(message));
                 }
-                let analysis = Analysis::of(self.alloc, text.as_str())?;
+                let analysis = Analysis::analyse_text(self.alloc, text.as_str())?;
                 let answer = request.answer(self.alloc, version, text, &analysis);
                 self.analyses.put(uri, analysis)?;
                 Ok(RequestOutcome::Answered(answer?))
@@ -146,7 +146,7 @@ impl<T: TextStore> AnalysedDocuments<T> {
     /// Analyses the text of a document and keeps the analysis. `before` is the analysis of the
     /// previous text, which is reused, or None. Does nothing if the document isn't open or is out
     /// of step.
-    fn analyse(&mut self, uri: &str, before: Option<Analysis>) -> Result<(), AllocError>
+    fn analyse_and_keep(&mut self, uri: &str, before: Option<Analysis>) -> Result<(), AllocError>
         ensures { self.new ≡ self.old }
     {
         match self.documents.get(uri) {
@@ -169,7 +169,7 @@ fn analysis_after(
     ensures { IfOk result (λ a. a ≡ text.now) }
 {
     match before {
-        None => Analysis::of(alloc, text),
-        Some(before) => before.after(alloc, text),
+        None => Analysis::analyse_text(alloc, text),
+        Some(before) => before.reanalyse(alloc, text),
     }
 }

@@ -53,7 +53,9 @@ impl Analyses {
         // This call is here because the proof needs its contract.
         let _count = by_uri.len();
         let analysis = by_uri.pop(uri)?;
-        self.size_in_bytes = self.size_in_bytes.saturating_sub(bytes_of(uri, &analysis));
+        self.size_in_bytes = self
+            .size_in_bytes
+            .saturating_sub(counted_bytes_of(uri, &analysis));
         Some(analysis)
     }
 
@@ -80,7 +82,7 @@ impl Analyses {
     pub fn put(&mut self, uri: &str, analysis: Analysis) -> Result<(), AllocError>
         ensures { AddsOnlyAnalysis self.old uri.now analysis self.new }
     {
-        self.reserve_bytes(bytes_of(uri, &analysis));
+        self.add_bytes_and_evict(counted_bytes_of(uri, &analysis));
         self.insert(uri, analysis)
     }
 
@@ -100,22 +102,22 @@ impl Analyses {
 
     /// Adds this many bytes to the total size. Then drops the least recently used analyses until
     /// the total size is at most [`MAX_BYTES`] or no analysis is left.
-    fn reserve_bytes(&mut self, size_in_bytes: usize)
+    fn add_bytes_and_evict(&mut self, size_in_bytes: usize)
         ensures { AddsNoAnalysis self.old self.new }
     {
         let mut counted = self.size_in_bytes.saturating_add(size_in_bytes);
         while counted > MAX_BYTES {
-            let Some((oldest, analysis)) = self.remove_oldest() else {
+            let Some((oldest, analysis)) = self.remove_least_recently_used() else {
                 break;
             };
-            counted = counted.saturating_sub(bytes_of(oldest.as_str(), &analysis));
+            counted = counted.saturating_sub(counted_bytes_of(oldest.as_str(), &analysis));
         }
         self.size_in_bytes = counted;
     }
 
     /// Removes the least recently used analysis and returns it with its uri. Returns None if no
     /// analysis is kept.
-    fn remove_oldest(&mut self) -> Option<(String, Analysis)>
+    fn remove_least_recently_used(&mut self) -> Option<(String, Analysis)>
         ensures { AddsNoAnalysis self.old self.new }
     {
         let by_uri = self.by_uri.as_mut()?;
@@ -125,7 +127,7 @@ impl Analyses {
 
 /// Returns the number of bytes that an analysis counts for. The bytes of the uri are included,
 /// because the cache stores a copy of the uri.
-fn bytes_of(uri: &str, analysis: &Analysis) -> usize
+fn counted_bytes_of(uri: &str, analysis: &Analysis) -> usize
     ensures { BYTES_PER_ANALYSIS ≤ result }
 {
     analysis

@@ -2,7 +2,7 @@
 use Rattle.std.proofs.Common.{◌≡◌, ◌≤◌, ℕ, ℤ, pos, negsuc, List, [], ◌∷◌, Bool, true, false, Option, Some, None, map, arith, refl}
 use Rattle.serde_json.specs.Data.{Data, array, depth, items_depth}
 use Rattle.serde_json.specs.View.{items_of}
-use Rattle.ob0_rpc.specs.Writing.{CanBeSent}
+use Rattle.ob0_rpc.specs.Writing.{FitsInMessage}
 use Rattle.ob0_rpc.specs.Shapes.{whole_number}
 use Rattle.ob0_text.specs.declared.edits.Edit.{Edit}
 use Rattle.ob0_rpc.specs.declared.clients.ClientFeatures.{ClientFeatures}
@@ -16,7 +16,7 @@ shallow_list : (ds : List Diagnostic) → items_depth (items_of (map diagnostic_
 shallow_list [] = omega arith
 shallow_list (d ∷ ds) = omega (arith, shallow_list ds)
 
-pub publication_can_be_sent : (uri : List ℕ) (version : Option ℤ) (ds : List Diagnostic) → CanBeSent (publication_params uri version ds)
+pub publication_can_be_sent : (uri : List ℕ) (version : Option ℤ) (ds : List Diagnostic) → FitsInMessage (publication_params uri version ds)
 publication_can_be_sent uri (Some version) ds = record { shallow = rw (flat_whole version) (omega (arith, shallow_list ds)) }
 publication_can_be_sent uri None ds = record { shallow = omega (arith, shallow_list ds) }
 
@@ -24,22 +24,22 @@ shallow_edits : (es : List Edit) → items_depth (items_of (map edit_value es)) 
 shallow_edits [] = omega arith
 shallow_edits (e ∷ es) = omega (arith, shallow_edits es)
 
-pub edits_can_be_sent : (es : List Edit) → CanBeSent (edits_value es)
+pub edits_can_be_sent : (es : List Edit) → FitsInMessage (edits_value es)
 edits_can_be_sent es = record { shallow = omega (arith, shallow_edits es) }
 
-edits_of_can : (document_changes : Bool) (client : ClientFeatures) (uri : List ℕ) (version : ℤ) (es : List Edit) → client.accepts_document_changes ≡ document_changes → CanBeSent (workspace_edit client uri version es)
+edits_of_can : (document_changes : Bool) (client : ClientFeatures) (uri : List ℕ) (version : ℤ) (es : List Edit) → client.accepts_document_changes ≡ document_changes → FitsInMessage (workspace_edit client uri version es)
 edits_of_can true client uri version es is = rw is (record { shallow = rw (flat_whole version) (omega (arith, shallow_edits es)) })
 edits_of_can false client uri version es is = rw is (record { shallow = omega (arith, shallow_edits es) })
 
-pub workspace_edit_can_be_sent : (client : ClientFeatures) (uri : List ℕ) (version : ℤ) (es : List Edit) → CanBeSent (workspace_edit client uri version es)
+pub workspace_edit_can_be_sent : (client : ClientFeatures) (uri : List ℕ) (version : ℤ) (es : List Edit) → FitsInMessage (workspace_edit client uri version es)
 workspace_edit_can_be_sent client uri version es = edits_of_can client.accepts_document_changes client uri version es refl
 
 -- ---- actions
 
-pub one_can : (d : Data) → depth d ≤ 8 → CanBeSent (array (items_of (d ∷ [])))
+pub one_can : (d : Data) → depth d ≤ 8 → FitsInMessage (array (items_of (d ∷ [])))
 one_can d f = record { shallow = omega (arith, f) }
 
-pub two_can : (d e : Data) → depth d ≤ 8 → depth e ≤ 8 → CanBeSent (array (items_of (d ∷ e ∷ [])))
+pub two_can : (d e : Data) → depth d ≤ 8 → depth e ≤ 8 → FitsInMessage (array (items_of (d ∷ e ∷ [])))
 two_can d e f g = record { shallow = omega (arith, f, g) }
 
 shallow_edit : (document_changes : Bool) (client : ClientFeatures) (uri : List ℕ) (version : ℤ) (es : List Edit) → client.accepts_document_changes ≡ document_changes → depth (workspace_edit client uri version es) ≤ 7

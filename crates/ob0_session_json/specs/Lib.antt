@@ -1,3 +1,3 @@
-pub mod Made
+pub mod JsonViews
 pub mod Places
 pub mod Shapes

@@ -9,7 +9,7 @@ use Rattle.ob0_rpc.specs.Appending.{ReadsBack}
 -- States that the buffer has at least 192 bytes, and that the end of a location's text begins at the
 -- index 192: a comma, the member "uri" and the closing brace. The bytes before that index may be
 -- overwritten.
-pub record EndsInUri (uri buffer : List ℕ) : Type 0 where
+pub record EndsWithUriMember (uri buffer : List ℕ) : Type 0 where
   pub long_enough : 192 ≤ length buffer
   pub ends : drop 192 buffer
       ≡ 44 ∷ 34 ∷ (codes "uri" ++ 34 ∷ 58 ∷ (compact_text (string uri) ++ 125 ∷ []))

@@ -14,22 +14,22 @@ use Rattle.ob0_rpc.specs.declared.clients.ClientFeatures.{ClientFeatures}
 
 -- The value of `textDocumentSync`, {"change":2,"openClose":true}. The 2 means that the client sends
 -- changes of ranges.
-abbrev pub synchronisation : Data
-synchronisation =
+abbrev pub document_sync_options : Data
+document_sync_options =
     object (member (codes "change") (number (unsigned 2))
     (member (codes "openClose") (boolean true) no_members))
 
 -- Returns the value of `renameProvider`: {"prepareProvider":true} for a client that sends
 -- `prepareRename` before it requests a rename, otherwise true.
 abbrev pub rename_provider : Bool → Data
-rename_provider prepares =
-    if prepares
+rename_provider announces_prepare =
+    if announces_prepare
     then object (member (codes "prepareProvider") (boolean true) no_members)
     else boolean true
 
 -- The value of `codeActionProvider`, {"codeActionKinds":["refactor.inline"]}.
-abbrev pub action_provider : Data
-action_provider =
+abbrev pub code_action_options : Data
+code_action_options =
     object (member (codes "codeActionKinds")
     (array (item (text (codes "refactor.inline")) no_items)) no_members)
 
@@ -39,7 +39,7 @@ abbrev pub last_members : ClientFeatures → Members
 last_members client =
     member (codes "referencesProvider") (boolean true) (member (codes "renameProvider")
     (rename_provider client.prepares_renames)
-    (member (codes "textDocumentSync") synchronisation no_members))
+    (member (codes "textDocumentSync") document_sync_options no_members))
 
 -- Returns the members of the capabilities after "definitionProvider":
 -- "documentFormattingProvider":true,"hoverProvider":true, then "positionEncoding":"utf-8" if the
@@ -59,7 +59,7 @@ server_capabilities client =
     let members = member (codes "definitionProvider") (boolean true) (remaining_members client) in
     object
     (if client.accepts_literal_actions
-    then member (codes "codeActionProvider") action_provider members
+    then member (codes "codeActionProvider") code_action_options members
     else members)
 
 -- Returns the result of `initialize`, {"capabilities":{..}}.
@@ -83,8 +83,8 @@ location_value uri range =
     object (member (codes "range") range (member (codes "uri") (text uri) no_members))
 
 -- Returns the JSON value of the location with this uri and this range.
-abbrev pub location_in : List ℕ → Range → Data
-location_in uri range = location_value uri (range_value range.start range.end)
+abbrev pub range_location : List ℕ → Range → Data
+range_location uri range = location_value uri (range_value range.start range.end)
 
 -- Returns the JSON value of a text that is displayed unchanged, {"kind":"plaintext","value":h}.
 abbrev pub plain_text : List ℕ → Data

@@ -1,10 +1,10 @@
 //! Writes the server's capabilities into the answer to `initialize`.
 ghost use Rattle.std.specs.Prelude.{IfOk, OnOk};
 ghost use Rattle.ob0_rpc.specs.Appending.{AppendsMembers};
-ghost use Rattle.ob0_rpc.specs.Seen.{id_data};
+ghost use Rattle.ob0_rpc.specs.MessageViews.{id_data};
 ghost use Rattle.ob0_rpc.specs.Shapes.{result_message};
 ghost use Rattle.ob0_rpc.specs.Writing.{Writes};
-ghost use Rattle.ob0_session_json.specs.Shapes.{action_provider, capabilities, remaining_members, last_members, rename_provider, server_capabilities, synchronisation};
+ghost use Rattle.ob0_session_json.specs.Shapes.{code_action_options, capabilities, remaining_members, last_members, rename_provider, server_capabilities, document_sync_options};
 
 use ob0_rpc::{
     ClientFeatures, Id, WriteJson, answer_text, end_object, write_first_member, write_next_member,
@@ -82,9 +82,9 @@ impl ServerCapabilities {
         ensures { OnOk result
             (AppendsMembers 44 (last_members self.now.client) out.old.items out.new.items) }
     {
-        let prepares = self.client.prepares_renames;
+        let announces_prepare = self.client.prepares_renames;
         write_next_member(out, "referencesProvider", &true)?;
-        write_next_member(out, "renameProvider", &RenameProvider { prepares })?;
+        write_next_member(out, "renameProvider", &RenameProvider { announces_prepare })?;
         write_next_member(out, "textDocumentSync", &TextDocumentSyncOptions {})?;
         end_object(out)
     }
@@ -95,7 +95,7 @@ impl ServerCapabilities {
 pub struct CodeActionOptions {}
 
 impl WriteJson for CodeActionOptions {
-    ghost value = { λ _. action_provider };
+    ghost value = { λ _. code_action_options };
 
     fn write(&self, out: &mut Vec<u8>) -> Result<(), AllocError> {
         let kinds = ["refactor.inline"];
@@ -107,14 +107,14 @@ impl WriteJson for CodeActionOptions {
 /// The value of `renameProvider`. It announces `prepareRename` if the client sends such requests.
 #[derive(Drop)]
 pub struct RenameProvider {
-    pub prepares: bool,
+    pub announces_prepare: bool,
 }
 
 impl WriteJson for RenameProvider {
-    ghost value = { λ p. rename_provider p.prepares };
+    ghost value = { λ p. rename_provider p.announces_prepare };
 
     fn write(&self, out: &mut Vec<u8>) -> Result<(), AllocError> {
-        if self.prepares {
+        if self.announces_prepare {
             write_first_member(out, "prepareProvider", &true)?;
             end_object(out)
         } else {
@@ -128,7 +128,7 @@ impl WriteJson for RenameProvider {
 pub struct TextDocumentSyncOptions {}
 
 impl WriteJson for TextDocumentSyncOptions {
-    ghost value = { λ _. synchronisation };
+    ghost value = { λ _. document_sync_options };
 
     fn write(&self, out: &mut Vec<u8>) -> Result<(), AllocError> {
         write_first_member(out, "change", &2u64)?;

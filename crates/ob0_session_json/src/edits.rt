@@ -1,5 +1,5 @@
 //! Writes edits of documents, and the code actions that apply them.
-ghost use Rattle.ob0_session_json.specs.Made.{code_action_view, workspace_edit_view};
+ghost use Rattle.ob0_session_json.specs.JsonViews.{code_action_view, workspace_edit_view};
 ghost use Rattle.ob0_session_json.specs.Shapes.{document_edit, versioned_document};
 
 use ob0_rpc::{

@@ -5,8 +5,8 @@ ghost use Rattle.serde_json.specs.View.{items_of};
 ghost use Rattle.serde_json.specs.Written.{compact_text};
 ghost use Rattle.ob0_rpc.specs.Appending.{AppendsEach, ReadsBack};
 ghost use Rattle.ob0_rpc.specs.Shapes.{range_value};
-ghost use Rattle.ob0_session_json.specs.Places.{EndsInUri};
-ghost use Rattle.ob0_session_json.specs.Shapes.{hover_value, location_in, plain_text};
+ghost use Rattle.ob0_session_json.specs.Places.{EndsWithUriMember};
+ghost use Rattle.ob0_session_json.specs.Shapes.{hover_value, range_location, plain_text};
 
 use ob0_rpc::{
     WriteJson, begin_list, end_list, end_object, write_first_member, write_next_member,
@@ -21,7 +21,7 @@ const PREFIX_CAPACITY: usize = 192;
 
 /// An estimate of the length in bytes of a location's text before its member `uri`. The estimate is
 /// used to reserve capacity for a list of locations.
-const TYPICAL_PREFIX: usize = 96;
+const TYPICAL_PREFIX_LENGTH: usize = 96;
 
 /// A location: a range of the document with this uri.
 #[derive(Drop)]
@@ -31,7 +31,7 @@ pub struct Location<'a> {
 }
 
 impl<'a> WriteJson for Location<'a> {
-    ghost value = { λ l. location_in l.uri.now l.range };
+    ghost value = { λ l. range_location l.uri.now l.range };
 
     fn write(&self, out: &mut Vec<u8>) -> Result<(), AllocError> {
         write_first_member(out, "range", &self.range)?;
@@ -48,7 +48,7 @@ pub struct Locations<'a> {
 }
 
 impl<'a> WriteJson for Locations<'a> {
-    ghost value = { λ l. array (items_of (map (location_in l.uri.now) l.ranges.now)) };
+    ghost value = { λ l. array (items_of (map (range_location l.uri.now) l.ranges.now)) };
 
     fn write(&self, out: &mut Vec<u8>) -> Result<(), AllocError> {
         begin_list(out)?;
@@ -61,19 +61,19 @@ impl<'a> WriteJson for Locations<'a> {
 /// list.
 fn write_locations(out: &mut Vec<u8>, uri: &str, ranges: &[Range]) -> Result<(), AllocError>
     ensures { OnOk result
-        (AppendsEach false (map (location_in uri.now) ranges.now) out.old.items out.new.items) }
+        (AppendsEach false (map (range_location uri.now) ranges.now) out.old.items out.new.items) }
 {
     let alloc = *out.allocator();
     let mut text = location_buffer(alloc, uri)?;
-    let each = text.len() - PREFIX_CAPACITY + TYPICAL_PREFIX;
+    let each = text.len() - PREFIX_CAPACITY + TYPICAL_PREFIX_LENGTH;
     out.reserve(ranges.len().saturating_mul(each))?;
     let buffer = text.as_mut_slice();
-    let mut later = false;
+    let mut needs_comma = false;
     for range in ranges {
         let at = write_location_before(buffer, *range);
-        let from = if later { at } else { at + 1 };
+        let from = if needs_comma { at } else { at + 1 };
         out.extend_from_slice(&buffer[from..])?;
-        later = true;
+        needs_comma = true;
     }
     Ok(())
 }
@@ -82,7 +82,7 @@ fn write_locations(out: &mut Vec<u8>, uri: &str, ranges: &[Range]) -> Result<(),
 /// with 192 bytes of free space. After them, the buffer has the end of each location's text: a
 /// comma, the member `uri` and the closing brace.
 fn location_buffer(alloc: Global, uri: &str) -> Result<Vec<u8>, AllocError>
-    ensures { IfOk result (λ buffer. EndsInUri uri.now buffer.items) }
+    ensures { IfOk result (λ buffer. EndsWithUriMember uri.now buffer.items) }
 {
     let mut buffer = vec![in alloc; 0u8; PREFIX_CAPACITY]?;
     write_next_member(&mut buffer, "uri", &uri)?;

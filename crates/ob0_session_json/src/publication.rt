@@ -2,7 +2,7 @@
 ghost use Rattle.std.specs.Prelude.{IfOk, List, map};
 ghost use Rattle.ob0_rpc.specs.Writing.{Writes};
 ghost use Rattle.ob0_session_json.specs.Shapes.{Diagnostic as Reported, diagnostic_value, publication as published_as, publication_params};
-ghost use Rattle.ob0_session_json.specs.Made.{AreSameDiagnostics, diagnostic_view};
+ghost use Rattle.ob0_session_json.specs.JsonViews.{AreSameDiagnostics, diagnostic_view};
 
 use ob0_rpc::{WriteJson, end_object, notification_of, write_first_member, write_next_member};
 use ob0_text::Range;

@@ -1,6 +1,6 @@
 //! Writes the messages that refuse requests for edits.
 ghost use Rattle.std.specs.Prelude.{IfOk, codes};
-ghost use Rattle.ob0_rpc.specs.Seen.{id_data};
+ghost use Rattle.ob0_rpc.specs.MessageViews.{id_data};
 ghost use Rattle.ob0_rpc.specs.Writing.{Writes};
 ghost use Rattle.ob0_session_json.specs.Shapes.{edit_refusal};
 ghost use Rattle.ob0_text.specs.RefusalTexts.{refusal_text};

@@ -8,14 +8,14 @@ use Rattle.ob0_text.specs.declared.position_types.Unit.{Unit}
 use Rattle.ob0_rpc.specs.declared.clients.ClientFeatures.{ClientFeatures}
 use Rattle.ob0_rpc.specs.declared.incoming.RpcFault.{RpcFault}
 use Rattle.ob0_rpc.specs.declared.incoming.RpcFault.TheVariants.{NotJson, NotAMessage, UnknownMethod, BadParams, Memory}
-use Rattle.ob0_rpc.specs.Messages.{ReadsContent, MessageMeaning, not_json, not_a_message, meaning}
+use Rattle.ob0_rpc.specs.Messages.{ReadsContent, MessageMeaning, not_json, not_a_message, meaning_of_content}
 use Rattle.ob0_rpc.specs.Requesting.{ClientRequest}
-use Rattle.ob0_rpc.specs.Seen.{ReadsMessage, ReadsClientRequest}
+use Rattle.ob0_rpc.specs.MessageViews.{ReadsMessage, ReadsClientRequest}
 use Rattle.ob0_session_answers.specs.Diagnostics.{Publishes}
 use Rattle.ob0_session_documents.specs.DocumentRequests.{IsOutcomeOfRequest}
 use Rattle.ob0_session_documents.specs.declared.document_requests.RequestOutcome.{RequestOutcome}
 use Rattle.ob0_session_documents.specs.declared.document_requests.RequestOutcome.TheVariants.{Answered, OutOfStep, Unopened}
-use Rattle.ob0_session_server.specs.Seen.{Reacts, RepliesAboutDocument, RepliesForOutcome, SendsReply, message_of}
+use Rattle.ob0_session_server.specs.ReplyViews.{Reacts, RepliesAboutDocument, RepliesForOutcome, SendsReply, message_of}
 use Rattle.ob0_session_server.specs.Steps.{next_after, HasNotEnded, SessionSteps}
 use Rattle.ob0_session_server.specs.declared.session.Phase.{Phase}
 use Rattle.ob0_session_server.specs.declared.session.Phase.TheVariants.{Starting, Running, ShutDown, Ended, Failed}
@@ -23,7 +23,7 @@ use Rattle.ob0_session_server.specs.declared.session.Step.{Step}
 use Rattle.ob0_session_server.specs.declared.session.Next.TheVariants.{End}
 
 pub answered : (before : ServerState) (content : List ℕ) (json : Option Data) (m : MessageMeaning) (sent : Option (Vec ℕ Global)) (after : ServerState)
-    → ReadsContent content json → meaning json ≡ m → Reacts (react before m) sent after
+    → ReadsContent content json → meaning_of_content json ≡ m → Reacts (react before m) sent after
     → AnswersBeforeEnd before content (option_to_list (option_map (λ v. v.items) sent)) after
 answered before content json m sent after reads means h =
     let P : MessageMeaning → Type 0 = λ x. Reacts (react before x) sent after in

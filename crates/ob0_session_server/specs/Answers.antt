@@ -10,7 +10,7 @@ use Rattle.ob0_text.specs.declared.edits.Indent.{Indent}
 use Rattle.ob0_text.specs.declared.position_types.Range.{Range}
 use Rattle.ob0_rpc.specs.Requesting.{DocumentPlace, ClientRequest, initialize, shutdown, hover, definition, references, prepare_rename, rename, code_action, formatting, request_by_method}
 use Rattle.ob0_rpc.specs.Faults.{minus, error_code, error_text}
-use Rattle.ob0_rpc.specs.Messages.{ReadsContent, MessageMeaning, not_json, not_a_message, response, request, notice, meaning}
+use Rattle.ob0_rpc.specs.Messages.{ReadsContent, MessageMeaning, not_json, not_a_message, response, request, notice, meaning_of_content}
 use Rattle.ob0_rpc.specs.Notifications.{Notification, exits, opens, changes, closes, unreadable, other, notification_by_method}
 use Rattle.ob0_rpc.specs.Shapes.{result_message, error_message}
 use Rattle.ob0_rpc.specs.Writing.{Writes}
@@ -19,9 +19,9 @@ use Rattle.ob0_rpc.specs.declared.incoming.RpcFault.{RpcFault}
 use Rattle.ob0_rpc.specs.declared.incoming.RpcFault.TheVariants.{NotJson, NotAMessage}
 use Rattle.ob0_session_answers.specs.Actions.{RequestedActions, AnswersActions}
 use Rattle.ob0_session_server.specs.Units.{unit_for}
-use Rattle.ob0_session_answers.specs.Diagnostics.{Diagnoses}
+use Rattle.ob0_session_answers.specs.Diagnostics.{AreDiagnosticsOf}
 use Rattle.ob0_session_answers.specs.Formatted.{AnswersFormatting}
-use Rattle.ob0_session_answers.specs.Questions.{AnswersQuestion, NameQuestion, hover_asked, definition_asked, references_asked, renaming_asked}
+use Rattle.ob0_session_answers.specs.Questions.{AnswersQuestion, NameQuestion, hover_question, definition_question, references_question, prepare_rename_question}
 use Rattle.ob0_session_answers.specs.Renamed.{RequestedRename, AnswersRenaming}
 use Rattle.ob0_session_json.specs.Shapes.{Diagnostic, capabilities, edit_refusal, publication}
 use Rattle.ob0_session_server.specs.declared.session.Phase.{Phase}
@@ -66,10 +66,10 @@ pub data Reply : Type 0 where
   diagnoses : Unit → List ℕ → ℤ → List ℕ → Reply
   -- The edits that format a text, or a refusal to format it. Arguments: the unit of positions, the request's id, the
   -- indentation and the characters of the text.
-  lays_out : Unit → Data → Indent → List ℕ → Reply
+  formats_text : Unit → Data → Indent → List ℕ → Reply
   -- The answer to hover, definition, references or prepareRename. Arguments: the unit of positions, the request's id,
   -- the document and position, the question and the characters of the text.
-  answers_name : Unit → Data → DocumentPlace → NameQuestion → List ℕ → Reply
+  answers_question : Unit → Data → DocumentPlace → NameQuestion → List ℕ → Reply
   -- The edits that rename a declaration, or a refusal to rename it. Arguments: the unit of positions, the request and
   -- the characters of the text.
   renames : Unit → RequestedRename → List ℕ → Reply
@@ -86,10 +86,10 @@ abbrev pub AreContentsOfReply : Reply → List (List ℕ) → Type 0
 AreContentsOfReply nothing sent = sent ≡ []
 AreContentsOfReply (says message) sent = Sends message sent
 AreContentsOfReply (diagnoses unit uri version text) sent =
-    (ds : List Diagnostic) × Diagnoses unit text ds × Sends (publication uri (Some version) ds) sent
-AreContentsOfReply (lays_out unit id indent text) sent =
+    (ds : List Diagnostic) × AreDiagnosticsOf unit text ds × Sends (publication uri (Some version) ds) sent
+AreContentsOfReply (formats_text unit id indent text) sent =
     (message : Data) × AnswersFormatting unit id indent text message × Sends message sent
-AreContentsOfReply (answers_name unit id at question text) sent =
+AreContentsOfReply (answers_question unit id at question text) sent =
     (value : Data) × AnswersQuestion unit text at question value × Sends (result_message id value) sent
 AreContentsOfReply (renames unit requested text) sent =
     (message : Data) × AnswersRenaming unit requested text message × Sends message sent
@@ -99,23 +99,23 @@ AreContentsOfReply (offers_actions unit requested text) sent =
 -- The reaction to a message: the state of the session after the message, and the reply.
 pub record Reaction : Type 0 where
   pub after : ServerState
-  pub say : Reply
+  pub reply : Reply
 
 -- Returns the reaction that leaves the state unchanged and sends this reply.
-abbrev pub unchanged_with : ServerState → Reply → Reaction
-unchanged_with s say = record { after = s; say = say }
+abbrev pub reaction_without_change : ServerState → Reply → Reaction
+reaction_without_change s say = record { after = s; reply = say }
 
 -- Returns the reaction that moves the lifecycle to this phase and sends this reply.
-abbrev pub with_phase : Phase → ServerState → Reply → Reaction
-with_phase phase s say = record { after = record s { phase = phase }; say = say }
+abbrev pub reaction_with_phase : Phase → ServerState → Reply → Reaction
+reaction_with_phase phase s say = record { after = record s { phase = phase }; reply = say }
 
 -- Returns the reaction that replaces the open documents and sends this reply.
-abbrev pub with_documents : OpenDocuments → ServerState → Reply → Reaction
-with_documents held s say = record { after = record s { held = held }; say = say }
+abbrev pub reaction_with_documents : OpenDocuments → ServerState → Reply → Reaction
+reaction_with_documents held s say = record { after = record s { held = held }; reply = say }
 
 -- Returns the reaction that answers with this error code and text, and leaves the state unchanged.
 abbrev pub react_with_error : ServerState → Data → ℤ → List ℕ → Reaction
-react_with_error s id code said = unchanged_with s (says (error_message id code said))
+react_with_error s id code said = reaction_without_change s (says (error_message id code said))
 
 -- Returns the reaction that answers with the error for this fault, and leaves the state unchanged.
 abbrev pub react_with_fault : ServerState → Data → RpcFault → Reaction
@@ -125,22 +125,22 @@ react_with_fault s id fault = react_with_error s id (error_code fault) (error_te
 
 -- Returns the state right after `initialize` from a client with these capabilities. No document is
 -- open.
-abbrev pub begins : ClientFeatures → ServerState
-begins client = record { phase = Running; client = client; held = no_open_documents (unit_for client) }
+abbrev pub state_after_initialize : ClientFeatures → ServerState
+state_after_initialize client = record { phase = Running; client = client; held = no_open_documents (unit_for client) }
 
 -- Returns the reaction to a request about a document. If the document is open and in step, `say`
 -- makes the reply from the document's version and text. Otherwise the reply is a refusal.
 abbrev pub react_about_document : ServerState → Data → Option Document → (ℤ → List ℕ → Reply) → Reaction
-react_about_document s id (Some (InStep version text)) say = unchanged_with s (say version text)
-react_about_document s id (Some OutOfStep) say = unchanged_with s (says (edit_refusal id (codes "out of step")))
-react_about_document s id None say = unchanged_with s (says (edit_refusal id (codes "unopened")))
+react_about_document s id (Some (InStep version text)) say = reaction_without_change s (say version text)
+react_about_document s id (Some OutOfStep) say = reaction_without_change s (says (edit_refusal id (codes "out of step")))
+react_about_document s id None say = reaction_without_change s (says (edit_refusal id (codes "unopened")))
 
 -- Returns the reaction to hover, definition, references or prepareRename: a question about the name
 -- or field at a position.
 abbrev pub react_to_question : ServerState → Data → DocumentPlace → NameQuestion → Reaction
 react_to_question s id at question =
     react_about_document s id (document_at s.held at.uri)
-    (λ version. answers_name s.held.unit id at question)
+    (λ version. answers_question s.held.unit id at question)
 
 -- Returns the reaction to a request to rename the name or field at a position.
 abbrev pub react_to_rename : ServerState → Data → DocumentPlace → List ℕ → Reaction
@@ -163,18 +163,18 @@ react_to_actions s id uri range only =
 -- Returns the reaction to a request to format a document.
 abbrev pub react_to_formatting : ServerState → Data → List ℕ → Indent → Reaction
 react_to_formatting s id uri indent =
-    react_about_document s id (document_at s.held uri) (λ version. lays_out s.held.unit id indent)
+    react_about_document s id (document_at s.held uri) (λ version. formats_text s.held.unit id indent)
 
 -- Returns the reaction to a request that has been read. If the request couldn't be read, returns
 -- the reaction to that fault.
 abbrev pub react_to_known_request : ServerState → Data → Result ClientRequest RpcFault → Reaction
 react_to_known_request s id (Ok (initialize client)) =
-    record { after = begins client; say = says (result_message id (capabilities client)) }
-react_to_known_request s id (Ok shutdown) = with_phase ShutDown s (says (result_message id null))
-react_to_known_request s id (Ok (hover at)) = react_to_question s id at hover_asked
-react_to_known_request s id (Ok (definition at)) = react_to_question s id at definition_asked
-react_to_known_request s id (Ok (references at include)) = react_to_question s id at (references_asked include)
-react_to_known_request s id (Ok (prepare_rename at)) = react_to_question s id at renaming_asked
+    record { after = state_after_initialize client; reply = says (result_message id (capabilities client)) }
+react_to_known_request s id (Ok shutdown) = reaction_with_phase ShutDown s (says (result_message id null))
+react_to_known_request s id (Ok (hover at)) = react_to_question s id at hover_question
+react_to_known_request s id (Ok (definition at)) = react_to_question s id at definition_question
+react_to_known_request s id (Ok (references at include)) = react_to_question s id at (references_question include)
+react_to_known_request s id (Ok (prepare_rename at)) = react_to_question s id at prepare_rename_question
 react_to_known_request s id (Ok (rename at new)) = react_to_rename s id at new
 react_to_known_request s id (Ok (code_action uri range only)) = react_to_actions s id uri range only
 react_to_known_request s id (Ok (formatting uri indent)) = react_to_formatting s id uri indent
@@ -196,7 +196,7 @@ react_to_request Running s id method params =
     then react_with_error s id (minus 32600) (codes "already initialized")
     else react_to_method s id method params
 react_to_request ShutDown s id method params = react_with_error s id (minus 32600) (codes "shut down")
-react_to_request phase s id method params = unchanged_with s nothing
+react_to_request phase s id method params = reaction_without_change s nothing
 
 -- ---- the reactions to notifications
 
@@ -208,7 +208,7 @@ end_status phase = 1
 
 -- Returns the reaction to `exit`, which ends the session with the status for its phase.
 abbrev pub react_to_exit : ServerState → Reaction
-react_to_exit s = with_phase (Ended (end_status s.phase)) s nothing
+react_to_exit s = reaction_with_phase (Ended (end_status s.phase)) s nothing
 
 -- Returns the reply that publishes a document's diagnostics. Returns `nothing` if the document
 -- isn't open or is out of step.
@@ -221,7 +221,7 @@ publication_reply unit uri None = nothing
 -- document with this uri.
 abbrev pub react_with_publication : List ℕ → OpenDocuments → ServerState → Reaction
 react_with_publication uri held s =
-    with_documents held s (publication_reply held.unit uri (document_at held uri))
+    reaction_with_documents held s (publication_reply held.unit uri (document_at held uri))
 
 -- Returns the reaction to a notification that arrives while the session runs.
 abbrev pub apply_notification : ServerState → Notification → Reaction
@@ -232,18 +232,18 @@ apply_notification s (changes uri version all) =
     react_with_publication uri (documents_after_change s.held uri version all) s
 -- Closing an open document clears its diagnostics.
 apply_notification s (closes uri) =
-    with_documents (documents_after_close s.held uri) s
+    reaction_with_documents (documents_after_close s.held uri) s
     (if is_some (document_at s.held uri) then says (publication uri None []) else nothing)
-apply_notification s (unreadable (Some uri)) = with_documents (documents_after_loss s.held uri) s nothing
-apply_notification s (unreadable None) = unchanged_with s nothing
-apply_notification s other = unchanged_with s nothing
+apply_notification s (unreadable (Some uri)) = reaction_with_documents (documents_after_loss s.held uri) s nothing
+apply_notification s (unreadable None) = reaction_without_change s nothing
+apply_notification s other = reaction_without_change s nothing
 
 -- Returns the reaction to a notification in this phase. Unless the session runs, every notification except `exit` is
 -- ignored.
 abbrev pub react_to_notification : Phase → ServerState → List ℕ → Data → Reaction
 react_to_notification Running s method params = apply_notification s (notification_by_method method params)
 react_to_notification phase s method params =
-    if bytes_eq method (codes "exit") then react_to_exit s else unchanged_with s nothing
+    if bytes_eq method (codes "exit") then react_to_exit s else reaction_without_change s nothing
 
 -- ---- the replies to one content, and to a conversation of contents
 
@@ -251,7 +251,7 @@ react_to_notification phase s method params =
 abbrev pub react : ServerState → MessageMeaning → Reaction
 react s not_json = react_with_fault s null NotJson
 react s not_a_message = react_with_fault s null NotAMessage
-react s response = unchanged_with s nothing
+react s response = reaction_without_change s nothing
 react s (request id method params) = react_to_request s.phase s id method params
 react s (notice method params) = react_to_notification s.phase s method params
 
@@ -260,7 +260,7 @@ react s (notice method params) = react_to_notification s.phase s method params
 abbrev pub AnswersBeforeEnd : ServerState → List ℕ → List (List ℕ) → ServerState → Type 0
 AnswersBeforeEnd before content sent after =
     (json : Option Data) × ReadsContent content json
-    × (let r = react before (meaning json) in (after ≡ r.after) × AreContentsOfReply r.say sent)
+    × (let r = react before (meaning_of_content json) in (after ≡ r.after) × AreContentsOfReply r.reply sent)
 
 -- States that a server in this phase may answer this content with these messages. `after` is the
 -- server's next state. If the session has ended, nothing is sent and the state is unchanged. In the

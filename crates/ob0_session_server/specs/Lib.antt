@@ -1,4 +1,4 @@
 pub mod Answers
 pub mod Units
-pub mod Seen
+pub mod ReplyViews
 pub mod Steps

@@ -1,9 +1,9 @@
 //! Keeps the state of a session, and answers each message according to the session's phase
 //! (docs/PROTOCOL.md, Lifecycle).
 ghost use Rattle.std.specs.Prelude.{◌≡◌, ◌≢◌, Ok, IfOk, IfErr, map, option_map, string_bytes};
-ghost use Rattle.ob0_rpc.specs.Seen.{id_data};
+ghost use Rattle.ob0_rpc.specs.MessageViews.{id_data};
 ghost use Rattle.ob0_text.specs.OpenDocuments.{no_open_documents};
-ghost use Rattle.ob0_session_server.specs.Seen.{RepliesForOutcome, message_of as what_is_sent};
+ghost use Rattle.ob0_session_server.specs.ReplyViews.{RepliesForOutcome, message_of as spec_message_of};
 ghost use Rattle.ob0_session_server.specs.Units.{unit_for};
 
 use ob0_rpc::{
@@ -71,12 +71,12 @@ pub struct Session<T: TextStore> {
 
 impl<T: TextStore> Model for Session<T> {
     ghost use Rattle.std.specs.Coded.{codes};
-    ghost use Rattle.ob0_text.specs.OpenDocuments.{documents_code};
+    ghost use Rattle.ob0_text.specs.OpenDocuments.{coded_open_documents};
     ghost use Rattle.ob0_session_server.specs.Answers.{ServerState};
 
     ghost Value = { ServerState };
 
-    ghost coded = { Prim.hlevel (codes, documents_code) };
+    ghost coded = { Prim.hlevel (codes, coded_open_documents) };
 
     ghost view = { λ s. record { phase = s.phase; client = s.client; held = s.documents } };
 }
@@ -84,11 +84,11 @@ impl<T: TextStore> Model for Session<T> {
 impl<T: TextStore> Session<T> {
     ghost use Rattle.serde_json.specs.View.{view};
     ghost use Rattle.std.specs.Option.{option_to_list};
-    ghost use Rattle.ob0_session_server.specs.Answers.{start, begins, AnswersBeforeEnd, AreContentsOfReply, react_to_request, react_to_actions, react_to_question, react_to_rename, react_to_method, react_to_known_request, react_to_exit, react_to_notification, publication_reply, react_with_error, react_with_fault, apply_notification};
+    ghost use Rattle.ob0_session_server.specs.Answers.{start, state_after_initialize, AnswersBeforeEnd, AreContentsOfReply, react_to_request, react_to_actions, react_to_question, react_to_rename, react_to_method, react_to_known_request, react_to_exit, react_to_notification, publication_reply, react_with_error, react_with_fault, apply_notification};
     ghost use Rattle.ob0_rpc.specs.Notifications.{opens, changes, closes, notification_by_method};
-    ghost use Rattle.ob0_rpc.specs.Seen.{document_place_view, id_or_null, kinds_view, request_view, notification_view};
-    ghost use Rattle.ob0_session_answers.specs.Questions.{references_asked};
-    ghost use Rattle.ob0_session_server.specs.Seen.{Reacts, RepliesAboutDocument};
+    ghost use Rattle.ob0_rpc.specs.MessageViews.{document_place_view, id_or_null, kinds_view, request_view, notification_view};
+    ghost use Rattle.ob0_session_answers.specs.Questions.{references_question};
+    ghost use Rattle.ob0_session_server.specs.ReplyViews.{Reacts, RepliesAboutDocument};
     ghost use Rattle.ob0_session_server.specs.Steps.{SessionSteps, SessionFails, next_after};
     ghost use Rattle.std.specs.Str.{chars};
     ghost use Rattle.ob0_text.specs.OpenDocuments.{text_change_of, document_at};
@@ -139,7 +139,7 @@ impl<T: TextStore> Session<T> {
                 });
             }
         }
-        match self.answer(content) {
+        match self.answer_content(content) {
             Ok(send) => Ok(Step {
                 send,
                 next: self.next(),
@@ -163,7 +163,7 @@ impl<T: TextStore> Session<T> {
     }
 
     /// Processes one content, and returns the messages to send in reply: one or none.
-    fn answer(&mut self, content: &[u8]) -> Result<Vec<Vec<u8>>, AllocError>
+    fn answer_content(&mut self, content: &[u8]) -> Result<Vec<Vec<u8>>, AllocError>
         ensures { IfOk result
             (λ sent. AnswersBeforeEnd self.old content.now (map (λ v. v.items) sent.items) self.new) }
     {
@@ -280,7 +280,7 @@ impl<T: TextStore> Session<T> {
     {
         match call {
             ClientRequest::Initialize(client) => {
-                self.begin(client);
+                self.begin_session(client);
                 Ok(Some(initialize_answer(self.alloc, id, client)?))
             }
             ClientRequest::Shutdown => {
@@ -289,11 +289,11 @@ impl<T: TextStore> Session<T> {
             }
             ClientRequest::Hover(place) => {
                 let request = HoverRequest { id, place: &place };
-                self.ask(id, place.uri.as_str(), &request)
+                self.reply_about_document(id, place.uri.as_str(), &request)
             }
             ClientRequest::Definition(place) => {
                 let request = DefinitionRequest { id, place: &place };
-                self.ask(id, place.uri.as_str(), &request)
+                self.reply_about_document(id, place.uri.as_str(), &request)
             }
             ClientRequest::References {
                 place,
@@ -301,7 +301,7 @@ impl<T: TextStore> Session<T> {
             } => self.reply_to_references(id, &place, include_declaration),
             ClientRequest::PrepareRename(place) => {
                 let request = PrepareRenameRequest { id, place: &place };
-                self.ask(id, place.uri.as_str(), &request)
+                self.reply_about_document(id, place.uri.as_str(), &request)
             }
             ClientRequest::Rename { place, new_name } => self.reply_to_rename(
                 id,
@@ -315,7 +315,7 @@ impl<T: TextStore> Session<T> {
                 &only,
             ),
             ClientRequest::Formatting { uri, indent } => {
-                self.ask(id, uri.as_str(), &FormattingRequest { id, indent })
+                self.reply_about_document(id, uri.as_str(), &FormattingRequest { id, indent })
             }
         }
     }
@@ -329,14 +329,14 @@ impl<T: TextStore> Session<T> {
     ) -> Result<Option<Vec<u8>>, AllocError>
         ensures { IfOk result (λ sent. Reacts
             (react_to_question self.old (id_data id.now) (document_place_view place.now)
-            (references_asked include_declaration)) sent self.new) }
+            (references_question include_declaration)) sent self.new) }
     {
         let request = ReferencesRequest {
             id,
             place,
             include_declaration,
         };
-        self.ask(id, place.uri.as_str(), &request)
+        self.reply_about_document(id, place.uri.as_str(), &request)
     }
 
     /// Answers a request to rename the name or field at a place.
@@ -355,7 +355,7 @@ impl<T: TextStore> Session<T> {
             place,
             new,
         };
-        self.ask(id, place.uri.as_str(), &request)
+        self.reply_about_document(id, place.uri.as_str(), &request)
     }
 
     /// Answers a request for the code actions in a range of a document.
@@ -377,12 +377,12 @@ impl<T: TextStore> Session<T> {
             range,
             only,
         };
-        self.ask(id, uri, &request)
+        self.reply_about_document(id, uri, &request)
     }
 
     /// Returns the answer to a request about the document with this uri. If the document isn't
     /// open, or its text isn't known (out of step), returns a refusal.
-    fn ask<Q: DocumentRequest<T>>(
+    fn reply_about_document<Q: DocumentRequest<T>>(
         &mut self,
         id: &Id,
         uri: &str,
@@ -391,13 +391,13 @@ impl<T: TextStore> Session<T> {
         ensures { IfOk result (λ sent. RepliesAboutDocument (Q.answers request.now) self.old
             (id_data id.now) uri.now sent self.new) }
     {
-        let outcome = self.documents.ask(uri, request)?;
+        let outcome = self.documents.answer_request(uri, request)?;
         reply_for_outcome(self.alloc, id, outcome)
     }
 
     /// Starts the session for a client with these capabilities. No document is open then.
-    fn begin(&mut self, client: ClientFeatures)
-        ensures { self.new ≡ begins client }
+    fn begin_session(&mut self, client: ClientFeatures)
+        ensures { self.new ≡ state_after_initialize client }
     {
         self.phase = Phase::Running;
         self.client = client;
@@ -419,7 +419,7 @@ impl<T: TextStore> Session<T> {
             return self.apply_by_method(method, params);
         }
         if method == "exit" {
-            self.end();
+            self.end_session();
         }
         Ok(None)
     }
@@ -441,7 +441,7 @@ impl<T: TextStore> Session<T> {
     }
 
     /// Ends the session because of `exit`. The exit status is 0 after `shutdown`, otherwise 1.
-    fn end(&mut self)
+    fn end_session(&mut self)
         ensures { self.new ≡ (react_to_exit self.old).after }
     {
         self.phase = match self.phase {
@@ -461,10 +461,10 @@ impl<T: TextStore> Session<T> {
     {
         match note {
             ClientNotification::Exit => {
-                self.end();
+                self.end_session();
                 Ok(None)
             }
-            ClientNotification::Open { uri, version, text } => self.open(
+            ClientNotification::Open { uri, version, text } => self.open_and_publish(
                 uri.as_str(),
                 version,
                 text,
@@ -473,8 +473,8 @@ impl<T: TextStore> Session<T> {
                 uri,
                 version,
                 changes,
-            } => self.change(uri, version, changes),
-            ClientNotification::Close { uri } => self.close(uri.as_str()),
+            } => self.change_and_publish(uri, version, changes),
+            ClientNotification::Close { uri } => self.close_and_clear(uri.as_str()),
             ClientNotification::Unreadable { uri } => {
                 if let Some(uri) = uri {
                     self.documents.lose(uri.as_str());
@@ -486,18 +486,23 @@ impl<T: TextStore> Session<T> {
     }
 
     /// Opens a document, and returns the message that publishes the diagnostics of its text.
-    fn open(&mut self, uri: &str, version: i64, text: String) -> Result<Option<Vec<u8>>, AllocError>
+    fn open_and_publish(
+        &mut self,
+        uri: &str,
+        version: i64,
+        text: String,
+    ) -> Result<Option<Vec<u8>>, AllocError>
         ensures { IfOk result (λ sent. Reacts
             (apply_notification self.old (opens uri.now version (chars (string_bytes text)))) sent
             self.new) }
     {
         self.documents.did_open(uri, version, text)?;
-        self.publish(uri)
+        self.diagnostics_message(uri)
     }
 
     /// Applies changes to a document, and returns the message that publishes its diagnostics.
     /// Returns None if the document isn't open or is out of step after the changes.
-    fn change(
+    fn change_and_publish(
         &mut self,
         uri: String,
         version: i64,
@@ -507,12 +512,12 @@ impl<T: TextStore> Session<T> {
             (changes (string_bytes uri) version (map text_change_of all.items))) sent self.new) }
     {
         self.documents.did_change(uri.as_str(), version, all)?;
-        self.publish(uri.as_str())
+        self.diagnostics_message(uri.as_str())
     }
 
     /// Closes a document, and returns the message that clears its diagnostics. Returns None if the
     /// document wasn't open.
-    fn close(&mut self, uri: &str) -> Result<Option<Vec<u8>>, AllocError>
+    fn close_and_clear(&mut self, uri: &str) -> Result<Option<Vec<u8>>, AllocError>
         ensures { IfOk result
             (λ sent. Reacts (apply_notification self.old (closes uri.now)) sent self.new) }
     {
@@ -525,13 +530,13 @@ impl<T: TextStore> Session<T> {
 
     /// Returns the message that publishes a document's diagnostics, or None if the document isn't
     /// open or is out of step.
-    fn publish(&mut self, uri: &str) -> Result<Option<Vec<u8>>, AllocError>
+    fn diagnostics_message(&mut self, uri: &str) -> Result<Option<Vec<u8>>, AllocError>
         ensures same { self.new ≡ self.old }
         ensures says { IfOk result (λ sent. AreContentsOfReply
             (publication_reply self.old.held.unit uri.now (document_at self.old.held uri.now))
             (option_to_list (option_map (λ v. v.items) sent))) }
     {
-        let outcome = self.documents.ask(uri, &PublishRequest { uri })?;
+        let outcome = self.documents.answer_request(uri, &PublishRequest { uri })?;
         Ok(message_of(outcome))
     }
 }
@@ -554,7 +559,7 @@ fn reply_for_outcome(
 
 /// Returns the message of an outcome. Returns None if the document is out of step or isn't open.
 fn message_of(outcome: RequestOutcome) -> Option<Vec<u8>>
-    ensures { result ≡ what_is_sent outcome }
+    ensures { result ≡ spec_message_of outcome }
 {
     match outcome {
         RequestOutcome::Answered(message) => Some(message),

@@ -16,7 +16,7 @@ use std::alloc::{AllocError, Global};
 
 /// A question about a well-typed module.
 #[derive(Clone, Copy)]
-pub enum Asked {
+pub enum TestQuestion {
     /// No question: only the faults of the text are reported.
     Faults,
     /// The type of the declaration with this ordinal.
@@ -46,7 +46,7 @@ pub enum Asked {
 
 /// A text, a question about it, and the expected answer. If the text isn't a well-typed module, its
 /// faults are expected instead.
-pub type Row = (&'static str, Asked, &'static str);
+pub type QuestionCase = (&'static str, TestQuestion, &'static str);
 
 /// Builds a table of rows, each written `TEXT, ASKED => ANSWER;`, or `TEXT => FAULTS;`.
 macro_rules! rows {
@@ -82,7 +82,7 @@ pub const FIELDS: &str =
 pub const COUNTING: &str =
     "MODULE M;\nVAR n: INTEGER;\nBEGIN Read(n); REPEAT Write(n); n := n - 1 UNTIL n <= 0 END M.";
 
-impl Question for Asked {
+impl Question for TestQuestion {
     type Answer = String;
 
     ghost answers = { λ _ _ _. ⊤ };
@@ -99,25 +99,25 @@ fn push_answer(
     alloc: Global,
     out: &mut String,
     module: &WellTyped<'_>,
-    asked: Asked,
+    asked: TestQuestion,
 ) -> Result<(), AllocError> {
     match asked {
-        Asked::Faults => Ok(()),
-        Asked::TypeOf(declaration) => push_type(out, module, declaration),
-        Asked::Free(declaration, new) => push_capture(alloc, out, module, declaration, new),
-        Asked::Bound(declaration, new) => push_bound(alloc, out, module, declaration, new),
-        Asked::NameAt(offset) => push_name(alloc, out, module, offset),
-        Asked::Shown => push_all_shown(alloc, out, module),
-        Asked::Code => push_code(alloc, out, module),
-        Asked::Run(input, calls, turns) => push_run(alloc, out, module, input, calls, turns),
+        TestQuestion::Faults => Ok(()),
+        TestQuestion::TypeOf(declaration) => push_type(out, module, declaration),
+        TestQuestion::Free(declaration, new) => push_capture(alloc, out, module, declaration, new),
+        TestQuestion::Bound(declaration, new) => push_bound(alloc, out, module, declaration, new),
+        TestQuestion::NameAt(offset) => push_name(alloc, out, module, offset),
+        TestQuestion::Shown => push_all_shown(alloc, out, module),
+        TestQuestion::Code => push_code(alloc, out, module),
+        TestQuestion::Run(input, calls, turns) => push_run(alloc, out, module, input, calls, turns),
         edit => push_edited(alloc, out, module, edit),
     }
 }
 
 /// Returns the answer to a row's question, or the faults of the row's text. (A function that owns
 /// an analysis is expensive to prove at each of its steps, so this one only passes it on.)
-fn answer_for_row(alloc: Global, row: &Row, walk: Walk) -> Result<String, AllocError> {
-    let analysis = Analysis::of(alloc, row.0)?;
+fn answer_for_row(alloc: Global, row: &QuestionCase, walk: Walk) -> Result<String, AllocError> {
+    let analysis = Analysis::analyse_text(alloc, row.0)?;
     answer_or_faults(alloc, &analysis, &row.1, walk)
 }
 
@@ -125,7 +125,7 @@ fn answer_for_row(alloc: Global, row: &Row, walk: Walk) -> Result<String, AllocE
 fn answer_or_faults(
     alloc: Global,
     analysis: &Analysis,
-    asked: &Asked,
+    asked: &TestQuestion,
     walk: Walk,
 ) -> Result<String, AllocError> {
     if walk == Walk::RenamingInAnalysis {
@@ -139,7 +139,7 @@ fn answer_or_faults(
 
 /// Returns whether a row has its expected answer. If an allocation fails, returns whether
 /// allocations may fail (`Walk::Refused`).
-fn has_expected_answer(alloc: Global, row: &Row, walk: Walk) -> bool {
+fn has_expected_answer(alloc: Global, row: &QuestionCase, walk: Walk) -> bool {
     match answer_for_row(alloc, row, walk) {
         Ok(found) => found.as_str() == row.2,
         Err(_refused) => walk == Walk::Refused,
@@ -150,7 +150,7 @@ fn has_expected_answer(alloc: Global, row: &Row, walk: Walk) -> bool {
 /// mean that there is no such row.
 pub fn first_wrong(
     alloc: Global,
-    rows: &'static [Row],
+    rows: &'static [QuestionCase],
     walk: Walk,
 ) -> (&'static str, &'static str) {
     for row in rows {

@@ -1,8 +1,8 @@
 //! Tests the nodes that statements are lowered to. No contract distinguishes a fused node from the nodes that it
 //! replaces: without the fusion the program would only be slower.
 
-use crate::asking::Asked::Code;
-use crate::asking::{Row, Walk, first_wrong, rows};
+use crate::asking::TestQuestion::Code;
+use crate::asking::{QuestionCase, Walk, first_wrong, rows};
 use ob0_run::lower;
 use ob0_run_machine::code::{Instruction, Number, Truth};
 use ob0_types::WellTyped;
@@ -106,7 +106,7 @@ const FIELDS: &str = "MODULE M;\nVAR r: RECORD f, g: INTEGER END;\n\
 const CHAINS: &str = "MODULE M;\nVAR a, b, c: BOOLEAN;\n\
     BEGIN IF a & b & c THEN a := b END; IF a OR b OR c THEN WriteLn END; a := a & ~b & c END M.";
 
-static ROWS: &[Row] = rows![
+static ROWS: &[QuestionCase] = rows![
     LOOPS, Code => " While LessThanLiteral Increase While ComparedToVariable StoreVariable Increase \
         While ComparedToLiteral Increase";
     ELEMENTS, Code => " StoreConstant If RowToVariable StoreVariable If Unset StoreNumber";
@@ -114,7 +114,7 @@ static ROWS: &[Row] = rows![
     CHAINS, Code => " If All StoreTruth If Any other StoreTruth All";
 ];
 
-fn code_rows() -> &'static [Row] {
+fn code_rows() -> &'static [QuestionCase] {
     ROWS
 }
 

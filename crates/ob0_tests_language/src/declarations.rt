@@ -1,8 +1,8 @@
 //! Tests the types of declarations, and the conflicts of new names. A declaration is given by its
 //! ordinal: predeclared names have the ordinals 0 to 6, and the text's declarations follow.
 
-use crate::asking::Asked::{Bound, Free, TypeOf};
-use crate::asking::{Row, Walk, first_wrong, push_number, push_span, rows};
+use crate::asking::TestQuestion::{Bound, Free, TypeOf};
+use crate::asking::{QuestionCase, Walk, first_wrong, push_number, push_span, rows};
 use ob0_refs::{NameConflict, captures};
 use ob0_scope::resolve_renamed;
 use ob0_types::{ArrayShape, Parts, RecordShape, Shape, WellTyped};
@@ -102,7 +102,7 @@ const TYPES: &str =
 const NAMES: &str =
     "MODULE M;\nVAR x: INTEGER; y: INTEGER;\nPROCEDURE P; VAR z: INTEGER; BEGIN z := x END P;\nBEGIN P END M.";
 
-static ROWS: &[Row] = rows![
+static ROWS: &[QuestionCase] = rows![
     TYPES, TypeOf(0) => "INTEGER";
     TYPES, TypeOf(4) => "none";
     TYPES, TypeOf(7) => "INTEGER";

@@ -3,9 +3,9 @@
 ghost use Rattle.std.specs.Prelude.{◌≡◌};
 ghost use Rattle.std.specs.Str.{chars};
 
-use crate::asking::Asked::{self, InlineAll, InlineHere, LayOut, Rename};
+use crate::asking::TestQuestion::{self, InlineAll, InlineHere, LayOut, Rename};
 use crate::asking::{
-    BLOCKS, COUNTING, FIELDS, RECURSIVE, Row, Walk, at, faults_of, first_wrong, rows,
+    BLOCKS, COUNTING, FIELDS, QuestionCase, RECURSIVE, Walk, at, faults_of, first_wrong, rows,
 };
 use ob0_analysis::Analysis;
 use ob0_edits::rename_edits;
@@ -22,7 +22,7 @@ pub fn push_edited(
     alloc: Global,
     out: &mut String,
     module: &WellTyped<'_>,
-    asked: Asked,
+    asked: TestQuestion,
 ) -> Result<(), AllocError> {
     let store = Whole::from_str(alloc, module.resolved().tokens().text())?;
     let edits = edits_of(alloc, &store, module, asked);
@@ -35,7 +35,7 @@ fn edits_of<T: TextStore>(
     alloc: Global,
     store: &T,
     module: &WellTyped<'_>,
-    asked: Asked,
+    asked: TestQuestion,
 ) -> Result<Vec<Edit>, EditRefusal>
     requires { T.content store.now ≡ chars «module».now.module_read.source.text }
 {
@@ -69,7 +69,7 @@ fn apply_or_refuse(
 pub fn rename_or_faults(
     alloc: Global,
     analysis: &Analysis,
-    asked: Asked,
+    asked: TestQuestion,
 ) -> Result<String, AllocError> {
     let Rename(line, character, new) = asked else {
         return Ok(String::new(alloc));
@@ -93,7 +93,7 @@ const LOCAL: &str =
     "MODULE M;\nTYPE R = RECORD a: INTEGER END;\nVAR r: R;\nPROCEDURE P(VAR r: R; s: RECORD a: INTEGER END);\n\
     TYPE R = RECORD b, a: INTEGER END;\nVAR t: R;\nBEGIN r.a := s.a; t.a := t.b END P;\nBEGIN r.a := 1 END M.";
 
-static RENAMED: &[Row] = rows![
+static RENAMED: &[QuestionCase] = rows![
     RECURSIVE, Rename(2, 47, "G12") =>
         "MODULE M;\nPROCEDURE G12(n: INTEGER);\nBEGIN IF n > 0 THEN Write(n); G12(n - 1) END END G12;\n\
         BEGIN G12(2) END M.";
@@ -141,7 +141,7 @@ static RENAMED: &[Row] = rows![
         TYPE R = RECORD b, a: INTEGER END;\nVAR t: R;\nBEGIN r.a := s.b; t.a := t.b END P;\nBEGIN r.a := 1 END M.";
 ];
 
-fn rename_rows() -> &'static [Row] {
+fn rename_rows() -> &'static [QuestionCase] {
     RENAMED
 }
 
@@ -176,7 +176,7 @@ const DEEP: &str = "MODULE M; CONST c = -1; VAR x: INTEGER; BEGIN x := \
     ))))))))))))))))))))))))))))))))))))))))))))))))))\
     )))))))))))))))))))))))))))))))))))))))))))))))))) END M.";
 
-static INLINED: &[Row] = rows![
+static INLINED: &[QuestionCase] = rows![
     LEAST, InlineHere(3, 15) =>
         "MODULE M;\nCONST c = -2147483647 - 1;\nVAR x: INTEGER;\nBEGIN x := 0 + (-2147483647 - 1); Write(x) END M.";
     LEAST, InlineHere(1, 6) => "NoName";
@@ -215,7 +215,7 @@ fn constants_are_inlined(rt: HostRuntime) {
     assert!(rt; text.is_empty(), "{wanted} in {text}");
 }
 
-const TWO: Indent = Indent::Spaces(2);
+const TWO_SPACES: Indent = Indent::Spaces(2);
 
 /// Builds two rows for each text, written `TEXT, INDENT => FORMATTED;`. The second row states that
 /// formatting the formatted text changes nothing.
@@ -225,12 +225,12 @@ macro_rules! layouts {
     };
 }
 
-static LAID_OUT: &[Row] = layouts![
-    "MODULE M;VAR x:INTEGER;BEGIN x:=-1;IF x<0 THEN Write(x)(* a (* b *) c *)END;WriteLn END M.(* end *)", TWO =>
+static LAID_OUT: &[QuestionCase] = layouts![
+    "MODULE M;VAR x:INTEGER;BEGIN x:=-1;IF x<0 THEN Write(x)(* a (* b *) c *)END;WriteLn END M.(* end *)", TWO_SPACES =>
         "MODULE M;\nVAR\n  x: INTEGER;\nBEGIN\n  x := -1;\n  IF x < 0 THEN\n    Write(x) (* a (* b *) c *)\n  END;\
         \n  WriteLn\nEND M. (* end *)\n";
     " \r\n(* 😀 *)(* two *)\r\nMODULE M;VAR x:INTEGER;\r(* own line *)BEGIN x := (\r (* inside\r\
-        \n*) 1) (* behind *) ;\n\n(* before END *)END M.\n\n (* last *)", TWO =>
+        \n*) 1) (* behind *) ;\n\n(* before END *)END M.\n\n (* last *)", TWO_SPACES =>
         "(* 😀 *) (* two *)\nMODULE M;\nVAR\n  x: INTEGER;\n(* own line *)\nBEGIN\n  x := (\n  (* inside\r\
         \n*) 1) (* behind *) ;\n(* before END *)\nEND M.\n(* last *)\n";
     "MODULE M;CONST a=1;b=-a;TYPE T=RECORD x,y:INTEGER END;PROCEDURE P(VAR t:T;n:INTEGER);BEGIN t.x:=-n+t.y;WHILE \
@@ -238,13 +238,13 @@ static LAID_OUT: &[Row] = layouts![
         "MODULE M;\nCONST\n\ta = 1;\n\tb = -a;\nTYPE\n\tT = RECORD x, y: INTEGER END;\
         \n\tPROCEDURE P(VAR t: T; n: INTEGER);\n\tBEGIN\n\t\tt.x := -n + t.y;\n\t\tWHILE ~(n = 0) DO\
         \n\t\t\tP(t, n - 1)\n\t\tEND\n\tEND P;\nEND M.\n";
-    "MODULE M; BEGIN ; WriteLn; END M.", TWO =>
+    "MODULE M; BEGIN ; WriteLn; END M.", TWO_SPACES =>
         "MODULE M;\nBEGIN;\n  WriteLn;\nEND M.\n";
-    COUNTING, TWO =>
+    COUNTING, TWO_SPACES =>
         "MODULE M;\nVAR\n  n: INTEGER;\nBEGIN\n  Read(n);\n  REPEAT\n    Write(n);\n    n := n - 1\n  UNTIL n <= 0\
         \nEND M.\n";
     "MODULE M;VAR a:ARRAY 2 OF INTEGER;PROCEDURE A;PROCEDURE B();END B;BEGIN IF a[0]=1 THEN B() ELSIF a [1]=2 THEN \
-        ELSE B;WHILE TRUE DO END END END A;BEGIN A END M.", TWO =>
+        ELSE B;WHILE TRUE DO END END END A;BEGIN A END M.", TWO_SPACES =>
         "MODULE M;\nVAR\n  a: ARRAY 2 OF INTEGER;\n  PROCEDURE A;\n    PROCEDURE B();\n    END B;\n  BEGIN\
         \n    IF a[0] = 1 THEN\n      B()\n    ELSIF a[1] = 2 THEN\n    ELSE\n      B;\n      WHILE TRUE DO\
         \n      END\n    END\n  END A;\nBEGIN\n  A\nEND M.\n";

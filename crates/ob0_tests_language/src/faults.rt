@@ -1,14 +1,14 @@
 //! Tests the faults of example texts: the code, start and end of each, in text order. Also tests
 //! that a changed text has the faults of an analysis from scratch.
 
-use crate::asking::Asked::Faults;
-use crate::asking::{Row, Walk, at, faults_of, first_wrong, rows};
+use crate::asking::TestQuestion::Faults;
+use crate::asking::{QuestionCase, Walk, at, faults_of, first_wrong, rows};
 use ob0_analysis::Analysis;
 use ob0_text::{Range, TextStore, Whole};
 use std::alloc::{AllocError, Global};
 use std::process::Abort;
 
-static ROWS: &[Row] = rows![
+static ROWS: &[QuestionCase] = rows![
     "MODULE M; END M." => "";
     "MODULE M; VAR n: INTEGER; BEGIN Read(n); REPEAT Write(n); n := n - 1 UNTIL n <= 0 END M." => "";
     // Lexemes.
@@ -145,13 +145,13 @@ static CHANGES: &[(&str, u64, u64, &str)] = changes![
 
 /// Returns the faults of a text, from an analysis that reuses the analysis of the previous text.
 fn faults_after_change(alloc: Global, old: &str, new: &str) -> Result<String, AllocError> {
-    let analysis = Analysis::of(alloc, old)?.after(alloc, new)?;
+    let analysis = Analysis::analyse_text(alloc, old)?.reanalyse(alloc, new)?;
     faults_of(alloc, &analysis)
 }
 
 /// Returns the faults of a text that is analysed from scratch.
-fn faults_from_nothing(alloc: Global, text: &str) -> Result<String, AllocError> {
-    let analysis = Analysis::of(alloc, text)?;
+fn faults_from_scratch(alloc: Global, text: &str) -> Result<String, AllocError> {
+    let analysis = Analysis::analyse_text(alloc, text)?;
     faults_of(alloc, &analysis)
 }
 
@@ -159,7 +159,7 @@ fn faults_from_nothing(alloc: Global, text: &str) -> Result<String, AllocError> 
 /// analysis reuses the analysis of the text `old`.
 fn is_as_new(alloc: Global, old: &str, new: &str) -> Result<bool, AllocError> {
     let found = faults_after_change(alloc, old, new)?;
-    let wanted = faults_from_nothing(alloc, new)?;
+    let wanted = faults_from_scratch(alloc, new)?;
     Ok(found.as_str() == wanted.as_str())
 }
 
@@ -175,7 +175,7 @@ fn are_as_new(alloc: Global, row: &(&str, u64, u64, &str)) -> Result<bool, Alloc
 
 /// Returns the index, from 0, of the first change after which a text has other faults than an
 /// analysis from scratch finds. Returns None if there is no such change.
-fn first_unlike_new(alloc: Global, changes: &[(&str, u64, u64, &str)]) -> Option<usize> {
+fn first_wrong_change(alloc: Global, changes: &[(&str, u64, u64, &str)]) -> Option<usize> {
     for i in 0..changes.len() {
         if are_as_new(alloc, &changes[i]) != Ok(true) {
             return Some(i);
@@ -186,6 +186,6 @@ fn first_unlike_new(alloc: Global, changes: &[(&str, u64, u64, &str)]) -> Option
 
 #[test]
 fn a_changed_text_has_the_faults_of_a_new_one(rt: HostRuntime) {
-    let number = first_unlike_new(rt.alloc(), CHANGES);
+    let number = first_wrong_change(rt.alloc(), CHANGES);
     assert!(rt; number.is_none(), "change {number:?}");
 }

@@ -21,17 +21,17 @@ const TEXT: &str =
 
 /// The ordinals of the declarations to which the occurrences of the text are bound: INTEGER, x, c,
 /// x, c, Write and x.
-static BOUND: &[usize] = &[0, 8, 7, 8, 7, 5, 8];
+static EXPECTED_ORDINALS: &[usize] = &[0, 8, 7, 8, 7, 5, 8];
 
 /// Returns whether the names of the module are bound to their declarations and no fault is
 /// reported.
 fn is_bound(names: &Resolved<'_>) -> bool {
-    for occurrence in 0..BOUND.len() {
-        if names.declaration_of(occurrence) != Some(BOUND[occurrence]) {
+    for occurrence in 0..EXPECTED_ORDINALS.len() {
+        if names.declaration_of(occurrence) != Some(EXPECTED_ORDINALS[occurrence]) {
             return false;
         }
     }
-    names.declaration_of(BOUND.len()) == None
+    names.declaration_of(EXPECTED_ORDINALS.len()) == None
         && names.faults().is_empty()
         && names.tokens().text() == names.module().tokens().text()
 }

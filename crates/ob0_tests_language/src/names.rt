@@ -1,7 +1,9 @@
 //! Tests the answers about the names of example modules, and their hover texts.
 
-use crate::asking::Asked::{NameAt, Shown};
-use crate::asking::{FIELDS, RECURSIVE, Row, Walk, first_wrong, push_number, push_span, rows};
+use crate::asking::TestQuestion::{NameAt, Shown};
+use crate::asking::{
+    FIELDS, QuestionCase, RECURSIVE, Walk, first_wrong, push_number, push_span, rows,
+};
 use ob0_refs::{At, Hover, Of, at, definition, hover, references};
 use ob0_scan::Span;
 use ob0_types::WellTyped;
@@ -83,7 +85,7 @@ fn push_hover(out: &mut String, shown: &Hover, name: Span) -> Result<(), AllocEr
     out.push_str(shown.text.as_str())
 }
 
-static ROWS: &[Row] = rows![
+static ROWS: &[QuestionCase] = rows![
     RECURSIVE, NameAt(20) => "7 from 20-21, at 65-66 82-83 91-92, shown at 20-21: PROCEDURE F(n: INTEGER)";
     RECURSIVE, NameAt(21) => "7 from 20-21, at 65-66 82-83 91-92, shown at 20-21: PROCEDURE F(n: INTEGER)";
     RECURSIVE, NameAt(82) => "7 from 20-21, at 65-66 82-83 91-92, shown at 82-83: PROCEDURE F(n: INTEGER)";
@@ -176,12 +178,12 @@ const PARTS_SHOWN: &str =
     FIELD x: INTEGER | VAR v: RECORD with 1 fields | FIELD x: INTEGER | \
     PROCEDURE P(VAR p: RECORD with 3 fields; VAR q: RECORD with 3 fields) | ";
 
-static SHOWN: &[Row] = rows![
+static SHOWN: &[QuestionCase] = rows![
     KINDS, Shown => KINDS_SHOWN;
     PARTS, Shown => PARTS_SHOWN;
 ];
 
-fn shown_rows() -> &'static [Row] {
+fn shown_rows() -> &'static [QuestionCase] {
     SHOWN
 }
 

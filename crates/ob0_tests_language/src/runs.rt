@@ -1,7 +1,7 @@
 //! Tests the output of example modules, and how their runs end.
 
-use crate::asking::Asked::Run;
-use crate::asking::{BLOCKS, COUNTING, RECURSIVE, Row, Walk, first_wrong, rows};
+use crate::asking::TestQuestion::Run;
+use crate::asking::{BLOCKS, COUNTING, QuestionCase, RECURSIVE, Walk, first_wrong, rows};
 use ob0_run::{End, Item, run};
 use ob0_types::WellTyped;
 use std::alloc::{AllocError, Global};
@@ -108,7 +108,7 @@ const FIELDS: &str =
     Set(7, rs[1]); Write(rs[i].ps[j].y); Write(rs[1].p.y); Write(rs[i].ps[1].x); rs[0].ps[i] := r.ps[2]; \
     Write(rs[0].ps[1].y + rs[0].ps[1].x); Write(r.ps[3].x) END M.";
 
-static ROWS: &[Row] = rows![
+static ROWS: &[QuestionCase] = rows![
     "MODULE M; BEGIN Write(-7 DIV 3); Write((-7) DIV 3); Write((-7) MOD 3); Write(1 MOD 0) END M.",
         Run(&[], 64, 100_000) =>
         " -2 -3 2; Divisor";
@@ -156,7 +156,7 @@ static ROWS: &[Row] = rows![
     "MODULE M; VAR a: ARRAY 1 OF INTEGER; BEGIN a[0 - 1] := 1 END M.", Run(&[], 0, 0) => "; Index";
 ];
 
-fn run_rows() -> &'static [Row] {
+fn run_rows() -> &'static [QuestionCase] {
     ROWS
 }
 

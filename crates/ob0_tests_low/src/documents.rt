@@ -3,7 +3,7 @@
 
 use crate::cases::{Case, first_wrong};
 use crate::documents::Act::{Close, Lose, Note, Open};
-use crate::documents::Known::{Closed, InStep, OutOfStep};
+use crate::documents::ExpectedState::{Closed, InStep, OutOfStep};
 use crate::text::{ASSIGNED, range_of};
 use ob0_text::{Change, Documents, Held, Lines, ReplacedBytes, TextStore, Unit, Whole};
 use std::alloc::{AllocError, Global};
@@ -26,7 +26,7 @@ enum Act {
 
 /// The expected state of a document: in step with this version and text, out of step, or closed.
 #[derive(Clone, Copy)]
-enum Known {
+enum ExpectedState {
     InStep(i64, &'static str),
     OutOfStep,
     Closed,
@@ -34,28 +34,28 @@ enum Known {
 
 const OPENED: &str = "a\rb";
 
-/// Three changes of `OPENED` in one notification; `CHANGED_BY_THREE` is the result.
+/// Three changes of `OPENED` in one notification; `TEXT_AFTER_THREE_CHANGES` is the result.
 const THREE_CHANGES: &[ChangeRow] =
     rows![((1, 0), (1, 0), "\n"); ((1, 1), (1, 1), "\nc"); ((2, 0), (2, 1), "d");];
 
-const CHANGED_BY_THREE: &str = "a\r\nb\nd";
+const TEXT_AFTER_THREE_CHANGES: &str = "a\r\nb\nd";
 
 const TWO_CHANGES: &[ChangeRow] = &[((0, 9), (0, 10), "yz"), ((0, 4), (0, 4), "!")];
 
 /// The unit of positions, and actions on a document, each with the expected state of the document
 /// after the action.
-struct Row(Unit, &'static [(Act, Known)]);
+struct DocumentCase(Unit, &'static [(Act, ExpectedState)]);
 
-static ROWS: &[Row] = rows![
-    Row(Unit::Utf16, rows![
+static ROWS: &[DocumentCase] = rows![
+    DocumentCase(Unit::Utf16, rows![
         Open(1, ASSIGNED) => InStep(1, ASSIGNED);
         Note(2, TWO_CHANGES, Some((3, 9, 11))) => InStep(2, "(* !😀 *) yz := 1;");
     ]);
-    Row(Unit::Utf16, rows![
+    DocumentCase(Unit::Utf16, rows![
         Open(1, OPENED) => InStep(1, OPENED);
-        Note(2, THREE_CHANGES, Some((2, 1, 4))) => InStep(2, CHANGED_BY_THREE);
+        Note(2, THREE_CHANGES, Some((2, 1, 4))) => InStep(2, TEXT_AFTER_THREE_CHANGES);
     ]);
-    Row(Unit::Utf8, rows![
+    DocumentCase(Unit::Utf8, rows![
         Open(1, "a") => InStep(1, "a");
         Close(true) => Closed;
         Close(false) => Closed;
@@ -84,7 +84,7 @@ fn changes_of(alloc: Global, rows: &[ChangeRow]) -> Result<Vec<Change>, AllocErr
 }
 
 /// Returns whether a document has the expected state.
-fn is_known<T: TextStore>(documents: &Documents<T>, uri: &str, wanted: Known) -> bool {
+fn has_state<T: TextStore>(documents: &Documents<T>, uri: &str, wanted: ExpectedState) -> bool {
     match (documents.get(uri), wanted) {
         (Some(Held::InStep { version, text }), InStep(number, content)) => {
             version == number && text.as_str() == content
@@ -105,7 +105,7 @@ fn are_bytes(found: Option<ReplacedBytes>, wanted: Option<(usize, usize, usize)>
 }
 
 /// Performs an action, and returns whether its result is the expected one.
-fn does<T: TextStore>(
+fn perform_act<T: TextStore>(
     alloc: Global,
     documents: &mut Documents<T>,
     act: &Act,
@@ -127,13 +127,13 @@ fn does<T: TextStore>(
 
 /// Performs the actions one after another. Returns whether each has its expected result, and the
 /// document then has the expected state.
-fn do_all<T: TextStore>(
+fn perform_acts<T: TextStore>(
     alloc: Global,
     documents: &mut Documents<T>,
-    acts: &[(Act, Known)],
+    acts: &[(Act, ExpectedState)],
 ) -> Result<bool, AllocError> {
     for act in acts {
-        if !does(alloc, documents, &act.0)? || !is_known(documents, "u", act.1) {
+        if !perform_act(alloc, documents, &act.0)? || !has_state(documents, "u", act.1) {
             return Ok(false);
         }
     }
@@ -141,17 +141,23 @@ fn do_all<T: TextStore>(
 }
 
 /// Returns whether all actions of a row have their expected results, in the row's unit.
-fn are_done<T: TextStore>(alloc: Global, row: &Row) -> Result<bool, AllocError> {
+fn performs_as_expected<T: TextStore>(
+    alloc: Global,
+    row: &DocumentCase,
+) -> Result<bool, AllocError> {
     let mut documents: Documents<T> = Documents::new(alloc);
     if row.0 == Unit::Utf8 {
         documents.set_unit(Unit::Utf8);
     }
-    Ok(do_all(alloc, &mut documents, row.1)? && documents.unit() == row.0)
+    Ok(perform_acts(alloc, &mut documents, row.1)? && documents.unit() == row.0)
 }
 
-impl Case for Row {
+impl Case for DocumentCase {
     fn holds(&self, alloc: Global) -> Result<bool, AllocError> {
-        Ok(are_done::<Whole>(alloc, self)? && are_done::<Lines>(alloc, self)?)
+        Ok(
+            performs_as_expected::<Whole>(alloc, self)?
+                && performs_as_expected::<Lines>(alloc, self)?,
+        )
     }
 }
 
@@ -163,33 +169,33 @@ fn a_document_is_held_until_it_is_closed_or_lost(rt: HostRuntime) {
 
 /// Opens a document, and tries again if an allocation fails. Returns whether a failure left the
 /// document closed and the document is open in the end.
-fn opens(documents: &mut Documents<Lines>, uri: &str) -> bool {
+fn open_with_retry(documents: &mut Documents<Lines>, uri: &str) -> bool {
     if documents.did_open(uri, 1, OPENED).is_err() {
         if documents.get(uri).is_some() || documents.did_open(uri, 1, OPENED).is_err() {
             return false;
         }
     }
-    is_known(documents, uri, InStep(1, OPENED))
+    has_state(documents, uri, InStep(1, OPENED))
 }
 
 /// Changes a document. Returns whether the document is in step after a success, and out of step
 /// after a failure.
 fn changes(documents: &mut Documents<Lines>, uri: &str, note: &[Change]) -> bool {
     match documents.did_change(uri, 2, note) {
-        Ok(_bytes) => is_known(documents, uri, InStep(2, CHANGED_BY_THREE)),
-        Err(AllocError) => is_known(documents, uri, OutOfStep),
+        Ok(_bytes) => has_state(documents, uri, InStep(2, TEXT_AFTER_THREE_CHANGES)),
+        Err(AllocError) => has_state(documents, uri, OutOfStep),
     }
 }
 
 /// Opens two documents and changes one of them. Returns whether both have their expected states.
-fn are_held(alloc: Global) -> Result<bool, AllocError> {
+fn change_one_of_two(alloc: Global) -> Result<bool, AllocError> {
     let note = changes_of(alloc, THREE_CHANGES)?;
     let mut documents: Documents<Lines> = Documents::new(alloc);
     Ok(
-        opens(&mut documents, "u")
-            && opens(&mut documents, "v")
+        open_with_retry(&mut documents, "u")
+            && open_with_retry(&mut documents, "v")
             && changes(&mut documents, "u", note.as_slice())
-            && is_known(&documents, "v", InStep(1, OPENED)),
+            && has_state(&documents, "v", InStep(1, OPENED)),
     )
 }
 
@@ -207,8 +213,8 @@ fn is_text_left(alloc: Global) -> Result<bool, AllocError> {
 // allocation of the test itself fails, the test makes it again.)
 #[test]
 fn a_refused_note_leaves_its_document_alone_out_of_step(rt: HostRuntime) {
-    let held = are_held(rt.alloc());
-    assert!(rt; held == Ok(true) || held.is_err() && are_held(rt.alloc()) == Ok(true));
+    let held = change_one_of_two(rt.alloc());
+    assert!(rt; held == Ok(true) || held.is_err() && change_one_of_two(rt.alloc()) == Ok(true));
 }
 
 // `make test` runs this test once for each allocation, and lets that allocation fail.

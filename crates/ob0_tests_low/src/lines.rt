@@ -2,13 +2,13 @@
 //! in long lines.
 
 use crate::cases::{Case, first_wrong};
-use crate::lines::Row::{Changed, Cut, Long};
+use crate::lines::LinesCase::{Changed, Cut, Long};
 use crate::text::{at, range_of};
 use ob0_text::{Lines, Range, TextStore, Unit, Whole};
 use std::alloc::{AllocError, Global};
 use std::process::Abort;
 
-enum Row {
+enum LinesCase {
     /// A short text. Many changes are tried on it.
     Changed(&'static str),
     /// A text of long lines: with only ASCII, with other characters far to the right, or with a
@@ -18,7 +18,7 @@ enum Row {
     Cut(&'static str, &'static [&'static str]),
 }
 
-static CHANGED: &[Row] = rows![
+static CHANGED: &[LinesCase] = rows![
     Changed("");
     Changed("\r");
     Changed("\r\n");
@@ -29,7 +29,7 @@ static CHANGED: &[Row] = rows![
     Changed("\r\n\r\n");
 ];
 
-static KEPT: &[Row] = rows![
+static KEPT: &[LinesCase] = rows![
     Long("x := 0123456789 + 0123456789 + 0123456789 + 0123456789 + 0123456789 + 0123456789 + 0123456789 \
         + 0123456789 + 0123456789;\r\ny");
     Long("(* 0123456789 0123456789 0123456789 0123456789 0123456789 0123456789 0123456789 😀 0123456789 \
@@ -82,7 +82,7 @@ impl Stores {
         self.whole.replace(range, new)
     }
 
-    /// Replaces the two units from this line and column on, in both stores. Returns whether both
+    /// Replaces the two units that begin at this line and column, in both stores. Returns whether both
     /// stores have the same text and replaced the same bytes.
     fn change(&mut self, line: u64, column: u64) -> Result<bool, AllocError> {
         let range = range_of((line, column), (line, column.saturating_add(2)));
@@ -119,7 +119,7 @@ fn is_as_new(alloc: Global, lines: &Lines, unit: Unit) -> Result<bool, AllocErro
 
 /// Makes one change in both stores of a text. Returns whether both have the same text and places,
 /// and the store of lines has the lines of a new store.
-fn agree(
+fn agree_after_change(
     alloc: Global,
     text: &str,
     unit: Unit,
@@ -134,7 +134,7 @@ fn agree(
 /// Returns whether the stores agree after each of two separate changes, which begin in `line`. The
 /// change `wide` ends `further` lines later and counts in UTF-16 units. The change `narrow` ends in
 /// the same line and counts in bytes.
-fn agree_from(
+fn agree_after_two_changes(
     alloc: Global,
     text: &str,
     new: &str,
@@ -143,7 +143,10 @@ fn agree_from(
 ) -> Result<bool, AllocError> {
     let wide = range_of((line, 1), (line.saturating_add(further), further));
     let narrow = range_of((line, 0), (line, further));
-    Ok(agree(alloc, text, Unit::Utf16, wide, new)? && agree(alloc, text, Unit::Utf8, narrow, new)?)
+    Ok(
+        agree_after_change(alloc, text, Unit::Utf16, wide, new)?
+            && agree_after_change(alloc, text, Unit::Utf8, narrow, new)?,
+    )
 }
 
 /// Returns whether the stores agree after each of several separate changes. Each change begins in
@@ -151,7 +154,7 @@ fn agree_from(
 fn agree_after_changes(alloc: Global, text: &str, new: &str) -> Result<bool, AllocError> {
     for line in 0..4 {
         for further in 0..3 {
-            if !agree_from(alloc, text, new, line, further)? {
+            if !agree_after_two_changes(alloc, text, new, line, further)? {
                 return Ok(false);
             }
         }
@@ -159,11 +162,11 @@ fn agree_after_changes(alloc: Global, text: &str, new: &str) -> Result<bool, All
     Ok(true)
 }
 
-static PUT: &[&str] = &["", "\n", "\r", "\r\n", "é", "\n\r", "a\rb"];
+static NEW_TEXTS: &[&str] = &["", "\n", "\r", "\r\n", "é", "\n\r", "a\rb"];
 
-/// Returns whether the stores agree after changes with each of the new texts (`PUT`).
-fn agree_after_each(alloc: Global, text: &str) -> Result<bool, AllocError> {
-    for new in PUT {
+/// Returns whether the stores agree after changes with each of the new texts (`NEW_TEXTS`).
+fn agree_after_each_new_text(alloc: Global, text: &str) -> Result<bool, AllocError> {
+    for new in NEW_TEXTS {
         if !agree_after_changes(alloc, text, new)? {
             return Ok(false);
         }
@@ -202,10 +205,10 @@ fn has_lines(lines: &Lines, wanted: &[&str]) -> bool {
     lines.line(wanted.len()).is_none()
 }
 
-impl Case for Row {
+impl Case for LinesCase {
     fn holds(&self, alloc: Global) -> Result<bool, AllocError> {
         match self {
-            Changed(text) => agree_after_each(alloc, text),
+            Changed(text) => agree_after_each_new_text(alloc, text),
             Long(text) => Ok(
                 are_alike_far_in(alloc, text, Unit::Utf16)?
                     && are_alike_far_in(alloc, text, Unit::Utf8)?,

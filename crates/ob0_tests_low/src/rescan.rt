@@ -6,7 +6,7 @@ ghost use Rattle.ob0_scan.specs.Reused.{ReplacesRange};
 
 use crate::cases::{Case, first_wrong};
 use crate::rescan::Outcome::{Different, Read, Refused, Unscanned};
-use crate::rescan::Row::{Long, Short};
+use crate::rescan::RescanCase::{Long, Short};
 use ob0_scan::laws::new_middle_replaces_range;
 use ob0_scan::{
     Rescan, RescanInPlace, RescanRefusal, ScanRefusal, Tokens, rescan, rescan_in_place, scan,
@@ -31,7 +31,7 @@ enum Outcome {
 /// and the text behind the change.
 type Parts = (&'static str, &'static str, &'static str, &'static str);
 
-enum Row {
+enum RescanCase {
     Short(Parts, Outcome),
     /// The parts with 5,000 statements in front of them, and as many behind them.
     Long(Parts, Outcome),
@@ -66,7 +66,7 @@ fn outcome_in_place(
 ) -> Outcome {
     match (placed, scanned) {
         (Ok(found), Ok(tokens)) if are_same(&found.rescan.tokens, tokens) => {
-            Read(found.rescan.read, found.alike)
+            Read(found.rescan.read, found.same_kinds)
         }
         (Err(RescanRefusal::Faults(faults, old)), Err(ScanRefusal::Faults(others)))
             if old.text() == old_text && faults.as_slice() == others.as_slice() => { Refused }
@@ -183,14 +183,14 @@ fn change_long(alloc: Global, parts: &Parts) -> Result<Outcome, AllocError> {
 }
 
 /// Changes of a long text, in which few tokens are read again.
-static LONG: &[Row] = rows![
+static LONG: &[RescanCase] = rows![
     Long(("x := ", "1", "2", "; "), Read(1, true));
     Long(("x := ", "1", "(* one *) 1", "; "), Read(2, true));
     Long(("x := ", "1", "1 + 1", "; "), Read(3, false));
     Long(("x := ", "1", "", "; "), Read(0, false));
 ];
 
-static SHORT: &[Row] = rows![
+static SHORT: &[RescanCase] = rows![
     // A comment is opened at the front.
     Short(("", "", "(*", "MODULE M; END M."), Refused);
     Short(("", "", "(*", "x *)"), Read(1, false));
@@ -203,7 +203,7 @@ static SHORT: &[Row] = rows![
     Short(("x := ", "1", "", " + y"), Read(0, false));
 ];
 
-impl Case for Row {
+impl Case for RescanCase {
     fn holds(&self, alloc: Global) -> Result<bool, AllocError> {
         match self {
             Long(parts, outcome) => Ok(change_long(alloc, parts)? == *outcome),

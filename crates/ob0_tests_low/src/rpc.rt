@@ -2,8 +2,8 @@
 //! answers.
 
 use crate::cases::{Case, first_wrong};
-use crate::rpc::Asked::{Content, Notification, Request, Sent};
 use crate::rpc::Message::*;
+use crate::rpc::MessageSubject::{Content, Notification, Request, Sent};
 use crate::text::at;
 use ob0_rpc::{
     Call, ClientFeatures, Id, Incoming, Note, OneMemberObject, RpcFault, answer_text, error,
@@ -18,7 +18,7 @@ use std::process::Abort;
 /// message that is sent. The row also has the expected meaning in words. For a message that is
 /// sent, it has the expected content instead.
 #[derive(Clone, Copy)]
-enum Asked {
+enum MessageSubject {
     Content(&'static str),
     Request(&'static str, &'static str),
     Notification(&'static str, &'static str),
@@ -44,11 +44,11 @@ enum Message {
     NoteOfEachKind,
 }
 
-type Row = (Asked, &'static str);
+type MessageCase = (MessageSubject, &'static str);
 
 const PLACE: &str = r#"{"position":{"character":2,"line":1},"textDocument":{"uri":"u"}}"#;
 
-static ROWS: &[Row] = rows![
+static ROWS: &[MessageCase] = rows![
     Content("") => "not JSON";
     Content("{") => "not JSON";
     Content("[]") => "not a message";
@@ -159,7 +159,7 @@ fn word_of_message(message: &Incoming) -> &'static str {
 }
 
 /// Returns a client's capabilities, in words.
-fn said_of(client: Client) -> &'static str {
+fn client_in_words(client: Client) -> &'static str {
     let Client {
         counts_utf8: utf8,
         prepares_renames: renames,
@@ -174,7 +174,7 @@ fn said_of(client: Client) -> &'static str {
 }
 
 /// Returns a request for formatting with this indentation, in words.
-fn said_by(indent: Indent) -> &'static str {
+fn formatting_in_words(indent: Indent) -> &'static str {
     match indent {
         Indent::Tab => "layout by tabs",
         Indent::Spaces(1) => "layout by 1",
@@ -185,7 +185,7 @@ fn said_by(indent: Indent) -> &'static str {
 }
 
 /// Returns a request for code actions of these kinds, in words.
-fn said_of_kinds(only: &Option<Vec<String>>) -> &'static str {
+fn actions_in_words(only: &Option<Vec<String>>) -> &'static str {
     match only {
         None => "actions",
         Some(kinds) if kinds.len() == 2 => "actions of two kinds",
@@ -196,7 +196,7 @@ fn said_of_kinds(only: &Option<Vec<String>>) -> &'static str {
 /// Returns the meaning of a request, in a word.
 fn word_of(call: &Call) -> &'static str {
     match call {
-        Call::Initialize(client) => said_of(*client),
+        Call::Initialize(client) => client_in_words(*client),
         Call::Shutdown => "shutdown",
         Call::Hover(_place) => "hover",
         Call::Definition(_place) => "definition",
@@ -207,13 +207,13 @@ fn word_of(call: &Call) -> &'static str {
         Call::References { .. } => "references",
         Call::PrepareRename(_place) => "prepare a rename",
         Call::Rename { .. } => "rename",
-        Call::CodeAction { only, .. } => said_of_kinds(only),
-        Call::Formatting { indent, .. } => said_by(*indent),
+        Call::CodeAction { only, .. } => actions_in_words(only),
+        Call::Formatting { indent, .. } => formatting_in_words(*indent),
     }
 }
 
 /// Returns the meaning of a request with this method and these params, or its fault, in words.
-fn word_requested(alloc: Global, method: &str, params: &Value) -> &'static str {
+fn request_in_words(alloc: Global, method: &str, params: &Value) -> &'static str {
     match request(alloc, method, params) {
         Ok(call) => word_of(&call),
         Err(fault) => fault.text(),
@@ -234,7 +234,7 @@ fn word_of_note(note: &Note) -> &'static str {
 }
 
 /// Returns the meaning of a notification with this method and these params, or its fault, in words.
-fn word_noticed(alloc: Global, method: &str, params: Value) -> &'static str {
+fn notice_in_words(alloc: Global, method: &str, params: Value) -> &'static str {
     match notice(alloc, method, params) {
         Ok(note) => word_of_note(&note),
         Err(fault) => fault.text(),
@@ -244,7 +244,7 @@ fn word_noticed(alloc: Global, method: &str, params: Value) -> &'static str {
 /// Returns whether the notification with this method and these params has the expected meaning.
 fn is_noticed(alloc: Global, method: &str, params: &str, wanted: &str) -> bool {
     match Value::from_str(alloc, params) {
-        Ok(params) => word_noticed(alloc, method, params) == wanted,
+        Ok(params) => notice_in_words(alloc, method, params) == wanted,
         Err(_fault) => false,
     }
 }
@@ -252,7 +252,7 @@ fn is_noticed(alloc: Global, method: &str, params: &str, wanted: &str) -> bool {
 /// Returns whether the request with this method and these params has the expected meaning.
 fn is_requested(alloc: Global, method: &str, params: &str, wanted: &str) -> bool {
     match Value::from_str(alloc, params) {
-        Ok(params) => word_requested(alloc, method, &params) == wanted,
+        Ok(params) => request_in_words(alloc, method, &params) == wanted,
         Err(_fault) => false,
     }
 }
@@ -293,7 +293,7 @@ fn written(alloc: Global, message: Message) -> Result<Vec<u8>, AllocError> {
     }
 }
 
-impl Case for Row {
+impl Case for MessageCase {
     fn holds(&self, alloc: Global) -> Result<bool, AllocError> {
         match self.0 {
             Content(content) => Ok(kind_of(alloc, content) == self.1),

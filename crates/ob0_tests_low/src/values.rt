@@ -3,7 +3,7 @@
 use crate::cases::{Case, first_wrong};
 use crate::values::Computation::{Add, Multiply, Negate, Relate, SignOf};
 use ob0_language_values::Scalar::{Number, Truth};
-use ob0_language_values::scalar::{add, apply_sign, multiply, negate, relate};
+use ob0_language_values::scalar::{add, apply_relation, apply_sign, multiply, negate};
 use ob0_language_values::{OperatorFault, Scalar};
 use ob0_tree::AddOperator::{self, Or, Subtract};
 use ob0_tree::MultiplyOperator::{self, Divide, Modulo};
@@ -21,9 +21,9 @@ enum Computation {
     Negate(Scalar),
 }
 
-type Row = (Computation, Result<Scalar, OperatorFault>);
+type ComputationCase = (Computation, Result<Scalar, OperatorFault>);
 
-static ROWS: &[Row] = rows![
+static ROWS: &[ComputationCase] = rows![
     Multiply(Divide, -7, 3) => Ok(Number(-3));
     Multiply(Modulo, -7, 3) => Ok(Number(2));
     Multiply(Modulo, 1, 0) => Err(OperatorFault::Divisor);
@@ -39,19 +39,19 @@ static ROWS: &[Row] = rows![
 ];
 
 /// Returns the result of an operator on its operands.
-fn reckon(reckoned: Computation) -> Result<Scalar, OperatorFault> {
+fn compute(reckoned: Computation) -> Result<Scalar, OperatorFault> {
     match reckoned {
         Multiply(operator, left, right) => multiply(operator, Number(left), Number(right)),
         Add(operator, left, right) => add(operator, left, right),
-        Relate(relation, left, right) => relate(relation, left, right),
+        Relate(relation, left, right) => apply_relation(relation, left, right),
         SignOf(sign, number) => apply_sign(Some(sign), Number(number)),
         Negate(truth) => negate(truth),
     }
 }
 
-impl Case for Row {
+impl Case for ComputationCase {
     fn holds(&self, _alloc: Global) -> Result<bool, AllocError> {
-        Ok(reckon(self.0) == self.1)
+        Ok(compute(self.0) == self.1)
     }
 }
 

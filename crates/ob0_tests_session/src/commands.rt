@@ -82,7 +82,7 @@ static CALLS: &[(Call, u32, (u8, usize))] = &[
 
 /// Returns the index, from 0, of the first call that doesn't have its expected outcome. Returns
 /// None if all calls have it.
-fn first_astray(alloc: Global, calls: &[(Call, u32, (u8, usize))]) -> Option<usize> {
+fn first_wrong_call(alloc: Global, calls: &[(Call, u32, (u8, usize))]) -> Option<usize> {
     for i in 0..calls.len() {
         if outcome_of(alloc, calls[i].0, calls[i].1) != calls[i].2 {
             return Some(i);
@@ -93,7 +93,7 @@ fn first_astray(alloc: Global, calls: &[(Call, u32, (u8, usize))]) -> Option<usi
 
 #[test]
 fn commands_print_what_they_flush(rt: HostRuntime) {
-    let number = first_astray(rt.alloc(), CALLS);
+    let number = first_wrong_call(rt.alloc(), CALLS);
     assert!(rt; number.is_none(), "call {number:?}");
 }
 

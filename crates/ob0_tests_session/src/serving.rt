@@ -55,7 +55,7 @@ static ENDS: &[ServeEnd] = ends![
 /// The end of a conversation, with each device's recorded failure, and whether everything
 /// was flushed.
 #[derive(Clone, Copy)]
-struct Found {
+struct ConversationEnd {
     result: Result<u8, ServeFault>,
     read_failed: bool,
     write_failed: bool,
@@ -64,7 +64,7 @@ struct Found {
 
 /// Holds a conversation with a writer that has these counts, and returns how the conversation
 /// ended.
-fn converse(alloc: Global, end: &ServeEnd, count: &mut Count) -> Found {
+fn converse(alloc: Global, end: &ServeEnd, count: &mut Count) -> ConversationEnd {
     let mut reader = Noted::new(Source {
         bytes: &end.bytes[..end.len.min(end.bytes.len())],
         most: end.given,
@@ -72,7 +72,7 @@ fn converse(alloc: Global, end: &ServeEnd, count: &mut Count) -> Found {
     });
     let mut writer = Noted::new(Counter { count });
     let result = serve(alloc, &mut reader, &mut writer);
-    Found {
+    ConversationEnd {
         result,
         read_failed: reader.failed(),
         write_failed: writer.failed(),
@@ -82,7 +82,7 @@ fn converse(alloc: Global, end: &ServeEnd, count: &mut Count) -> Found {
 
 /// Returns whether everything was flushed, and each device recorded a failure exactly if the result
 /// says that the device failed.
-fn is_reported(found: Found) -> bool {
+fn is_reported(found: ConversationEnd) -> bool {
     found.read_failed == (found.result == Err(ServeFault::Read))
         && found.write_failed == (found.result == Err(ServeFault::Write))
         && found.flushed
@@ -113,7 +113,7 @@ fn needs_each_flush(alloc: Global, end: &ServeEnd) -> bool {
 
 /// Returns the index, from 0, of the first conversation that doesn't end as expected. Returns None
 /// if all do.
-fn first_astray(alloc: Global, ends: &[ServeEnd]) -> Option<usize> {
+fn first_wrong_conversation(alloc: Global, ends: &[ServeEnd]) -> Option<usize> {
     for i in 0..ends.len() {
         if !needs_each_flush(alloc, &ends[i]) {
             return Some(i);
@@ -124,7 +124,7 @@ fn first_astray(alloc: Global, ends: &[ServeEnd]) -> Option<usize> {
 
 #[test]
 fn each_piece_is_flushed_at_its_end(rt: HostRuntime) {
-    let number = first_astray(rt.alloc(), ENDS);
+    let number = first_wrong_conversation(rt.alloc(), ENDS);
     assert!(rt; number.is_none(), "conversation {number:?}");
 }
 

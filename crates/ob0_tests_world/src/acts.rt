@@ -75,7 +75,7 @@ pub enum StepsResult {
 
 /// Returns the common result of several steps, given the result of all steps but the last
 /// (`before`) and the result of the last step (`next`).
-pub fn join_ways(before: StepsResult, next: StepsResult) -> StepsResult {
+pub fn join_results(before: StepsResult, next: StepsResult) -> StepsResult {
     match (before, next) {
         (StepsResult::AsExpected, StepsResult::Ended) => StepsResult::Unexpected,
         (StepsResult::AsExpected, next) => next,
@@ -168,7 +168,7 @@ fn events_of(alloc: Global, moments: &[(Act, ShortReport)]) -> Result<Vec<Event>
 }
 
 /// Returns the events of a story. If an allocation fails, the events are made once more.
-pub fn events_again(alloc: Global, story: &Story) -> Result<Vec<Event>, AllocError> {
+pub fn events_with_retry(alloc: Global, story: &Story) -> Result<Vec<Event>, AllocError> {
     match events_of(alloc, story.moments) {
         Ok(events) => Ok(events),
         Err(AllocError) => events_of(alloc, story.moments),
@@ -176,7 +176,7 @@ pub fn events_again(alloc: Global, story: &Story) -> Result<Vec<Event>, AllocErr
 }
 
 /// Returns the short form of the report on an event.
-fn sight_of(seen: &Seen) -> ShortReport {
+fn short_report_of(seen: &Seen) -> ShortReport {
     match seen {
         Seen::Nothing => ShortReport::Nothing,
         Seen::Sent => ShortReport::Sent,
@@ -193,7 +193,7 @@ fn sight_of(seen: &Seen) -> ShortReport {
 
 /// Makes an event happen in a world. Returns whether the report is the expected one (`wanted`), or
 /// why the event failed.
-pub fn way_of_event<T: TextStore>(
+pub fn make_event<T: TextStore>(
     world: &mut World<T>,
     event: &Event,
     wanted: ShortReport,
@@ -202,7 +202,7 @@ pub fn way_of_event<T: TextStore>(
         return StepsResult::Unexpected;
     }
     match world.step(event) {
-        Ok(seen) if sight_of(&seen) == wanted => StepsResult::AsExpected,
+        Ok(seen) if short_report_of(&seen) == wanted => StepsResult::AsExpected,
         Ok(_seen) => StepsResult::Unexpected,
         Err(WorldFault::Memory) => StepsResult::Refused,
         Err(WorldFault::Ended) => StepsResult::Ended,

@@ -1,7 +1,7 @@
 //! Tests whole lists of events, step by step and by `play`, in both units of positions and over
 //! both text stores.
 
-use crate::acts::{StepsResult, Story, events_again, join_ways, way_of_event};
+use crate::acts::{StepsResult, Story, events_with_retry, join_results, make_event};
 use crate::stories::stories;
 use ob0_text::{Lines, TextStore, Unit, Whole};
 use ob0_world::{Applied, Event, Made, PlayFault, Played, World, WorldFault};
@@ -23,7 +23,7 @@ enum Manner {
 struct Outcome(StepsResult, u64, usize, usize);
 
 /// The outcome of a story that doesn't run as expected: its numbers say nothing.
-const NOTHING: Outcome = Outcome(StepsResult::Unexpected, 0, 0, 0);
+const UNEXPECTED_OUTCOME: Outcome = Outcome(StepsResult::Unexpected, 0, 0, 0);
 
 /// Returns whether the edits found are the first of the expected edits, in order.
 fn are_first_edits(found: &[Applied], wanted: &[(&str, &str)]) -> bool {
@@ -57,13 +57,13 @@ fn are_first_publications(found: &[Made], wanted: &[(i64, &str, bool)]) -> bool 
 }
 
 /// Returns the outcome of a story's first events if their edits and publications are the first of
-/// the expected ones. Otherwise returns `NOTHING`.
-fn outcome_of(story: &Story, way: StepsResult, steps: u64, played: &Played) -> Outcome {
+/// the expected ones. Otherwise returns `UNEXPECTED_OUTCOME`.
+fn outcome_of(story: &Story, result: StepsResult, steps: u64, played: &Played) -> Outcome {
     let are_edits = are_first_edits(played.applied.as_slice(), story.applied);
     if !are_edits || !are_first_publications(played.made.as_slice(), story.made) {
-        return NOTHING;
+        return UNEXPECTED_OUTCOME;
     }
-    Outcome(way, steps, played.applied.len(), played.made.len())
+    Outcome(result, steps, played.applied.len(), played.made.len())
 }
 
 /// Returns a world in which nothing has happened and positions are counted in this unit.
@@ -75,12 +75,12 @@ fn begin_world<T: TextStore>(alloc: Global, unit: Unit) -> Result<World<T>, Worl
 }
 
 /// Makes the events of a story in a world, and returns their common result.
-fn way_through<T: TextStore>(world: &mut World<T>, story: &Story, events: &[Event]) -> StepsResult {
-    let mut way = StepsResult::AsExpected;
+fn make_events<T: TextStore>(world: &mut World<T>, story: &Story, events: &[Event]) -> StepsResult {
+    let mut result = StepsResult::AsExpected;
     for i in 0..events.len().min(story.moments.len()) {
-        way = join_ways(way, way_of_event(world, &events[i], story.moments[i].1));
+        result = join_results(result, make_event(world, &events[i], story.moments[i].1));
     }
-    way
+    result
 }
 
 /// Makes a story's events one by one over a store of type `T`, and returns the outcome.
@@ -88,9 +88,9 @@ fn step_through<T: TextStore>(alloc: Global, story: &Story, events: &[Event]) ->
     let Ok(mut world) = begin_world::<T>(alloc, story.unit) else {
         return Outcome(StepsResult::Refused, 0, 0, 0);
     };
-    let way = way_through(&mut world, story, events);
+    let result = make_events(&mut world, story, events);
     let steps = world.steps();
-    outcome_of(story, way, steps, &world.into_played())
+    outcome_of(story, result, steps, &world.into_played())
 }
 
 /// Plays events by `play` over a store of lines, with positions in this unit.
@@ -112,20 +112,20 @@ fn play_through(alloc: Global, story: &Story, events: &[Event]) -> Outcome {
 /// Runs a story, and returns the outcome up to an event at which an allocation fails, or up to the
 /// story's end.
 fn run_story(alloc: Global, story: &Story, manner: Manner) -> Outcome {
-    match events_again(alloc, story) {
+    match events_with_retry(alloc, story) {
         Ok(events) => match manner {
             Manner::OverLines => step_through::<Lines>(alloc, story, events.as_slice()),
             Manner::OverWhole => step_through::<Whole>(alloc, story, events.as_slice()),
             Manner::Played => play_through(alloc, story, events.as_slice()),
         },
-        Err(AllocError) => NOTHING,
+        Err(AllocError) => UNEXPECTED_OUTCOME,
     }
 }
 
 /// Returns whether a story runs to its end and has all the expected results.
 fn ends_as_written(alloc: Global, story: &Story, manner: Manner) -> bool {
-    let Outcome(way, steps, applied, made) = run_story(alloc, story, manner);
-    way == StepsResult::AsExpected
+    let Outcome(result, steps, applied, made) = run_story(alloc, story, manner);
+    result == StepsResult::AsExpected
         && steps == story.moments.len() as u64
         && applied == story.applied.len()
         && made == story.made.len()
@@ -133,7 +133,7 @@ fn ends_as_written(alloc: Global, story: &Story, manner: Manner) -> bool {
 
 /// Returns whether a story runs as expected. If an allocation may fail, the story has to run as
 /// expected only up to that failure.
-fn goes_as_written(alloc: Global, story: &Story, may_fail: bool) -> bool {
+fn runs_as_expected(alloc: Global, story: &Story, may_fail: bool) -> bool {
     if may_fail {
         return run_story(alloc, story, Manner::OverLines).0 != StepsResult::Unexpected;
     }
@@ -143,9 +143,9 @@ fn goes_as_written(alloc: Global, story: &Story, may_fail: bool) -> bool {
 }
 
 /// Returns the name of the first story that doesn't run as expected, or the empty string if all do.
-fn first_astray(alloc: Global, may_fail: bool) -> &'static str {
+fn first_wrong_story(alloc: Global, may_fail: bool) -> &'static str {
     for story in stories() {
-        if !goes_as_written(alloc, story, may_fail) {
+        if !runs_as_expected(alloc, story, may_fail) {
             return story.name;
         }
     }
@@ -154,21 +154,21 @@ fn first_astray(alloc: Global, may_fail: bool) -> &'static str {
 
 #[test]
 fn worlds_play_as_written(rt: HostRuntime) {
-    let name = first_astray(rt.alloc(), false);
+    let name = first_wrong_story(rt.alloc(), false);
     assert!(rt; name.is_empty(), "{name}");
 }
 
 #[test]
 fn a_refused_event_ends_a_world(rt: HostRuntime) {
-    let name = first_astray(rt.alloc(), true);
+    let name = first_wrong_story(rt.alloc(), true);
     assert!(rt; name.is_empty(), "{name}");
 }
 
-/// Runs the first story, and returns the outcome. Returns `NOTHING` if there is no story.
+/// Runs the first story, and returns the outcome. Returns `UNEXPECTED_OUTCOME` if there is no story.
 fn run_first(alloc: Global, manner: Manner) -> Outcome {
     match stories().first() {
         Some(story) => run_story(alloc, story, manner),
-        None => NOTHING,
+        None => UNEXPECTED_OUTCOME,
     }
 }
 
@@ -177,14 +177,14 @@ fn run_first(alloc: Global, manner: Manner) -> Outcome {
 // failed.
 #[test]
 fn a_refused_event_leaves_what_was_played_before(rt: HostRuntime) {
-    let Outcome(way, steps, applied, made) = run_first(rt.alloc(), Manner::Played);
-    assert!(rt; way != StepsResult::Unexpected);
+    let Outcome(result, steps, applied, made) = run_first(rt.alloc(), Manner::Played);
+    assert!(rt; result != StepsResult::Unexpected);
     let _ = println!(rt; "played {steps} {applied} {made}");
 }
 
 #[test]
 fn a_refused_step_ends_what_was_played(rt: HostRuntime) {
-    let Outcome(way, steps, applied, made) = run_first(rt.alloc(), Manner::OverLines);
-    assert!(rt; way != StepsResult::Unexpected);
+    let Outcome(result, steps, applied, made) = run_first(rt.alloc(), Manner::OverLines);
+    assert!(rt; result != StepsResult::Unexpected);
     let _ = println!(rt; "played {steps} {applied} {made}");
 }

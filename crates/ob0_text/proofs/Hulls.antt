@@ -18,7 +18,7 @@ shorter_front n m xs ys less hx hy e =
     ∙ ap (take n) (take-append-drop m ys)
 
 pub rests : (a b : List ℕ) (r : ReplacedBytes) → IsChangedAt a b r → byte_len a - (r.from + r.removed) ≡ byte_len b - (r.from + r.added)
-rests a b r p = sym (length-drop (r.from + r.removed) (encode_utf8_all a)) ∙ ap length p.following ∙ length-drop (r.from + r.added) (encode_utf8_all b)
+rests a b r p = sym (length-drop (r.from + r.removed) (encode_utf8_all a)) ∙ ap length p.behind ∙ length-drop (r.from + r.added) (encode_utf8_all b)
 
 -- If h reaches from before both changes to `end`, a place of the middle text after both of them, h
 -- contains both changes.
@@ -45,9 +45,9 @@ around_both a b c r s h end p q before_r before_s left gone inside old_end new_e
           shorter_front h.from r.from A B before_r (omega (arith, p.inside_old)) (omega (arith, p.inside_new)) p.front
           ∙ shorter_front h.from s.from B C before_s (omega (arith, q.inside_old)) (omega (arith, q.inside_new)) q.front;
       following =
-          ap (λ n. drop n A) old_end ∙ sym (drop-drop k (r.from + r.removed) A) ∙ ap (drop k) p.following ∙ drop-drop k (r.from + r.added) B
+          ap (λ n. drop n A) old_end ∙ sym (drop-drop k (r.from + r.removed) A) ∙ ap (drop k) p.behind ∙ drop-drop k (r.from + r.added) B
           ∙ ap (λ n. drop n B) same
-          ∙ sym (drop-drop m (s.from + s.removed) B) ∙ ap (drop m) q.following ∙ drop-drop m (s.from + s.added) C ∙ ap (λ n. drop n C) (sym new_end);
+          ∙ sym (drop-drop m (s.from + s.removed) B) ∙ ap (drop m) q.behind ∙ drop-drop m (s.from + s.added) C ∙ ap (λ n. drop n C) (sym new_end);
     }
 
 -- The bytes before and after a replacement are unchanged.
@@ -92,7 +92,7 @@ all_changed old new r from removed added short_old short_new =
       short_old = short_old;
       short_new = short_new;
       front = ap (λ n. take n (encode_utf8_all old)) from ∙ ap (λ n. take n (encode_utf8_all new)) (sym from);
-      following = drop_all (r.from + r.removed) (encode_utf8_all old) (omega (arith, from, removed)) ∙ sym (drop_all (r.from + r.added) (encode_utf8_all new) (omega (arith, from, added)));
+      behind = drop_all (r.from + r.removed) (encode_utf8_all old) (omega (arith, from, removed)) ∙ sym (drop_all (r.from + r.added) (encode_utf8_all new) (omega (arith, from, added)));
     }
 
 -- Without any change, None covers the changes.

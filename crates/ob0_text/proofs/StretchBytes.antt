@@ -10,7 +10,7 @@ use Rattle.std.proofs.lemmas.List.Elements.{All-nil, All-cons, All-head, All-dro
 use Rattle.std.proofs.Math.Seq.{drop-append_seam}
 use Rattle.std.proofs.lemmas.Str.{encode_ascii, encodes-chars, length-encode}
 use Rattle.ob0_text.specs.Texts.{LF, CR, utf16_width, byte_len}
-use Rattle.ob0_text.specs.Stretches.{IsNotLineBreak, utf16_units_at, AreOfALine}
+use Rattle.ob0_text.specs.Stretches.{IsNotLineBreak, utf16_units_at, AreInOneLine}
 
 -- The units counted at the bytes of a character are its UTF-16 units.
 units_of_char : (c : ℕ) → sum_by utf16_units_at (encode_utf8 c) ≡ utf16_width c
@@ -44,17 +44,17 @@ chars_of_line (c ∷ cs) h =
     (chars_of_line cs (subst (All IsNotLineBreak) (drop-append_seam (encode_utf8 c) (encode_utf8_all cs)) (All-drop IsNotLineBreak (length (encode_utf8 c)) (encode_utf8 c ++ encode_utf8_all cs) h)))
 
 module _ (bs : List ℕ) (u : IsUtf8 bs) (h : All IsNotLineBreak bs) where
-  of_one : All IsNotLineBreak (chars bs)
-  of_one = chars_of_line (chars bs) (subst (All IsNotLineBreak) (sym (encodes-chars bs u)) h)
+  no_line_break : All IsNotLineBreak (chars bs)
+  no_line_break = chars_of_line (chars bs) (subst (All IsNotLineBreak) (sym (encodes-chars bs u)) h)
 
-  pub counted_in_utf16 : AreOfALine utf16_width (chars bs) (sum_by utf16_units_at bs)
+  pub counted_in_utf16 : AreInOneLine utf16_width (chars bs) (sum_by utf16_units_at bs)
   counted_in_utf16 = record {
-    of_one = of_one;
-    counted = sym (units_of_chars (chars bs)) ∙ ap (sum_by utf16_units_at) (encodes-chars bs u);
+    no_line_break = no_line_break;
+    width_sum = sym (units_of_chars (chars bs)) ∙ ap (sum_by utf16_units_at) (encodes-chars bs u);
   }
 
-  pub counted_in_bytes : AreOfALine len_utf8 (chars bs) (length bs)
+  pub counted_in_bytes : AreInOneLine len_utf8 (chars bs) (length bs)
   counted_in_bytes = record {
-    of_one = of_one;
-    counted = sym (bytes_of_chars (chars bs)) ∙ ap length (encodes-chars bs u);
+    no_line_break = no_line_break;
+    width_sum = sym (bytes_of_chars (chars bs)) ∙ ap length (encodes-chars bs u);
   }

@@ -4,7 +4,7 @@ use Rattle.std.specs.Prelude.{◌≡◌, ℕ, ◌+◌, ◌<◌, ◌≤◌, ◌^�
 use Rattle.std.specs.Option.{option_and_then}
 use Rattle.ob0_text.specs.declared.replaced_bytes.ReplacedBytes.{ReplacedBytes}
 use Rattle.ob0_text.specs.Texts.{byte_len}
-use Rattle.ob0_text.specs.OpenDocuments.{OpenDocuments, document_at, text_of}
+use Rattle.ob0_text.specs.OpenDocuments.{OpenDocuments, document_at, text_if_in_step}
 
 -- States that the new text differs from the old text only in the replaced bytes `r`. The bytes in
 -- front of `r` and behind `r` are the same in both texts. Both texts have fewer than 2^64 bytes.
@@ -14,7 +14,7 @@ pub record IsChangedAt (old new : List ℕ) (r : ReplacedBytes) : Type 0 where
   pub short_old : byte_len old < 2 ^ 64
   pub short_new : byte_len new < 2 ^ 64
   pub front : take r.from (encode_utf8_all old) ≡ take r.from (encode_utf8_all new)
-  pub following : drop (r.from + r.removed) (encode_utf8_all old)
+  pub behind : drop (r.from + r.removed) (encode_utf8_all old)
       ≡ drop (r.from + r.added) (encode_utf8_all new)
 
 -- States that the replaced bytes (third argument) contain every change from the old text (first
@@ -29,4 +29,4 @@ CoversAllChanges (Some old) new (Some r) =
 -- Returns the text of the document with this uri, or None if the document isn't open or is out of
 -- step.
 abbrev pub text_at : OpenDocuments → List ℕ → Option (List ℕ)
-text_at m uri = option_and_then text_of (document_at m uri)
+text_at m uri = option_and_then text_if_in_step (document_at m uri)

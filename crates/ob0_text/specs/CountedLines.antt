@@ -11,4 +11,4 @@ use Rattle.ob0_text.specs.Units.{width_of}
 -- the number of its units.
 pub record AreLinesOf (text : List ℕ) (unit : Unit) (table : LineStartTable) (c : CountedPiece) : Type 0 where
   pub lines : HasLines text table
-  pub counted : IsPieceOfLine (width_of unit) text c.start c.counted
+  pub piece : IsPieceOfLine (width_of unit) text c.start c.end_and_units

@@ -13,7 +13,7 @@ use Rattle.std.specs.Prelude.{◌≡◌, ℕ, suc, ◌+◌, ◌-◌, ◌<◌, �
 use Rattle.std.specs.Str.{chars}
 use Rattle.std.specs.Coded.{Coded, code_by, coded×, coded_list, coded_ℕ}
 use Rattle.ob0_text.specs.declared.position_types.Unit.{Unit}
-use Rattle.ob0_text.specs.Units.{unit_code}
+use Rattle.ob0_text.specs.Units.{coded_position_unit}
 use Rattle.ob0_text.specs.Texts.{Line, lines, ends_line, byte_len}
 
 -- Returns a line's characters followed by its ending.
@@ -60,9 +60,9 @@ pub record TextInUnit : Type 0 where
   pub unit : Unit
 
 -- The encoding (`Coded`) of a text with its unit, which the model of the store `Lines` requires.
-abbrev pub text_code : Coded TextInUnit
-text_code =
-    code_by (List ℕ × Unit) (coded× (coded_list coded_ℕ) unit_code) (λ t. (t.text, t.unit))
+abbrev pub coded_text_in_unit : Coded TextInUnit
+coded_text_in_unit =
+    code_by (List ℕ × Unit) (coded× (coded_list coded_ℕ) coded_position_unit) (λ t. (t.text, t.unit))
     (λ p. record { text = p.0; unit = p.1 }) (λ t. refl)
 
 -- Returns the line starts that two lists store. `front` has the starts of the first lines. `back`

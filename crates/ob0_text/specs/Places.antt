@@ -1,16 +1,16 @@
 -- Defines the invariants of passes over a text: what a pass at a place knows about the rest of the
--- text. `IsCounted` says that the position of each later offset can be counted from the place.
--- `IsSought` says that the offset of the sought position, and of each later position, can be found
+-- text. `CanCountPositions` says that the position of each later offset can be counted from the place.
+-- `CanFindOffsets` says that the offset of the sought position, and of each later position, can be found
 -- in the rest. For each kind of step a lemma shows that the step preserves the invariant
 -- (`PositionSteps`, `PlaceSteps`). So stopping and resuming a pass needs no separate case. A pass
--- towards a position knows nothing about positions between CR and LF, so `IsSought` covers only
+-- towards a position knows nothing about positions between CR and LF, so `CanFindOffsets` covers only
 -- positions at or after the sought one.
 -- Rule: none; for private contracts of passes over a text.
 use Rattle.std.specs.Prelude.{◌≡◌, ℕ, ◌+◌, ◌-◌, ◌<◌, ◌≤◌, ◌⊎◌, if◌then◌else◌, ◌==◌, List, ◌++◌, length, drop}
 use Rattle.std.specs.Str.{IsUtf8, chars}
 use Rattle.ob0_text.specs.declared.passes.PlaceInText.{PlaceInText}
 use Rattle.ob0_text.specs.declared.position_types.Position.{Position}
-use Rattle.ob0_text.specs.Texts.{before, byte_len, position_of}
+use Rattle.ob0_text.specs.Texts.{text_before, byte_len, position_of}
 
 -- Returns the position with this line and character.
 abbrev pub at : ℕ → ℕ → Position
@@ -43,7 +43,7 @@ pub record IsRest (text rest : List ℕ) (offset : ℕ) : Type 0 where
 -- States that a pass at the place with this byte offset, line and character can count the position
 -- of each later offset. The pass counts in `rest`, the text after the place. The line and the
 -- character are at most the number of bytes before the place.
-pub record IsCounted (width : ℕ → ℕ) (text rest : List ℕ) (offset line character : ℕ) : Type 0 where
+pub record CanCountPositions (width : ℕ → ℕ) (text rest : List ℕ) (offset line character : ℕ) : Type 0 where
   pub rest_is : IsRest text rest offset
   pub lines_fit : line + length rest ≤ length text
   pub characters_fit : character + length rest ≤ length text
@@ -54,22 +54,22 @@ pub record IsCounted (width : ℕ → ℕ) (text rest : List ℕ) (offset line c
 
 -- States that the positions of all later offsets can be counted from the place `p`.
 abbrev pub CanCountFrom : (ℕ → ℕ) → List ℕ → PlaceInText → Type 0
-CanCountFrom width text p = IsCounted width text (drop p.offset text) p.offset p.line p.character
+CanCountFrom width text p = CanCountPositions width text (drop p.offset text) p.offset p.line p.character
 
 -- States that the place with this byte offset, line and character is at or before the position
 -- `sought`. The offsets of `sought` and of each later position can be found from this place in
 -- `rest`, the text after the place.
-pub record IsSought (width : ℕ → ℕ) (text : List ℕ) (sought : Position) (rest : List ℕ)
+pub record CanFindOffsets (width : ℕ → ℕ) (text : List ℕ) (sought : Position) (rest : List ℕ)
     (offset line character : ℕ) : Type 0 where
   pub rest_is : IsRest text rest offset
   pub not_past : IsAtOrAfter (at line character) sought
   pub same : (p : Position)
       → IsAtOrAfter sought p
-      → offset + byte_len (before width (chars rest) (relative_position line character p))
-      ≡ byte_len (before width (chars text) p)
+      → offset + byte_len (text_before width (chars rest) (relative_position line character p))
+      ≡ byte_len (text_before width (chars text) p)
 
 -- States that the place `p` is at or before the position `sought`, and that the offsets of `sought`
 -- and of each later position can be found from `p`.
 abbrev pub CanSeekFrom : (ℕ → ℕ) → List ℕ → Position → PlaceInText → Type 0
 CanSeekFrom width text sought p =
-    IsSought width text sought (drop p.offset text) p.offset p.line p.character
+    CanFindOffsets width text sought (drop p.offset text) p.offset p.line p.character

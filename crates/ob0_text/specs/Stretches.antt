@@ -19,9 +19,9 @@ utf16_units_at b =
 
 -- States that no character of the list is LF or CR, and that the widths of the characters add up to
 -- `units`.
-pub record AreOfALine (width : ℕ → ℕ) (cs : List ℕ) (units : ℕ) : Type 0 where
-  pub of_one : All IsNotLineBreak cs
-  pub counted : sum_by width cs ≡ units
+pub record AreInOneLine (width : ℕ → ℕ) (cs : List ℕ) (units : ℕ) : Type 0 where
+  pub no_line_break : All IsNotLineBreak cs
+  pub width_sum : sum_by width cs ≡ units
 
 -- States that `s` is a piece of one line: whole characters from the byte offset `from` to `s.end`,
 -- with `s.units` units. The piece may be empty.
@@ -29,7 +29,7 @@ pub record IsPieceOfLine (width : ℕ → ℕ) (text : List ℕ) (from : ℕ) (s
   pub ordered : from ≤ s.end
   pub inside : s.end ≤ length text
   pub whole : IsUtf8 (take (s.end - from) (drop from text))
-  pub of_a_line : AreOfALine width (chars (take (s.end - from) (drop from text))) s.units
+  pub in_one_line : AreInOneLine width (chars (take (s.end - from) (drop from text))) s.units
 
 -- States that `s` is a stretch: at least one whole character, all of one line, from the byte offset
 -- `from` to `s.end`, with `s.units` units.
@@ -37,4 +37,4 @@ pub record IsStretch (width : ℕ → ℕ) (text : List ℕ) (from : ℕ) (s : S
   pub further : from < s.end
   pub inside : s.end ≤ length text
   pub whole : IsUtf8 (take (s.end - from) (drop from text))
-  pub of_a_line : AreOfALine width (chars (take (s.end - from) (drop from text))) s.units
+  pub in_one_line : AreInOneLine width (chars (take (s.end - from) (drop from text))) s.units

@@ -25,5 +25,5 @@ utf8_if true = Utf8
 
 -- The encoding (`Coded`) of a unit as a boolean. The encodings of texts and documents are made from
 -- it.
-abbrev pub unit_code : Coded unit.Unit
-unit_code = code_by Bool coded_bool is_utf8 utf8_if (elim [ Utf16 ↦ refl | Utf8 ↦ refl ])
+abbrev pub coded_position_unit : Coded unit.Unit
+coded_position_unit = code_by Bool coded_bool is_utf8 utf8_if (elim [ Utf16 ↦ refl | Utf8 ↦ refl ])

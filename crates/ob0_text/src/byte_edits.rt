@@ -92,9 +92,9 @@ fn unsorted_cuts<'e, T: TextStore>(
         IfOk result (λ cuts. map stored_cut cuts.items
         ≡ map (cut_in_bytes text) (cuts_of (width_of (T.unit_of store.now)) text edits.now)) }
 {
-    let starts = starts(alloc, edits)?;
+    let starts = edit_starts(alloc, edits)?;
     let from = offsets_of_positions(alloc, store, starts)?;
-    let ends = ends(alloc, edits)?;
+    let ends = edit_ends(alloc, edits)?;
     let to = offsets_of_positions(alloc, store, ends)?;
     let mut cuts = Vec::new(alloc);
     for (i, edit) in edits.iter().enumerate() {
@@ -117,7 +117,7 @@ fn offsets_of_positions<T: TextStore>(
 }
 
 /// Returns the start of each edit's range, in the order of the edits.
-fn starts(alloc: Global, edits: &[Edit]) -> Result<Vec<Position>, AllocError>
+fn edit_starts(alloc: Global, edits: &[Edit]) -> Result<Vec<Position>, AllocError>
     ensures { IfOk result
         (λ positions. positions.items ≡ map (λ edit. edit.range.start) edits.now) }
 {
@@ -125,7 +125,7 @@ fn starts(alloc: Global, edits: &[Edit]) -> Result<Vec<Position>, AllocError>
 }
 
 /// Returns the end of each edit's range, in the order of the edits.
-fn ends(alloc: Global, edits: &[Edit]) -> Result<Vec<Position>, AllocError>
+fn edit_ends(alloc: Global, edits: &[Edit]) -> Result<Vec<Position>, AllocError>
     ensures { IfOk result (λ positions. positions.items ≡ map (λ edit. edit.range.end) edits.now) }
 {
     edits.iter().map(|edit| edit.range.end).collect(alloc)

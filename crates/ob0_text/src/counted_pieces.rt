@@ -19,21 +19,21 @@ use crate::position_types::Unit;
 use crate::stretches::{STRETCH_BYTES, Stretch, next_stretch, units_of};
 
 /// Consecutive characters of a line whose units have been counted. The characters begin at the byte
-/// offset `start`. `counted` has the byte offset of their end and the number of their units.
+/// offset `start`. `end_and_units` has the byte offset of their end and the number of their units.
 #[derive(Clone, Copy, Drop)]
 pub struct CountedPiece {
     pub start: usize,
-    pub counted: Stretch,
+    pub end_and_units: Stretch,
 }
 
 /// Returns an empty piece at the text's start. It is a piece of a line of every text.
 pub fn empty_counted_piece() -> CountedPiece
     ensures { (width : ℕ → ℕ) (text : List ℕ)
-        → IsPieceOfLine width text result.start result.counted }
+        → IsPieceOfLine width text result.start result.end_and_units }
 {
     CountedPiece {
         start: 0,
-        counted: Stretch { end: 0, units: 0 },
+        end_and_units: Stretch { end: 0, units: 0 },
     }
 }
 
@@ -43,11 +43,11 @@ impl CountedPiece {
     /// every text with the same first `offset` bytes.
     pub fn kept_if_before(self, offset: usize) -> CountedPiece
         ensures { (width : ℕ → ℕ) (text rest : List ℕ)
-            → IsPieceOfLine width text self.start self.counted
+            → IsPieceOfLine width text self.start self.end_and_units
             → offset ≤ length text
-            → IsPieceOfLine width (take offset text ++ rest) result.start result.counted }
+            → IsPieceOfLine width (take offset text ++ rest) result.start result.end_and_units }
     {
-        if self.counted.end > offset {
+        if self.end_and_units.end > offset {
             return empty_counted_piece();
         }
         self
@@ -59,12 +59,12 @@ impl CountedPiece {
 /// begins at `start`, only the difference between the two pieces is counted.
 pub fn count_up_to(text: &str, unit: Unit, start: usize, last: CountedPiece, units: u64) -> Stretch
     requires start { start ≤ length text.now }
-    requires last { IsPieceOfLine (width_of unit) text.now last.start last.counted }
+    requires last { IsPieceOfLine (width_of unit) text.now last.start last.end_and_units }
     ensures is { IsPieceOfLine (width_of unit) text.now start result }
     ensures fits { result.units ≤ units }
 {
     if last.start == start {
-        let shorter = shorten_to(text, unit, start, last.counted, units);
+        let shorter = shorten_to(text, unit, start, last.end_and_units, units);
         return extend_to(text, unit, start, shorter, units);
     }
     let nothing = Stretch {

@@ -52,7 +52,7 @@ pub fn offset_in(text: &str, table: &LineTable, unit: Unit, position: Position) 
 pub struct RangeOffsets {
     pub start: usize,
     pub end: usize,
-    pub counted: CountedPiece,
+    pub counted_piece: CountedPiece,
 }
 
 /// Returns the byte offsets of a range's start and end. The search for the start begins with
@@ -66,11 +66,11 @@ pub fn range_offsets(
     range: Range,
 ) -> RangeOffsets
     requires lines { HasLines text.now table.now }
-    requires last { IsPieceOfLine (width_of unit) text.now last.start last.counted }
+    requires last { IsPieceOfLine (width_of unit) text.now last.start last.end_and_units }
     ensures start { result.start ≡ offset_of (width_of unit) (chars text.now) range.start }
     ensures end { result.end ≡ offset_of (width_of unit) (chars text.now) range.end }
-    ensures counted { IsPieceOfLine (width_of unit) text.now result.counted.start
-        result.counted.counted }
+    ensures counted { IsPieceOfLine (width_of unit) text.now result.counted_piece.start
+        result.counted_piece.end_and_units }
 {
     let counted = counted_piece_before(text, table, unit, last, range.start);
     let start = place_after_counted(text, table, unit, counted, range.start);
@@ -82,7 +82,7 @@ pub fn range_offsets(
     RangeOffsets {
         start: start.offset,
         end: end.offset,
-        counted,
+        counted_piece: counted,
     }
 }
 
@@ -96,8 +96,8 @@ fn counted_piece_before(
     position: Position,
 ) -> CountedPiece
     requires lines { HasLines text.now table.now }
-    requires last { IsPieceOfLine (width_of unit) text.now last.start last.counted }
-    ensures { IsPieceOfLine (width_of unit) text.now result.start result.counted }
+    requires last { IsPieceOfLine (width_of unit) text.now last.start last.end_and_units }
+    ensures { IsPieceOfLine (width_of unit) text.now result.start result.end_and_units }
 {
     let start = line_start_place(table, position.line);
     if start.offset > text.len() {
@@ -105,7 +105,7 @@ fn counted_piece_before(
     }
     CountedPiece {
         start: start.offset,
-        counted: count_up_to(text, unit, start.offset, last, position.character),
+        end_and_units: count_up_to(text, unit, start.offset, last, position.character),
     }
 }
 
@@ -120,21 +120,21 @@ fn place_after_counted(
     position: Position,
 ) -> PlaceInText
     requires lines { HasLines text.now table.now }
-    requires counted { IsPieceOfLine (width_of unit) text.now counted.start counted.counted }
+    requires counted { IsPieceOfLine (width_of unit) text.now counted.start counted.end_and_units }
     ensures place { CanSeekFrom (width_of unit) text.now position result }
     ensures offset { result.offset ≡ offset_of (width_of unit) (chars text.now) position }
 {
     let start = line_start_place(table, position.line);
     if start.line != position.line
         || start.offset != counted.start
-        || counted.counted.units > position.character
+        || counted.end_and_units.units > position.character
     {
         return place_of_position(text, table, unit, position);
     }
     let near = PlaceInText {
-        offset: counted.counted.end,
+        offset: counted.end_and_units.end,
         line: start.line,
-        character: counted.counted.units,
+        character: counted.end_and_units.units,
     };
     advance_to_position(text, unit, near, position)
 }

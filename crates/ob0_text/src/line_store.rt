@@ -32,23 +32,23 @@ pub struct Lines {
     text: String,
     table: LineTable,
     unit: Unit,
-    counted: CountedPiece,
+    counted_piece: CountedPiece,
 }
 
 impl Model for Lines {
     ghost use Rattle.std.specs.Prelude.{string_bytes};
     ghost use Rattle.std.specs.Str.{chars};
     ghost use Rattle.ob0_text.specs.CountedLines.{AreLinesOf};
-    ghost use Rattle.ob0_text.specs.LineStarts.{TextInUnit, text_code};
+    ghost use Rattle.ob0_text.specs.LineStarts.{TextInUnit, coded_text_in_unit};
 
     ghost Value = { TextInUnit };
 
-    ghost coded = { text_code };
+    ghost coded = { coded_text_in_unit };
 
     ghost view = { λ lines. record { text = chars (string_bytes lines.text); unit = lines.unit } };
 
     ghost invariant = { λ lines. AreLinesOf (string_bytes lines.text) lines.unit lines.table
-        lines.counted };
+        lines.counted_piece };
 }
 
 impl Lines {
@@ -74,7 +74,7 @@ impl TextStore for Lines {
             text,
             table,
             unit,
-            counted: empty_counted_piece(),
+            counted_piece: empty_counted_piece(),
         })
     }
 
@@ -107,12 +107,12 @@ impl TextStore for Lines {
             self.text.as_str(),
             &self.table,
             self.unit,
-            self.counted,
+            self.counted_piece,
             range,
         );
         let (from, to) = (found.start.min(found.end), found.start.max(found.end));
         self.table.replace(&mut self.text, from, to, text)?;
-        self.counted = found.counted.kept_if_before(from);
+        self.counted_piece = found.counted_piece.kept_if_before(from);
         Ok(ReplacedBytes {
             from,
             removed: to - from,

@@ -12,7 +12,7 @@ ghost use Rattle.std.specs.List.{All};
 ghost use Rattle.std.specs.Str.{IsCharBoundary, chars};
 ghost use Rattle.ob0_text.specs.Texts.{LF, CR};
 ghost use Rattle.ob0_text.specs.Units.{width_of};
-ghost use Rattle.ob0_text.specs.Stretches.{IsNotLineBreak, utf16_units_at, AreOfALine, IsStretch};
+ghost use Rattle.ob0_text.specs.Stretches.{IsNotLineBreak, utf16_units_at, AreInOneLine, IsStretch};
 
 use crate::position_types::Unit;
 
@@ -48,7 +48,7 @@ pub fn next_stretch(text: &str, unit: Unit, from: usize, room: u64) -> Option<St
 /// Returns the number of units of a piece's characters, or None if one of them is LF or CR.
 pub(crate) fn units_of(piece: &str, unit: Unit) -> Option<u64>
     requires { length piece.now ≤ 64 }
-    ensures { IfSome result (λ units. AreOfALine (width_of unit) (chars piece.now) units) }
+    ensures { IfSome result (λ units. AreInOneLine (width_of unit) (chars piece.now) units) }
 {
     if has_line_break(piece.as_bytes()) {
         return None;

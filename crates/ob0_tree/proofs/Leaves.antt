@@ -6,28 +6,28 @@ use Rattle.std.proofs.lemmas.List.{map-append}
 use Rattle.ob0_scan.specs.declared.lexeme.TokenKind.{TokenKind}
 use Rattle.ob0_scan.specs.declared.lexeme.TokenKind.TheVariants as kind
 use Rattle.ob0_scan.specs.declared.lexeme.Token.{Token}
-use Rattle.ob0_tree.specs.Lexeme.{Terminal, Name, Number, Mark, EndOfText}
+use Rattle.ob0_tree.specs.Lexeme.{Terminal, Name, Number, WordOrSymbol, EndOfText}
 use Rattle.ob0_tree.specs.Places.{index_terminal, index_terminals_from}
 use Rattle.ob0_tree.specs.ParsedModule.{ParsedModule, IsParsed, tree_of}
 use Rattle.ob0_tree.proofs.Occurring.{looked_up_only, looked_up-occurrences}
-use Rattle.ob0_tree.specs.Order.{AreAscending, names_without_roles, leaves, identifier_index, identifier_indexes_from, AreIdentifierTokens}
+use Rattle.ob0_tree.specs.Order.{AreAscending, names_without_roles, identifier_names, identifier_index, identifier_indexes_from, AreIdentifierTokens}
 use Rattle.ob0_tree.specs.declared.tree.Role.{Role}
 use Rattle.ob0_tree.specs.declared.tree.Role.TheVariants as role
-use Rattle.ob0_tree.specs.Tree.{occurrences, Sort, Tree, spell, identifiers, none, one, end, more, compares, relates, sum, adds, product, multiplies, designator, integer, parenthesised, negation, field, index, empty, assigns, calls, branches, while_loop, repeat_loop, no_arguments, some_arguments, then_argument, runs, then_statement, elsif_branch, else_branch, listed, then_name, named_type, array_type, record_type, no_fields, some_fields, then_fields, no_formals, some_formals, value_section, variable_section, then_section, declares_constant, declares_constants, declares_type, declares_types, declares_variable, declares_variables, declares_procedure, declares, begins, has_body, is_module}
+use Rattle.ob0_tree.specs.Tree.{occurrences, Sort, Tree, spell, identifiers, none, one, end, more, compares, relates, sum, adds, product, multiplies, designator, integer, parenthesised, negation, field, index, empty, assigns, calls, branches, while_loop, repeat_loop, no_arguments, some_arguments, then_argument, runs, then_statement, elsif_branch, else_branch, listed, then_name, named_type, array_type, record_type, no_fields, some_fields, then_fields, no_formals, some_formals, value_section, variable_section, then_section, declares_constant, declares_constants, declares_type, declares_types, declares_variable, declares_variables, declares_procedure, declares, begins, forms_block, is_module}
 
 -- Returns the names among tokens, in order.
 abbrev pub lexeme_names : {N : Type 0} → List (Terminal N) → List N
 lexeme_names [] = []
 lexeme_names (Name n ∷ xs) = n ∷ lexeme_names xs
 lexeme_names (Number n ∷ xs) = lexeme_names xs
-lexeme_names (Mark k ∷ xs) = lexeme_names xs
+lexeme_names (WordOrSymbol k ∷ xs) = lexeme_names xs
 lexeme_names (EndOfText ∷ xs) = lexeme_names xs
 
 pub lexeme_names-append : {N : Type 0} (xs ys : List (Terminal N)) → lexeme_names (xs ++ ys) ≡ lexeme_names xs ++ lexeme_names ys
 lexeme_names-append [] ys = refl
 lexeme_names-append (Name n ∷ xs) ys = ap (λ z. n ∷ z) (lexeme_names-append xs ys)
 lexeme_names-append (Number n ∷ xs) ys = lexeme_names-append xs ys
-lexeme_names-append (Mark k ∷ xs) ys = lexeme_names-append xs ys
+lexeme_names-append (WordOrSymbol k ∷ xs) ys = lexeme_names-append xs ys
 lexeme_names-append (EndOfText ∷ xs) ys = lexeme_names-append xs ys
 
 -- The identifiers of a tree are the names that it spells, whatever the role of the names in a list
@@ -85,7 +85,7 @@ leaves_spelled r (declares_variables vs) = simp (leaves_spelled r vs)
 leaves_spelled r (declares_procedure name fs b closing) = simp (lexeme_names-append, map-append, leaves_spelled r fs, leaves_spelled r b)
 leaves_spelled r (declares cs ts vs ps) = simp (lexeme_names-append, map-append, leaves_spelled r cs, leaves_spelled r ts, leaves_spelled r vs, leaves_spelled r ps)
 leaves_spelled r (begins s) = simp (leaves_spelled r s)
-leaves_spelled r (has_body ds b) = simp (lexeme_names-append, map-append, leaves_spelled r ds, leaves_spelled r b)
+leaves_spelled r (forms_block ds b) = simp (lexeme_names-append, map-append, leaves_spelled r ds, leaves_spelled r b)
 leaves_spelled r (is_module name b closing) = simp (lexeme_names-append, map-append, leaves_spelled r b)
 
 names_from : (ts : List Token) (i : ℕ) → lexeme_names (index_terminals_from i ts) ≡ identifier_indexes_from i ts
@@ -98,7 +98,7 @@ names_from (t ∷ ts) i = name_first t.kind i (index_terminals_from (i + 1) ts) 
     name_first _ i xs = refl
 
 -- The identifiers of a module's tree are all identifiers of its text, in order.
-pub leaves_parsed : (m : ParsedModule) → IsParsed m → leaves (tree_of m) ≡ identifier_indexes_from 0 m.source.tokens
+pub leaves_parsed : (m : ParsedModule) → IsParsed m → identifier_names (tree_of m) ≡ identifier_indexes_from 0 m.source.tokens
 leaves_parsed m p =
     leaves_spelled role.Declaring (tree_of m)
     ∙ (sym (append-nil (lexeme_names (spell (tree_of m))))
@@ -129,7 +129,7 @@ identifiers_ascend (t ∷ ts) i =
     first _ i xs high p = ascending_lower i (i + 1) xs high (omega arith) p
 
 -- The identifiers of a module's tree ascend.
-pub leaves_ascend : (m : ParsedModule) → IsParsed m → AreAscending 0 (leaves (tree_of m)) (length m.source.tokens)
+pub leaves_ascend : (m : ParsedModule) → IsParsed m → AreAscending 0 (identifier_names (tree_of m)) (length m.source.tokens)
 leaves_ascend m p = subst (λ l. AreAscending 0 l (length m.source.tokens)) (sym (leaves_parsed m p)) (subst (λ n. AreAscending 0 (identifier_indexes_from 0 m.source.tokens) n) (zero-add (length m.source.tokens)) (identifiers_ascend m.source.tokens 0))
 
 after_front : (front back : List Token) (t d : Token) → slice_index_or (front ++ (t ∷ back)) (length front) d ≡ t
@@ -158,7 +158,7 @@ are_identifiers_from all front (t ∷ back) e i at =
     first all i t _ e within at_index xs p = p
 
 -- Each identifier of a module's tree is the index of an identifier token.
-pub leaves_are_identifiers : (m : ParsedModule) → IsParsed m → AreIdentifierTokens m.source.tokens (leaves (tree_of m))
+pub leaves_are_identifiers : (m : ParsedModule) → IsParsed m → AreIdentifierTokens m.source.tokens (identifier_names (tree_of m))
 leaves_are_identifiers m p =
     subst (AreIdentifierTokens m.source.tokens) (sym (leaves_parsed m p)) (are_identifiers_from m.source.tokens [] m.source.tokens refl 0 refl)
 
@@ -171,6 +171,6 @@ ascending_looked_up low ((role.FieldName, n) ∷ xs) high p = ascending_lower lo
 ascending_looked_up low ((role.ModuleName, n) ∷ xs) high p = ascending_lower low (n + 1) (looked_up_only xs) high (omega (arith, p.0)) (ascending_looked_up (n + 1) xs high p.1)
 
 -- If the identifiers of a tree ascend, the ones that are looked up ascend as well.
-pub occurrences_ascend : {s : Sort} (t : Tree ℕ s) (low high : ℕ) → AreAscending low (leaves t) high → AreAscending low (occurrences t) high
+pub occurrences_ascend : {s : Sort} (t : Tree ℕ s) (low high : ℕ) → AreAscending low (identifier_names t) high → AreAscending low (occurrences t) high
 occurrences_ascend t low high p =
     subst (λ l. AreAscending low l high) (looked_up-occurrences role.Declaring (λ n xs. refl) t) (ascending_looked_up low (identifiers role.Declaring t) high p)

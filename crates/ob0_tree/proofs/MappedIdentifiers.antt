@@ -3,9 +3,9 @@ use Rattle.std.proofs.Common.{◌≡◌, ℕ, List, [], ◌∷◌, ◌++◌, map
 use Rattle.std.proofs.lemmas.List.{map-append}
 use Rattle.ob0_tree.specs.declared.tree.Role.{Role}
 use Rattle.ob0_tree.specs.declared.tree.Role.TheVariants as role
-use Rattle.ob0_tree.specs.Lexeme.{EndOfText, Mark, Name, Number, Terminal, mapped_terminal}
-use Rattle.ob0_tree.specs.Order.{leaves}
-use Rattle.ob0_tree.specs.Tree.{Sort, Tree, identifiers, mapped, spell, adds, array_type, assigns, begins, branches, calls, compares, declares, declares_constant, declares_constants, declares_procedure, declares_type, declares_types, declares_variable, declares_variables, designator, else_branch, elsif_branch, empty, end, field, has_body, index, integer, is_module, listed, more, multiplies, named_type, negation, no_arguments, no_fields, no_formals, none, one, parenthesised, product, record_type, relates, repeat_loop, runs, some_arguments, some_fields, some_formals, sum, then_argument, then_fields, then_name, then_section, then_statement, value_section, variable_section, while_loop}
+use Rattle.ob0_tree.specs.Lexeme.{EndOfText, WordOrSymbol, Name, Number, Terminal, mapped_terminal}
+use Rattle.ob0_tree.specs.Order.{identifier_names}
+use Rattle.ob0_tree.specs.Tree.{Sort, Tree, identifiers, mapped_tree, spell, adds, array_type, assigns, begins, branches, calls, compares, declares, declares_constant, declares_constants, declares_procedure, declares_type, declares_types, declares_variable, declares_variables, designator, else_branch, elsif_branch, empty, end, field, forms_block, index, integer, is_module, listed, more, multiplies, named_type, negation, no_arguments, no_fields, no_formals, none, one, parenthesised, product, record_type, relates, repeat_loop, runs, some_arguments, some_fields, some_formals, sum, then_argument, then_fields, then_name, then_section, then_statement, value_section, variable_section, while_loop}
 use Rattle.ob0_tree.proofs.Leaves.{leaves_spelled, lexeme_names}
 use Rattle.ob0_tree.proofs.Mapped.{spell_mapped}
 
@@ -16,69 +16,69 @@ both p xs ys e h = (λ i. e i ++ h i) ∙ sym (map-append p xs ys)
 abbrev pub beside_role : {N M : Type 0} → (N → M) → Role × N → Role × M
 beside_role f x = (x.0, f x.1)
 
-pub identifiers-mapped : {N M : Type 0} {s : Sort} (f : N → M) (g : ℕ → ℕ) (r : Role) (t : Tree N s) → identifiers r (mapped f g t) ≡ map (beside_role f) (identifiers r t)
-identifiers-mapped f g r none = refl
-identifiers-mapped f g r (one a) = identifiers-mapped f g r a
-identifiers-mapped f g r end = refl
-identifiers-mapped f g r (more a b) = both (beside_role f) (identifiers r a) (identifiers r b) (identifiers-mapped f g r a) (identifiers-mapped f g r b)
-identifiers-mapped f g r (compares a b) = both (beside_role f) (identifiers r a) (identifiers r b) (identifiers-mapped f g r a) (identifiers-mapped f g r b)
-identifiers-mapped f g r (relates o b) = identifiers-mapped f g r b
-identifiers-mapped f g r (sum o b c) = both (beside_role f) (identifiers r b) (identifiers r c) (identifiers-mapped f g r b) (identifiers-mapped f g r c)
-identifiers-mapped f g r (adds o b) = identifiers-mapped f g r b
-identifiers-mapped f g r (product a b) = both (beside_role f) (identifiers r a) (identifiers r b) (identifiers-mapped f g r a) (identifiers-mapped f g r b)
-identifiers-mapped f g r (multiplies o b) = identifiers-mapped f g r b
-identifiers-mapped f g r (designator x b) = ap (λ z. (role.LookedUp, f x) ∷ z) (identifiers-mapped f g r b)
-identifiers-mapped f g r (integer n) = refl
-identifiers-mapped f g r (parenthesised a) = identifiers-mapped f g r a
-identifiers-mapped f g r (negation a) = identifiers-mapped f g r a
-identifiers-mapped f g r (field x) = refl
-identifiers-mapped f g r (index a) = identifiers-mapped f g r a
-identifiers-mapped f g r empty = refl
-identifiers-mapped f g r (assigns x b c) = ap (λ z. (role.LookedUp, f x) ∷ z) (both (beside_role f) (identifiers r b) (identifiers r c) (identifiers-mapped f g r b) (identifiers-mapped f g r c))
-identifiers-mapped f g r (calls x b) = ap (λ z. (role.LookedUp, f x) ∷ z) (identifiers-mapped f g r b)
-identifiers-mapped f g r (branches a b c d) = both (beside_role f) (identifiers r a) (identifiers r b ++ (identifiers r c ++ (identifiers r d))) (identifiers-mapped f g r a) (both (beside_role f) (identifiers r b) (identifiers r c ++ (identifiers r d)) (identifiers-mapped f g r b) (both (beside_role f) (identifiers r c) (identifiers r d) (identifiers-mapped f g r c) (identifiers-mapped f g r d)))
-identifiers-mapped f g r (while_loop a b) = both (beside_role f) (identifiers r a) (identifiers r b) (identifiers-mapped f g r a) (identifiers-mapped f g r b)
-identifiers-mapped f g r (repeat_loop a b) = both (beside_role f) (identifiers r a) (identifiers r b) (identifiers-mapped f g r a) (identifiers-mapped f g r b)
-identifiers-mapped f g r no_arguments = refl
-identifiers-mapped f g r (some_arguments a b) = both (beside_role f) (identifiers r a) (identifiers r b) (identifiers-mapped f g r a) (identifiers-mapped f g r b)
-identifiers-mapped f g r (then_argument a) = identifiers-mapped f g r a
-identifiers-mapped f g r (runs a b) = both (beside_role f) (identifiers r a) (identifiers r b) (identifiers-mapped f g r a) (identifiers-mapped f g r b)
-identifiers-mapped f g r (then_statement a) = identifiers-mapped f g r a
-identifiers-mapped f g r (elsif_branch a b) = both (beside_role f) (identifiers r a) (identifiers r b) (identifiers-mapped f g r a) (identifiers-mapped f g r b)
-identifiers-mapped f g r (else_branch a) = identifiers-mapped f g r a
-identifiers-mapped f g r (listed x b) = ap (λ z. (r, f x) ∷ z) (identifiers-mapped f g r b)
-identifiers-mapped f g r (then_name x) = refl
-identifiers-mapped f g r (named_type x) = refl
-identifiers-mapped f g r (array_type a b) = both (beside_role f) (identifiers r a) (identifiers r b) (identifiers-mapped f g r a) (identifiers-mapped f g r b)
-identifiers-mapped f g r (record_type a b) = both (beside_role f) (identifiers r a) (identifiers r b) (identifiers-mapped f g r a) (identifiers-mapped f g r b)
-identifiers-mapped f g r no_fields = refl
-identifiers-mapped f g r (some_fields a b) = both (beside_role f) (identifiers role.FieldName a) (identifiers r b) (identifiers-mapped f g role.FieldName a) (identifiers-mapped f g r b)
-identifiers-mapped f g r (then_fields a) = identifiers-mapped f g r a
-identifiers-mapped f g r no_formals = refl
-identifiers-mapped f g r (some_formals a b) = both (beside_role f) (identifiers r a) (identifiers r b) (identifiers-mapped f g r a) (identifiers-mapped f g r b)
-identifiers-mapped f g r (value_section a b) = both (beside_role f) (identifiers role.Declaring a) (identifiers r b) (identifiers-mapped f g role.Declaring a) (identifiers-mapped f g r b)
-identifiers-mapped f g r (variable_section a b) = both (beside_role f) (identifiers role.Declaring a) (identifiers r b) (identifiers-mapped f g role.Declaring a) (identifiers-mapped f g r b)
-identifiers-mapped f g r (then_section a) = identifiers-mapped f g r a
-identifiers-mapped f g r (declares_constant x b) = ap (λ z. (role.Declaring, f x) ∷ z) (identifiers-mapped f g r b)
-identifiers-mapped f g r (declares_constants a) = identifiers-mapped f g r a
-identifiers-mapped f g r (declares_type x b) = ap (λ z. (role.Declaring, f x) ∷ z) (identifiers-mapped f g r b)
-identifiers-mapped f g r (declares_types a) = identifiers-mapped f g r a
-identifiers-mapped f g r (declares_variable a b) = both (beside_role f) (identifiers role.Declaring a) (identifiers r b) (identifiers-mapped f g role.Declaring a) (identifiers-mapped f g r b)
-identifiers-mapped f g r (declares_variables a) = identifiers-mapped f g r a
-identifiers-mapped f g r (declares_procedure x a b c) = ap (λ z. (role.Declaring, f x) ∷ z) (both (beside_role f) (identifiers r a) (identifiers r b ++ ((role.ClosingName, c) ∷ [])) (identifiers-mapped f g r a) (both (beside_role f) (identifiers r b) ((role.ClosingName, c) ∷ []) (identifiers-mapped f g r b) refl))
-identifiers-mapped f g r (declares a b c d) = both (beside_role f) (identifiers r a) (identifiers r b ++ (identifiers r c ++ (identifiers r d))) (identifiers-mapped f g r a) (both (beside_role f) (identifiers r b) (identifiers r c ++ (identifiers r d)) (identifiers-mapped f g r b) (both (beside_role f) (identifiers r c) (identifiers r d) (identifiers-mapped f g r c) (identifiers-mapped f g r d)))
-identifiers-mapped f g r (begins a) = identifiers-mapped f g r a
-identifiers-mapped f g r (has_body a b) = both (beside_role f) (identifiers r a) (identifiers r b) (identifiers-mapped f g r a) (identifiers-mapped f g r b)
-identifiers-mapped f g r (is_module x b c) = ap (λ z. (role.ModuleName, f x) ∷ z) (both (beside_role f) (identifiers r b) ((role.ModuleName, c) ∷ []) (identifiers-mapped f g r b) refl)
+pub identifiers-mapped_tree : {N M : Type 0} {s : Sort} (f : N → M) (g : ℕ → ℕ) (r : Role) (t : Tree N s) → identifiers r (mapped_tree f g t) ≡ map (beside_role f) (identifiers r t)
+identifiers-mapped_tree f g r none = refl
+identifiers-mapped_tree f g r (one a) = identifiers-mapped_tree f g r a
+identifiers-mapped_tree f g r end = refl
+identifiers-mapped_tree f g r (more a b) = both (beside_role f) (identifiers r a) (identifiers r b) (identifiers-mapped_tree f g r a) (identifiers-mapped_tree f g r b)
+identifiers-mapped_tree f g r (compares a b) = both (beside_role f) (identifiers r a) (identifiers r b) (identifiers-mapped_tree f g r a) (identifiers-mapped_tree f g r b)
+identifiers-mapped_tree f g r (relates o b) = identifiers-mapped_tree f g r b
+identifiers-mapped_tree f g r (sum o b c) = both (beside_role f) (identifiers r b) (identifiers r c) (identifiers-mapped_tree f g r b) (identifiers-mapped_tree f g r c)
+identifiers-mapped_tree f g r (adds o b) = identifiers-mapped_tree f g r b
+identifiers-mapped_tree f g r (product a b) = both (beside_role f) (identifiers r a) (identifiers r b) (identifiers-mapped_tree f g r a) (identifiers-mapped_tree f g r b)
+identifiers-mapped_tree f g r (multiplies o b) = identifiers-mapped_tree f g r b
+identifiers-mapped_tree f g r (designator x b) = ap (λ z. (role.LookedUp, f x) ∷ z) (identifiers-mapped_tree f g r b)
+identifiers-mapped_tree f g r (integer n) = refl
+identifiers-mapped_tree f g r (parenthesised a) = identifiers-mapped_tree f g r a
+identifiers-mapped_tree f g r (negation a) = identifiers-mapped_tree f g r a
+identifiers-mapped_tree f g r (field x) = refl
+identifiers-mapped_tree f g r (index a) = identifiers-mapped_tree f g r a
+identifiers-mapped_tree f g r empty = refl
+identifiers-mapped_tree f g r (assigns x b c) = ap (λ z. (role.LookedUp, f x) ∷ z) (both (beside_role f) (identifiers r b) (identifiers r c) (identifiers-mapped_tree f g r b) (identifiers-mapped_tree f g r c))
+identifiers-mapped_tree f g r (calls x b) = ap (λ z. (role.LookedUp, f x) ∷ z) (identifiers-mapped_tree f g r b)
+identifiers-mapped_tree f g r (branches a b c d) = both (beside_role f) (identifiers r a) (identifiers r b ++ (identifiers r c ++ (identifiers r d))) (identifiers-mapped_tree f g r a) (both (beside_role f) (identifiers r b) (identifiers r c ++ (identifiers r d)) (identifiers-mapped_tree f g r b) (both (beside_role f) (identifiers r c) (identifiers r d) (identifiers-mapped_tree f g r c) (identifiers-mapped_tree f g r d)))
+identifiers-mapped_tree f g r (while_loop a b) = both (beside_role f) (identifiers r a) (identifiers r b) (identifiers-mapped_tree f g r a) (identifiers-mapped_tree f g r b)
+identifiers-mapped_tree f g r (repeat_loop a b) = both (beside_role f) (identifiers r a) (identifiers r b) (identifiers-mapped_tree f g r a) (identifiers-mapped_tree f g r b)
+identifiers-mapped_tree f g r no_arguments = refl
+identifiers-mapped_tree f g r (some_arguments a b) = both (beside_role f) (identifiers r a) (identifiers r b) (identifiers-mapped_tree f g r a) (identifiers-mapped_tree f g r b)
+identifiers-mapped_tree f g r (then_argument a) = identifiers-mapped_tree f g r a
+identifiers-mapped_tree f g r (runs a b) = both (beside_role f) (identifiers r a) (identifiers r b) (identifiers-mapped_tree f g r a) (identifiers-mapped_tree f g r b)
+identifiers-mapped_tree f g r (then_statement a) = identifiers-mapped_tree f g r a
+identifiers-mapped_tree f g r (elsif_branch a b) = both (beside_role f) (identifiers r a) (identifiers r b) (identifiers-mapped_tree f g r a) (identifiers-mapped_tree f g r b)
+identifiers-mapped_tree f g r (else_branch a) = identifiers-mapped_tree f g r a
+identifiers-mapped_tree f g r (listed x b) = ap (λ z. (r, f x) ∷ z) (identifiers-mapped_tree f g r b)
+identifiers-mapped_tree f g r (then_name x) = refl
+identifiers-mapped_tree f g r (named_type x) = refl
+identifiers-mapped_tree f g r (array_type a b) = both (beside_role f) (identifiers r a) (identifiers r b) (identifiers-mapped_tree f g r a) (identifiers-mapped_tree f g r b)
+identifiers-mapped_tree f g r (record_type a b) = both (beside_role f) (identifiers r a) (identifiers r b) (identifiers-mapped_tree f g r a) (identifiers-mapped_tree f g r b)
+identifiers-mapped_tree f g r no_fields = refl
+identifiers-mapped_tree f g r (some_fields a b) = both (beside_role f) (identifiers role.FieldName a) (identifiers r b) (identifiers-mapped_tree f g role.FieldName a) (identifiers-mapped_tree f g r b)
+identifiers-mapped_tree f g r (then_fields a) = identifiers-mapped_tree f g r a
+identifiers-mapped_tree f g r no_formals = refl
+identifiers-mapped_tree f g r (some_formals a b) = both (beside_role f) (identifiers r a) (identifiers r b) (identifiers-mapped_tree f g r a) (identifiers-mapped_tree f g r b)
+identifiers-mapped_tree f g r (value_section a b) = both (beside_role f) (identifiers role.Declaring a) (identifiers r b) (identifiers-mapped_tree f g role.Declaring a) (identifiers-mapped_tree f g r b)
+identifiers-mapped_tree f g r (variable_section a b) = both (beside_role f) (identifiers role.Declaring a) (identifiers r b) (identifiers-mapped_tree f g role.Declaring a) (identifiers-mapped_tree f g r b)
+identifiers-mapped_tree f g r (then_section a) = identifiers-mapped_tree f g r a
+identifiers-mapped_tree f g r (declares_constant x b) = ap (λ z. (role.Declaring, f x) ∷ z) (identifiers-mapped_tree f g r b)
+identifiers-mapped_tree f g r (declares_constants a) = identifiers-mapped_tree f g r a
+identifiers-mapped_tree f g r (declares_type x b) = ap (λ z. (role.Declaring, f x) ∷ z) (identifiers-mapped_tree f g r b)
+identifiers-mapped_tree f g r (declares_types a) = identifiers-mapped_tree f g r a
+identifiers-mapped_tree f g r (declares_variable a b) = both (beside_role f) (identifiers role.Declaring a) (identifiers r b) (identifiers-mapped_tree f g role.Declaring a) (identifiers-mapped_tree f g r b)
+identifiers-mapped_tree f g r (declares_variables a) = identifiers-mapped_tree f g r a
+identifiers-mapped_tree f g r (declares_procedure x a b c) = ap (λ z. (role.Declaring, f x) ∷ z) (both (beside_role f) (identifiers r a) (identifiers r b ++ ((role.ClosingName, c) ∷ [])) (identifiers-mapped_tree f g r a) (both (beside_role f) (identifiers r b) ((role.ClosingName, c) ∷ []) (identifiers-mapped_tree f g r b) refl))
+identifiers-mapped_tree f g r (declares a b c d) = both (beside_role f) (identifiers r a) (identifiers r b ++ (identifiers r c ++ (identifiers r d))) (identifiers-mapped_tree f g r a) (both (beside_role f) (identifiers r b) (identifiers r c ++ (identifiers r d)) (identifiers-mapped_tree f g r b) (both (beside_role f) (identifiers r c) (identifiers r d) (identifiers-mapped_tree f g r c) (identifiers-mapped_tree f g r d)))
+identifiers-mapped_tree f g r (begins a) = identifiers-mapped_tree f g r a
+identifiers-mapped_tree f g r (forms_block a b) = both (beside_role f) (identifiers r a) (identifiers r b) (identifiers-mapped_tree f g r a) (identifiers-mapped_tree f g r b)
+identifiers-mapped_tree f g r (is_module x b c) = ap (λ z. (role.ModuleName, f x) ∷ z) (both (beside_role f) (identifiers r b) ((role.ModuleName, c) ∷ []) (identifiers-mapped_tree f g r b) refl)
 
 names_mapped : {N M : Type 0} (f : N → M) (g : ℕ → ℕ) (xs : List (Terminal N)) → lexeme_names (map (mapped_terminal f g) xs) ≡ map f (lexeme_names xs)
 names_mapped f g [] = refl
 names_mapped f g (Name n ∷ xs) = ap (λ z. f n ∷ z) (names_mapped f g xs)
 names_mapped f g (Number n ∷ xs) = names_mapped f g xs
-names_mapped f g (Mark k ∷ xs) = names_mapped f g xs
+names_mapped f g (WordOrSymbol k ∷ xs) = names_mapped f g xs
 names_mapped f g (EndOfText ∷ xs) = names_mapped f g xs
 
-pub leaves_mapped : {N M : Type 0} {s : Sort} (f : N → M) (g : ℕ → ℕ) (t : Tree N s) → leaves (mapped f g t) ≡ map f (leaves t)
+pub leaves_mapped : {N M : Type 0} {s : Sort} (f : N → M) (g : ℕ → ℕ) (t : Tree N s) → identifier_names (mapped_tree f g t) ≡ map f (identifier_names t)
 leaves_mapped f g t =
-    leaves_spelled role.Declaring (mapped f g t)
+    leaves_spelled role.Declaring (mapped_tree f g t)
     ∙ (ap lexeme_names (spell_mapped f g t) ∙ (names_mapped f g (spell t) ∙ ap (map f) (sym (leaves_spelled role.Declaring t))))

@@ -3,5 +3,5 @@
 use Rattle.std.specs.Prelude.{ℕ, min}
 
 -- Returns the number `n`, or 2^32 - 1 if `n` is larger.
-abbrev pub capped : ℕ → ℕ
-capped n = min n 4294967295
+abbrev pub capped_to_u32 : ℕ → ℕ
+capped_to_u32 n = min n 4294967295

@@ -20,8 +20,8 @@ abbrev pub names_without_roles : {N : Type 0} → List (Role × N) → List N
 names_without_roles xs = map (λ x. x.1) xs
 
 -- Returns all identifiers of a tree, in text order, without their roles.
-abbrev pub leaves : {N : Type 0} {s : Sort} → Tree N s → List N
-leaves t = names_without_roles (identifiers role.Declaring t)
+abbrev pub identifier_names : {N : Type 0} {s : Sort} → Tree N s → List N
+identifier_names t = names_without_roles (identifiers role.Declaring t)
 
 -- Returns a list that contains only the index `i` if this is the kind of an identifier. Otherwise
 -- returns the empty list.

@@ -6,15 +6,15 @@ use Rattle.ob0_scan.specs.declared.lexeme.TokenKind.{TokenKind}
 use Rattle.ob0_scan.specs.declared.lexeme.TokenKind.TheVariants as kind
 use Rattle.ob0_scan.specs.declared.lexeme.Token.{Token}
 use Rattle.ob0_scan.specs.TextWithTokens.{TextWithTokens, text_in_span}
-use Rattle.ob0_tree.specs.Lexeme.{Terminal, Name, Number, Mark, EndOfText}
-use Rattle.ob0_tree.specs.Tree.{Sort, Tree, mapped}
+use Rattle.ob0_tree.specs.Lexeme.{Terminal, Name, Number, WordOrSymbol, EndOfText}
+use Rattle.ob0_tree.specs.Tree.{Sort, Tree, mapped_tree}
 
 -- Returns the token of this kind with the index `i`, as it is spelled by a tree whose leaves are
 -- token indexes. An identifier has `i` as its name, and an integer has `i` as its number.
 abbrev pub index_terminal : ℕ → TokenKind → Terminal ℕ
 index_terminal i kind.Identifier = Name i
 index_terminal i (kind.Integer value) = Number i
-index_terminal i k = Mark k
+index_terminal i k = WordOrSymbol k
 
 -- Returns the tokens as they are spelled by a tree whose leaves are token indexes, followed by the
 -- end of the text. The first token has the index `i`.
@@ -45,15 +45,15 @@ token_value_or_zero None = 0
 token_value_or_zero (Some t) = kind_value_or_zero t.kind
 
 -- Returns the text of the token with this index, or the empty text if there is no such token.
-abbrev pub text_at : TextWithTokens → ℕ → List ℕ
-text_at s i = token_text_or_empty s.text (slice_get s.tokens i)
+abbrev pub token_text_at : TextWithTokens → ℕ → List ℕ
+token_text_at s i = token_text_or_empty s.text (slice_get s.tokens i)
 
 -- Returns the value of the integer token with this index. Returns 0 if the token isn't an integer
 -- or there is no such token.
-abbrev pub value_at : TextWithTokens → ℕ → ℕ
-value_at s i = token_value_or_zero (slice_get s.tokens i)
+abbrev pub token_value_at : TextWithTokens → ℕ → ℕ
+token_value_at s i = token_value_or_zero (slice_get s.tokens i)
 
 -- Returns the tree with texts and values in place of token indexes. The index of each identifier is
 -- replaced by the identifier's text, and the index of each integer by the integer's value.
 abbrev pub tree_with_names : {s : Sort} → TextWithTokens → Tree ℕ s → Tree (List ℕ) s
-tree_with_names s t = mapped (text_at s) (value_at s) t
+tree_with_names s t = mapped_tree (token_text_at s) (token_value_at s) t

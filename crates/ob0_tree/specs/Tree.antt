@@ -12,7 +12,7 @@ use Rattle.ob0_tree.specs.declared.tree.AddOperator.{AddOperator}
 use Rattle.ob0_tree.specs.declared.tree.MultiplyOperator.{MultiplyOperator}
 use Rattle.ob0_tree.specs.declared.tree.Role.{Role}
 use Rattle.ob0_tree.specs.declared.tree.Role.TheVariants as role
-use Rattle.ob0_tree.specs.Lexeme.{Terminal, Name, Number, Mark, relation_token, sign_tokens, add_operator_token, multiply_operator_token}
+use Rattle.ob0_tree.specs.Lexeme.{Terminal, Name, Number, WordOrSymbol, relation_token, sign_tokens, add_operator_token, multiply_operator_token}
 
 -- An item: a part of a production that may be repeated or omitted.
 pub data Item : Type 0 where
@@ -31,8 +31,8 @@ pub data Item : Type 0 where
   further_section : Item
   constant : Item
   constants : Item
-  type_name : Item
-  type_names : Item
+  type_definition : Item
+  type_definitions : Item
   variable : Item
   variables : Item
   procedure : Item
@@ -109,23 +109,23 @@ pub data Tree (N : Type 0) : Sort → Type 0 where
   then_section : Tree N section → Tree N (item further_section)
   declares_constant : N → Tree N expression → Tree N (item constant)
   declares_constants : Tree N (items constant) → Tree N (item constants)
-  declares_type : N → Tree N written_type → Tree N (item type_name)
-  declares_types : Tree N (items type_name) → Tree N (item type_names)
+  declares_type : N → Tree N written_type → Tree N (item type_definition)
+  declares_types : Tree N (items type_definition) → Tree N (item type_definitions)
   declares_variable : Tree N names → Tree N written_type → Tree N (item variable)
   declares_variables : Tree N (items variable) → Tree N (item variables)
   declares_procedure : N → Tree N (maybe formals) → Tree N block → N → Tree N (item procedure)
   declares : Tree N (maybe constants)
-      → Tree N (maybe type_names)
+      → Tree N (maybe type_definitions)
       → Tree N (maybe variables)
       → Tree N (items procedure)
       → Tree N declarations
   begins : Tree N sequence → Tree N (item body)
-  has_body : Tree N declarations → Tree N (maybe body) → Tree N block
+  forms_block : Tree N declarations → Tree N (maybe body) → Tree N block
   is_module : N → Tree N block → N → Tree N module_text
 
 -- Returns a list of one token: the reserved word or symbol of this kind.
 abbrev pub single_token : {N : Type 0} → TokenKind → List (Terminal N)
-single_token k = Mark k ∷ []
+single_token k = WordOrSymbol k ∷ []
 
 -- Returns the tokens that a tree spells, in text order. The cases follow the productions of the
 -- grammar.
@@ -135,93 +135,93 @@ spell (one t) = spell t
 spell end = []
 spell (more t ts) = spell t ++ spell ts
 spell (compares left compared) = spell left ++ spell compared
-spell (relates relation right) = Mark (relation_token relation) ∷ spell right
+spell (relates relation right) = WordOrSymbol (relation_token relation) ∷ spell right
 spell (sum sign first terms) = sign_tokens sign ++ (spell first ++ spell terms)
-spell (adds operator t) = Mark (add_operator_token operator) ∷ spell t
+spell (adds operator t) = WordOrSymbol (add_operator_token operator) ∷ spell t
 spell (product first factors) = spell first ++ spell factors
-spell (multiplies operator f) = Mark (multiply_operator_token operator) ∷ spell f
+spell (multiplies operator f) = WordOrSymbol (multiply_operator_token operator) ∷ spell f
 spell (designator name selectors) = Name name ∷ spell selectors
 spell (integer n) = Number n ∷ []
 spell (parenthesised e) =
-    Mark (kind.Symbol symbol.LeftParen) ∷ (spell e ++ single_token (kind.Symbol symbol.RightParen))
-spell (negation f) = Mark (kind.Symbol symbol.Not) ∷ spell f
-spell (field name) = Mark (kind.Symbol symbol.Dot) ∷ Name name ∷ []
+    WordOrSymbol (kind.Symbol symbol.LeftParen) ∷ (spell e ++ single_token (kind.Symbol symbol.RightParen))
+spell (negation f) = WordOrSymbol (kind.Symbol symbol.Not) ∷ spell f
+spell (field name) = WordOrSymbol (kind.Symbol symbol.Dot) ∷ Name name ∷ []
 spell (index e) =
-    Mark (kind.Symbol symbol.LeftBracket) ∷ (spell e ++ single_token (kind.Symbol symbol.RightBracket))
+    WordOrSymbol (kind.Symbol symbol.LeftBracket) ∷ (spell e ++ single_token (kind.Symbol symbol.RightBracket))
 spell empty = []
 spell (assigns name selectors e) =
-    Name name ∷ (spell selectors ++ (Mark (kind.Symbol symbol.Becomes) ∷ spell e))
+    Name name ∷ (spell selectors ++ (WordOrSymbol (kind.Symbol symbol.Becomes) ∷ spell e))
 spell (calls name args) = Name name ∷ spell args
 spell (branches condition s elsifs rest) =
-    Mark (kind.ReservedWord reserved.If)
+    WordOrSymbol (kind.ReservedWord reserved.If)
     ∷ (spell condition
-    ++ (Mark (kind.ReservedWord reserved.Then)
+    ++ (WordOrSymbol (kind.ReservedWord reserved.Then)
     ∷ (spell s ++ (spell elsifs ++ (spell rest ++ single_token (kind.ReservedWord reserved.End))))))
 spell (while_loop condition s) =
-    Mark (kind.ReservedWord reserved.While)
+    WordOrSymbol (kind.ReservedWord reserved.While)
     ∷ (spell condition
-    ++ (Mark (kind.ReservedWord reserved.Do) ∷ (spell s ++ single_token (kind.ReservedWord reserved.End))))
+    ++ (WordOrSymbol (kind.ReservedWord reserved.Do) ∷ (spell s ++ single_token (kind.ReservedWord reserved.End))))
 spell (repeat_loop s condition) =
-    Mark (kind.ReservedWord reserved.Repeat)
-    ∷ (spell s ++ (Mark (kind.ReservedWord reserved.Until) ∷ spell condition))
-spell no_arguments = Mark (kind.Symbol symbol.LeftParen) ∷ single_token (kind.Symbol symbol.RightParen)
+    WordOrSymbol (kind.ReservedWord reserved.Repeat)
+    ∷ (spell s ++ (WordOrSymbol (kind.ReservedWord reserved.Until) ∷ spell condition))
+spell no_arguments = WordOrSymbol (kind.Symbol symbol.LeftParen) ∷ single_token (kind.Symbol symbol.RightParen)
 spell (some_arguments e es) =
-    Mark (kind.Symbol symbol.LeftParen)
+    WordOrSymbol (kind.Symbol symbol.LeftParen)
     ∷ (spell e ++ (spell es ++ single_token (kind.Symbol symbol.RightParen)))
-spell (then_argument e) = Mark (kind.Symbol symbol.Comma) ∷ spell e
+spell (then_argument e) = WordOrSymbol (kind.Symbol symbol.Comma) ∷ spell e
 spell (runs first statements) = spell first ++ spell statements
-spell (then_statement s) = Mark (kind.Symbol symbol.Semicolon) ∷ spell s
+spell (then_statement s) = WordOrSymbol (kind.Symbol symbol.Semicolon) ∷ spell s
 spell (elsif_branch condition s) =
-    Mark (kind.ReservedWord reserved.Elsif)
-    ∷ (spell condition ++ (Mark (kind.ReservedWord reserved.Then) ∷ spell s))
-spell (else_branch s) = Mark (kind.ReservedWord reserved.Else) ∷ spell s
+    WordOrSymbol (kind.ReservedWord reserved.Elsif)
+    ∷ (spell condition ++ (WordOrSymbol (kind.ReservedWord reserved.Then) ∷ spell s))
+spell (else_branch s) = WordOrSymbol (kind.ReservedWord reserved.Else) ∷ spell s
 spell (listed name others) = Name name ∷ spell others
-spell (then_name name) = Mark (kind.Symbol symbol.Comma) ∷ Name name ∷ []
+spell (then_name name) = WordOrSymbol (kind.Symbol symbol.Comma) ∷ Name name ∷ []
 spell (named_type name) = Name name ∷ []
 spell (array_type size t) =
-    Mark (kind.ReservedWord reserved.Array)
-    ∷ (spell size ++ (Mark (kind.ReservedWord reserved.Of) ∷ spell t))
+    WordOrSymbol (kind.ReservedWord reserved.Array)
+    ∷ (spell size ++ (WordOrSymbol (kind.ReservedWord reserved.Of) ∷ spell t))
 spell (record_type first others) =
-    Mark (kind.ReservedWord reserved.Record)
+    WordOrSymbol (kind.ReservedWord reserved.Record)
     ∷ (spell first ++ (spell others ++ single_token (kind.ReservedWord reserved.End)))
 spell no_fields = []
-spell (some_fields ns t) = spell ns ++ (Mark (kind.Symbol symbol.Colon) ∷ spell t)
-spell (then_fields f) = Mark (kind.Symbol symbol.Semicolon) ∷ spell f
-spell no_formals = Mark (kind.Symbol symbol.LeftParen) ∷ single_token (kind.Symbol symbol.RightParen)
+spell (some_fields ns t) = spell ns ++ (WordOrSymbol (kind.Symbol symbol.Colon) ∷ spell t)
+spell (then_fields f) = WordOrSymbol (kind.Symbol symbol.Semicolon) ∷ spell f
+spell no_formals = WordOrSymbol (kind.Symbol symbol.LeftParen) ∷ single_token (kind.Symbol symbol.RightParen)
 spell (some_formals first others) =
-    Mark (kind.Symbol symbol.LeftParen)
+    WordOrSymbol (kind.Symbol symbol.LeftParen)
     ∷ (spell first ++ (spell others ++ single_token (kind.Symbol symbol.RightParen)))
-spell (value_section ns t) = spell ns ++ (Mark (kind.Symbol symbol.Colon) ∷ spell t)
+spell (value_section ns t) = spell ns ++ (WordOrSymbol (kind.Symbol symbol.Colon) ∷ spell t)
 spell (variable_section ns t) =
-    Mark (kind.ReservedWord reserved.Var) ∷ (spell ns ++ (Mark (kind.Symbol symbol.Colon) ∷ spell t))
-spell (then_section s) = Mark (kind.Symbol symbol.Semicolon) ∷ spell s
+    WordOrSymbol (kind.ReservedWord reserved.Var) ∷ (spell ns ++ (WordOrSymbol (kind.Symbol symbol.Colon) ∷ spell t))
+spell (then_section s) = WordOrSymbol (kind.Symbol symbol.Semicolon) ∷ spell s
 spell (declares_constant name e) =
-    Name name ∷ Mark (kind.Symbol symbol.Equal) ∷ (spell e ++ single_token (kind.Symbol symbol.Semicolon))
-spell (declares_constants cs) = Mark (kind.ReservedWord reserved.Const) ∷ spell cs
+    Name name ∷ WordOrSymbol (kind.Symbol symbol.Equal) ∷ (spell e ++ single_token (kind.Symbol symbol.Semicolon))
+spell (declares_constants cs) = WordOrSymbol (kind.ReservedWord reserved.Const) ∷ spell cs
 spell (declares_type name t) =
-    Name name ∷ Mark (kind.Symbol symbol.Equal) ∷ (spell t ++ single_token (kind.Symbol symbol.Semicolon))
-spell (declares_types ts) = Mark (kind.ReservedWord reserved.Type) ∷ spell ts
+    Name name ∷ WordOrSymbol (kind.Symbol symbol.Equal) ∷ (spell t ++ single_token (kind.Symbol symbol.Semicolon))
+spell (declares_types ts) = WordOrSymbol (kind.ReservedWord reserved.Type) ∷ spell ts
 spell (declares_variable ns t) =
-    spell ns ++ (Mark (kind.Symbol symbol.Colon) ∷ (spell t ++ single_token (kind.Symbol symbol.Semicolon)))
-spell (declares_variables vs) = Mark (kind.ReservedWord reserved.Var) ∷ spell vs
+    spell ns ++ (WordOrSymbol (kind.Symbol symbol.Colon) ∷ (spell t ++ single_token (kind.Symbol symbol.Semicolon)))
+spell (declares_variables vs) = WordOrSymbol (kind.ReservedWord reserved.Var) ∷ spell vs
 spell (declares_procedure name fs b closing) =
-    Mark (kind.ReservedWord reserved.Procedure)
+    WordOrSymbol (kind.ReservedWord reserved.Procedure)
     ∷ Name name
     ∷ (spell fs
-    ++ (Mark (kind.Symbol symbol.Semicolon)
+    ++ (WordOrSymbol (kind.Symbol symbol.Semicolon)
     ∷ (spell b
-    ++ (Mark (kind.ReservedWord reserved.End)
+    ++ (WordOrSymbol (kind.ReservedWord reserved.End)
     ∷ Name closing
     ∷ single_token (kind.Symbol symbol.Semicolon)))))
 spell (declares cs ts vs ps) = spell cs ++ (spell ts ++ (spell vs ++ spell ps))
-spell (begins s) = Mark (kind.ReservedWord reserved.Begin) ∷ spell s
-spell (has_body ds b) = spell ds ++ spell b
+spell (begins s) = WordOrSymbol (kind.ReservedWord reserved.Begin) ∷ spell s
+spell (forms_block ds b) = spell ds ++ spell b
 spell (is_module name b closing) =
-    Mark (kind.ReservedWord reserved.Module)
+    WordOrSymbol (kind.ReservedWord reserved.Module)
     ∷ Name name
-    ∷ Mark (kind.Symbol symbol.Semicolon)
+    ∷ WordOrSymbol (kind.Symbol symbol.Semicolon)
     ∷ (spell b
-    ++ (Mark (kind.ReservedWord reserved.End) ∷ Name closing ∷ single_token (kind.Symbol symbol.Dot)))
+    ++ (WordOrSymbol (kind.ReservedWord reserved.End) ∷ Name closing ∷ single_token (kind.Symbol symbol.Dot)))
 
 -- Returns the nesting depth of a tree: the greatest number of constructs that are nested in each
 -- other. Parenthesised and negated factors, indexes, IF, WHILE and REPEAT statements, array and
@@ -279,67 +279,67 @@ nesting (declares_variables vs) = nesting vs
 nesting (declares_procedure name fs b closing) = max (nesting fs) (nesting b) + 1
 nesting (declares cs ts vs ps) = max (max (nesting cs) (nesting ts)) (max (nesting vs) (nesting ps))
 nesting (begins s) = nesting s
-nesting (has_body ds b) = max (nesting ds) (nesting b)
+nesting (forms_block ds b) = max (nesting ds) (nesting b)
 nesting (is_module name b closing) = nesting b
 
 -- Returns the tree with `f` applied to each name and `g` applied to each number.
-abbrev pub mapped : {N M : Type 0} {s : Sort} → (N → M) → (ℕ → ℕ) → Tree N s → Tree M s
-mapped f g none = none
-mapped f g (one t) = one (mapped f g t)
-mapped f g end = end
-mapped f g (more t ts) = more (mapped f g t) (mapped f g ts)
-mapped f g (compares left compared) = compares (mapped f g left) (mapped f g compared)
-mapped f g (relates relation right) = relates relation (mapped f g right)
-mapped f g (sum sign first terms) = sum sign (mapped f g first) (mapped f g terms)
-mapped f g (adds operator t) = adds operator (mapped f g t)
-mapped f g (product first factors) = product (mapped f g first) (mapped f g factors)
-mapped f g (multiplies operator t) = multiplies operator (mapped f g t)
-mapped f g (designator name selectors) = designator (f name) (mapped f g selectors)
-mapped f g (integer n) = integer (g n)
-mapped f g (parenthesised e) = parenthesised (mapped f g e)
-mapped f g (negation t) = negation (mapped f g t)
-mapped f g (field name) = field (f name)
-mapped f g (index e) = index (mapped f g e)
-mapped f g empty = empty
-mapped f g (assigns name selectors e) = assigns (f name) (mapped f g selectors) (mapped f g e)
-mapped f g (calls name args) = calls (f name) (mapped f g args)
-mapped f g (branches condition s elsifs rest) =
-    branches (mapped f g condition) (mapped f g s) (mapped f g elsifs) (mapped f g rest)
-mapped f g (while_loop condition s) = while_loop (mapped f g condition) (mapped f g s)
-mapped f g (repeat_loop s condition) = repeat_loop (mapped f g s) (mapped f g condition)
-mapped f g no_arguments = no_arguments
-mapped f g (some_arguments e es) = some_arguments (mapped f g e) (mapped f g es)
-mapped f g (then_argument e) = then_argument (mapped f g e)
-mapped f g (runs first statements) = runs (mapped f g first) (mapped f g statements)
-mapped f g (then_statement s) = then_statement (mapped f g s)
-mapped f g (elsif_branch condition s) = elsif_branch (mapped f g condition) (mapped f g s)
-mapped f g (else_branch s) = else_branch (mapped f g s)
-mapped f g (listed name others) = listed (f name) (mapped f g others)
-mapped f g (then_name name) = then_name (f name)
-mapped f g (named_type name) = named_type (f name)
-mapped f g (array_type size t) = array_type (mapped f g size) (mapped f g t)
-mapped f g (record_type first others) = record_type (mapped f g first) (mapped f g others)
-mapped f g no_fields = no_fields
-mapped f g (some_fields ns t) = some_fields (mapped f g ns) (mapped f g t)
-mapped f g (then_fields fs) = then_fields (mapped f g fs)
-mapped f g no_formals = no_formals
-mapped f g (some_formals first others) = some_formals (mapped f g first) (mapped f g others)
-mapped f g (value_section ns t) = value_section (mapped f g ns) (mapped f g t)
-mapped f g (variable_section ns t) = variable_section (mapped f g ns) (mapped f g t)
-mapped f g (then_section s) = then_section (mapped f g s)
-mapped f g (declares_constant name e) = declares_constant (f name) (mapped f g e)
-mapped f g (declares_constants cs) = declares_constants (mapped f g cs)
-mapped f g (declares_type name t) = declares_type (f name) (mapped f g t)
-mapped f g (declares_types ts) = declares_types (mapped f g ts)
-mapped f g (declares_variable ns t) = declares_variable (mapped f g ns) (mapped f g t)
-mapped f g (declares_variables vs) = declares_variables (mapped f g vs)
-mapped f g (declares_procedure name fs b closing) =
-    declares_procedure (f name) (mapped f g fs) (mapped f g b) (f closing)
-mapped f g (declares cs ts vs ps) =
-    declares (mapped f g cs) (mapped f g ts) (mapped f g vs) (mapped f g ps)
-mapped f g (begins s) = begins (mapped f g s)
-mapped f g (has_body ds b) = has_body (mapped f g ds) (mapped f g b)
-mapped f g (is_module name b closing) = is_module (f name) (mapped f g b) (f closing)
+abbrev pub mapped_tree : {N M : Type 0} {s : Sort} → (N → M) → (ℕ → ℕ) → Tree N s → Tree M s
+mapped_tree f g none = none
+mapped_tree f g (one t) = one (mapped_tree f g t)
+mapped_tree f g end = end
+mapped_tree f g (more t ts) = more (mapped_tree f g t) (mapped_tree f g ts)
+mapped_tree f g (compares left compared) = compares (mapped_tree f g left) (mapped_tree f g compared)
+mapped_tree f g (relates relation right) = relates relation (mapped_tree f g right)
+mapped_tree f g (sum sign first terms) = sum sign (mapped_tree f g first) (mapped_tree f g terms)
+mapped_tree f g (adds operator t) = adds operator (mapped_tree f g t)
+mapped_tree f g (product first factors) = product (mapped_tree f g first) (mapped_tree f g factors)
+mapped_tree f g (multiplies operator t) = multiplies operator (mapped_tree f g t)
+mapped_tree f g (designator name selectors) = designator (f name) (mapped_tree f g selectors)
+mapped_tree f g (integer n) = integer (g n)
+mapped_tree f g (parenthesised e) = parenthesised (mapped_tree f g e)
+mapped_tree f g (negation t) = negation (mapped_tree f g t)
+mapped_tree f g (field name) = field (f name)
+mapped_tree f g (index e) = index (mapped_tree f g e)
+mapped_tree f g empty = empty
+mapped_tree f g (assigns name selectors e) = assigns (f name) (mapped_tree f g selectors) (mapped_tree f g e)
+mapped_tree f g (calls name args) = calls (f name) (mapped_tree f g args)
+mapped_tree f g (branches condition s elsifs rest) =
+    branches (mapped_tree f g condition) (mapped_tree f g s) (mapped_tree f g elsifs) (mapped_tree f g rest)
+mapped_tree f g (while_loop condition s) = while_loop (mapped_tree f g condition) (mapped_tree f g s)
+mapped_tree f g (repeat_loop s condition) = repeat_loop (mapped_tree f g s) (mapped_tree f g condition)
+mapped_tree f g no_arguments = no_arguments
+mapped_tree f g (some_arguments e es) = some_arguments (mapped_tree f g e) (mapped_tree f g es)
+mapped_tree f g (then_argument e) = then_argument (mapped_tree f g e)
+mapped_tree f g (runs first statements) = runs (mapped_tree f g first) (mapped_tree f g statements)
+mapped_tree f g (then_statement s) = then_statement (mapped_tree f g s)
+mapped_tree f g (elsif_branch condition s) = elsif_branch (mapped_tree f g condition) (mapped_tree f g s)
+mapped_tree f g (else_branch s) = else_branch (mapped_tree f g s)
+mapped_tree f g (listed name others) = listed (f name) (mapped_tree f g others)
+mapped_tree f g (then_name name) = then_name (f name)
+mapped_tree f g (named_type name) = named_type (f name)
+mapped_tree f g (array_type size t) = array_type (mapped_tree f g size) (mapped_tree f g t)
+mapped_tree f g (record_type first others) = record_type (mapped_tree f g first) (mapped_tree f g others)
+mapped_tree f g no_fields = no_fields
+mapped_tree f g (some_fields ns t) = some_fields (mapped_tree f g ns) (mapped_tree f g t)
+mapped_tree f g (then_fields fs) = then_fields (mapped_tree f g fs)
+mapped_tree f g no_formals = no_formals
+mapped_tree f g (some_formals first others) = some_formals (mapped_tree f g first) (mapped_tree f g others)
+mapped_tree f g (value_section ns t) = value_section (mapped_tree f g ns) (mapped_tree f g t)
+mapped_tree f g (variable_section ns t) = variable_section (mapped_tree f g ns) (mapped_tree f g t)
+mapped_tree f g (then_section s) = then_section (mapped_tree f g s)
+mapped_tree f g (declares_constant name e) = declares_constant (f name) (mapped_tree f g e)
+mapped_tree f g (declares_constants cs) = declares_constants (mapped_tree f g cs)
+mapped_tree f g (declares_type name t) = declares_type (f name) (mapped_tree f g t)
+mapped_tree f g (declares_types ts) = declares_types (mapped_tree f g ts)
+mapped_tree f g (declares_variable ns t) = declares_variable (mapped_tree f g ns) (mapped_tree f g t)
+mapped_tree f g (declares_variables vs) = declares_variables (mapped_tree f g vs)
+mapped_tree f g (declares_procedure name fs b closing) =
+    declares_procedure (f name) (mapped_tree f g fs) (mapped_tree f g b) (f closing)
+mapped_tree f g (declares cs ts vs ps) =
+    declares (mapped_tree f g cs) (mapped_tree f g ts) (mapped_tree f g vs) (mapped_tree f g ps)
+mapped_tree f g (begins s) = begins (mapped_tree f g s)
+mapped_tree f g (forms_block ds b) = forms_block (mapped_tree f g ds) (mapped_tree f g b)
+mapped_tree f g (is_module name b closing) = is_module (f name) (mapped_tree f g b) (f closing)
 
 -- Returns the identifiers of a tree in text order, each with its role. The first argument matters
 -- only if the tree is itself a list of names: it is the role of these names. In a larger tree, the
@@ -401,7 +401,7 @@ identifiers r (declares_procedure name fs b closing) =
 identifiers r (declares cs ts vs ps) =
     identifiers r cs ++ (identifiers r ts ++ (identifiers r vs ++ identifiers r ps))
 identifiers r (begins s) = identifiers r s
-identifiers r (has_body ds b) = identifiers r ds ++ identifiers r b
+identifiers r (forms_block ds b) = identifiers r ds ++ identifiers r b
 identifiers r (is_module name b closing) =
     (role.ModuleName, name) ∷ (identifiers r b ++ ((role.ModuleName, closing) ∷ []))
 
@@ -461,5 +461,5 @@ occurrences (declares_procedure name fs b closing) = occurrences fs ++ occurrenc
 occurrences (declares cs ts vs ps) =
     occurrences cs ++ (occurrences ts ++ (occurrences vs ++ occurrences ps))
 occurrences (begins s) = occurrences s
-occurrences (has_body ds b) = occurrences ds ++ occurrences b
+occurrences (forms_block ds b) = occurrences ds ++ occurrences b
 occurrences (is_module name b closing) = occurrences b

@@ -1,13 +1,13 @@
 //! Computes the nesting depth of a module.
 //!
 //! The private functions add with saturation, so they need no precondition that bounds the depth:
-//! their contracts promise `capped (nesting ..)`. `Module::nesting` promises the exact
+//! their contracts promise `capped_to_u32 (nesting ..)`. `Module::nesting` promises the exact
 //! depth, because a module has at most 100 levels by its invariant.
 
 ghost use Rattle.std.specs.Prelude.{◌≡◌, ◌+◌};
 ghost use Rattle.ob0_tree.specs.Tree.{nesting};
 ghost use Rattle.ob0_tree.specs.ParsedModule.{tree_of};
-ghost use Rattle.ob0_tree.specs.Depth.{capped};
+ghost use Rattle.ob0_tree.specs.Depth.{capped_to_u32};
 ghost use Rattle.ob0_tree.specs.View.{expression_of, compound_of, simple_of, term_of, factor_of, designator_of, selector_of, assignment_of, call_of, statement_of, if_of, elsifs_of_vec, sequence_of_vec, type_of, record_type_of, fields_of, section_of, formals_of, constants_of, types_of, variables_of, body_of, procedure_of, block_of};
 
 use crate::tree::{
@@ -36,7 +36,7 @@ impl<'t> Module<'t> {
 
 /// Returns `levels` plus 1, capped at 2^32 - 1.
 fn one_level_deeper(levels: u32) -> u32
-    ensures { result ≡ capped (levels + 1) }
+    ensures { result ≡ capped_to_u32 (levels + 1) }
 {
     levels.saturating_add(1)
 }
@@ -44,7 +44,7 @@ fn one_level_deeper(levels: u32) -> u32
 /// Returns the nesting depth of an expression, capped at 2^32 - 1.
 #[cycle(expressions)]
 fn expression_nesting(e: &Expression) -> u32
-    ensures { result ≡ capped (nesting (expression_of e.now)) }
+    ensures { result ≡ capped_to_u32 (nesting (expression_of e.now)) }
 {
     match e {
         Expression::Factor(f) => factor_nesting(f),
@@ -55,7 +55,7 @@ fn expression_nesting(e: &Expression) -> u32
 /// Returns the nesting depth of an expression that isn't a single factor, capped at 2^32 - 1.
 #[cycle(expressions)]
 fn compound_nesting(c: &CompoundExpression) -> u32
-    ensures { result ≡ capped (nesting (compound_of c.now)) }
+    ensures { result ≡ capped_to_u32 (nesting (compound_of c.now)) }
 {
     let left = simple_nesting(&c.left);
     match &c.compared {
@@ -67,7 +67,7 @@ fn compound_nesting(c: &CompoundExpression) -> u32
 /// Returns the nesting depth of a simple expression, capped at 2^32 - 1.
 #[cycle(expressions)]
 fn simple_nesting(s: &SimpleExpression) -> u32
-    ensures { result ≡ capped (nesting (simple_of s.now)) }
+    ensures { result ≡ capped_to_u32 (nesting (simple_of s.now)) }
 {
     let mut deepest = term_nesting(&s.first);
     for addend in &s.more {
@@ -79,7 +79,7 @@ fn simple_nesting(s: &SimpleExpression) -> u32
 /// Returns the nesting depth of a term, capped at 2^32 - 1.
 #[cycle(expressions)]
 fn term_nesting(t: &Term) -> u32
-    ensures { result ≡ capped (nesting (term_of t.now)) }
+    ensures { result ≡ capped_to_u32 (nesting (term_of t.now)) }
 {
     let mut deepest = factor_nesting(&t.first);
     for multiplier in &t.more {
@@ -91,7 +91,7 @@ fn term_nesting(t: &Term) -> u32
 /// Returns the nesting depth of a factor, capped at 2^32 - 1.
 #[cycle(expressions)]
 fn factor_nesting(f: &Factor) -> u32
-    ensures { result ≡ capped (nesting (factor_of f.now)) }
+    ensures { result ≡ capped_to_u32 (nesting (factor_of f.now)) }
 {
     match f {
         Factor::Designator(d) => designator_nesting(d),
@@ -104,7 +104,7 @@ fn factor_nesting(f: &Factor) -> u32
 /// Returns the nesting depth of a designator (a name with its selectors), capped at 2^32 - 1.
 #[cycle(expressions)]
 fn designator_nesting(d: &Designator) -> u32
-    ensures { result ≡ capped (nesting (designator_of d.now)) }
+    ensures { result ≡ capped_to_u32 (nesting (designator_of d.now)) }
 {
     let mut deepest: u32 = 0;
     for s in &d.selectors {
@@ -116,7 +116,7 @@ fn designator_nesting(d: &Designator) -> u32
 /// Returns the nesting depth of a selector, capped at 2^32 - 1.
 #[cycle(expressions)]
 fn selector_nesting(s: &Selector) -> u32
-    ensures { result ≡ capped (nesting (selector_of s.now)) }
+    ensures { result ≡ capped_to_u32 (nesting (selector_of s.now)) }
 {
     match s {
         Selector::Field(_) => 0,
@@ -126,14 +126,14 @@ fn selector_nesting(s: &Selector) -> u32
 
 /// Returns the nesting depth of an assignment, capped at 2^32 - 1.
 fn assignment_nesting(a: &Assignment) -> u32
-    ensures { result ≡ capped (nesting (assignment_of a.now)) }
+    ensures { result ≡ capped_to_u32 (nesting (assignment_of a.now)) }
 {
     designator_nesting(&a.target).max(expression_nesting(&a.value))
 }
 
 /// Returns the nesting depth of a call, capped at 2^32 - 1.
 fn call_nesting(c: &Call) -> u32
-    ensures { result ≡ capped (nesting (call_of c.now)) }
+    ensures { result ≡ capped_to_u32 (nesting (call_of c.now)) }
 {
     let Some(arguments) = &c.arguments else {
         return 0;
@@ -148,7 +148,7 @@ fn call_nesting(c: &Call) -> u32
 /// Returns the nesting depth of a sequence of statements, capped at 2^32 - 1.
 #[cycle(statements)]
 fn sequence_nesting(statements: &Vec<Statement>) -> u32
-    ensures { result ≡ capped (nesting (sequence_of_vec statements.now)) }
+    ensures { result ≡ capped_to_u32 (nesting (sequence_of_vec statements.now)) }
 {
     let mut deepest: u32 = 0;
     for s in statements {
@@ -160,7 +160,7 @@ fn sequence_nesting(statements: &Vec<Statement>) -> u32
 /// Returns the nesting depth of a statement, capped at 2^32 - 1.
 #[cycle(statements)]
 fn statement_nesting(s: &Statement) -> u32
-    ensures { result ≡ capped (nesting (statement_of s.now)) }
+    ensures { result ≡ capped_to_u32 (nesting (statement_of s.now)) }
 {
     match s {
         Statement::Empty => 0,
@@ -179,7 +179,7 @@ fn statement_nesting(s: &Statement) -> u32
 /// Returns the nesting depth of an IF statement, including its own level, capped at 2^32 - 1.
 #[cycle(statements)]
 fn if_nesting(i: &If) -> u32
-    ensures { result ≡ capped (nesting (if_of i.now)) }
+    ensures { result ≡ capped_to_u32 (nesting (if_of i.now)) }
 {
     let first = expression_nesting(&i.condition).max(sequence_nesting(&i.then));
     let others = elsifs_nesting(&i.elsifs);
@@ -192,7 +192,7 @@ fn if_nesting(i: &If) -> u32
 /// Returns the nesting depth of an IF statement's ELSIF parts, capped at 2^32 - 1.
 #[cycle(statements)]
 fn elsifs_nesting(parts: &Vec<Elsif>) -> u32
-    ensures { result ≡ capped (nesting (elsifs_of_vec parts.now)) }
+    ensures { result ≡ capped_to_u32 (nesting (elsifs_of_vec parts.now)) }
 {
     let mut deepest: u32 = 0;
     for e in parts {
@@ -204,7 +204,7 @@ fn elsifs_nesting(parts: &Vec<Elsif>) -> u32
 /// Returns the nesting depth of a written type, capped at 2^32 - 1.
 #[cycle(types)]
 fn type_nesting(t: &WrittenType) -> u32
-    ensures { result ≡ capped (nesting (type_of t.now)) }
+    ensures { result ≡ capped_to_u32 (nesting (type_of t.now)) }
 {
     match t {
         WrittenType::Named(_) => 0,
@@ -218,7 +218,7 @@ fn type_nesting(t: &WrittenType) -> u32
 /// Returns the nesting depth of a record type, including its own level, capped at 2^32 - 1.
 #[cycle(types)]
 fn record_nesting(r: &RecordType) -> u32
-    ensures { result ≡ capped (nesting (record_type_of r.now)) }
+    ensures { result ≡ capped_to_u32 (nesting (record_type_of r.now)) }
 {
     let mut deepest: u32 = 0;
     for group in &r.groups {
@@ -230,7 +230,7 @@ fn record_nesting(r: &RecordType) -> u32
 /// Returns the nesting depth of a group of fields, capped at 2^32 - 1.
 #[cycle(types)]
 fn fields_nesting(f: &Fields) -> u32
-    ensures { result ≡ capped (nesting (fields_of f.now)) }
+    ensures { result ≡ capped_to_u32 (nesting (fields_of f.now)) }
 {
     match f {
         Fields::Empty => 0,
@@ -240,7 +240,7 @@ fn fields_nesting(f: &Fields) -> u32
 
 /// Returns the nesting depth of a section of parameters, capped at 2^32 - 1.
 fn section_nesting(s: &ParameterSection) -> u32
-    ensures { result ≡ capped (nesting (section_of s.now)) }
+    ensures { result ≡ capped_to_u32 (nesting (section_of s.now)) }
 {
     type_nesting(&s.written)
 }
@@ -248,7 +248,7 @@ fn section_nesting(s: &ParameterSection) -> u32
 /// Returns the nesting depth of a procedure's formal parameters, capped at 2^32 - 1. The result is
 /// 0 if the procedure has none.
 fn formals_nesting(sections: &Option<Vec<ParameterSection>>) -> u32
-    ensures { result ≡ capped (nesting (formals_of sections.now)) }
+    ensures { result ≡ capped_to_u32 (nesting (formals_of sections.now)) }
 {
     let Some(sections) = sections else {
         return 0;
@@ -263,7 +263,7 @@ fn formals_nesting(sections: &Option<Vec<ParameterSection>>) -> u32
 /// Returns the nesting depth of a block's CONST section, capped at 2^32 - 1. The result is 0 if
 /// there is no such section.
 fn constants_nesting(declared: &Option<Vec<Constant>>) -> u32
-    ensures { result ≡ capped (nesting (constants_of declared.now)) }
+    ensures { result ≡ capped_to_u32 (nesting (constants_of declared.now)) }
 {
     let Some(declared) = declared else {
         return 0;
@@ -278,7 +278,7 @@ fn constants_nesting(declared: &Option<Vec<Constant>>) -> u32
 /// Returns the nesting depth of a block's TYPE section, capped at 2^32 - 1. The result is 0 if
 /// there is no such section.
 fn types_nesting(declared: &Option<Vec<TypeDeclaration>>) -> u32
-    ensures { result ≡ capped (nesting (types_of declared.now)) }
+    ensures { result ≡ capped_to_u32 (nesting (types_of declared.now)) }
 {
     let Some(declared) = declared else {
         return 0;
@@ -293,7 +293,7 @@ fn types_nesting(declared: &Option<Vec<TypeDeclaration>>) -> u32
 /// Returns the nesting depth of a block's VAR section, capped at 2^32 - 1. The result is 0 if there
 /// is no such section.
 fn variables_nesting(declared: &Option<Vec<VariableDeclaration>>) -> u32
-    ensures { result ≡ capped (nesting (variables_of declared.now)) }
+    ensures { result ≡ capped_to_u32 (nesting (variables_of declared.now)) }
 {
     let Some(declared) = declared else {
         return 0;
@@ -308,7 +308,7 @@ fn variables_nesting(declared: &Option<Vec<VariableDeclaration>>) -> u32
 /// Returns the nesting depth of a block's statements, capped at 2^32 - 1. The result is 0 if the
 /// block has no body.
 fn body_nesting(statements: &Option<Vec<Statement>>) -> u32
-    ensures { result ≡ capped (nesting (body_of statements.now)) }
+    ensures { result ≡ capped_to_u32 (nesting (body_of statements.now)) }
 {
     match statements {
         Some(statements) => sequence_nesting(statements),
@@ -319,7 +319,7 @@ fn body_nesting(statements: &Option<Vec<Statement>>) -> u32
 /// Returns the nesting depth of a block and its procedures, capped at 2^32 - 1.
 #[cycle(blocks)]
 fn block_nesting(b: &Block) -> u32
-    ensures { result ≡ capped (nesting (block_of b.now)) }
+    ensures { result ≡ capped_to_u32 (nesting (block_of b.now)) }
 {
     let constants = constants_nesting(&b.constants);
     let types = types_nesting(&b.types);
@@ -335,7 +335,7 @@ fn block_nesting(b: &Block) -> u32
 /// Returns the nesting depth of a procedure, including its own level, capped at 2^32 - 1.
 #[cycle(blocks)]
 fn procedure_nesting(p: &Procedure) -> u32
-    ensures { result ≡ capped (nesting (procedure_of p.now)) }
+    ensures { result ≡ capped_to_u32 (nesting (procedure_of p.now)) }
 {
     one_level_deeper(formals_nesting(&p.formals).max(block_nesting(&p.block)))
 }

@@ -1,14 +1,14 @@
 //! Returns the text of a token.
 
 ghost use Rattle.std.specs.Prelude.{◌≡◌};
-ghost use Rattle.ob0_tree.specs.Places.{text_at};
+ghost use Rattle.ob0_tree.specs.Places.{token_text_at};
 
 use ob0_scan::Tokens;
 
 /// Returns the text of the token with the index `token`, or the empty text if there is no such
 /// token.
-pub fn text_at(tokens: &Tokens, token: usize) -> &str
-    ensures { result.now ≡ text_at tokens.now token }
+pub fn token_text_at(tokens: &Tokens, token: usize) -> &str
+    ensures { result.now ≡ token_text_at tokens.now token }
 {
     if token < tokens.tokens().len() {
         tokens.token_text(token)

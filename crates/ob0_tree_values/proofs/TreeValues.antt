@@ -28,11 +28,11 @@ use Rattle.ob0_tree.specs.declared.tree.VariableDeclaration.{VariableDeclaration
 use Rattle.ob0_tree.specs.declared.tree.Procedure.{Procedure, roll-Procedure}
 use Rattle.ob0_tree.specs.declared.tree.Block.{Block, roll-Block}
 use Rattle.ob0_tree.specs.declared.tree.ModuleTree.{ModuleTree}
-use Rattle.ob0_tree.specs.Tree.{Item, selector, multiplier, addend, comparison, arguments, further_argument, further_statement, elsif_part, else_part, further_name, further_fields, formals, further_section, constant, constants, type_name, type_names, variable, variables, procedure, body, Sort, item, items, maybe, expression, simple, term, factor, statement, sequence, names, written_type, fields, section, declarations, block, module_text, Tree, spell, single_token, none, one, end, more, compares, relates, sum, adds, product, multiplies, designator, integer, parenthesised, negation, field, index, empty, assigns, calls, branches, while_loop, repeat_loop, no_arguments, some_arguments, then_argument, runs, then_statement, elsif_branch, else_branch, listed, then_name, named_type, array_type, record_type, no_fields, some_fields, then_fields, no_formals, some_formals, value_section, variable_section, then_section, declares_constant, declares_constants, declares_type, declares_types, declares_variable, declares_variables, declares_procedure, declares, begins, has_body, is_module}
+use Rattle.ob0_tree.specs.Tree.{Item, selector, multiplier, addend, comparison, arguments, further_argument, further_statement, elsif_part, else_part, further_name, further_fields, formals, further_section, constant, constants, type_definition, type_definitions, variable, variables, procedure, body, Sort, item, items, maybe, expression, simple, term, factor, statement, sequence, names, written_type, fields, section, declarations, block, module_text, Tree, spell, single_token, none, one, end, more, compares, relates, sum, adds, product, multiplies, designator, integer, parenthesised, negation, field, index, empty, assigns, calls, branches, while_loop, repeat_loop, no_arguments, some_arguments, then_argument, runs, then_statement, elsif_branch, else_branch, listed, then_name, named_type, array_type, record_type, no_fields, some_fields, then_fields, no_formals, some_formals, value_section, variable_section, then_section, declares_constant, declares_constants, declares_type, declares_types, declares_variable, declares_variables, declares_procedure, declares, begins, forms_block, is_module}
 use Rattle.ob0_scan.specs.declared.lexeme.TokenKind.TheVariants as kind
 use Rattle.ob0_scan.specs.declared.lexeme.Symbol.TheVariants as symbol
-use Rattle.ob0_tree.specs.Lexeme.{Mark}
-use Rattle.ob0_tree.specs.View.{expression_of, compared_of, comparison_of, simple_of, addend_of, term_of, multiplier_of, factor_of, selector_of, items_of, names_of, further_argument_of, arguments_listed, arguments_of, statement_of, further_statement_of, sequence_of_list, elsif_of, else_part_of, type_of, fields_of, further_fields_of_group, record_of_list, section_of, further_section_of, formals_of_list, formals_of, constant_of, constants_of, type_declaration_of, types_of, variable_of, variables_of, body_of, block_of, procedure_of}
+use Rattle.ob0_tree.specs.Lexeme.{WordOrSymbol}
+use Rattle.ob0_tree.specs.View.{expression_of, maybe_comparison_of, comparison_of, simple_of, addend_of, term_of, multiplier_of, factor_of, selector_of, items_of, names_of, further_argument_of, arguments_of_list, arguments_of, statement_of, further_statement_of, sequence_of_list, elsif_of, else_part_of, type_of, fields_of, further_fields_of_group, record_of_list, section_of, further_section_of, formals_of_list, formals_of, constant_of, constants_of, type_declaration_of, types_of, variable_of, variables_of, body_of, block_of, procedure_of}
 use Rattle.ob0_tree.proofs.Viewed.{simple_made, term_made, designator_made, compound_made, comparison_made, addend_made, made_record_type, while_made, repeat_made, block_made, procedure_made, if_made}
 
 -- ---- vectors and boxes
@@ -64,8 +64,8 @@ Part formals = Vec ParameterSection Global
 Part further_section = ParameterSection
 Part constant = Constant
 Part constants = Vec Constant Global
-Part type_name = TypeDeclaration
-Part type_names = Vec TypeDeclaration Global
+Part type_definition = TypeDeclaration
+Part type_definitions = Vec TypeDeclaration Global
 Part variable = VariableDeclaration
 Part variables = Vec VariableDeclaration Global
 Part procedure = Procedure
@@ -76,7 +76,7 @@ part_of selector x = selector_of x
 part_of multiplier x = multiplier_of x
 part_of addend x = addend_of x
 part_of comparison x = comparison_of x
-part_of arguments xs = arguments_listed xs.items
+part_of arguments xs = arguments_of_list xs.items
 part_of further_argument x = further_argument_of x
 part_of further_statement x = further_statement_of x
 part_of elsif_part x = elsif_of x
@@ -87,8 +87,8 @@ part_of formals xs = formals_of_list xs.items
 part_of further_section x = further_section_of x
 part_of constant x = constant_of x
 part_of constants xs = declares_constants (items_of constant_of xs.items)
-part_of type_name x = type_declaration_of x
-part_of type_names xs = declares_types (items_of type_declaration_of xs.items)
+part_of type_definition x = type_declaration_of x
+part_of type_definitions xs = declares_types (items_of type_declaration_of xs.items)
 part_of variable x = variable_of x
 part_of variables xs = declares_variables (items_of variable_of xs.items)
 part_of procedure x = procedure_of x
@@ -181,7 +181,7 @@ some_tokens (declares_constant n e) = omega (arith)
 some_tokens (declares_constants cs) = omega (arith)
 some_tokens (declares_type n t) = omega (arith)
 some_tokens (declares_types ts) = omega (arith)
-some_tokens (declares_variable ns t) = omega (arith, length-append (spell ns) (Mark (kind.Symbol symbol.Colon) ∷ (spell t ++ single_token (kind.Symbol symbol.Semicolon))))
+some_tokens (declares_variable ns t) = omega (arith, length-append (spell ns) (WordOrSymbol (kind.Symbol symbol.Colon) ∷ (spell t ++ single_token (kind.Symbol symbol.Semicolon))))
 some_tokens (declares_variables vs) = omega (arith)
 some_tokens (declares_procedure n fs b c) = omega (arith)
 some_tokens (begins s) = omega (arith)
@@ -217,7 +217,7 @@ abbrev pub compared_maybe : Option Comparison → Option (Box Comparison Global)
 compared_maybe None = None
 compared_maybe (Some c) = Some (boxed c)
 
-compared_so : (o : Option Comparison) → compared_of (back-CompoundExpression-compared (compared_maybe o)) ≡ maybe_of comparison o
+compared_so : (o : Option Comparison) → maybe_comparison_of (back-CompoundExpression-compared (compared_maybe o)) ≡ maybe_of comparison o
 compared_so None = refl
 compared_so (Some c) = refl
 
@@ -237,7 +237,7 @@ constants_so : (o : _) → constants_of o ≡ maybe_of constants o
 constants_so None = refl
 constants_so (Some xs) = refl
 
-types_so : (o : _) → types_of o ≡ maybe_of type_names o
+types_so : (o : _) → types_of o ≡ maybe_of type_definitions o
 types_so None = refl
 types_so (Some xs) = refl
 
@@ -424,12 +424,12 @@ tree_made (declares cs ts vs ps) short =
       (λ i. declares ((constants_so a.0 ∙ a.1) i) ((types_so b.0 ∙ b.1) i) ((variables_so c.0 ∙ c.1) i) (d.1 i)),
     )
 tree_made (begins s) short = let a = tree_made s (rest (spell s) short) in (a.0, ap begins a.1)
-tree_made (has_body ds b) short =
+tree_made (forms_block ds b) short =
     let low = front (spell ds) (spell b) short in
     let a = tree_made ds low in
     let c = tree_made b (back (spell ds) (spell b) short) in (
       roll-Block record { constants = a.0.constants_read; types = a.0.types_read; variables = a.0.variables_read; procedures = vec_of a.0.procedures_read (declared_few ds a low); body = c.0 },
-      block_made _ ∙ (λ i. has_body (a.1 i) ((body_so c.0 ∙ c.1) i)),
+      block_made _ ∙ (λ i. forms_block (a.1 i) ((body_so c.0 ∙ c.1) i)),
     )
 tree_made (is_module n b c) short =
     let a = tree_made b (front (spell b) _ (rest3 _ short)) in

@@ -11,10 +11,10 @@ use Rattle.ob0_tree.specs.ParsedModule.{named_tree_of, tree_of}
 use Rattle.ob0_tree.specs.Tree.{Tree, body, maybe}
 use Rattle.ob0_types_check.specs.EqualExceptBodies.{IsSameTokenAt}
 use Rattle.ob0_types_check.specs.SomeBodies.{is_among}
-use Rattle.ob0_types_check.specs.WellTypedLaws.{NoFaultInModules}
+use Rattle.ob0_types_check.specs.WellTypedLaws.{TypedModulesHaveNoFault}
 use Rattle.ob0_types_check.proofs.DeclarationsStay.{declarations_stay}
 use Rattle.ob0_types_fields.specs.declared.field_name.FieldName.{FieldName}
-use Rattle.ob0_types_fields.specs.Identifiers.{field_identifiers, tokens_of}
+use Rattle.ob0_types_fields.specs.Identifiers.{field_identifiers, token_indexes}
 use Rattle.ob0_types_fields.specs.FieldLists.{AreFieldListsOf, HasSameTokensWith, FieldLists}
 use Rattle.ob0_types_fields.specs.Owned.{fields_in_module, fields_in_tree, meanings_by_token}
 use Rattle.ob0_types_table.specs.KnownTables.{Tables, declared_object_in}
@@ -28,7 +28,7 @@ use Rattle.ob0_types.proofs.AllReported.{none_reported}
 use Rattle.ob0_types.proofs.FieldsOutside.{AreAround, module_around}
 use Rattle.ob0_types.proofs.OneBody.{alike_outside, before, last_body, were_faulty}
 
-module _ (r : Resolution) (types : ModuleTypes) (low : ℕ) (w : WereTypesBeforeChange r types low) (law : NoFaultInModules) (is : IsResolution r) (typed : WellTyped (named_tree_of r.module_read)) (none : types.faults.items ≡ []) where
+module _ (r : Resolution) (types : ModuleTypes) (low : ℕ) (w : WereTypesBeforeChange r types low) (law : TypedModulesHaveNoFault) (is : IsResolution r) (typed : WellTyped (named_tree_of r.module_read)) (none : types.faults.items ≡ []) where
   abbrev old : Resolution
   old = before r types low w
 
@@ -44,7 +44,7 @@ module _ (r : Resolution) (types : ModuleTypes) (low : ℕ) (w : WereTypesBefore
 
   declared_same : (k : ℕ) → declared_object (named_tree_of r.module_read) k ≡ declared_object (named_tree_of old.module_read) k
   declared_same =
-      declarations_stay (is_among (types.faulty.items ++ last_body r types low w ∷ [])) r is (were_faulty r types low w is) (none_reported law old w.types_are.checked.resolved typed_before) (none_reported law r is typed)
+      declarations_stay (is_among (types.bodies_with_faults.items ++ last_body r types low w ∷ [])) r is (were_faulty r types low w is) (none_reported law old w.types_are.checked.resolved typed_before) (none_reported law r is typed)
 
   means_same : (token : ℕ) → IsSameTokenAt old r token → MeansSame meant_before meant_now token
   means_same token h = record {
@@ -61,16 +61,16 @@ module _ (r : Resolution) (types : ModuleTypes) (low : ℕ) (w : WereTypesBefore
   fields_now : field_identifiers r ≡ around.before ++ (fields_in_tree meant_now (body_in_module low (tree_of r.module_read)).statements ++ around.after)
   fields_now = module-fields meant_now (tree_of r.module_read) ∙ around.second
 
-  same_tokens : tokens_of types.fields.all ≡ tokens_of (field_identifiers r)
-  same_tokens = ap tokens_of (w.types_are.fields none).1 ∙ (fields_match_grammar-holds old w.types_are.checked.resolved typed_before ∙ sym (fields_match_grammar-holds r is typed))
+  same_tokens : token_indexes types.fields.all ≡ token_indexes (field_identifiers r)
+  same_tokens = ap token_indexes (w.types_are.fields none).1 ∙ (fields_match_grammar-holds old w.types_are.checked.resolved typed_before ∙ sym (fields_match_grammar-holds r is typed))
 
   has_others : HasSameTokensWith types.fields.all around.before (fields_in_tree meant_now (body_in_module low (tree_of r.module_read)).statements) around.after
   has_others = record {
-    old = fields_in_tree meant_before (body_in_module low (tree_of r.module_read)).statements;
-    top = length old.module_read.source.tokens;
-    in_order = subst (λ (xs : List FieldName). AreAscending 0 (tokens_of xs) (length old.module_read.source.tokens)) (sym (w.types_are.fields none).1) (fields_ascend old w.types_are.checked.resolved.parsed);
-    is = fields_before;
-    same = same_tokens ∙ ap tokens_of fields_now;
+    replaced_fields = fields_in_tree meant_before (body_in_module low (tree_of r.module_read)).statements;
+    token_limit = length old.module_read.source.tokens;
+    in_order = subst (λ (xs : List FieldName). AreAscending 0 (token_indexes xs) (length old.module_read.source.tokens)) (sym (w.types_are.fields none).1) (fields_ascend old w.types_are.checked.resolved.parsed);
+    is_concatenation = fields_before;
+    same = same_tokens ∙ ap token_indexes fields_now;
   }
 
   -- If the old fields within the body's tokens are replaced by the fields found in the body, the list has the module's

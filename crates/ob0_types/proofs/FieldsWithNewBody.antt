@@ -1,7 +1,7 @@
 -- If the statements of one body were replaced, the fields of the module are its old fields, moved, with the fields of
 -- the new statements between them.
 use Rattle.std.proofs.Common.{◌≡◌, ℕ, [], ◌++◌, map, Some, sym, ap, ◌∙◌}
-use Rattle.ob0_scan.specs.declared.tokens.SameTokens.{SameTokens}
+use Rattle.ob0_scan.specs.declared.tokens.SameParts.{SameParts}
 use Rattle.ob0_tree.specs.ParsedModule.{named_tree_of, tree_of}
 use Rattle.ob0_tree.specs.Tree.{Tree, body, identifiers, maybe}
 use Rattle.ob0_tree.specs.declared.tree.Role.TheVariants as role
@@ -9,7 +9,7 @@ use Rattle.ob0_language_types.specs.Bindings.{declared_object}
 use Rattle.ob0_language_types.specs.WellTyped.{WellTyped}
 use Rattle.ob0_scope_table.specs.BodyPlaces.{body_place_around}
 use Rattle.ob0_tree.specs.FirstIdentifier.{first_token_of}
-use Rattle.ob0_scope_table.specs.BodyReplaced.{IsBodyReplaced, PathToBody, body_at, closing_name_in_module, way_in_module}
+use Rattle.ob0_scope_table.specs.BodyReplaced.{IsBodyReplaced, PathToBody, body_at_path, closing_name_in_module, path_to_body_in_module}
 use Rattle.ob0_scope_table.specs.Resolution.{IsResolution, Resolution}
 use Rattle.ob0_scope_table.specs.declared.one_body.BodyPlace.{BodyPlace}
 use Rattle.ob0_scope_table.proofs.BodyPlaces.{body_place_read}
@@ -20,18 +20,18 @@ use Rattle.ob0_types_fields.proofs.FieldsElsewhere.{fields_elsewhere}
 use Rattle.ob0_types.specs.CheckedModules.{AreTypesOf}
 use Rattle.ob0_types.specs.declared.checked.ModuleTypes.{ModuleTypes}
 
-module _ (old r : Resolution) (types : ModuleTypes) (way : PathToBody) (s : SameTokens) (is : IsBodyReplaced old.module_read r.module_read way s) (were : AreTypesOf old types)
+module _ (old r : Resolution) (types : ModuleTypes) (path : PathToBody) (s : SameParts) (is : IsBodyReplaced old.module_read r.module_read path s) (were : AreTypesOf old types)
     (named : IsResolution r) (typed : WellTyped (named_tree_of r.module_read)) (none : types.faults.items ≡ []) where
   -- The fields before the new statements, the fields found in them, and the moved fields after them are the module's
   -- fields.
   pub fields_with_new_body : (f : FieldLists) (t : Tables) → ((k : ℕ) → declared_object_in t k ≡ declared_object (named_tree_of r.module_read) k)
-      → (statements : Tree ℕ (maybe body)) → statements ≡ body_at way (tree_of r.module_read) → (place : BodyPlace) → body_place_around s.prefix s.new_suffix (tree_of r.module_read) ≡ Some place
+      → (statements : Tree ℕ (maybe body)) → statements ≡ body_at_path path (tree_of r.module_read) → (place : BodyPlace) → body_place_around s.prefix s.new_suffix (tree_of r.module_read) ≡ Some place
       → f.declared ≡ map (moved_field s) types.fields.declared
       → f.all ≡ fields_before place.first types.fields.all ++ (fields_in_tree (meanings_by_token (declared_object_in t) r) statements ++ map (moved_field s) (fields_from (old_token_index s place.closing) types.fields.all))
       → AreFieldListsOf r f
   fields_with_new_body f t holds statements here place found declared all =
       let at = body_place_read s.prefix s.new_suffix (tree_of r.module_read) place found in
-      let led : way_in_module s.prefix (tree_of r.module_read) ≡ way = is.new_way in
-      let first = (λ i. first_token_of (identifiers role.Declaring (body_at (sym led i) (tree_of r.module_read)))) ∙ at.first in
+      let led : path_to_body_in_module s.prefix (tree_of r.module_read) ≡ path = is.new_path in
+      let first = (λ i. first_token_of (identifiers role.Declaring (body_at_path (sym led i) (tree_of r.module_read)))) ∙ at.first in
       let closing = sym at.closes ∙ ap (λ w. closing_name_in_module w (tree_of r.module_read)) led in
-      fields_elsewhere old r way s is were.checked.resolved named (were.checked.reported.0 none) typed types.fields f t (were.fields none) holds statements here place.first place.closing first closing declared all
+      fields_elsewhere old r path s is were.checked.resolved named (were.checked.reported.0 none) typed types.fields f t (were.fields none) holds statements here place.first place.closing first closing declared all

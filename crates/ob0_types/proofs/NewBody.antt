@@ -1,54 +1,54 @@
 -- If a module was well-typed before the statements of one body were replaced, the new module fits without the new
 -- statements. A module that fits also fits without the statements of a body, and everything else has the same spelling.
 use Rattle.std.proofs.Common.{◌≡◌, ℕ, zero, suc, ◌+◌, Bool, true, false, ◌&&◌, nat_lt, if◌then◌else◌, List, [], ◌∷◌, ◌++◌, Option, Some, None, refl, sym, ap, ◌∙◌, subst}
-use Rattle.ob0_language_names.specs.DeclaredOnce.{are_distinct, block_names, block_once, declared_once, formals_have_distinct_fields, procedure_names, procedure_once, procedures_once, types_have_distinct_fields, variables_have_distinct_fields}
+use Rattle.ob0_language_names.specs.ConsistentNames.{are_distinct, block_names, block_has_consistent_names, has_consistent_names, formals_have_distinct_fields, procedure_names, procedure_has_consistent_names, procedures_have_consistent_names, types_have_distinct_fields, variables_have_distinct_fields}
 use Rattle.ob0_language_names.specs.Names.{Name, Naming, naming_by_spelling, same_name}
 use Rattle.ob0_language_names.specs.Parts.{constant_names, formal_names, formal_sections, declared_type_names, procedure_formals, procedure_name, section_constants, section_types, section_variables, variable_names}
-use Rattle.ob0_language_types.specs.Declarations.{constructor_after_variables, block_constructor_count, declare_first, formals_constructor_count, procedure_constructor_count, procedures_constructor_count, types_constructor_count, variables_constructor_count}
-use Rattle.ob0_language_types.specs.WellTyped.{TypeEnvironment, WellTyped, bind_typed_parameters, block_fits, passes_type_check, bind_procedure, procedure_fits, procedures_fit, some_satisfies, typed_parameters}
-use Rattle.ob0_tree.specs.Tree.{Tree, block, body, constants, declares, declares_procedure, end, has_body, is_module, item, items, maybe, module_text, more, none, procedure, type_names, variables}
+use Rattle.ob0_language_types.specs.Declarations.{constructors_before_procedures, block_constructor_count, declare_constants_and_types, formals_constructor_count, procedure_constructor_count, procedures_constructor_count, types_constructor_count, variables_constructor_count}
+use Rattle.ob0_language_types.specs.WellTyped.{TypeEnvironment, WellTyped, bind_typed_parameters, block_is_well_typed, passes_type_check, bind_procedure, procedure_is_well_typed, procedures_are_well_typed, option_satisfies, typed_parameters}
+use Rattle.ob0_tree.specs.Tree.{Tree, block, body, constants, declares, declares_procedure, end, forms_block, is_module, item, items, maybe, module_text, more, none, procedure, type_definitions, variables}
 use Rattle.ob0_tree.specs.ParsedModule.{named_tree_of, tree_of}
-use Rattle.ob0_tree.specs.Places.{tree_with_names, text_at, value_at}
-use Rattle.ob0_scan.specs.declared.tokens.SameTokens.{SameTokens}
-use Rattle.ob0_scope_table.specs.BodyReplaced.{PathToBody, block_without, body_at, body_in, body_inside, closing_name_in_module, closing_name_in_block, closing_name_in_procedure, shift_way, procedure_without, procedures_without, way_in_procedures, way_in_block, way_in_procedure, way_in_module, module_without_body}
+use Rattle.ob0_tree.specs.Places.{tree_with_names, token_text_at, token_value_at}
+use Rattle.ob0_scan.specs.declared.tokens.SameParts.{SameParts}
+use Rattle.ob0_scope_table.specs.BodyReplaced.{PathToBody, block_without, body_at_path, body_at_path_in_block, body_at_path_in_procedure, closing_name_in_module, closing_name_in_block, closing_name_in_procedure, shift_path, procedure_without, procedures_without, path_to_body_in_procedures, path_to_body_in_block, path_to_body_in_procedure, path_to_body_in_module, module_without_body}
 use Rattle.ob0_scope_table.specs.OneBody.{closing_name}
 use Rattle.ob0_scope_table.specs.Resolution.{Resolution}
 use Rattle.ob0_scope_table.proofs.BodyReplaced.{names_outside, without_mapped}
-use Rattle.ob0_types_check.specs.NewBody.{FitsWithout}
+use Rattle.ob0_types_check.specs.NewBody.{PassesTypeCheckWithoutBody}
 use Rattle.ob0_types_check.proofs.WithoutNames.{procedure_name-module_without_body}
 use Rattle.ob0_types.specs.NewBody.{WereTypesBeforeNewBody}
-use Rattle.ob0_types.specs.OneBody.{OneBody, body_among, body_in_block, body_in_module, body_in_procedure}
+use Rattle.ob0_types.specs.OneBody.{OneBody, body_at_path_in_procedures, body_in_block, body_in_module, body_in_procedure}
 use Rattle.ob0_types.specs.declared.checked.ModuleTypes.{ModuleTypes}
 
 -- ---- a block without the statements of one body has as many words ARRAY and RECORD as the block, and the same names
 
 mutual
-  block_count : {N : Type 0} (way : PathToBody) (b : Tree N block) → block_constructor_count (block_without way b) ≡ block_constructor_count b
-  block_count [] (has_body (declares cs ts vs ps) statements) = refl
-  block_count (k ∷ way) (has_body (declares cs ts vs ps) statements) =
-      ap (λ n. types_constructor_count (section_types ts) + (variables_constructor_count (section_variables vs) + n)) (procedures_count k way ps)
+  block_count : {N : Type 0} (path : PathToBody) (b : Tree N block) → block_constructor_count (block_without path b) ≡ block_constructor_count b
+  block_count [] (forms_block (declares cs ts vs ps) statements) = refl
+  block_count (k ∷ path) (forms_block (declares cs ts vs ps) statements) =
+      ap (λ n. types_constructor_count (section_types ts) + (variables_constructor_count (section_variables vs) + n)) (procedures_count k path ps)
 
-  procedures_count : {N : Type 0} (k : ℕ) (way : PathToBody) (ps : Tree N (items procedure)) → procedures_constructor_count (procedures_without k way ps) ≡ procedures_constructor_count ps
-  procedures_count zero way end = refl
-  procedures_count (suc k) way end = refl
-  procedures_count zero way (more p rest) = ap (λ n. n + procedures_constructor_count rest) (procedure_count way p)
-  procedures_count (suc k) way (more p rest) = ap (λ n. procedure_constructor_count p + n) (procedures_count k way rest)
+  procedures_count : {N : Type 0} (k : ℕ) (path : PathToBody) (ps : Tree N (items procedure)) → procedures_constructor_count (procedures_without k path ps) ≡ procedures_constructor_count ps
+  procedures_count zero path end = refl
+  procedures_count (suc k) path end = refl
+  procedures_count zero path (more p rest) = ap (λ n. n + procedures_constructor_count rest) (procedure_count path p)
+  procedures_count (suc k) path (more p rest) = ap (λ n. procedure_constructor_count p + n) (procedures_count k path rest)
 
-  pub procedure_count : {N : Type 0} (way : PathToBody) (p : Tree N (item procedure)) → procedure_constructor_count (procedure_without way p) ≡ procedure_constructor_count p
-  procedure_count way (declares_procedure x fs b closing) = ap (λ n. formals_constructor_count (formal_sections fs) + n) (block_count way b)
+  pub procedure_count : {N : Type 0} (path : PathToBody) (p : Tree N (item procedure)) → procedure_constructor_count (procedure_without path p) ≡ procedure_constructor_count p
+  procedure_count path (declares_procedure x fs b closing) = ap (λ n. formals_constructor_count (formal_sections fs) + n) (block_count path b)
 
-same_formals : {N : Type 0} (way : PathToBody) (p : Tree N (item procedure)) → procedure_formals (procedure_without way p) ≡ procedure_formals p
-same_formals way (declares_procedure x fs b closing) = refl
+same_formals : {N : Type 0} (path : PathToBody) (p : Tree N (item procedure)) → procedure_formals (procedure_without path p) ≡ procedure_formals p
+same_formals path (declares_procedure x fs b closing) = refl
 
-same_names : {N : Type 0} (k : ℕ) (way : PathToBody) (ps : Tree N (items procedure)) → procedure_names (procedures_without k way ps) ≡ procedure_names ps
-same_names zero way end = refl
-same_names (suc k) way end = refl
-same_names zero way (more p rest) = ap (λ x. x ∷ procedure_names rest) (procedure_name-module_without_body way p)
-same_names (suc k) way (more p rest) = ap (λ xs. procedure_name p ∷ xs) (same_names k way rest)
+same_names : {N : Type 0} (k : ℕ) (path : PathToBody) (ps : Tree N (items procedure)) → procedure_names (procedures_without k path ps) ≡ procedure_names ps
+same_names zero path end = refl
+same_names (suc k) path end = refl
+same_names zero path (more p rest) = ap (λ x. x ∷ procedure_names rest) (procedure_name-module_without_body path p)
+same_names (suc k) path (more p rest) = ap (λ xs. procedure_name p ∷ xs) (same_names k path rest)
 
 -- ---- a part that fits also fits without the statements of a body
 
-some_and_weaker : {A : Type 0} (o : Option A) (f g : A → Bool) → ((a : A) → f a ≡ true → g a ≡ true) → some_satisfies o f ≡ true → some_satisfies o g ≡ true
+some_and_weaker : {A : Type 0} (o : Option A) (f g : A → Bool) → ((a : A) → f a ≡ true → g a ≡ true) → option_satisfies o f ≡ true → option_satisfies o g ≡ true
 some_and_weaker None f g weaker h = h
 some_and_weaker (Some a) f g weaker h = weaker a h
 
@@ -58,77 +58,77 @@ both_weaker false b c d first second h = absurd (cc)
 
 module _ {N : Type 0} (naming : Naming N) where
   -- If the procedures of a block fit, they also fit when the block's own statements are left out.
-  own_left_out : (env : TypeEnvironment N) (k : ℕ) (statements : Tree N (maybe body)) (ps : Tree N (items procedure)) → procedures_fit naming env k statements ps ≡ true → procedures_fit naming env k none ps ≡ true
-  unfolding procedures_fit
+  own_left_out : (env : TypeEnvironment N) (k : ℕ) (statements : Tree N (maybe body)) (ps : Tree N (items procedure)) → procedures_are_well_typed naming env k statements ps ≡ true → procedures_are_well_typed naming env k none ps ≡ true
+  unfolding procedures_are_well_typed
   own_left_out env k statements end h = refl
   own_left_out env k statements (more p rest) h =
       some_and_weaker (typed_parameters naming env k (procedure_formals p))
-      (λ qs. procedure_fits naming (bind_typed_parameters qs (bind_procedure (procedure_name p) qs env)) k p && procedures_fit naming (bind_procedure (procedure_name p) qs env) (k + procedure_constructor_count p) statements rest)
-      (λ qs. procedure_fits naming (bind_typed_parameters qs (bind_procedure (procedure_name p) qs env)) k p && procedures_fit naming (bind_procedure (procedure_name p) qs env) (k + procedure_constructor_count p) none rest)
-      (λ qs. both_weaker (procedure_fits naming (bind_typed_parameters qs (bind_procedure (procedure_name p) qs env)) k p) (procedures_fit naming (bind_procedure (procedure_name p) qs env) (k + procedure_constructor_count p) statements rest)
-      (procedure_fits naming (bind_typed_parameters qs (bind_procedure (procedure_name p) qs env)) k p) (procedures_fit naming (bind_procedure (procedure_name p) qs env) (k + procedure_constructor_count p) none rest)
+      (λ qs. procedure_is_well_typed naming (bind_typed_parameters qs (bind_procedure (procedure_name p) qs env)) k p && procedures_are_well_typed naming (bind_procedure (procedure_name p) qs env) (k + procedure_constructor_count p) statements rest)
+      (λ qs. procedure_is_well_typed naming (bind_typed_parameters qs (bind_procedure (procedure_name p) qs env)) k p && procedures_are_well_typed naming (bind_procedure (procedure_name p) qs env) (k + procedure_constructor_count p) none rest)
+      (λ qs. both_weaker (procedure_is_well_typed naming (bind_typed_parameters qs (bind_procedure (procedure_name p) qs env)) k p) (procedures_are_well_typed naming (bind_procedure (procedure_name p) qs env) (k + procedure_constructor_count p) statements rest)
+      (procedure_is_well_typed naming (bind_typed_parameters qs (bind_procedure (procedure_name p) qs env)) k p) (procedures_are_well_typed naming (bind_procedure (procedure_name p) qs env) (k + procedure_constructor_count p) none rest)
       (λ e. e) (own_left_out (bind_procedure (procedure_name p) qs env) (k + procedure_constructor_count p) statements rest)) h
 
   mutual
-    unfolding block_fits declare_first
+    unfolding block_is_well_typed declare_constants_and_types
 
-    block_left_out : (way : PathToBody) (env : TypeEnvironment N) (k : ℕ) (b : Tree N block) → block_fits naming env k b ≡ true → block_fits naming env k (block_without way b) ≡ true
-    block_left_out [] env k (has_body (declares cs ts vs ps) statements) h =
-        let b : Tree N block = has_body (declares cs ts vs ps) statements in
-        some_and_weaker _ (λ inner. procedures_fit naming inner (constructor_after_variables k b) statements ps) (λ inner. procedures_fit naming inner (constructor_after_variables k b) none ps)
-        (λ inner. own_left_out inner (constructor_after_variables k b) statements ps) h
-    block_left_out (j ∷ way) env k (has_body (declares cs ts vs ps) statements) h =
-        let b : Tree N block = has_body (declares cs ts vs ps) statements in
-        some_and_weaker _ (λ inner. procedures_fit naming inner (constructor_after_variables k b) statements ps) (λ inner. procedures_fit naming inner (constructor_after_variables k b) statements (procedures_without j way ps))
-        (λ inner. procedures_left_out j way inner (constructor_after_variables k b) statements ps) h
+    block_left_out : (path : PathToBody) (env : TypeEnvironment N) (k : ℕ) (b : Tree N block) → block_is_well_typed naming env k b ≡ true → block_is_well_typed naming env k (block_without path b) ≡ true
+    block_left_out [] env k (forms_block (declares cs ts vs ps) statements) h =
+        let b : Tree N block = forms_block (declares cs ts vs ps) statements in
+        some_and_weaker _ (λ inner. procedures_are_well_typed naming inner (constructors_before_procedures k b) statements ps) (λ inner. procedures_are_well_typed naming inner (constructors_before_procedures k b) none ps)
+        (λ inner. own_left_out inner (constructors_before_procedures k b) statements ps) h
+    block_left_out (j ∷ path) env k (forms_block (declares cs ts vs ps) statements) h =
+        let b : Tree N block = forms_block (declares cs ts vs ps) statements in
+        some_and_weaker _ (λ inner. procedures_are_well_typed naming inner (constructors_before_procedures k b) statements ps) (λ inner. procedures_are_well_typed naming inner (constructors_before_procedures k b) statements (procedures_without j path ps))
+        (λ inner. procedures_left_out j path inner (constructors_before_procedures k b) statements ps) h
 
-    procedures_left_out : (j : ℕ) (way : PathToBody) (env : TypeEnvironment N) (k : ℕ) (statements : Tree N (maybe body)) (ps : Tree N (items procedure)) → procedures_fit naming env k statements ps ≡ true
-        → procedures_fit naming env k statements (procedures_without j way ps) ≡ true
-    procedures_left_out zero way env k statements end h = h
-    procedures_left_out (suc j) way env k statements end h = h
-    procedures_left_out zero way env k statements (more (declares_procedure x fs b closing) rest) h =
+    procedures_left_out : (j : ℕ) (path : PathToBody) (env : TypeEnvironment N) (k : ℕ) (statements : Tree N (maybe body)) (ps : Tree N (items procedure)) → procedures_are_well_typed naming env k statements ps ≡ true
+        → procedures_are_well_typed naming env k statements (procedures_without j path ps) ≡ true
+    procedures_left_out zero path env k statements end h = h
+    procedures_left_out (suc j) path env k statements end h = h
+    procedures_left_out zero path env k statements (more (declares_procedure x fs b closing) rest) h =
         let p : Tree N (item procedure) = declares_procedure x fs b closing in
         some_and_weaker (typed_parameters naming env k (formal_sections fs))
-        (λ qs. procedure_fits naming (bind_typed_parameters qs (bind_procedure x qs env)) k p && procedures_fit naming (bind_procedure x qs env) (k + procedure_constructor_count p) statements rest)
-        (λ qs. procedure_fits naming (bind_typed_parameters qs (bind_procedure x qs env)) k (procedure_without way p) && procedures_fit naming (bind_procedure x qs env) (k + procedure_constructor_count (procedure_without way p)) statements rest)
-        (λ qs. both_weaker (procedure_fits naming (bind_typed_parameters qs (bind_procedure x qs env)) k p) (procedures_fit naming (bind_procedure x qs env) (k + procedure_constructor_count p) statements rest)
-        (procedure_fits naming (bind_typed_parameters qs (bind_procedure x qs env)) k (procedure_without way p)) (procedures_fit naming (bind_procedure x qs env) (k + procedure_constructor_count (procedure_without way p)) statements rest)
-        (block_left_out way (bind_typed_parameters qs (bind_procedure x qs env)) (k + formals_constructor_count (formal_sections fs)) b)
-        (λ e. ap (λ n. procedures_fit naming (bind_procedure x qs env) (k + n) statements rest) (procedure_count way p) ∙ e)) h
-    procedures_left_out (suc j) way env k statements (more p rest) h =
+        (λ qs. procedure_is_well_typed naming (bind_typed_parameters qs (bind_procedure x qs env)) k p && procedures_are_well_typed naming (bind_procedure x qs env) (k + procedure_constructor_count p) statements rest)
+        (λ qs. procedure_is_well_typed naming (bind_typed_parameters qs (bind_procedure x qs env)) k (procedure_without path p) && procedures_are_well_typed naming (bind_procedure x qs env) (k + procedure_constructor_count (procedure_without path p)) statements rest)
+        (λ qs. both_weaker (procedure_is_well_typed naming (bind_typed_parameters qs (bind_procedure x qs env)) k p) (procedures_are_well_typed naming (bind_procedure x qs env) (k + procedure_constructor_count p) statements rest)
+        (procedure_is_well_typed naming (bind_typed_parameters qs (bind_procedure x qs env)) k (procedure_without path p)) (procedures_are_well_typed naming (bind_procedure x qs env) (k + procedure_constructor_count (procedure_without path p)) statements rest)
+        (block_left_out path (bind_typed_parameters qs (bind_procedure x qs env)) (k + formals_constructor_count (formal_sections fs)) b)
+        (λ e. ap (λ n. procedures_are_well_typed naming (bind_procedure x qs env) (k + n) statements rest) (procedure_count path p) ∙ e)) h
+    procedures_left_out (suc j) path env k statements (more p rest) h =
         some_and_weaker (typed_parameters naming env k (procedure_formals p))
-        (λ qs. procedure_fits naming (bind_typed_parameters qs (bind_procedure (procedure_name p) qs env)) k p && procedures_fit naming (bind_procedure (procedure_name p) qs env) (k + procedure_constructor_count p) statements rest)
-        (λ qs. procedure_fits naming (bind_typed_parameters qs (bind_procedure (procedure_name p) qs env)) k p && procedures_fit naming (bind_procedure (procedure_name p) qs env) (k + procedure_constructor_count p) statements (procedures_without j way rest))
-        (λ qs. both_weaker (procedure_fits naming (bind_typed_parameters qs (bind_procedure (procedure_name p) qs env)) k p) (procedures_fit naming (bind_procedure (procedure_name p) qs env) (k + procedure_constructor_count p) statements rest)
-        (procedure_fits naming (bind_typed_parameters qs (bind_procedure (procedure_name p) qs env)) k p) (procedures_fit naming (bind_procedure (procedure_name p) qs env) (k + procedure_constructor_count p) statements (procedures_without j way rest))
-        (λ e. e) (procedures_left_out j way (bind_procedure (procedure_name p) qs env) (k + procedure_constructor_count p) statements rest)) h
+        (λ qs. procedure_is_well_typed naming (bind_typed_parameters qs (bind_procedure (procedure_name p) qs env)) k p && procedures_are_well_typed naming (bind_procedure (procedure_name p) qs env) (k + procedure_constructor_count p) statements rest)
+        (λ qs. procedure_is_well_typed naming (bind_typed_parameters qs (bind_procedure (procedure_name p) qs env)) k p && procedures_are_well_typed naming (bind_procedure (procedure_name p) qs env) (k + procedure_constructor_count p) statements (procedures_without j path rest))
+        (λ qs. both_weaker (procedure_is_well_typed naming (bind_typed_parameters qs (bind_procedure (procedure_name p) qs env)) k p) (procedures_are_well_typed naming (bind_procedure (procedure_name p) qs env) (k + procedure_constructor_count p) statements rest)
+        (procedure_is_well_typed naming (bind_typed_parameters qs (bind_procedure (procedure_name p) qs env)) k p) (procedures_are_well_typed naming (bind_procedure (procedure_name p) qs env) (k + procedure_constructor_count p) statements (procedures_without j path rest))
+        (λ e. e) (procedures_left_out j path (bind_procedure (procedure_name p) qs env) (k + procedure_constructor_count p) statements rest)) h
 
-  pub fits_left_out : (way : PathToBody) (m : Tree N module_text) → passes_type_check naming m ≡ true → passes_type_check naming (module_without_body way m) ≡ true
+  pub fits_left_out : (path : PathToBody) (m : Tree N module_text) → passes_type_check naming m ≡ true → passes_type_check naming (module_without_body path m) ≡ true
   unfolding passes_type_check
-  fits_left_out way (is_module x b closing) h = block_left_out way _ 0 b h
+  fits_left_out path (is_module x b closing) h = block_left_out path _ 0 b h
 
 -- ---- each name is also declared once without the statements of a body
 
 mutual
-  block_once_alike : (way : PathToBody) (own : List Name) (b : Tree Name block) → block_once own (block_without way b) ≡ block_once own b
-  block_once_alike [] own (has_body (declares cs ts vs ps) statements) = refl
-  block_once_alike (k ∷ way) own (has_body (declares cs ts vs ps) statements) =
-      λ i. are_distinct (own ++ block_names_alike i) && (types_have_distinct_fields (section_types ts) && (variables_have_distinct_fields (section_variables vs) && procedures_once_alike k way ps i))
+  block_once_alike : (path : PathToBody) (own : List Name) (b : Tree Name block) → block_has_consistent_names own (block_without path b) ≡ block_has_consistent_names own b
+  block_once_alike [] own (forms_block (declares cs ts vs ps) statements) = refl
+  block_once_alike (k ∷ path) own (forms_block (declares cs ts vs ps) statements) =
+      λ i. are_distinct (own ++ block_names_alike i) && (types_have_distinct_fields (section_types ts) && (variables_have_distinct_fields (section_variables vs) && procedures_once_alike k path ps i))
     where
-      block_names_alike : block_names (block_without (k ∷ way) (has_body (declares cs ts vs ps) statements)) ≡ block_names (has_body (declares cs ts vs ps) statements)
-      block_names_alike = λ i. constant_names (section_constants cs) ++ (declared_type_names (section_types ts) ++ (variable_names (section_variables vs) ++ same_names k way ps i))
+      block_names_alike : block_names (block_without (k ∷ path) (forms_block (declares cs ts vs ps) statements)) ≡ block_names (forms_block (declares cs ts vs ps) statements)
+      block_names_alike = λ i. constant_names (section_constants cs) ++ (declared_type_names (section_types ts) ++ (variable_names (section_variables vs) ++ same_names k path ps i))
 
-  procedures_once_alike : (k : ℕ) (way : PathToBody) (ps : Tree Name (items procedure)) → procedures_once (procedures_without k way ps) ≡ procedures_once ps
-  procedures_once_alike zero way end = refl
-  procedures_once_alike (suc k) way end = refl
-  procedures_once_alike zero way (more p rest) = ap (λ b. b && procedures_once rest) (procedure_once_alike way p)
-  procedures_once_alike (suc k) way (more p rest) = ap (λ b. procedure_once p && b) (procedures_once_alike k way rest)
+  procedures_once_alike : (k : ℕ) (path : PathToBody) (ps : Tree Name (items procedure)) → procedures_have_consistent_names (procedures_without k path ps) ≡ procedures_have_consistent_names ps
+  procedures_once_alike zero path end = refl
+  procedures_once_alike (suc k) path end = refl
+  procedures_once_alike zero path (more p rest) = ap (λ b. b && procedures_have_consistent_names rest) (procedure_once_alike path p)
+  procedures_once_alike (suc k) path (more p rest) = ap (λ b. procedure_has_consistent_names p && b) (procedures_once_alike k path rest)
 
-  procedure_once_alike : (way : PathToBody) (p : Tree Name (item procedure)) → procedure_once (procedure_without way p) ≡ procedure_once p
-  procedure_once_alike way (declares_procedure x fs b closing) = ap (λ o. same_name x closing && (formals_have_distinct_fields (formal_sections fs) && o)) (block_once_alike way (formal_names (formal_sections fs)) b)
+  procedure_once_alike : (path : PathToBody) (p : Tree Name (item procedure)) → procedure_has_consistent_names (procedure_without path p) ≡ procedure_has_consistent_names p
+  procedure_once_alike path (declares_procedure x fs b closing) = ap (λ o. same_name x closing && (formals_have_distinct_fields (formal_sections fs) && o)) (block_once_alike path (formal_names (formal_sections fs)) b)
 
-pub once_left_out : (way : PathToBody) (m : Tree Name module_text) → declared_once (module_without_body way m) ≡ declared_once m
-once_left_out way (is_module x b closing) = ap (λ o. same_name x closing && o) (block_once_alike way [] b)
+pub once_left_out : (path : PathToBody) (m : Tree Name module_text) → has_consistent_names (module_without_body path m) ≡ has_consistent_names m
+once_left_out path (is_module x b closing) = ap (λ o. same_name x closing && o) (block_once_alike path [] b)
 
 -- ---- the body that contains a range of tokens is the one to which the way leads
 
@@ -136,54 +136,54 @@ abbrev Leads : OneBody → ℕ → Tree ℕ (maybe body) → Type 0
 Leads found closing statements = (found.closing ≡ closing) × (found.statements ≡ statements)
 
 -- If a body is found among procedures, the same body is found when another procedure is put before them.
-later_leads : (way : PathToBody) (own : ℕ) (cs : Tree ℕ (maybe constants)) (ts : Tree ℕ (maybe type_names)) (vs : Tree ℕ (maybe variables)) (p : Tree ℕ (item procedure)) (rest : Tree ℕ (items procedure)) (statements : Tree ℕ (maybe body)) (found : OneBody)
-    → Leads found (closing_name_in_block way own (has_body (declares cs ts vs rest) statements)) (body_in way (has_body (declares cs ts vs rest) statements))
-    → Leads found (closing_name_in_block (shift_way way) own (has_body (declares cs ts vs (more p rest)) statements)) (body_in (shift_way way) (has_body (declares cs ts vs (more p rest)) statements))
+later_leads : (path : PathToBody) (own : ℕ) (cs : Tree ℕ (maybe constants)) (ts : Tree ℕ (maybe type_definitions)) (vs : Tree ℕ (maybe variables)) (p : Tree ℕ (item procedure)) (rest : Tree ℕ (items procedure)) (statements : Tree ℕ (maybe body)) (found : OneBody)
+    → Leads found (closing_name_in_block path own (forms_block (declares cs ts vs rest) statements)) (body_at_path_in_block path (forms_block (declares cs ts vs rest) statements))
+    → Leads found (closing_name_in_block (shift_path path) own (forms_block (declares cs ts vs (more p rest)) statements)) (body_at_path_in_block (shift_path path) (forms_block (declares cs ts vs (more p rest)) statements))
 later_leads [] own cs ts vs p rest statements found h = h
-later_leads (k ∷ way) own cs ts vs p rest statements found h = h
+later_leads (k ∷ path) own cs ts vs p rest statements found h = h
 
 module _ (low : ℕ) where
   mutual
-    block_leads : (own : ℕ) (b : Tree ℕ block) → Leads (body_in_block low own b) (closing_name_in_block (way_in_block low b) own b) (body_in (way_in_block low b) b)
-    block_leads own (has_body (declares cs ts vs ps) statements) = among_leads own cs ts vs ps statements
+    block_leads : (own : ℕ) (b : Tree ℕ block) → Leads (body_in_block low own b) (closing_name_in_block (path_to_body_in_block low b) own b) (body_at_path_in_block (path_to_body_in_block low b) b)
+    block_leads own (forms_block (declares cs ts vs ps) statements) = among_leads own cs ts vs ps statements
 
-    among_leads : (own : ℕ) (cs : Tree ℕ (maybe constants)) (ts : Tree ℕ (maybe type_names)) (vs : Tree ℕ (maybe variables)) (ps : Tree ℕ (items procedure)) (statements : Tree ℕ (maybe body))
-        → Leads (body_among low own ps statements) (closing_name_in_block (way_in_procedures low ps) own (has_body (declares cs ts vs ps) statements)) (body_in (way_in_procedures low ps) (has_body (declares cs ts vs ps) statements))
+    among_leads : (own : ℕ) (cs : Tree ℕ (maybe constants)) (ts : Tree ℕ (maybe type_definitions)) (vs : Tree ℕ (maybe variables)) (ps : Tree ℕ (items procedure)) (statements : Tree ℕ (maybe body))
+        → Leads (body_at_path_in_procedures low own ps statements) (closing_name_in_block (path_to_body_in_procedures low ps) own (forms_block (declares cs ts vs ps) statements)) (body_at_path_in_block (path_to_body_in_procedures low ps) (forms_block (declares cs ts vs ps) statements))
     among_leads own cs ts vs end statements = (refl, refl)
     among_leads own cs ts vs (more p rest) statements =
-        let b : Tree ℕ block = has_body (declares cs ts vs (more p rest)) statements in
-        elim (nat_lt (closing_name p) low) as (λ z. Leads (if z then body_among low own rest statements else body_in_procedure low p)
-        (closing_name_in_block (if z then shift_way (way_in_procedures low rest) else zero ∷ way_in_procedure low p) own b) (body_in (if z then shift_way (way_in_procedures low rest) else zero ∷ way_in_procedure low p) b)) [
-          | true ↦ later_leads (way_in_procedures low rest) own cs ts vs p rest statements (body_among low own rest statements) (among_leads own cs ts vs rest statements)
+        let b : Tree ℕ block = forms_block (declares cs ts vs (more p rest)) statements in
+        elim (nat_lt (closing_name p) low) as (λ z. Leads (if z then body_at_path_in_procedures low own rest statements else body_in_procedure low p)
+        (closing_name_in_block (if z then shift_path (path_to_body_in_procedures low rest) else zero ∷ path_to_body_in_procedure low p) own b) (body_at_path_in_block (if z then shift_path (path_to_body_in_procedures low rest) else zero ∷ path_to_body_in_procedure low p) b)) [
+          | true ↦ later_leads (path_to_body_in_procedures low rest) own cs ts vs p rest statements (body_at_path_in_procedures low own rest statements) (among_leads own cs ts vs rest statements)
           | false ↦ procedure_leads p
         ]
 
-    procedure_leads : (p : Tree ℕ (item procedure)) → Leads (body_in_procedure low p) (closing_name_in_procedure (way_in_procedure low p) p) (body_inside (way_in_procedure low p) p)
+    procedure_leads : (p : Tree ℕ (item procedure)) → Leads (body_in_procedure low p) (closing_name_in_procedure (path_to_body_in_procedure low p) p) (body_at_path_in_procedure (path_to_body_in_procedure low p) p)
     procedure_leads (declares_procedure x fs b closing) = block_leads closing b
 
-  pub body_leads : (t : Tree ℕ module_text) → Leads (body_in_module low t) (closing_name_in_module (way_in_module low t) t) (body_at (way_in_module low t) t)
+  pub body_leads : (t : Tree ℕ module_text) → Leads (body_in_module low t) (closing_name_in_module (path_to_body_in_module low t) t) (body_at_path (path_to_body_in_module low t) t)
   body_leads (is_module x b closing) = block_leads closing b
 
 -- ---- the module
 
-module _ (r : Resolution) (types : ModuleTypes) (s : SameTokens) (w : WereTypesBeforeNewBody r types s) where
+module _ (r : Resolution) (types : ModuleTypes) (s : SameParts) (w : WereTypesBeforeNewBody r types s) where
   -- The body that the code finds is the one whose statements were replaced.
-  pub found_there : Leads (body_in_module s.prefix (tree_of r.module_read)) (closing_name_in_module w.way (tree_of r.module_read)) (body_at w.way (tree_of r.module_read))
-  found_there = subst (λ way. Leads (body_in_module s.prefix (tree_of r.module_read)) (closing_name_in_module way (tree_of r.module_read)) (body_at way (tree_of r.module_read))) w.replaced.new_way (body_leads s.prefix (tree_of r.module_read))
+  pub found_there : Leads (body_in_module s.prefix (tree_of r.module_read)) (closing_name_in_module w.path (tree_of r.module_read)) (body_at_path w.path (tree_of r.module_read))
+  found_there = subst (λ path. Leads (body_in_module s.prefix (tree_of r.module_read)) (closing_name_in_module path (tree_of r.module_read)) (body_at_path path (tree_of r.module_read))) w.replaced.new_path (body_leads s.prefix (tree_of r.module_read))
 
   -- Without the statements of the replaced body, the new module has the same spelling as the old one.
-  named_alike : tree_with_names r.module_read.source (module_without_body w.way (tree_of r.module_read)) ≡ module_without_body w.way (named_tree_of w.old.module_read)
+  named_alike : tree_with_names r.module_read.source (module_without_body w.path (tree_of r.module_read)) ≡ module_without_body w.path (named_tree_of w.old.module_read)
   named_alike =
       let before = w.old.module_read in
-      names_outside before r.module_read w.way s w.replaced ∙ sym (without_mapped (text_at before.source) (value_at before.source) w.way (tree_of before))
+      names_outside before r.module_read w.path s w.replaced ∙ sym (without_mapped (token_text_at before.source) (token_value_at before.source) w.path (tree_of before))
 
-  pub fits_elsewhere : types.faults.items ≡ [] → FitsWithout r (body_in_module s.prefix (tree_of r.module_read)).closing
+  pub fits_elsewhere : types.faults.items ≡ [] → PassesTypeCheckWithoutBody r (body_in_module s.prefix (tree_of r.module_read)).closing
   unfolding WellTyped
   fits_elsewhere clean =
       let before = w.old.module_read in
       let typed = w.types_are.checked.reported.0 clean in
       record {
-        way = w.way;
+        path = w.path;
         at = sym found_there.0;
-        fits = subst (λ m. passes_type_check naming_by_spelling m ≡ true) (sym named_alike) (fits_left_out naming_by_spelling w.way (named_tree_of before) typed.1);
+        fits = subst (λ m. passes_type_check naming_by_spelling m ≡ true) (sym named_alike) (fits_left_out naming_by_spelling w.path (named_tree_of before) typed.1);
       }

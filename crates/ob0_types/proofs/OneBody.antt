@@ -50,12 +50,12 @@ module _ (r : Resolution) (types : ModuleTypes) (low : ℕ) (w : WereTypesBefore
         alike = module_but (IsSameTokenAt before r) low wanted (tree_of r.module_read) (alike_outside (IsSameTokenAt before r) (λ k h. h) is) is_wanted;
       }
 
-  abbrev pub were_faulty : IsResolution r → IncludesFaultyBodies (is_among (types.faulty.items ++ last_body ∷ [])) r
+  abbrev pub were_faulty : IsResolution r → IncludesFaultyBodies (is_among (types.bodies_with_faults.items ++ last_body ∷ [])) r
   were_faulty is =
-      let bodies = types.faulty.items ++ last_body ∷ [] in
+      let bodies = types.bodies_with_faults.items ++ last_body ∷ [] in
       record {
         old = before;
         resolved = w.types_are.checked.resolved;
-        faulty = all_weaker (is_among types.faulty.items) (is_among bodies) (faulty_bodies before) (λ k h. among_further types.faulty.items (last_body ∷ []) k h) w.types_are.faulty;
-        alike = were_alike (is_among bodies) is (among_last types.faulty.items last_body);
+        bodies_with_faults = all_weaker (is_among types.bodies_with_faults.items) (is_among bodies) (faulty_bodies before) (λ k h. among_further types.bodies_with_faults.items (last_body ∷ []) k h) w.types_are.bodies_with_faults;
+        alike = were_alike (is_among bodies) is (among_last types.bodies_with_faults.items last_body);
       }

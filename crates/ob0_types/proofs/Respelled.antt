@@ -24,7 +24,7 @@ use Rattle.ob0_scope_table.proofs.FaultTokens.{both_same, filter_same, names_sam
 use Rattle.ob0_scope_table.proofs.Placed.{each_token}
 use Rattle.ob0_scope_table.proofs.TokenOrder.{end_order, faults_move, start_order}
 use Rattle.ob0_types_check.specs.EqualExceptBodies.{IsSameTokenAt}
-use Rattle.ob0_types_check.specs.DeclarationFaults.{reported_module}
+use Rattle.ob0_types_check.specs.DeclarationFaults.{module_faults}
 use Rattle.ob0_types_check.specs.ModuleLaws.{HasDeclarations}
 use Rattle.ob0_types_check.specs.SomeBodies.{AllPass, faulty_bodies, is_among}
 use Rattle.ob0_types_check.proofs.SameModules.{module_same}
@@ -134,7 +134,7 @@ module _ (old new : TextWithTokens) (tree : ModuleTree) (b c : Bindings) (w : Ar
   found_at : AreAtSameTokens old new (faults_in before) (faults_in after)
   found_at =
       both_same old new
-      (subst (λ (x : Resolution). AreAtSameTokens old new (reported_module before) (reported_module x)) same_names
+      (subst (λ (x : Resolution). AreAtSameTokens old new (module_faults before) (module_faults x)) same_names
       (module_same old new w tree b.ordinals.items b.declarations.items b.occurrences.items b.faults.items c.faults.items names_at))
       (filter_same old new is_declaration_fault (λ f. refl) names_at)
 
@@ -149,7 +149,7 @@ module _ (old new : TextWithTokens) (tree : ModuleTree) (b c : Bindings) (w : Ar
       faulty_stay (is_among bodies) after s (record {
         old = before;
         resolved = r;
-        faulty = were;
+        bodies_with_faults = were;
         alike = record {
           tree = refl;
           count = sym (length-map new.tokens (word_of_token new.text)) ∙ (ap length w.same_words ∙ length-map old.tokens (word_of_token old.text));
@@ -177,5 +177,5 @@ types_depend_on_tokens old new tree b c types moved w t s ordinals m =
       fields = λ e.
           let f = t.fields (none e) in
           (ap (λ (l : FieldLists). l.declared) m.fields ∙ f.0, ap (λ (l : FieldLists). l.all) m.fields ∙ (f.1 ∙ sym (fields_stay old new tree b c w r s ordinals)));
-      faulty = subst (λ (bodies : List ℕ). AllPass (is_among bodies) (faulty_bodies (resolution_with (parsed_module new tree) c))) (sym (ap (λ v. v.items) m.faulty)) (bodies_stay old new tree b c w r s ordinals types.faulty.items t.faulty);
+      bodies_with_faults = subst (λ (bodies : List ℕ). AllPass (is_among bodies) (faulty_bodies (resolution_with (parsed_module new tree) c))) (sym (ap (λ v. v.items) m.bodies_with_faults)) (bodies_stay old new tree b c w r s ordinals types.bodies_with_faults.items t.bodies_with_faults);
     }

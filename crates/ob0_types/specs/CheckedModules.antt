@@ -43,10 +43,10 @@ checked_module names types = record { names = names; faults = types.faults.items
 pub record AreTypesOf (names : Resolution) (types : ModuleTypes) : Type 0 where
   pub checked : IsChecked (checked_module names types)
   pub fields : types.faults.items ≡ [] → AreFieldListsOf names types.fields
-  pub faulty : AllPass (is_among types.faulty.items) (faulty_bodies names)
+  pub bodies_with_faults : AllPass (is_among types.bodies_with_faults.items) (faulty_bodies names)
 
 -- States that the table is None or has the module's declarations, and that it isn't None if the module is well-typed.
-pub record IsKnownIfTyped (names : Resolution) (known : Option Tables) : Type 0 where
+pub record IsTableIfTyped (names : Resolution) (known : Option Tables) : Type 0 where
   pub holds : IfSome known (HasDeclarations (named_tree_of names.module_read))
   pub kept : WellTyped (named_tree_of names.module_read) → is_some known ≡ true
 
@@ -61,7 +61,7 @@ pub record IsWellTyped (names : Resolution) : Type 0 where
   pub well_typed : WellTyped (named_tree_of names.module_read)
 
 -- states that the module is well-typed, and that these are its declarations and its fields
-pub record IsKnownOf (names : Resolution) (known : Tables) (fields : FieldLists) : Type 0 where
+pub record AreTableAndFieldsOf (names : Resolution) (known : Tables) (fields : FieldLists) : Type 0 where
   pub well_typed : IsWellTyped names
   pub declarations : HasDeclarations (named_tree_of names.module_read) known
   pub fields_are : AreFieldListsOf names fields

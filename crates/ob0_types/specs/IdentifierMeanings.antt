@@ -2,7 +2,7 @@
 -- Rule: docs/PROTOCOL.md, Requests on documents 3 to 6.
 use Rattle.std.specs.Prelude.{⊤, ℕ, Option, Some, None, option_map}
 use Rattle.ob0_scope_table.specs.Resolution.{Resolution}
-use Rattle.ob0_scope.specs.NamesAtPlaces.{name_on}
+use Rattle.ob0_scope.specs.NamesAtPlaces.{name_at_offset}
 use Rattle.ob0_scope.specs.declared.naming.Named as named
 use Rattle.ob0_types_fields.specs.declared.field_name.FieldName.{FieldName}
 use Rattle.ob0_types_fields.specs.Identifiers.{field_at}
@@ -27,7 +27,7 @@ meaning_of_name_or_field None f = option_map resolved_field f
 -- returns the identifier that contains a byte offset or ends there, with its meaning; None if there is no bound name
 -- and no field
 abbrev pub identifier_meaning_at : Resolution → ℕ → Option ResolvedIdentifier
-identifier_meaning_at r offset = meaning_of_name_or_field (name_on r.module_read offset) (field_at r offset)
+identifier_meaning_at r offset = meaning_of_name_or_field (name_at_offset r.module_read offset) (field_at r offset)
 
 -- states that the meaning is a field
 abbrev pub IsField : IdentifierMeaning → Type 0

@@ -1,7 +1,7 @@
 -- The result of checking a module before its tokens changed in the statements of one body.
 -- Rule: docs/LANGUAGE.md, Types 8, Faults of scopes and types 1.
 use Rattle.std.specs.Prelude.{◌≡◌, ℕ, true, nat_lt, if◌then◌else◌}
-use Rattle.ob0_tree.specs.Tree.{Tree, block, body, declares, declares_procedure, end, has_body, is_module, item, items, maybe, module_text, more, procedure}
+use Rattle.ob0_tree.specs.Tree.{Tree, block, body, declares, declares_procedure, end, forms_block, is_module, item, items, maybe, module_text, more, procedure}
 use Rattle.ob0_tree.specs.View.{body_of}
 use Rattle.ob0_scan.specs.TextWithTokens.{TextWithTokens}
 use Rattle.ob0_scope_table.specs.Bindings.{resolution_with}
@@ -28,17 +28,17 @@ abbrev mutual
   -- returns the body of a block with the closing name `own`, or of a procedure in that block: the one that contains the
   -- token `low`, if one does
   pub body_in_block : ℕ → ℕ → Tree ℕ block → OneBody
-  body_in_block low own (has_body (declares cs ts vs ps) statements) =
-      body_among low own ps statements
+  body_in_block low own (forms_block (declares cs ts vs ps) statements) =
+      body_at_path_in_procedures low own ps statements
 
   -- Returns the body of the first procedure whose closing name isn't before `low`, or of a procedure inside it. If
   -- there is no such procedure, returns the body of the surrounding block, with the closing name `own` and these
   -- statements.
-  pub body_among : ℕ → ℕ → Tree ℕ (items procedure) → Tree ℕ (maybe body) → OneBody
-  body_among low own end statements = record { closing = own; statements = statements }
-  body_among low own (more p ps) statements =
+  pub body_at_path_in_procedures : ℕ → ℕ → Tree ℕ (items procedure) → Tree ℕ (maybe body) → OneBody
+  body_at_path_in_procedures low own end statements = record { closing = own; statements = statements }
+  body_at_path_in_procedures low own (more p ps) statements =
       if nat_lt (closing_name p) low
-      then body_among low own ps statements
+      then body_at_path_in_procedures low own ps statements
       else body_in_procedure low p
 
   -- returns the body of the procedure, or of a procedure inside it: the one that contains the token `low`, if one does

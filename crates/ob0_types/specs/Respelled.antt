@@ -17,7 +17,7 @@ use Rattle.ob0_types.specs.declared.checked.ModuleTypes.{ModuleTypes}
 pub record AreTypesMoved (old new : TextWithTokens) (types moved : ModuleTypes) : Type 0 where
   pub known : moved.known ≡ types.known
   pub fields : moved.fields ≡ types.fields
-  pub faulty : moved.faulty ≡ types.faulty
+  pub bodies_with_faults : moved.bodies_with_faults ≡ types.bodies_with_faults
   pub faults : moved.faults.items ≡ moved_faults old new types.faults.items
 
 -- States that the result of checking a text also holds for any text whose tokens have the same spellings and bindings.

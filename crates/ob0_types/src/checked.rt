@@ -6,14 +6,14 @@
 //! that owns the result. `Checked::from_parts` makes a `Checked` that borrows a result kept
 //! elsewhere, without allocating.
 //!
-//! Faults are sorted by (start, end, code). The lists of fields are made only for a module without
-//! faults of types (`fields_from_table`). If one body changed, the lists are made from the lists of
+//! Faults are sorted by (start, end, code). The lists of fields are made only for a module that
+//! has no fault of types (`fields_from_table`). If one body changed, the lists are made from the lists of
 //! the previous text (`fields_after_body_change`). The invariant of `Checked` states that the lists
 //! have the module's fields if the module has no fault. So the value of a `Checked` in contracts
 //! doesn't contain the lists.
 
 ghost use Rattle.ob0_scope_table.specs.Resolution.{is_declaration_fault};
-ghost use Rattle.ob0_types.specs.CheckedModules.{AreFieldsIfTyped, AreTypesOf, IsChecked, IsKnownIfTyped, checked_module};
+ghost use Rattle.ob0_types.specs.CheckedModules.{AreFieldsIfTyped, AreTypesOf, IsChecked, IsTableIfTyped, checked_module};
 ghost use Rattle.ob0_types.specs.FaultOrder.{AreFirstOf};
 ghost use Rattle.ob0_types.specs.NewBody.{WereTypesBeforeNewBody};
 ghost use Rattle.ob0_types.specs.OneBody.{WereTypesBeforeChange};
@@ -24,11 +24,11 @@ ghost use Rattle.ob0_scan.specs.TextWithTokens.{max_faults};
 
 use crate::one_body::body_containing;
 use ob0_language_values::Scalar;
-use ob0_scan::{Fault, FaultCode, MAX_FAULTS, SameTokens};
+use ob0_scan::{Fault, FaultCode, MAX_FAULTS, SameParts};
 use ob0_scope_table::{PREDECLARED_COUNT, Resolved, body_place_in_module};
-use ob0_types_check::laws::{modules_fit, no_fault_in_modules};
+use ob0_types_check::laws::{modules_without_fault_pass_type_check, typed_modules_have_no_fault};
 use ob0_types_check::{Report, report_faults, report_one_body, report_some_bodies};
-use ob0_types_fields::FieldList;
+use ob0_types_fields::ModuleFields;
 use ob0_types_table::{DeclarationTable, Parts, TypeId};
 use std::alloc::{AllocError, Global};
 use std::borrow::Cow;
@@ -41,14 +41,14 @@ const MAX_FAULTY_BODIES: usize = 32;
 
 /// The result of checking a module. If the module is well-typed, `known` has the table of its
 /// declarations, and `fields` the lists of its fields. `faults` has the first 100 faults of its
-/// scopes and types. `faulty` has the closing names of the bodies with a fault of
+/// scopes and types. `bodies_with_faults` has the closing names of the bodies with a fault of
 /// types, as token indexes. The result borrows nothing.
 #[derive(Drop)]
 pub struct ModuleTypes {
     pub known: Option<DeclarationTable>,
-    pub fields: FieldList,
+    pub fields: ModuleFields,
     pub faults: Vec<Fault>,
-    pub faulty: Vec<usize>,
+    pub bodies_with_faults: Vec<usize>,
 }
 
 /// A module with the result of checking it, for example its faults.
@@ -79,11 +79,11 @@ impl<'t> Model for Checked<'t> {
 pub struct WellTyped<'t> {
     checked: &'t Checked<'t>,
     known: &'t DeclarationTable,
-    fields: &'t FieldList,
+    fields: &'t ModuleFields,
 }
 
 impl<'t> Model for WellTyped<'t> {
-    ghost use Rattle.ob0_types.specs.CheckedModules.{IsKnownOf};
+    ghost use Rattle.ob0_types.specs.CheckedModules.{AreTableAndFieldsOf};
     ghost use Rattle.ob0_scope_table.specs.Resolution.{Resolution};
 
     ghost Value = { Resolution };
@@ -95,7 +95,7 @@ impl<'t> Model for WellTyped<'t> {
 
     ghost view = { λ w. w.checked.now.names };
 
-    ghost invariant = { λ w. IsKnownOf w.checked.now.names w.known.now w.fields.now };
+    ghost invariant = { λ w. AreTableAndFieldsOf w.checked.now.names w.known.now w.fields.now };
 }
 
 /// A type of a module (`of`), with the module's table of declarations (`known`), which has the
@@ -121,7 +121,7 @@ pub fn check<'t>(alloc: Global, resolved: &'t Resolved<'t>) -> Result<Checked<'t
 pub fn types_of<'t>(alloc: Global, resolved: &'t Resolved<'t>) -> Result<ModuleTypes, AllocError>
     ensures { IfOk result (AreTypesOf resolved.now) }
 {
-    no_fault_in_modules();
+    typed_modules_have_no_fault();
     // The proof needs this call: its contract states the module's invariant.
     let _module = resolved.module();
     let report = report_faults(alloc, resolved)?;
@@ -142,12 +142,12 @@ pub fn types_after_body_change<'t>(
     requires { WereTypesBeforeChange resolved.now before low }
     ensures { IfOk result (AreTypesOf resolved.now) }
 {
-    if before.faulty.len() > MAX_FAULTY_BODIES {
+    if before.bodies_with_faults.len() > MAX_FAULTY_BODIES {
         return types_of(alloc, resolved);
     }
-    no_fault_in_modules();
+    typed_modules_have_no_fault();
     let body = body_containing(resolved.module(), low);
-    let mut bodies = before.faulty.clone()?;
+    let mut bodies = before.bodies_with_faults.clone()?;
     bodies.push(body.closing)?;
     let report = report_some_bodies(alloc, resolved, bodies.as_slice())?;
     let fields = fields_after_body_change(alloc, resolved, &report.known, before, low)?;
@@ -162,7 +162,7 @@ pub fn types_with_new_body<'t>(
     alloc: Global,
     resolved: &'t Resolved<'t>,
     before: ModuleTypes,
-    same: SameTokens,
+    same: SameParts,
 ) -> Result<ModuleTypes, AllocError>
     requires { WereTypesBeforeNewBody resolved.now before same }
     ensures { IfOk result (AreTypesOf resolved.now) }
@@ -179,13 +179,13 @@ fn types_from_new_body<'t>(
     alloc: Global,
     resolved: &'t Resolved<'t>,
     before: ModuleTypes,
-    same: SameTokens,
+    same: SameParts,
 ) -> Result<ModuleTypes, AllocError>
     requires before { WereTypesBeforeNewBody resolved.now before same }
     requires none { before.faults.items ≡ [] }
     ensures { IfOk result (AreTypesOf resolved.now) }
 {
-    no_fault_in_modules();
+    typed_modules_have_no_fault();
     let body = body_containing(resolved.module(), same.prefix);
     let report = report_one_body(alloc, resolved, body.closing)?;
     let fields = fields_with_new_body(alloc, resolved, &report.known, before, same)?;
@@ -197,27 +197,27 @@ fn types_from_new_body<'t>(
 fn types_from_report<'t>(
     resolved: &'t Resolved<'t>,
     report: Report,
-    fields: FieldList,
+    fields: ModuleFields,
 ) -> Result<ModuleTypes, AllocError>
     requires report { IsReportOf resolved.now report }
     requires fields { AreFieldsIfTyped resolved.now fields }
     ensures { IfOk result (AreTypesOf resolved.now) }
 {
-    modules_fit();
-    no_fault_in_modules();
+    modules_without_fault_pass_type_check();
+    typed_modules_have_no_fault();
     // The proof needs this call: its contract states the module's invariant.
     let _module = resolved.module();
     let Report {
         faults,
         known,
-        faulty,
+        bodies_with_faults,
     } = report;
     let faults = first_faults(resolved, faults)?;
     Ok(ModuleTypes {
         known,
         fields,
         faults,
-        faulty,
+        bodies_with_faults,
     })
 }
 
@@ -227,16 +227,16 @@ fn fields_from_table<'t>(
     alloc: Global,
     resolved: &'t Resolved<'t>,
     known: &Option<DeclarationTable>,
-) -> Result<FieldList, AllocError>
-    requires { IsKnownIfTyped resolved.now known.now }
+) -> Result<ModuleFields, AllocError>
+    requires { IsTableIfTyped resolved.now known.now }
     ensures { IfOk result (AreFieldsIfTyped resolved.now) }
 {
     // The proof needs this call: its contract states the module's invariant.
     let _module = resolved.module();
     match known {
-        None => Ok(FieldList::empty(alloc)),
+        None => Ok(ModuleFields::empty(alloc)),
         Some(known) => {
-            let fields = FieldList::of(alloc, known, resolved)?;
+            let fields = ModuleFields::from_resolved(alloc, known, resolved)?;
             Ok(fields)
         }
     }
@@ -251,18 +251,18 @@ fn fields_after_body_change<'t>(
     known: &Option<DeclarationTable>,
     before: ModuleTypes,
     low: usize,
-) -> Result<FieldList, AllocError>
+) -> Result<ModuleFields, AllocError>
     requires before { WereTypesBeforeChange resolved.now before low }
-    requires known { IsKnownIfTyped resolved.now known.now }
+    requires known { IsTableIfTyped resolved.now known.now }
     ensures { IfOk result (AreFieldsIfTyped resolved.now) }
 {
-    no_fault_in_modules();
+    typed_modules_have_no_fault();
     let body = body_containing(resolved.module(), low);
     let ModuleTypes {
         known: _,
         fields,
         faults,
-        faulty: _,
+        bodies_with_faults: _,
     } = before;
     let Some(table) = known else {
         return Ok(fields);
@@ -282,18 +282,18 @@ fn fields_with_new_body<'t>(
     resolved: &'t Resolved<'t>,
     known: &Option<DeclarationTable>,
     before: ModuleTypes,
-    same: SameTokens,
-) -> Result<FieldList, AllocError>
+    same: SameParts,
+) -> Result<ModuleFields, AllocError>
     requires before { WereTypesBeforeNewBody resolved.now before same }
     requires none { before.faults.items ≡ [] }
-    requires known { IsKnownIfTyped resolved.now known.now }
+    requires known { IsTableIfTyped resolved.now known.now }
     ensures { IfOk result (AreFieldsIfTyped resolved.now) }
 {
     let ModuleTypes {
         known: _,
         fields,
         faults: _,
-        faulty: _,
+        bodies_with_faults: _,
     } = before;
     let body = body_containing(resolved.module(), same.prefix);
     let found = body_place_in_module(resolved.module(), same.prefix, same.new_suffix);
@@ -456,7 +456,7 @@ impl<'t> WellTyped<'t> {
     }
 
     /// Returns the lists of all fields in the module.
-    pub fn fields(&self) -> &'t FieldList
+    pub fn fields(&self) -> &'t ModuleFields
         ensures { AreFieldListsOf self.now result.now }
     {
         self.fields

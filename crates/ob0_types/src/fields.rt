@@ -17,7 +17,7 @@ pub fn field_at(well_typed: &WellTyped<'_>, offset: usize) -> Option<FieldName>
         (λ x. IsIdentifierToken well_typed.now.module_read.source.tokens x.token) }
 {
     let names = well_typed.resolved();
-    well_typed.fields().at(names.tokens(), offset)
+    well_typed.fields().identifier_at(names.tokens(), offset)
 }
 
 /// Returns the tokens of the field with this name in a record, in text order. These are the

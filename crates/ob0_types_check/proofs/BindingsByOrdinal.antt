@@ -3,7 +3,7 @@
 use Rattle.std.proofs.Common.{◌≡◌, ℕ, suc, ◌+◌, true, ◌&&◌, List, [], ◌∷◌, ◌++◌, length, map, take, Option, Some, None, option_map, option_and_then, if◌then◌else◌, refl, sym, ap, ◌∙◌, subst, subst₂, le_refl, le_of_lt, append_assoc, arith, length-append}
 use Rattle.std.proofs.lemmas.Bool.{and_parts}
 use Rattle.std.proofs.Math.Seq.{take-append_seam}
-use Rattle.ob0_tree.specs.Tree.{Tree, block, body, declares, declares_procedure, end, formals, has_body, is_module, item, items, maybe, module_text, more, procedure}
+use Rattle.ob0_tree.specs.Tree.{Tree, block, body, declares, declares_procedure, end, formals, forms_block, is_module, item, items, maybe, module_text, more, procedure}
 use Rattle.ob0_language_names.specs.Names.{Label, Name, Naming, naming_by_label, naming_by_spelling, declared}
 use Rattle.ob0_language_names.specs.Parts.{constant_names, formal_names, formal_sections, module_block, declared_type_names, section_constants, section_types, section_variables, variable_names}
 use Rattle.ob0_language_names.specs.Scopes.{Scope, ordinal_after_block, ordinal_after_names, ordinal_after_procedure, ordinal_after_procedures, label_from_ordinal, declare_names, first_procedure_ordinal, first_type_ordinal, first_variable_ordinal, numbered, procedures_scope, relabel_block, relabel_formals, relabel_procedures, relabel_sections, types_scope, variables_scope}
@@ -11,14 +11,14 @@ use Rattle.ob0_language_names.proofs.Ordinals.{le-ordinal_after_procedure}
 use Rattle.ob0_language_names.proofs.Relabelled.{formals-section, types-section, variables-section}
 use Rattle.ob0_language_types.specs.Bindings.{block_bindings, list_if_some, module_bindings, procedure_bindings, procedures_bindings, bindings_since}
 use Rattle.ob0_language_types.specs.Declaring.{declare_block, declare_procedure}
-use Rattle.ob0_language_types.specs.Declarations.{constructor_after_variables, formals_constructor_count, procedure_constructor_count, types_constructor_count, variables_constructor_count}
-use Rattle.ob0_language_types.specs.Environments.{outermost}
+use Rattle.ob0_language_types.specs.Declarations.{constructors_before_procedures, formals_constructor_count, procedure_constructor_count, types_constructor_count, variables_constructor_count}
+use Rattle.ob0_language_types.specs.Environments.{outermost_environment}
 use Rattle.ob0_language_types.specs.Expressions.{a_procedure, a_variable}
-use Rattle.ob0_language_types.specs.WellTyped.{TypeEnvironment, TypedParameter, bind_typed_parameters, block_fits, passes_type_check, bind_procedure, procedure_fits, procedures_fit, typed_parameters}
+use Rattle.ob0_language_types.specs.WellTyped.{TypeEnvironment, TypedParameter, bind_typed_parameters, block_is_well_typed, passes_type_check, bind_procedure, procedure_is_well_typed, procedures_are_well_typed, typed_parameters}
 use Rattle.ob0_language_types.proofs.Agreeing.{Agree, HoldsOf}
 use Rattle.ob0_language_types.proofs.Constructors.{formals_constructor_count-relabel, procedure_constructor_count-relabel, types_constructor_count-relabel, variables_constructor_count-relabel}
 use Rattle.ob0_language_types.proofs.Literals.{some_inverse}
-use Rattle.ob0_language_types.proofs.TypesByOrdinal.{TypeNoted, TypedBelow, TypedBelow-weaken, TypedWithin, bind_typed_parameters-by_name, bind_typed_parameters-by_ordinal, block_fits-agrees, declarations_typed, label_typed, label_typed-formals, noted_parameters, noted_parameters-within, parameters_typed, typed_by_name, typed_by_ordinal, typed_names, typed_outermost, typed_scope}
+use Rattle.ob0_language_types.proofs.TypesByOrdinal.{TypeNoted, TypedBelow, TypedBelow-weaken, TypedWithin, bind_typed_parameters-by_name, bind_typed_parameters-by_ordinal, block_is_well_typed-agrees, declarations_typed, label_typed, label_typed-formals, noted_parameters, noted_parameters-within, parameters_typed, typed_by_name, typed_by_ordinal, typed_names, typed_outermost, typed_scope}
 use Rattle.ob0_language_types.proofs.Conditions.{hold-true}
 use Rattle.ob0_language_types.proofs.ConstantsDeclared.{predeclared-below}
 
@@ -120,8 +120,8 @@ bindings_since-ordered k n noted all s = record {
 
 -- Splits the bindings after a block's constants, types and variables into theirs and the rest.
 opened : (noted all : TypeNoted Name) (k : ℕ) (b : Tree Name block) → typed_scope all ≡ procedures_scope k b (typed_scope noted) → Split k (first_procedure_ordinal k b) (typed_scope noted) all
-opened noted all k (has_body (declares cs ts vs ps) statements) e =
-    let b : Tree Name block = has_body (declares cs ts vs ps) statements in
+opened noted all k (forms_block (declares cs ts vs ps) statements) e =
+    let b : Tree Name block = forms_block (declares cs ts vs ps) statements in
     let scope : Scope Name = typed_scope noted in
     let v = split (first_variable_ordinal k b) (variable_names (section_variables vs)) (variables_scope k b scope) all e in
     let t = split (first_type_ordinal k b) (declared_type_names (section_types ts)) (types_scope k b scope) v.rest v.scoped in
@@ -138,10 +138,10 @@ given-both {X} {Y} {Z} p q P r s (a, e, e', holds) y h = go a e' holds (sym e �
     go (Some x) e' holds h = (x, holds, some_inverse h, e')
 
 module _ {N : Type 0} (naming : Naming N) (env : TypeEnvironment N) where
-  block-listed : (j : ℕ) (cs : _) (ts : _) (vs : _) (ps : Tree N (items procedure)) (statements : Tree N (maybe body)) (inner : TypeEnvironment N) → declare_block naming env j (has_body (declares cs ts vs ps) statements) ≡ Some inner
-      → block_bindings naming env j (has_body (declares cs ts vs ps) statements) ≡ procedures_bindings naming inner (constructor_after_variables j (has_body (declares cs ts vs ps) statements)) ps ++ bindings_since env inner
+  block-listed : (j : ℕ) (cs : _) (ts : _) (vs : _) (ps : Tree N (items procedure)) (statements : Tree N (maybe body)) (inner : TypeEnvironment N) → declare_block naming env j (forms_block (declares cs ts vs ps) statements) ≡ Some inner
+      → block_bindings naming env j (forms_block (declares cs ts vs ps) statements) ≡ procedures_bindings naming inner (constructors_before_procedures j (forms_block (declares cs ts vs ps) statements)) ps ++ bindings_since env inner
   unfolding block_bindings
-  block-listed j cs ts vs ps statements inner e = ap (λ o. list_if_some o (λ z. procedures_bindings naming z (constructor_after_variables j (has_body (declares cs ts vs ps) statements)) ps ++ bindings_since env z)) e
+  block-listed j cs ts vs ps statements inner e = ap (λ o. list_if_some o (λ z. procedures_bindings naming z (constructors_before_procedures j (forms_block (declares cs ts vs ps) statements)) ps ++ bindings_since env z)) e
 
   pub procedure-listed : (j : ℕ) (x : N) (fs : Tree N (maybe formals)) (b : Tree N block) (closing : N) (listed : List (TypedParameter N)) → typed_parameters naming env j (formal_sections fs) ≡ Some listed
       → procedure_bindings naming env j (declares_procedure x fs b closing) ≡ block_bindings naming (bind_typed_parameters listed (bind_procedure x listed env)) (j + formals_constructor_count (formal_sections fs)) b ++ bind_typed_parameters listed (bind_procedure x listed [])
@@ -149,14 +149,14 @@ module _ {N : Type 0} (naming : Naming N) (env : TypeEnvironment N) where
   procedure-listed j x fs b closing listed e = ap (λ o. list_if_some o (λ ps. block_bindings naming (bind_typed_parameters ps (bind_procedure x ps env)) (j + formals_constructor_count (formal_sections fs)) b ++ bind_typed_parameters ps (bind_procedure x ps []))) e
 
   pub procedures-listed : (j : ℕ) (x : N) (fs : Tree N (maybe formals)) (b : Tree N block) (closing : N) (rest : Tree N (items procedure)) (listed : List (TypedParameter N)) → typed_parameters naming env j (formal_sections fs) ≡ Some listed
-      → block_fits naming (bind_typed_parameters listed (bind_procedure x listed env)) (j + formals_constructor_count (formal_sections fs)) b ≡ true
+      → block_is_well_typed naming (bind_typed_parameters listed (bind_procedure x listed env)) (j + formals_constructor_count (formal_sections fs)) b ≡ true
       → procedures_bindings naming env j (more (declares_procedure x fs b closing) rest)
       ≡ procedures_bindings naming (bind_procedure x listed env) (j + procedure_constructor_count (declares_procedure x fs b closing)) rest ++ procedure_bindings naming env j (declares_procedure x fs b closing)
-  unfolding block_bindings declare_procedure block_fits
+  unfolding block_bindings declare_procedure block_is_well_typed
   procedures-listed j x fs b closing rest listed typed right =
       let p : Tree N (item procedure) = declares_procedure x fs b closing in
       let given : declare_procedure naming env j p ≡ Some (bind_procedure x listed env) =
-      ap (option_and_then (λ ps. if procedure_fits naming (bind_typed_parameters ps (bind_procedure x ps env)) j p then Some (bind_procedure x ps env) else None)) typed
+      ap (option_and_then (λ ps. if procedure_is_well_typed naming (bind_typed_parameters ps (bind_procedure x ps env)) j p then Some (bind_procedure x ps env) else None)) typed
       ∙ ap (λ t. if t then Some (bind_procedure x listed env) else None) right in
       ap (λ o. list_if_some o (λ later. procedures_bindings naming later (j + procedure_constructor_count p) rest ++ procedure_bindings naming env j p)) given
 
@@ -189,9 +189,9 @@ bind_procedure-ordered k x ps = record {
 }
 
 -- A block and its numbered tree give the same ordinals to their words ARRAY and RECORD.
-variables-same : (noted : TypeNoted Name) (j k : ℕ) (b : Tree Name block) → constructor_after_variables j (relabel_block naming_by_spelling (label_from_ordinal naming_by_spelling) (typed_scope noted) k b) ≡ constructor_after_variables j b
-variables-same noted j k (has_body (declares cs ts vs ps) statements) =
-    let b : Tree Name block = has_body (declares cs ts vs ps) statements in
+variables-same : (noted : TypeNoted Name) (j k : ℕ) (b : Tree Name block) → constructors_before_procedures j (relabel_block naming_by_spelling (label_from_ordinal naming_by_spelling) (typed_scope noted) k b) ≡ constructors_before_procedures j b
+variables-same noted j k (forms_block (declares cs ts vs ps) statements) =
+    let b : Tree Name block = forms_block (declares cs ts vs ps) statements in
     let scope : Scope Name = typed_scope noted in
     λ i. j + (ap types_constructor_count (types-section naming_by_spelling (label_from_ordinal naming_by_spelling) (types_scope k b scope) (first_type_ordinal k b) ts) ∙ types_constructor_count-relabel naming_by_spelling (label_from_ordinal naming_by_spelling) (types_scope k b scope) (first_type_ordinal k b) (section_types ts)) i
     + (ap variables_constructor_count (variables-section naming_by_spelling (label_from_ordinal naming_by_spelling) (variables_scope k b scope) (first_variable_ordinal k b) vs) ∙ variables_constructor_count-relabel naming_by_spelling (label_from_ordinal naming_by_spelling) (variables_scope k b scope) (first_variable_ordinal k b) (section_variables vs)) i
@@ -200,47 +200,47 @@ variables-same noted j k (has_body (declares cs ts vs ps) statements) =
 record Procedure (noted : TypeNoted Name) (j : ℕ) (statements : Tree Name (maybe body)) (x : Name) (fs : Tree Name (maybe formals)) (b : Tree Name block) (closing : Name) (rest : Tree Name (items procedure)) : Type 0 where
   listed : List (TypedParameter Name)
   typed : typed_parameters naming_by_spelling (typed_by_name noted) j (formal_sections fs) ≡ Some listed
-  right : block_fits naming_by_spelling (bind_typed_parameters listed (bind_procedure x listed (typed_by_name noted))) (j + formals_constructor_count (formal_sections fs)) b ≡ true
-  others : procedures_fit naming_by_spelling (bind_procedure x listed (typed_by_name noted)) (j + procedure_constructor_count (declares_procedure x fs b closing)) statements rest ≡ true
+  right : block_is_well_typed naming_by_spelling (bind_typed_parameters listed (bind_procedure x listed (typed_by_name noted))) (j + formals_constructor_count (formal_sections fs)) b ≡ true
+  others : procedures_are_well_typed naming_by_spelling (bind_procedure x listed (typed_by_name noted)) (j + procedure_constructor_count (declares_procedure x fs b closing)) statements rest ≡ true
 
 procedure-parts : (noted : TypeNoted Name) (j : ℕ) (statements : Tree Name (maybe body)) (x : Name) (fs : Tree Name (maybe formals)) (b : Tree Name block) (closing : Name) (rest : Tree Name (items procedure))
-    → procedures_fit naming_by_spelling (typed_by_name noted) j statements (more (declares_procedure x fs b closing) rest) ≡ true → Procedure noted j statements x fs b closing rest
-unfolding block_fits
+    → procedures_are_well_typed naming_by_spelling (typed_by_name noted) j statements (more (declares_procedure x fs b closing) rest) ≡ true → Procedure noted j statements x fs b closing rest
+unfolding block_is_well_typed
 procedure-parts noted j statements x fs b closing rest h =
     let env : TypeEnvironment Name = typed_by_name noted in
     let p : Tree Name (item procedure) = declares_procedure x fs b closing in
-    let all = hold-true (typed_parameters naming_by_spelling env j (formal_sections fs)) (λ ps. procedure_fits naming_by_spelling (bind_typed_parameters ps (bind_procedure x ps env)) j p && procedures_fit naming_by_spelling (bind_procedure x ps env) (j + procedure_constructor_count p) statements rest) h in
-    let both = and_parts (procedure_fits naming_by_spelling (bind_typed_parameters all.0 (bind_procedure x all.0 env)) j p) (procedures_fit naming_by_spelling (bind_procedure x all.0 env) (j + procedure_constructor_count p) statements rest) all.2 in
+    let all = hold-true (typed_parameters naming_by_spelling env j (formal_sections fs)) (λ ps. procedure_is_well_typed naming_by_spelling (bind_typed_parameters ps (bind_procedure x ps env)) j p && procedures_are_well_typed naming_by_spelling (bind_procedure x ps env) (j + procedure_constructor_count p) statements rest) h in
+    let both = and_parts (procedure_is_well_typed naming_by_spelling (bind_typed_parameters all.0 (bind_procedure x all.0 env)) j p) (procedures_are_well_typed naming_by_spelling (bind_procedure x all.0 env) (j + procedure_constructor_count p) statements rest) all.2 in
     record { listed = all.0; typed = all.1; right = both.0; others = both.1 }
 
-block-rest : (noted : TypeNoted Name) (j : ℕ) (cs : _) (ts : _) (vs : _) (ps : Tree Name (items procedure)) (statements : Tree Name (maybe body)) → block_fits naming_by_spelling (typed_by_name noted) j (has_body (declares cs ts vs ps) statements) ≡ true
-    → (inner : TypeEnvironment Name) × (declare_block naming_by_spelling (typed_by_name noted) j (has_body (declares cs ts vs ps) statements) ≡ Some inner) × (procedures_fit naming_by_spelling inner (constructor_after_variables j (has_body (declares cs ts vs ps) statements)) statements ps ≡ true)
-unfolding block_fits
+block-rest : (noted : TypeNoted Name) (j : ℕ) (cs : _) (ts : _) (vs : _) (ps : Tree Name (items procedure)) (statements : Tree Name (maybe body)) → block_is_well_typed naming_by_spelling (typed_by_name noted) j (forms_block (declares cs ts vs ps) statements) ≡ true
+    → (inner : TypeEnvironment Name) × (declare_block naming_by_spelling (typed_by_name noted) j (forms_block (declares cs ts vs ps) statements) ≡ Some inner) × (procedures_are_well_typed naming_by_spelling inner (constructors_before_procedures j (forms_block (declares cs ts vs ps) statements)) statements ps ≡ true)
+unfolding block_is_well_typed
 block-rest noted j cs ts vs ps statements h =
-    hold-true (declare_block naming_by_spelling (typed_by_name noted) j (has_body (declares cs ts vs ps) statements)) (λ inner. procedures_fit naming_by_spelling inner (constructor_after_variables j (has_body (declares cs ts vs ps) statements)) statements ps) h
+    hold-true (declare_block naming_by_spelling (typed_by_name noted) j (forms_block (declares cs ts vs ps) statements)) (λ inner. procedures_are_well_typed naming_by_spelling inner (constructors_before_procedures j (forms_block (declares cs ts vs ps) statements)) statements ps) h
 
 mutual
-  pub block-ordered : (noted : TypeNoted Name) (j k : ℕ) → TypedBelow k noted → (b : Tree Name block) → block_fits naming_by_spelling (typed_by_name noted) j b ≡ true
+  pub block-ordered : (noted : TypeNoted Name) (j k : ℕ) → TypedBelow k noted → (b : Tree Name block) → block_is_well_typed naming_by_spelling (typed_by_name noted) j b ≡ true
       → Ordered k (ordinal_after_block k b) (block_bindings naming_by_spelling (typed_by_name noted) j b) (block_bindings naming_by_label (typed_by_ordinal noted) j (relabel_block naming_by_spelling (label_from_ordinal naming_by_spelling) (typed_scope noted) k b))
-  block-ordered noted j k below (has_body (declares cs ts vs ps) statements) h =
-      let b : Tree Name block = has_body (declares cs ts vs ps) statements in
+  block-ordered noted j k below (forms_block (declares cs ts vs ps) statements) h =
+      let b : Tree Name block = forms_block (declares cs ts vs ps) statements in
       let scope : Scope Name = typed_scope noted in
       let b' : Tree Label block = relabel_block naming_by_spelling (label_from_ordinal naming_by_spelling) scope k b in
       let kp : ℕ = first_procedure_ordinal k b in
       let parts = block-rest noted j cs ts vs ps statements h in
       let o = given-both typed_by_name typed_by_ordinal (TypedWithin kp (procedures_scope k b scope)) (declare_block naming_by_spelling (typed_by_name noted) j b) (declare_block naming_by_label (typed_by_ordinal noted) j b') (declarations_typed naming_by_spelling j k noted below b) parts.0 parts.1 in
       let all : TypeNoted Name = o.0 in
-      let p = procedures-ordered all (constructor_after_variables j b) kp o.1.1 statements ps ((λ i. procedures_fit naming_by_spelling (o.2 i) (constructor_after_variables j b) statements ps) ∙ parts.2) in
+      let p = procedures-ordered all (constructors_before_procedures j b) kp o.1.1 statements ps ((λ i. procedures_are_well_typed naming_by_spelling (o.2 i) (constructors_before_procedures j b) statements ps) ∙ parts.2) in
       let own = bindings_since-ordered k kp noted all (opened noted all k b o.1.0) in
-      let names : block_bindings naming_by_spelling (typed_by_name noted) j b ≡ procedures_bindings naming_by_spelling (typed_by_name all) (constructor_after_variables j b) ps ++ bindings_since (typed_by_name noted) (typed_by_name all) =
+      let names : block_bindings naming_by_spelling (typed_by_name noted) j b ≡ procedures_bindings naming_by_spelling (typed_by_name all) (constructors_before_procedures j b) ps ++ bindings_since (typed_by_name noted) (typed_by_name all) =
       block-listed naming_by_spelling (typed_by_name noted) j cs ts vs ps statements (typed_by_name all) (parts.1 ∙ ap Some (sym o.2)) in
-      let labels : block_bindings naming_by_label (typed_by_ordinal noted) j b' ≡ procedures_bindings naming_by_label (typed_by_ordinal all) (constructor_after_variables j b) (relabel_procedures naming_by_spelling (label_from_ordinal naming_by_spelling) (typed_scope all) kp ps) ++ bindings_since (typed_by_ordinal noted) (typed_by_ordinal all) =
+      let labels : block_bindings naming_by_label (typed_by_ordinal noted) j b' ≡ procedures_bindings naming_by_label (typed_by_ordinal all) (constructors_before_procedures j b) (relabel_procedures naming_by_spelling (label_from_ordinal naming_by_spelling) (typed_scope all) kp ps) ++ bindings_since (typed_by_ordinal noted) (typed_by_ordinal all) =
       block-listed naming_by_label (typed_by_ordinal noted) j _ _ _ (relabel_procedures naming_by_spelling (label_from_ordinal naming_by_spelling) (procedures_scope k b scope) kp ps) _ (typed_by_ordinal all) o.3
       ∙ (λ i. procedures_bindings naming_by_label (typed_by_ordinal all) (variables-same noted j k b i) (relabel_procedures naming_by_spelling (label_from_ordinal naming_by_spelling) (sym o.1.0 i) kp ps) ++ bindings_since (typed_by_ordinal noted) (typed_by_ordinal all)) in
       subst₂ (Ordered k (ordinal_after_block k b)) (sym names) (sym labels)
-      (ordered-append k kp (ordinal_after_block k b) (procedures_bindings naming_by_spelling (typed_by_name all) (constructor_after_variables j b) ps) (bindings_since (typed_by_name noted) (typed_by_name all)) (procedures_bindings naming_by_label (typed_by_ordinal all) (constructor_after_variables j b) (relabel_procedures naming_by_spelling (label_from_ordinal naming_by_spelling) (typed_scope all) kp ps)) (bindings_since (typed_by_ordinal noted) (typed_by_ordinal all)) p own)
+      (ordered-append k kp (ordinal_after_block k b) (procedures_bindings naming_by_spelling (typed_by_name all) (constructors_before_procedures j b) ps) (bindings_since (typed_by_name noted) (typed_by_name all)) (procedures_bindings naming_by_label (typed_by_ordinal all) (constructors_before_procedures j b) (relabel_procedures naming_by_spelling (label_from_ordinal naming_by_spelling) (typed_scope all) kp ps)) (bindings_since (typed_by_ordinal noted) (typed_by_ordinal all)) p own)
 
-  pub procedures-ordered : (noted : TypeNoted Name) (j k : ℕ) → TypedBelow k noted → (statements : Tree Name (maybe body)) (ps : Tree Name (items procedure)) → procedures_fit naming_by_spelling (typed_by_name noted) j statements ps ≡ true
+  pub procedures-ordered : (noted : TypeNoted Name) (j k : ℕ) → TypedBelow k noted → (statements : Tree Name (maybe body)) (ps : Tree Name (items procedure)) → procedures_are_well_typed naming_by_spelling (typed_by_name noted) j statements ps ≡ true
       → Ordered k (ordinal_after_procedures k ps) (procedures_bindings naming_by_spelling (typed_by_name noted) j ps) (procedures_bindings naming_by_label (typed_by_ordinal noted) j (relabel_procedures naming_by_spelling (label_from_ordinal naming_by_spelling) (typed_scope noted) k ps))
   procedures-ordered noted j k below statements end h = none-listed noted j k
   procedures-ordered noted j k below statements (more (declares_procedure x fs b closing) rest) h =
@@ -270,9 +270,9 @@ mutual
       let within : TypedWithin (ordinal_after_names (suc k) (typed_names listed)) (declare_names (suc k) (typed_names listed) ((x, k) ∷ scope)) inner = noted_parameters-within (suc k) listed own (le_refl (suc k), below) in
       let inner_scope : typed_scope inner ≡ declare_names (suc k) xs ((x, k) ∷ scope) = within.0 ∙ ap (λ ys. declare_names (suc k) ys ((x, k) ∷ scope)) names_are in
       let inner_below : TypedBelow m inner = subst (λ ys. TypedBelow (ordinal_after_names (suc k) ys) inner) names_are within.1 in
-      let right : block_fits naming_by_spelling (typed_by_name inner) jb b ≡ true = ap (λ e. block_fits naming_by_spelling e jb b) (sym (bind_typed_parameters-by_name (suc k) listed own)) ∙ f.right in
-      let right' : block_fits naming_by_label (bind_typed_parameters (label_typed (suc k) listed) (bind_procedure (declared k) (label_typed (suc k) listed) labels)) (j + formals_constructor_count (formal_sections fs')) b' ≡ true =
-      (λ i. block_fits naming_by_label (inside-labels k x listed noted i) (jb_same i) (relabel_block naming_by_spelling (label_from_ordinal naming_by_spelling) (sym inner_scope i) m b)) ∙ (block_fits-agrees naming_by_spelling jb m inner inner_below b ∙ right) in
+      let right : block_is_well_typed naming_by_spelling (typed_by_name inner) jb b ≡ true = ap (λ e. block_is_well_typed naming_by_spelling e jb b) (sym (bind_typed_parameters-by_name (suc k) listed own)) ∙ f.right in
+      let right' : block_is_well_typed naming_by_label (bind_typed_parameters (label_typed (suc k) listed) (bind_procedure (declared k) (label_typed (suc k) listed) labels)) (j + formals_constructor_count (formal_sections fs')) b' ≡ true =
+      (λ i. block_is_well_typed naming_by_label (inside-labels k x listed noted i) (jb_same i) (relabel_block naming_by_spelling (label_from_ordinal naming_by_spelling) (sym inner_scope i) m b)) ∙ (block_is_well_typed-agrees naming_by_spelling jb m inner inner_below b ∙ right) in
       let block_part = block-ordered inner jb m inner_below b right in
       let heading_part : Ordered k m (bind_typed_parameters listed (bind_procedure x listed [])) (bind_typed_parameters (label_typed (suc k) listed) (bind_procedure (declared k) (label_typed (suc k) listed) [])) =
       subst (λ ys. Ordered k (ordinal_after_names (suc k) ys) (bind_typed_parameters listed (bind_procedure x listed [])) (bind_typed_parameters (label_typed (suc k) listed) (bind_procedure (declared k) (label_typed (suc k) listed) []))) names_are (bind_procedure-ordered k x listed) in
@@ -295,13 +295,13 @@ mutual
 
 -- The bindings of the names and of the labels in the block of a module that fits are in the order of their ordinals.
 pub module-block : (x : Name) (b : Tree Name block) (closing : Name) → passes_type_check naming_by_spelling (is_module x b closing) ≡ true
-    → Ordered 7 (ordinal_after_block 7 b) (block_bindings naming_by_spelling (outermost naming_by_spelling) 0 b) (block_bindings naming_by_label (outermost naming_by_label) 0 (relabel_block naming_by_spelling (label_from_ordinal naming_by_spelling) (typed_scope (typed_outermost naming_by_spelling)) 7 b))
+    → Ordered 7 (ordinal_after_block 7 b) (block_bindings naming_by_spelling (outermost_environment naming_by_spelling) 0 b) (block_bindings naming_by_label (outermost_environment naming_by_label) 0 (relabel_block naming_by_spelling (label_from_ordinal naming_by_spelling) (typed_scope (typed_outermost naming_by_spelling)) 7 b))
 unfolding passes_type_check
 module-block x b closing h = block-ordered (typed_outermost naming_by_spelling) 0 7 predeclared-below b h
 
 -- All bindings of a module that fits, including the predeclared names, are in the order of their ordinals.
 pub module-ordered : (m : Tree Name module_text) → passes_type_check naming_by_spelling m ≡ true → Ordered 0 (ordinal_after_block 7 (module_block m)) (module_bindings naming_by_spelling m) (module_bindings naming_by_label (numbered m))
 module-ordered (is_module x b closing) h =
-    ordered-append 0 7 (ordinal_after_block 7 b) (block_bindings naming_by_spelling (outermost naming_by_spelling) 0 b) (outermost naming_by_spelling) (block_bindings naming_by_label (outermost naming_by_label) 0 (relabel_block naming_by_spelling (label_from_ordinal naming_by_spelling) (typed_scope (typed_outermost naming_by_spelling)) 7 b)) (outermost naming_by_label)
+    ordered-append 0 7 (ordinal_after_block 7 b) (block_bindings naming_by_spelling (outermost_environment naming_by_spelling) 0 b) (outermost_environment naming_by_spelling) (block_bindings naming_by_label (outermost_environment naming_by_label) 0 (relabel_block naming_by_spelling (label_from_ordinal naming_by_spelling) (typed_scope (typed_outermost naming_by_spelling)) 7 b)) (outermost_environment naming_by_label)
     (module-block x b closing h)
     (record { noted = typed_outermost naming_by_spelling; by_name = refl; by_label = refl; in_order = (refl, (refl, (refl, (refl, (refl, (refl, (refl, refl))))))) })

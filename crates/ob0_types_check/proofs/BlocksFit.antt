@@ -4,27 +4,27 @@ use Rattle.std.proofs.Common.{◌≡◌, ◌≢◌, ℕ, suc, ◌+◌, ◌<◌, 
 use Rattle.std.proofs.lemmas.List.{length-map}
 use Rattle.std.specs.List.{filter}
 use Rattle.ob0_tree.specs.ParsedModule.{tree_of}
-use Rattle.ob0_tree.specs.Places.{tree_with_names, text_at, value_at}
-use Rattle.ob0_tree.specs.Tree.{Tree, begins, block, body, constants, declares, declares_procedure, end, formals, has_body, item, items, mapped, maybe, more, none, one, procedure, type_names, variables}
+use Rattle.ob0_tree.specs.Places.{tree_with_names, token_text_at, token_value_at}
+use Rattle.ob0_tree.specs.Tree.{Tree, begins, block, body, constants, declares, declares_procedure, end, formals, forms_block, item, items, mapped_tree, maybe, more, none, one, procedure, type_definitions, variables}
 use Rattle.ob0_language_names.specs.Names.{Name, naming_by_spelling}
 use Rattle.ob0_language_names.specs.Parts.{constant_names, formal_names, formal_sections, module_block, declared_type_names, procedure_formals, procedure_name, section_constants, section_types, section_variables, variable_names}
 use Rattle.ob0_scope_table.specs.Resolution.{Resolution, is_undeclared_fault}
 use Rattle.ob0_language_names.specs.Scopes.{Scope, ordinal_after_block, ordinal_after_names, ordinal_after_procedure, ordinal_after_procedures, first_procedure_ordinal, first_type_ordinal, first_variable_ordinal, predeclared_scope}
 use Rattle.ob0_language_names.proofs.Ordinals.{le-ordinal_after_names, le-ordinal_after_procedure}
 use Rattle.ob0_language_types.specs.Bindings.{block_bindings, list_if_some, procedure_bindings, procedures_bindings, bindings_since}
-use Rattle.ob0_language_types.specs.Declarations.{constructors_before_variables, constructor_after_variables, block_constructor_count, declare_constants, declare_first, declare_types, formals_constructor_count, procedure_constructor_count, procedures_constructor_count, types_constructor_count, variables_constructor_count}
-use Rattle.ob0_language_types.specs.Environments.{meanings, outermost}
+use Rattle.ob0_language_types.specs.Declarations.{constructors_before_variables, constructors_before_procedures, block_constructor_count, declare_constants, declare_constants_and_types, declare_types, formals_constructor_count, procedure_constructor_count, procedures_constructor_count, types_constructor_count, variables_constructor_count}
+use Rattle.ob0_language_types.specs.Environments.{meanings, outermost_environment}
 use Rattle.ob0_language_types.specs.Expressions as meant
-use Rattle.ob0_language_types.specs.WellTyped.{Signature, TypeEnvironment, TypedParameter, bind_typed_parameters, block_fits, body_fits, by_place, by_value, declare_typed, passes_type_check, bind_procedure, some_satisfies, procedure_fits, procedures_fit, sequence_fits, typed_parameters}
+use Rattle.ob0_language_types.specs.WellTyped.{Signature, TypeEnvironment, TypedParameter, bind_typed_parameters, block_is_well_typed, body_is_well_typed, by_place, by_value, declare_typed_variables, passes_type_check, bind_procedure, option_satisfies, procedure_is_well_typed, procedures_are_well_typed, sequence_is_well_typed, typed_parameters}
 use Rattle.ob0_language_values.specs.Values.{Shape, boolean_shape, integer_shape, truth}
-use Rattle.ob0_types_check.specs.DeclarationFaults.{KnownHeading, state_after_heading, reported_block, reported_body, reported_constants, reported_module, reported_procedure, reported_procedures, reported_sections, reported_types, reported_variables}
+use Rattle.ob0_types_check.specs.DeclarationFaults.{KnownHeading, state_after_heading, reported_block, reported_body, reported_constants, module_faults, reported_procedure, reported_procedures, reported_sections, reported_types, reported_variables}
 use Rattle.ob0_types_check.specs.Known.{Meaning, Reported, a_procedure}
 use Rattle.ob0_types_table.specs.declared.types.TypeId.{TypeId}
 use Rattle.ob0_types_check.specs.KnownDeclarations.{KnownDeclarations, state_at_start, predeclared_meanings}
 use Rattle.ob0_types_check.proofs.PartsFitting.{PartsFit, parts_fit}
-use Rattle.ob0_types_check.specs.ModuleLaws.{ModulesFit}
+use Rattle.ob0_types_check.specs.ModuleLaws.{ModulesWithoutFaultPassTypeCheck}
 use Rattle.ob0_types_check.proofs.DeclaredModules.{module_placed, numbering_of}
-use Rattle.ob0_types_check.proofs.DeclaredNames.{AreSeen, BlockPlaced, ConstantsPlaced, IsPlaced, Numbering, ProcedurePlaced, ProceduresPlaced, SectionsPlaced, TypesPlaced, VariablesPlaced, ordinal_after_names-map, following_constants, following_procedure, following_types, following_variables, constants-mapped, formals-mapped, scope_following, types-mapped, variables-mapped}
+use Rattle.ob0_types_check.proofs.DeclaredNames.{AreSeen, BlockPlaced, ConstantsPlaced, IsPlaced, Numbering, ProcedurePlaced, ProceduresPlaced, SectionsPlaced, TypesPlaced, VariablesPlaced, ordinal_after_names-map, following_constants, following_procedure, following_types, following_variables, constants-mapped_tree, formals-mapped_tree, scope_following, types-mapped_tree, variables-mapped_tree}
 use Rattle.ob0_types_check.proofs.DeclaredKnown.{Later, NamesKnown, IsKnownAt, agrees_where_seen, defined, later_of, later_same, later_then, holds_defined, holds_later}
 use Rattle.ob0_types_check.proofs.BlocksDeclared.{Declared, constants_declare, declared_then, more_constructors, next_le, types_declare, variables_declare}
 use Rattle.ob0_types_check.proofs.BindingsByOrdinal.{procedure-listed, procedures-listed}
@@ -46,7 +46,7 @@ pub record FitsLater (n m k l : ℕ) (p q : KnownDeclarations) (before : List Sh
 pub record ProcedureFits (w : Numbering) (n : ℕ) (p q : KnownDeclarations) (before : List Shape) (scope : Scope Name) (env : TypeEnvironment Name) (k : ℕ) (d : Tree ℕ (item procedure)) : Type 0 where
   pub parameters : List (TypedParameter Name)
   pub typed : typed_parameters naming_by_spelling env k (procedure_formals (tree_with_names w.source d)) ≡ Some parameters
-  pub right : procedure_fits naming_by_spelling (bind_typed_parameters parameters (bind_procedure (procedure_name (tree_with_names w.source d)) parameters env)) k (tree_with_names w.source d) ≡ true
+  pub right : procedure_is_well_typed naming_by_spelling (bind_typed_parameters parameters (bind_procedure (procedure_name (tree_with_names w.source d)) parameters env)) k (tree_with_names w.source d) ≡ true
   pub after : List Shape
   pub apart : Apart k (k + procedure_constructor_count (tree_with_names w.source d)) before after
   pub later : Later n p q before after
@@ -63,8 +63,8 @@ pub record HeadingKnown (w : Numbering) (n : ℕ) (p : KnownDeclarations) (befor
   pub after : List Shape
   pub apart : Apart k (k + formals_constructor_count (formal_sections (tree_with_names w.source fs))) before after
   pub later : Later n p (heading_known p x fs) before after
-  pub holds : IsKnownAt w (heading_known p x fs) after (suc n) ((text_at w.source x, n) ∷ scope) (bind_procedure (text_at w.source x) parameters env)
-  pub inside : IsKnownAt w (heading_known p x fs) after (ordinal_after_names (suc n) (formal_names (formal_sections fs))) (scope_following w (suc n) (formal_names (formal_sections fs)) ((text_at w.source x, n) ∷ scope)) (bind_typed_parameters parameters (bind_procedure (text_at w.source x) parameters env))
+  pub holds : IsKnownAt w (heading_known p x fs) after (suc n) ((token_text_at w.source x, n) ∷ scope) (bind_procedure (token_text_at w.source x) parameters env)
+  pub inside : IsKnownAt w (heading_known p x fs) after (ordinal_after_names (suc n) (formal_names (formal_sections fs))) (scope_following w (suc n) (formal_names (formal_sections fs)) ((token_text_at w.source x, n) ∷ scope)) (bind_typed_parameters parameters (bind_procedure (token_text_at w.source x) parameters env))
 
 -- The ordinals of a block's words ARRAY and RECORD can be added up section by section.
 block_end : (k t v p : ℕ) → k + t + v + p ≡ k + (t + (v + p))
@@ -79,28 +79,28 @@ above : (j n : ℕ) → n < j → j ≢ n
 above j n less e = absurd (omega (arith, e, less))
 
 module _ (w : Numbering) (fit : PartsFit) where
-  pub body_reported : (statements : Tree ℕ (maybe body)) (n : ℕ) (p : KnownDeclarations) (before : List Shape) (scope : Scope Name) (env : TypeEnvironment Name) → IsKnownAt w p before n scope env → AreSeen w scope statements → (reported_body p statements).faults ≡ [] → body_fits naming_by_spelling env (tree_with_names w.source statements) ≡ true
-  unfolding reported_body body_fits
+  pub body_reported : (statements : Tree ℕ (maybe body)) (n : ℕ) (p : KnownDeclarations) (before : List Shape) (scope : Scope Name) (env : TypeEnvironment Name) → IsKnownAt w p before n scope env → AreSeen w scope statements → (reported_body p statements).faults ≡ [] → body_is_well_typed naming_by_spelling env (tree_with_names w.source statements) ≡ true
+  unfolding reported_body body_is_well_typed
   body_reported none n p before scope env st seen h = refl
   body_reported (one (begins s)) n p before scope env st seen h =
-      ap (λ z. sequence_fits (meanings naming_by_spelling env) (mapped (text_at w.source) (value_at z) s)) (sym st.source)
-      ∙ fit.statements p before (text_at w.source) (meanings naming_by_spelling env) s (agrees_where_seen w p false before n scope env st fit s seen) h
+      ap (λ z. sequence_is_well_typed (meanings naming_by_spelling env) (mapped_tree (token_text_at w.source) (token_value_at z) s)) (sym st.source)
+      ∙ fit.statements p before (token_text_at w.source) (meanings naming_by_spelling env) s (agrees_where_seen w p false before n scope env st fit s seen) h
 
   -- The constants, types and variables of a block are declared if no fault is reported for them.
-  pub declarations_reported : (cs : Tree ℕ (maybe constants)) (ts : Tree ℕ (maybe type_names)) (vs : Tree ℕ (maybe variables)) (ps : Tree ℕ (items procedure)) (statements : Tree ℕ (maybe body)) (k n : ℕ) (p : KnownDeclarations) (before : List Shape) (scope : Scope Name) (env : TypeEnvironment Name) → length before ≡ k → IsKnownAt w p before n scope env
+  pub declarations_reported : (cs : Tree ℕ (maybe constants)) (ts : Tree ℕ (maybe type_definitions)) (vs : Tree ℕ (maybe variables)) (ps : Tree ℕ (items procedure)) (statements : Tree ℕ (maybe body)) (k n : ℕ) (p : KnownDeclarations) (before : List Shape) (scope : Scope Name) (env : TypeEnvironment Name) → length before ≡ k → IsKnownAt w p before n scope env
       → ConstantsPlaced w scope n (section_constants cs)
-      → TypesPlaced w (following_constants w scope n (has_body (declares cs ts vs ps) statements)) (first_type_ordinal n (has_body (declares cs ts vs ps) statements)) (section_types ts)
-      → VariablesPlaced w (following_types w scope n (has_body (declares cs ts vs ps) statements)) (first_variable_ordinal n (has_body (declares cs ts vs ps) statements)) (section_variables vs)
+      → TypesPlaced w (following_constants w scope n (forms_block (declares cs ts vs ps) statements)) (first_type_ordinal n (forms_block (declares cs ts vs ps) statements)) (section_types ts)
+      → VariablesPlaced w (following_types w scope n (forms_block (declares cs ts vs ps) statements)) (first_variable_ordinal n (forms_block (declares cs ts vs ps) statements)) (section_variables vs)
       → (reported_constants p (section_constants cs)).faults ≡ []
       → (reported_types (reported_constants p (section_constants cs)).known (section_types ts)).faults ≡ []
       → (reported_variables (reported_types (reported_constants p (section_constants cs)).known (section_types ts)).known (section_variables vs)).faults ≡ []
-      → Declared w n (first_procedure_ordinal n (has_body (declares cs ts vs ps) statements)) k (constructor_after_variables k (tree_with_names w.source (has_body (declares cs ts vs ps) statements))) p (reported_variables (reported_types (reported_constants p (section_constants cs)).known (section_types ts)).known (section_variables vs)).known before (following_variables w scope n (has_body (declares cs ts vs ps) statements))
-      (option_and_then (declare_typed naming_by_spelling (constructors_before_variables k (tree_with_names w.source (has_body (declares cs ts vs ps) statements))) (section_variables (tree_with_names w.source vs))) (declare_first naming_by_spelling env k (tree_with_names w.source (has_body (declares cs ts vs ps) statements))))
-  unfolding declare_first
+      → Declared w n (first_procedure_ordinal n (forms_block (declares cs ts vs ps) statements)) k (constructors_before_procedures k (tree_with_names w.source (forms_block (declares cs ts vs ps) statements))) p (reported_variables (reported_types (reported_constants p (section_constants cs)).known (section_types ts)).known (section_variables vs)).known before (following_variables w scope n (forms_block (declares cs ts vs ps) statements))
+      (option_and_then (declare_typed_variables naming_by_spelling (constructors_before_variables k (tree_with_names w.source (forms_block (declares cs ts vs ps) statements))) (section_variables (tree_with_names w.source vs))) (declare_constants_and_types naming_by_spelling env k (tree_with_names w.source (forms_block (declares cs ts vs ps) statements))))
+  unfolding declare_constants_and_types
   declarations_reported cs ts vs ps statements k n p before scope env at st placed₀ placed₁ placed₂ none₀ none₁ none₂ =
-      let text : ℕ → Name = text_at w.source in
-      let value : ℕ → ℕ = value_at w.source in
-      let b : Tree ℕ block = has_body (declares cs ts vs ps) statements in
+      let text : ℕ → Name = token_text_at w.source in
+      let value : ℕ → ℕ = token_value_at w.source in
+      let b : Tree ℕ block = forms_block (declares cs ts vs ps) statements in
       let nb : Tree Name block = tree_with_names w.source b in
       let p₁ : KnownDeclarations = (reported_constants p (section_constants cs)).known in
       let p₂ : KnownDeclarations = (reported_types p₁ (section_types ts)).known in
@@ -109,21 +109,21 @@ module _ (w : Numbering) (fit : PartsFit) where
       let dt = types_declare w fit (section_types ts) k (first_type_ordinal n b) p₁ dc.after (following_constants w scope n b) dc.env (omega (arith, at, dc.apart.counted)) dc.holds placed₁ none₁ in
       let le₁ : n ≤ first_type_ordinal n b = le-ordinal_after_names n (constant_names (section_constants cs)) in
       let le₂ : n ≤ first_variable_ordinal n b = le_trans le₁ (le-ordinal_after_names (first_type_ordinal n b) (declared_type_names (section_types ts))) in
-      let first : Declared w n (first_variable_ordinal n b) k (constructors_before_variables k nb) p p₂ before (following_types w scope n b) (declare_first naming_by_spelling env k nb) =
+      let first : Declared w n (first_variable_ordinal n b) k (constructors_before_variables k nb) p p₂ before (following_types w scope n b) (declare_constants_and_types naming_by_spelling env k nb) =
       declared_then w n (first_type_ordinal n b) (first_variable_ordinal n b) k k (constructors_before_variables k nb) p p₁ p₂ before dc.after (following_types w scope n b) (declare_constants naming_by_spelling env (section_constants (tree_with_names w.source cs))) dc.env (λ e. declare_types naming_by_spelling e k (section_types (tree_with_names w.source ts))) le₁
-      (ap (declare_constants naming_by_spelling env) (constants-mapped text value cs) ∙ dc.given_is) dc.apart dc.later
-      (subst (λ z. Declared w (first_type_ordinal n b) (first_variable_ordinal n b) k (k + types_constructor_count z) p₁ p₂ dc.after (following_types w scope n b) (declare_types naming_by_spelling dc.env k z)) (sym (types-mapped text value ts)) dt) in
+      (ap (declare_constants naming_by_spelling env) (constants-mapped_tree text value cs) ∙ dc.given_is) dc.apart dc.later
+      (subst (λ z. Declared w (first_type_ordinal n b) (first_variable_ordinal n b) k (k + types_constructor_count z) p₁ p₂ dc.after (following_types w scope n b) (declare_types naming_by_spelling dc.env k z)) (sym (types-mapped_tree text value ts)) dt) in
       let dv = variables_declare w fit (section_variables vs) (constructors_before_variables k nb) (first_variable_ordinal n b) p₂ first.after (following_types w scope n b) first.env (omega (arith, at, first.apart.counted)) first.holds placed₂ none₂ in
-      declared_then w n (first_variable_ordinal n b) (first_procedure_ordinal n b) k (constructors_before_variables k nb) (constructor_after_variables k nb) p p₂ p₃ before first.after (following_variables w scope n b) (declare_first naming_by_spelling env k nb) first.env (declare_typed naming_by_spelling (constructors_before_variables k nb) (section_variables (tree_with_names w.source vs))) le₂ first.given_is first.apart first.later
-      (subst (λ z. Declared w (first_variable_ordinal n b) (first_procedure_ordinal n b) (constructors_before_variables k nb) (constructors_before_variables k nb + variables_constructor_count z) p₂ p₃ first.after (following_variables w scope n b) (declare_typed naming_by_spelling (constructors_before_variables k nb) z first.env)) (sym (variables-mapped text value vs)) dv)
+      declared_then w n (first_variable_ordinal n b) (first_procedure_ordinal n b) k (constructors_before_variables k nb) (constructors_before_procedures k nb) p p₂ p₃ before first.after (following_variables w scope n b) (declare_constants_and_types naming_by_spelling env k nb) first.env (declare_typed_variables naming_by_spelling (constructors_before_variables k nb) (section_variables (tree_with_names w.source vs))) le₂ first.given_is first.apart first.later
+      (subst (λ z. Declared w (first_variable_ordinal n b) (first_procedure_ordinal n b) (constructors_before_variables k nb) (constructors_before_variables k nb + variables_constructor_count z) p₂ p₃ first.after (following_variables w scope n b) (declare_typed_variables naming_by_spelling (constructors_before_variables k nb) z first.env)) (sym (variables-mapped_tree text value vs)) dv)
 
   -- A block fits if its declarations give an environment in which its procedures and statements fit.
   block_then : (p v q : KnownDeclarations) (before : List Shape) (n m i k j l : ℕ) (scope : Scope Name) (env : TypeEnvironment Name) (given : Option (TypeEnvironment Name)) (statements : Tree ℕ (maybe body)) (test : TypeEnvironment Name → Bool) (bindings : TypeEnvironment Name → TypeEnvironment Name) → n ≤ m → (d : Declared w n m k j p v before scope given)
       → BindingsKnown d.after v.declared n m (bindings_since env d.env) → FitsLater m i j l v q d.after (test d.env) (bindings d.env)
-      → FitsLater n i k l p (reported_body q statements).known before (some_satisfies given test) (list_if_some given (λ inner. bindings inner ++ bindings_since env inner))
+      → FitsLater n i k l p (reported_body q statements).known before (option_satisfies given test) (list_if_some given (λ inner. bindings inner ++ bindings_since env inner))
   block_then p v q before n m i k j l scope env given statements test bindings le d own f =
-      subst (λ z. FitsLater n i k l p z before (some_satisfies given test) (list_if_some given (λ inner. bindings inner ++ bindings_since env inner))) (sym (body_known q statements)) (record {
-        right = ap (λ o. some_satisfies o test) d.given_is ∙ f.right;
+      subst (λ z. FitsLater n i k l p z before (option_satisfies given test) (list_if_some given (λ inner. bindings inner ++ bindings_since env inner))) (sym (body_known q statements)) (record {
+        right = ap (λ o. option_satisfies o test) d.given_is ∙ f.right;
         after = f.after;
         apart = apart_then k j l before d.after f.after d.apart f.apart;
         later = later_then n m p v q before d.after f.after le d.later f.later;
@@ -136,7 +136,7 @@ module _ (w : Numbering) (fit : PartsFit) where
   pub heading_reported : (x : ℕ) (fs : Tree ℕ (maybe formals)) (k n : ℕ) (p : KnownDeclarations) (before : List Shape) (scope : Scope Name) (env : TypeEnvironment Name) → length before ≡ k → IsKnownAt w p before n scope env → IsPlaced w n x → SectionsPlaced w scope (suc n) (formal_sections fs)
       → (reported_sections (record { formals = []; following = p }) (formal_sections fs)).faults ≡ [] → HeadingKnown w n p before scope env k x fs
   heading_reported x fs k n p before scope env at st placed sections unreported =
-      let text : ℕ → Name = text_at w.source in
+      let text : ℕ → Name = token_text_at w.source in
       let start : KnownHeading = record { formals = []; following = p } in
       let g : KnownHeading = (reported_sections start (formal_sections fs)).known in
       let q₁ : KnownDeclarations = heading_known p x fs in
@@ -152,9 +152,9 @@ module _ (w : Numbering) (fit : PartsFit) where
       let inner = parameters_over ps.after q₁.declared (suc n) ((text x, n) ∷ scope) ((text x, meant.a_procedure signature) ∷ env) xs ps.parameters own.names kept in
       record {
         parameters = ps.parameters;
-        typed = ap (typed_parameters naming_by_spelling env k) (formals-mapped text (value_at w.source) fs) ∙ ps.given_is;
+        typed = ap (typed_parameters naming_by_spelling env k) (formals-mapped_tree text (token_value_at w.source) fs) ∙ ps.given_is;
         after = ps.after;
-        apart = subst (λ z. Apart k (k + formals_constructor_count z) before ps.after) (sym (formals-mapped text (value_at w.source) fs)) ps.apart;
+        apart = subst (λ z. Apart k (k + formals_constructor_count z) before ps.after) (sym (formals-mapped_tree text (token_value_at w.source) fs)) ps.apart;
         later = later_then n n p g.following q₁ before ps.after ps.after (le_refl n) (later_of n (suc n) p g.following before ps.after (next_le n) ps.later) made.later;
         holds = own;
         inside = record {
@@ -168,9 +168,9 @@ module _ (w : Numbering) (fit : PartsFit) where
 
   -- The bindings of a procedure's name and parameters agree with the meanings of their ordinals.
   heading_bound : (x : ℕ) (fs : Tree ℕ (maybe formals)) (n : ℕ) (scope : Scope Name) (env : TypeEnvironment Name) (p : KnownDeclarations) (before : List Shape) {k : ℕ} → NamesKnown before p.declared n scope env → (e : HeadingKnown w n p before scope env k x fs)
-      → BindingsKnown e.after (heading_known p x fs).declared n (ordinal_after_names (suc n) (formal_names (formal_sections fs))) (bind_typed_parameters e.parameters (bind_procedure (text_at w.source x) e.parameters []))
+      → BindingsKnown e.after (heading_known p x fs).declared n (ordinal_after_names (suc n) (formal_names (formal_sections fs))) (bind_typed_parameters e.parameters (bind_procedure (token_text_at w.source x) e.parameters []))
   heading_bound x fs n scope env p before names e =
-      let text : ℕ → Name = text_at w.source in
+      let text : ℕ → Name = token_text_at w.source in
       let xs : List ℕ = formal_names (formal_sections fs) in
       let m : ℕ = ordinal_after_names (suc n) xs in
       subst (BindingsKnown e.after (heading_known p x fs).declared n m) (heading_since e.parameters (text x, meant.a_procedure (formals_of e.parameters)) env)
@@ -178,21 +178,21 @@ module _ (w : Numbering) (fit : PartsFit) where
 
   -- The bindings of a procedure and the later ones are the later procedures' bindings followed by its own.
   procedures_bound : (d : Tree ℕ (item procedure)) (rest : Tree ℕ (items procedure)) (k : ℕ) (env : TypeEnvironment Name) (parameters : List (TypedParameter Name)) → typed_parameters naming_by_spelling env k (procedure_formals (tree_with_names w.source d)) ≡ Some parameters
-      → procedure_fits naming_by_spelling (bind_typed_parameters parameters (bind_procedure (procedure_name (tree_with_names w.source d)) parameters env)) k (tree_with_names w.source d) ≡ true
+      → procedure_is_well_typed naming_by_spelling (bind_typed_parameters parameters (bind_procedure (procedure_name (tree_with_names w.source d)) parameters env)) k (tree_with_names w.source d) ≡ true
       → procedures_bindings naming_by_spelling env k (tree_with_names w.source (more d rest)) ≡ procedures_bindings naming_by_spelling (bind_procedure (procedure_name (tree_with_names w.source d)) parameters env) (k + procedure_constructor_count (tree_with_names w.source d)) (tree_with_names w.source rest) ++ procedure_bindings naming_by_spelling env k (tree_with_names w.source d)
-  unfolding block_fits
+  unfolding block_is_well_typed
   procedures_bound (declares_procedure x fs b closing) rest k env parameters typed right =
-      procedures-listed naming_by_spelling env k (text_at w.source x) (tree_with_names w.source fs) (tree_with_names w.source b) (text_at w.source closing) (tree_with_names w.source rest) parameters typed right
+      procedures-listed naming_by_spelling env k (token_text_at w.source x) (tree_with_names w.source fs) (tree_with_names w.source b) (token_text_at w.source closing) (tree_with_names w.source rest) parameters typed right
 
   mutual
-    unfolding reported_block block_fits block_bindings
+    unfolding reported_block block_is_well_typed block_bindings
 
     pub block_reported : (b : Tree ℕ block) (k n : ℕ) (p : KnownDeclarations) (before : List Shape) (scope : Scope Name) (env : TypeEnvironment Name) → length before ≡ k → IsKnownAt w p before n scope env → BlockPlaced w scope n b → (reported_block p b).faults ≡ []
-        → FitsLater n (ordinal_after_block n b) k (k + block_constructor_count (tree_with_names w.source b)) p (reported_block p b).known before (block_fits naming_by_spelling env k (tree_with_names w.source b)) (block_bindings naming_by_spelling env k (tree_with_names w.source b))
-    block_reported (has_body (declares cs ts vs ps) statements) k n p before scope env at st placed h =
-        let b : Tree ℕ block = has_body (declares cs ts vs ps) statements in
+        → FitsLater n (ordinal_after_block n b) k (k + block_constructor_count (tree_with_names w.source b)) p (reported_block p b).known before (block_is_well_typed naming_by_spelling env k (tree_with_names w.source b)) (block_bindings naming_by_spelling env k (tree_with_names w.source b))
+    block_reported (forms_block (declares cs ts vs ps) statements) k n p before scope env at st placed h =
+        let b : Tree ℕ block = forms_block (declares cs ts vs ps) statements in
         let nb : Tree Name block = tree_with_names w.source b in
-        let text : ℕ → Name = text_at w.source in
+        let text : ℕ → Name = token_text_at w.source in
         let t₁ : Reported KnownDeclarations = reported_constants p (section_constants cs) in
         let t₂ : Reported KnownDeclarations = reported_types t₁.known (section_types ts) in
         let t₃ : Reported KnownDeclarations = reported_variables t₂.known (section_variables vs) in
@@ -204,18 +204,18 @@ module _ (w : Numbering) (fit : PartsFit) where
         let a₄ = none-reported t₄.faults t₅.faults a₃.1 in
         let d = declarations_reported cs ts vs ps statements k n p before scope env at st placed.0 placed.1 placed.2 a₁.0 a₂.0 a₃.0 in
         let le : n ≤ first_procedure_ordinal n b = le_trans (le-ordinal_after_names n (constant_names (section_constants cs))) (le_trans (le-ordinal_after_names (first_type_ordinal n b) (declared_type_names (section_types ts))) (le-ordinal_after_names (first_variable_ordinal n b) (variable_names (section_variables vs)))) in
-        let rest = procedures_reported ps statements (constructor_after_variables k nb) (first_procedure_ordinal n b) t₃.known d.after (following_variables w scope n b) d.env (omega (arith, at, d.apart.counted)) d.holds placed.3 a₄.0 a₄.1 in
-        let l : ℕ = constructor_after_variables k nb + procedures_constructor_count (tree_with_names w.source ps) in
+        let rest = procedures_reported ps statements (constructors_before_procedures k nb) (first_procedure_ordinal n b) t₃.known d.after (following_variables w scope n b) d.env (omega (arith, at, d.apart.counted)) d.holds placed.3 a₄.0 a₄.1 in
+        let l : ℕ = constructors_before_procedures k nb + procedures_constructor_count (tree_with_names w.source ps) in
         let own = sections_bind d.after t₃.known.declared (first_procedure_ordinal n b) n (first_type_ordinal n b) (first_variable_ordinal n b) (first_procedure_ordinal n b) (map text (constant_names (section_constants cs))) (map text (declared_type_names (section_types ts))) (map text (variable_names (section_variables vs))) scope env d.env
         (ordinal_after_names-map text n (constant_names (section_constants cs))) (ordinal_after_names-map text (first_type_ordinal n b) (declared_type_names (section_types ts))) (ordinal_after_names-map text (first_variable_ordinal n b) (variable_names (section_variables vs)))
         (as_long before p.declared n scope env st.names) d.holds.names in
-        subst (λ j. FitsLater n (ordinal_after_block n b) k j p (reported_block p (has_body (declares cs ts vs ps) statements)).known before (block_fits naming_by_spelling env k (tree_with_names w.source (has_body (declares cs ts vs ps) statements))) (block_bindings naming_by_spelling env k (tree_with_names w.source (has_body (declares cs ts vs ps) statements))))
+        subst (λ j. FitsLater n (ordinal_after_block n b) k j p (reported_block p (forms_block (declares cs ts vs ps) statements)).known before (block_is_well_typed naming_by_spelling env k (tree_with_names w.source (forms_block (declares cs ts vs ps) statements))) (block_bindings naming_by_spelling env k (tree_with_names w.source (forms_block (declares cs ts vs ps) statements))))
         (block_end k (types_constructor_count (section_types (tree_with_names w.source ts))) (variables_constructor_count (section_variables (tree_with_names w.source vs))) (procedures_constructor_count (tree_with_names w.source ps)))
-        (block_then p t₃.known t₄.known before n (first_procedure_ordinal n b) (ordinal_after_block n b) k (constructor_after_variables k nb) l (following_variables w scope n b) env (option_and_then (declare_typed naming_by_spelling (constructors_before_variables k nb) (section_variables (tree_with_names w.source vs))) (declare_first naming_by_spelling env k nb)) statements
-        (λ inner. procedures_fit naming_by_spelling inner (constructor_after_variables k nb) (tree_with_names w.source statements) (tree_with_names w.source ps)) (λ inner. procedures_bindings naming_by_spelling inner (constructor_after_variables k nb) (tree_with_names w.source ps)) le d own rest)
+        (block_then p t₃.known t₄.known before n (first_procedure_ordinal n b) (ordinal_after_block n b) k (constructors_before_procedures k nb) l (following_variables w scope n b) env (option_and_then (declare_typed_variables naming_by_spelling (constructors_before_variables k nb) (section_variables (tree_with_names w.source vs))) (declare_constants_and_types naming_by_spelling env k nb)) statements
+        (λ inner. procedures_are_well_typed naming_by_spelling inner (constructors_before_procedures k nb) (tree_with_names w.source statements) (tree_with_names w.source ps)) (λ inner. procedures_bindings naming_by_spelling inner (constructors_before_procedures k nb) (tree_with_names w.source ps)) le d own rest)
 
     procedures_reported : (ps : Tree ℕ (items procedure)) (statements : Tree ℕ (maybe body)) (k n : ℕ) (p : KnownDeclarations) (before : List Shape) (scope : Scope Name) (env : TypeEnvironment Name) → length before ≡ k → IsKnownAt w p before n scope env → ProceduresPlaced w scope n statements ps → (reported_procedures p ps).faults ≡ []
-        → (reported_body (reported_procedures p ps).known statements).faults ≡ [] → FitsLater n (ordinal_after_procedures n ps) k (k + procedures_constructor_count (tree_with_names w.source ps)) p (reported_procedures p ps).known before (procedures_fit naming_by_spelling env k (tree_with_names w.source statements) (tree_with_names w.source ps)) (procedures_bindings naming_by_spelling env k (tree_with_names w.source ps))
+        → (reported_body (reported_procedures p ps).known statements).faults ≡ [] → FitsLater n (ordinal_after_procedures n ps) k (k + procedures_constructor_count (tree_with_names w.source ps)) p (reported_procedures p ps).known before (procedures_are_well_typed naming_by_spelling env k (tree_with_names w.source statements) (tree_with_names w.source ps)) (procedures_bindings naming_by_spelling env k (tree_with_names w.source ps))
     procedures_reported end statements k n p before scope env at st placed h last = record { right = body_reported statements n p before scope env st placed last; after = before; apart = apart_same k (k + 0) before (omega arith); later = later_same n p before st.table; bound = refl }
     procedures_reported (more d rest) statements k n p before scope env at st placed h last =
         let nd : Tree Name (item procedure) = tree_with_names w.source d in
@@ -224,7 +224,7 @@ module _ (w : Numbering) (fit : PartsFit) where
         let f = procedure_reported d k n p before scope env at st placed.0 a.0 in
         let others = procedures_reported rest statements (k + procedure_constructor_count nd) (ordinal_after_procedure (suc n) d) q f.after (following_procedure w scope n d) (bind_procedure (procedure_name nd) f.parameters env) (omega (arith, at, f.apart.counted)) f.holds placed.1 a.1 last in
         record {
-          right = ap (λ o. some_satisfies o (λ ps. procedure_fits naming_by_spelling (bind_typed_parameters ps (bind_procedure (procedure_name nd) ps env)) k nd && procedures_fit naming_by_spelling (bind_procedure (procedure_name nd) ps env) (k + procedure_constructor_count nd) (tree_with_names w.source statements) (tree_with_names w.source rest))) f.typed
+          right = ap (λ o. option_satisfies o (λ ps. procedure_is_well_typed naming_by_spelling (bind_typed_parameters ps (bind_procedure (procedure_name nd) ps env)) k nd && procedures_are_well_typed naming_by_spelling (bind_procedure (procedure_name nd) ps env) (k + procedure_constructor_count nd) (tree_with_names w.source statements) (tree_with_names w.source rest))) f.typed
               ∙ (λ i. f.right i && others.right i);
           after = others.after;
           apart = apart_to k (k + procedure_constructor_count nd + procedures_constructor_count (tree_with_names w.source rest)) (k + (procedure_constructor_count nd + procedures_constructor_count (tree_with_names w.source rest))) before others.after (more_constructors k (procedure_constructor_count nd) (procedures_constructor_count (tree_with_names w.source rest)))
@@ -239,7 +239,7 @@ module _ (w : Numbering) (fit : PartsFit) where
         → ProcedureFits w n p (reported_procedure p d).known before scope env k d
     procedure_reported (declares_procedure x fs b closing) k n p before scope env at st placed h =
         let d : Tree ℕ (item procedure) = declares_procedure x fs b closing in
-        let text : ℕ → Name = text_at w.source in
+        let text : ℕ → Name = token_text_at w.source in
         let q₁ : KnownDeclarations = heading_known p x fs in
         let q : KnownDeclarations = (reported_block q₁ b).known in
         let a = none-reported (reported_sections (record { formals = []; following = p }) (formal_sections fs)).faults (reported_block q₁ b).faults h in
@@ -270,7 +270,7 @@ room_first xs =
     omega (arith, length-append predeclared_meanings later, count)
 
 -- The state at the beginning of a module agrees with the predeclared names.
-pub first_holds : (r : Resolution) → IsKnownAt (numbering_of r) (state_at_start r) [] 7 (predeclared_scope naming_by_spelling) (outermost naming_by_spelling)
+pub first_holds : (r : Resolution) → IsKnownAt (numbering_of r) (state_at_start r) [] 7 (predeclared_scope naming_by_spelling) (outermost_environment naming_by_spelling)
 first_holds r = record {
   source = refl;
   ordinals = refl;
@@ -315,9 +315,9 @@ first_holds r = record {
   );
 }
 
-pub modules_fit-holds : ModulesFit
-unfolding reported_module passes_type_check
-modules_fit-holds r is h =
+pub modules_without_fault_pass_type_check-holds : ModulesWithoutFaultPassTypeCheck
+unfolding module_faults passes_type_check
+modules_without_fault_pass_type_check-holds r is h =
     let m = r.module_read in
     let a = none-reported (filter is_undeclared_fault r.faults) (reported_block (state_at_start r) (module_block (tree_of m))).faults h in
-    (block_reported (numbering_of r) parts_fit (module_block (tree_of m)) 0 7 (state_at_start r) [] (predeclared_scope naming_by_spelling) (outermost naming_by_spelling) refl (first_holds r) (module_placed r is a.0) a.1).right
+    (block_reported (numbering_of r) parts_fit (module_block (tree_of m)) 0 7 (state_at_start r) [] (predeclared_scope naming_by_spelling) (outermost_environment naming_by_spelling) refl (first_holds r) (module_placed r is a.0) a.1).right

@@ -4,14 +4,14 @@ use Rattle.std.proofs.lemmas.Bool.{ltb-false, ltb-true, ne_eqb}
 use Rattle.std.proofs.lemmas.List.{get_or_past}
 use Rattle.std.specs.List.{filter}
 use Rattle.ob0_tree.specs.ParsedModule.{named_tree_of, tree_of}
-use Rattle.ob0_tree.specs.Places.{text_at, value_at}
+use Rattle.ob0_tree.specs.Places.{token_text_at, token_value_at}
 use Rattle.ob0_tree.specs.Tree.{Tree, block, is_module, module_text}
 use Rattle.ob0_language_names.specs.Names.{Label, Name, naming_by_label, naming_by_spelling, declared}
 use Rattle.ob0_language_names.specs.Parts.{module_block}
 use Rattle.ob0_scope_table.specs.Resolution.{is_undeclared_fault}
 use Rattle.ob0_language_names.specs.Scopes.{ordinal_after_block, label_from_ordinal, numbered, predeclared_scope, relabel_block}
 use Rattle.ob0_language_types.specs.Bindings.{block_bindings, declared_object, module_bindings, object_of_ordinal}
-use Rattle.ob0_language_types.specs.Environments.{environment_from_binding, outermost}
+use Rattle.ob0_language_types.specs.Environments.{environment_from_binding, outermost_environment}
 use Rattle.ob0_language_types.specs.Expressions as meant
 use Rattle.ob0_language_types.specs.WellTyped.{Signature, TypeEnvironment, passes_type_check}
 use Rattle.ob0_language_types.proofs.Bound.{newest_object-if}
@@ -19,15 +19,15 @@ use Rattle.ob0_language_types.proofs.TypesByOrdinal.{TypeNoted, typed_by_name, t
 use Rattle.ob0_types_table.specs.declared.types.TypeId.{TypeId}
 use Rattle.ob0_language_values.specs.Values.{Shape}
 use Rattle.ob0_types_check.specs.Agreement.{DeclarationAgrees, KnownMeaningAgrees, is_standard_procedure, shape_in}
-use Rattle.ob0_types_check.specs.DeclarationFaults.{reported_block, reported_module}
+use Rattle.ob0_types_check.specs.DeclarationFaults.{reported_block, module_faults}
 use Rattle.ob0_types_check.specs.Known.{Meaning}
-use Rattle.ob0_types_check.specs.ModuleLaws.{DeclarationsKnown}
+use Rattle.ob0_types_check.specs.ModuleLaws.{WalkWithoutFaultFindsMeanings}
 use Rattle.ob0_types_check.specs.KnownDeclarations.{KnownDeclarations, state_at_start}
 use Rattle.ob0_types_check.proofs.BindingsByOrdinal.{InOrder, Ordered, module-block, module-ordered}
 use Rattle.ob0_types_check.proofs.BlocksBound.{BindingsKnown, bindings_both, bindings_later, names_bind}
 use Rattle.ob0_types_check.proofs.BlocksFit.{block_reported, first_holds, room_first}
 use Rattle.ob0_types_check.proofs.DeclaredModules.{module_counted, module_placed, numbering_of}
-use Rattle.ob0_types_check.proofs.DeclaredNames.{ordinal_after_block-mapped}
+use Rattle.ob0_types_check.proofs.DeclaredNames.{ordinal_after_block-mapped_tree}
 use Rattle.ob0_types_check.proofs.PartsFitting.{parts_fit}
 use Rattle.ob0_types_check.proofs.Unreported.{none-reported}
 
@@ -96,26 +96,26 @@ bound_before n m (b ∷ noted) order env k less =
 first_bound : (n m : ℕ) (names : TypeEnvironment Name) (labels env : TypeEnvironment Label) → Ordered n m names labels → (k : ℕ) → k < n → object_of_ordinal (labels ++ env) k ≡ object_of_ordinal env k
 first_bound n m names labels env all k less = ap (λ z. object_of_ordinal (z ++ env) k) all.by_label ∙ bound_before n m all.noted all.in_order env k less
 
-predeclared_bound : (m : Tree Name module_text) → passes_type_check naming_by_spelling m ≡ true → (k : ℕ) → k < 7 → declared_object m k ≡ object_of_ordinal (outermost naming_by_label) k
+predeclared_bound : (m : Tree Name module_text) → passes_type_check naming_by_spelling m ≡ true → (k : ℕ) → k < 7 → declared_object m k ≡ object_of_ordinal (outermost_environment naming_by_label) k
 predeclared_bound (is_module x b closing) h k less =
-    first_bound 7 (ordinal_after_block 7 b) (block_bindings naming_by_spelling (outermost naming_by_spelling) 0 b) (block_bindings naming_by_label (outermost naming_by_label) 0 (relabel_block naming_by_spelling (label_from_ordinal naming_by_spelling) (typed_scope (typed_outermost naming_by_spelling)) 7 b)) (outermost naming_by_label) (module-block x b closing h) k less
+    first_bound 7 (ordinal_after_block 7 b) (block_bindings naming_by_spelling (outermost_environment naming_by_spelling) 0 b) (block_bindings naming_by_label (outermost_environment naming_by_label) 0 (relabel_block naming_by_spelling (label_from_ordinal naming_by_spelling) (typed_scope (typed_outermost naming_by_spelling)) 7 b)) (outermost_environment naming_by_label) (module-block x b closing h) k less
 
-pub declarations_known-holds : DeclarationsKnown
-unfolding reported_module passes_type_check
-declarations_known-holds r is h =
+pub walk_without_fault_finds_meanings-holds : WalkWithoutFaultFindsMeanings
+unfolding module_faults passes_type_check
+walk_without_fault_finds_meanings-holds r is h =
     let m = r.module_read in
     let b : Tree ℕ block = module_block (tree_of m) in
     let last : ℕ = ordinal_after_block 7 b in
     let q : KnownDeclarations = (reported_block (state_at_start r) b).known in
     let a = none-reported (filter is_undeclared_fault r.faults) (reported_block (state_at_start r) b).faults h in
     let st = first_holds r in
-    let f = block_reported (numbering_of r) parts_fit b 0 7 (state_at_start r) [] (predeclared_scope naming_by_spelling) (outermost naming_by_spelling) refl st (module_placed r is a.0) a.1 in
-    let first : BindingsKnown f.after q.declared 0 7 (outermost naming_by_spelling) =
-    bindings_later [] f.after (state_at_start r).declared q.declared 0 7 7 f.later.longer f.later.kept (le_refl 7) (outermost naming_by_spelling) (names_bind [] (state_at_start r).declared 7 0 7 (map naming_by_spelling.predeclared (0 ∷ 1 ∷ 2 ∷ 3 ∷ 4 ∷ 5 ∷ 6 ∷ [])) [] [] (outermost naming_by_spelling) refl refl st.names) in
+    let f = block_reported (numbering_of r) parts_fit b 0 7 (state_at_start r) [] (predeclared_scope naming_by_spelling) (outermost_environment naming_by_spelling) refl st (module_placed r is a.0) a.1 in
+    let first : BindingsKnown f.after q.declared 0 7 (outermost_environment naming_by_spelling) =
+    bindings_later [] f.after (state_at_start r).declared q.declared 0 7 7 f.later.longer f.later.kept (le_refl 7) (outermost_environment naming_by_spelling) (names_bind [] (state_at_start r).declared 7 0 7 (map naming_by_spelling.predeclared (0 ∷ 1 ∷ 2 ∷ 3 ∷ 4 ∷ 5 ∷ 6 ∷ [])) [] [] (outermost_environment naming_by_spelling) refl refl st.names) in
     let bound : BindingsKnown f.after q.declared 0 last (module_bindings naming_by_spelling (named_tree_of m)) =
-    bindings_both f.after q.declared 0 7 last (block_bindings naming_by_spelling (outermost naming_by_spelling) 0 (module_block (named_tree_of m))) (outermost naming_by_spelling) f.bound first in
+    bindings_both f.after q.declared 0 7 last (block_bindings naming_by_spelling (outermost_environment naming_by_spelling) 0 (module_block (named_tree_of m))) (outermost_environment naming_by_spelling) f.bound first in
     let all : Ordered 0 last (module_bindings naming_by_spelling (named_tree_of m)) (module_bindings naming_by_label (numbered (named_tree_of m))) =
-    subst (λ z. Ordered 0 z (module_bindings naming_by_spelling (named_tree_of m)) (module_bindings naming_by_label (numbered (named_tree_of m)))) (ordinal_after_block-mapped (text_at m.source) (value_at m.source) 7 7 refl b) (module-ordered (named_tree_of m) f.right) in
+    subst (λ z. Ordered 0 z (module_bindings naming_by_spelling (named_tree_of m)) (module_bindings naming_by_label (numbered (named_tree_of m)))) (ordinal_after_block-mapped_tree (token_text_at m.source) (token_value_at m.source) 7 7 refl b) (module-ordered (named_tree_of m) f.right) in
     let room : length q.declared ≡ last = f.later.room ∙ (room_first r.declarations ∙ sym (module_counted r is)) in
     record {
       shapes = f.after;

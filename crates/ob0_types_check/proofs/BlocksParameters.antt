@@ -3,7 +3,7 @@
 -- the procedure's name in the environment afterwards (`parameters_over`).
 use Rattle.std.proofs.Common.{◌≡◌, ℕ, suc, ◌+◌, ◌<◌, ◌≤◌, Bool, true, false, List, [], ◌∷◌, ◌++◌, length, map, Option, Some, None, option_and_then, slice_index_or, refl, sym, ap, ◌∙◌, subst, subst₂, le_refl, le_of_lt, le_trans, append_assoc, append-nil, arith}
 use Rattle.std.proofs.lemmas.List.{map-append}
-use Rattle.ob0_tree.specs.Places.{tree_with_names, text_at, value_at}
+use Rattle.ob0_tree.specs.Places.{tree_with_names, token_text_at, token_value_at}
 use Rattle.ob0_tree.specs.Tree.{Tree, end, further_section, items, more, then_section, value_section, variable_section, written_type}
 use Rattle.ob0_language_names.specs.Names.{Name, naming_by_spelling}
 use Rattle.ob0_language_names.specs.Parts.{formal_names, names_in_list}
@@ -14,7 +14,7 @@ use Rattle.ob0_types_table.specs.declared.types.TypeId.{TypeId}
 use Rattle.ob0_language_types.specs.Declarations.{formals_constructor_count}
 use Rattle.ob0_language_types.specs.Environments.{meanings}
 use Rattle.ob0_language_types.specs.Expressions as meant
-use Rattle.ob0_language_types.specs.Typing.{constructor_count, denoted}
+use Rattle.ob0_language_types.specs.Typing.{constructor_count, denoted_type}
 use Rattle.ob0_language_types.specs.WellTyped.{Mode, Signature, TypeEnvironment, TypedParameter, bind_names, bind_typed_parameters, by_place, by_value, typed_parameters}
 use Rattle.ob0_language_values.specs.Values.{Shape}
 use Rattle.ob0_types_check.specs.DeclarationFaults.{KnownHeading, reported_parameters, reported_section, reported_sections, with_parameters}
@@ -25,7 +25,7 @@ use Rattle.ob0_types_check.specs.Agreement.{FormalsAgree, KnownMeaningAgrees, sh
 use Rattle.ob0_types_check.proofs.BlocksDeclared.{more_constructors}
 use Rattle.ob0_types_check.proofs.MadeOnce.{Apart, apart_same, apart_then}
 use Rattle.ob0_types_check.proofs.PartsFitting.{PartsFit}
-use Rattle.ob0_types_check.proofs.DeclaredNames.{AreSeen, NamesPlaced, Numbering, SectionsPlaced, ordinal_after_names-map, names_in_list-mapped, scope_following}
+use Rattle.ob0_types_check.proofs.DeclaredNames.{AreSeen, NamesPlaced, Numbering, SectionsPlaced, ordinal_after_names-map, names_in_list-mapped_tree, scope_following}
 use Rattle.ob0_types_check.proofs.DeclaredShapes.{Longer}
 use Rattle.ob0_types_check.proofs.DeclaredKnown.{Later, NamesKnown, IsKnownAt, all_defined, defined, formals_kept, later_same, later_then, names_later, holds_defined, holds_kept, holds_later}
 use Rattle.ob0_types_check.proofs.DeclaredTypes.{type_denotes}
@@ -84,18 +84,18 @@ formals_same shape text by t s e [] = tt
 formals_same shape text by t s e (x ∷ xs) = (refl, e, formals_same shape text by t s e xs)
 
 own_known : (w : Numbering) (p : KnownDeclarations) (shapes : List Shape) (n : ℕ) (scope : Scope Name) (env : TypeEnvironment Name) (mode : Mode) (t : TypeId) (s : Shape) (xs : List ℕ) → shape_in shapes t ≡ Some s → IsKnownAt w p shapes n scope env → NamesPlaced w n xs
-    → ParametersKnown shapes (define_all p (a_variable t) xs).declared n (map (text_at w.source) xs) (map (typed_as mode s) (map (text_at w.source) xs))
+    → ParametersKnown shapes (define_all p (a_variable t) xs).declared n (map (token_text_at w.source) xs) (map (typed_as mode s) (map (token_text_at w.source) xs))
 own_known w p shapes n scope env mode t s [] is st placed = tt
 own_known w p shapes n scope env mode t s (x ∷ xs) is st placed =
     let q : KnownDeclarations = define p (a_variable t) x in
     let o : meant.Object Shape Signature = meant.a_variable s in
     let d = defined w p shapes n (a_variable t) x st.ordinals st.room st.table placed.0 in
-    let next = holds_defined w p q shapes n scope env (a_variable t) (text_at w.source x) o st d refl (s, is, refl) in
-    let rest = all_defined w q shapes (suc n) ((text_at w.source x, n) ∷ scope) ((text_at w.source x, o) ∷ env) (a_variable t) xs o next placed.1 refl (s, is, refl) in
+    let next = holds_defined w p q shapes n scope env (a_variable t) (token_text_at w.source x) o st d refl (s, is, refl) in
+    let rest = all_defined w q shapes (suc n) ((token_text_at w.source x, n) ∷ scope) ((token_text_at w.source x, o) ∷ env) (a_variable t) xs o next placed.1 refl (s, is, refl) in
     let slot : slice_index_or (define_all q (a_variable t) xs).declared n None ≡ Some (a_variable t) = rest.later.kept n (le_refl (suc n)) ∙ d.here in (
       refl,
       subst (λ z. KnownMeaningAgrees (shape_in shapes) z (Some o)) (sym slot) (s, is, refl),
-      own_known w q shapes (suc n) ((text_at w.source x, n) ∷ scope) ((text_at w.source x, o) ∷ env) mode t s xs is next placed.1,
+      own_known w q shapes (suc n) ((token_text_at w.source x, n) ∷ scope) ((token_text_at w.source x, o) ∷ env) mode t s xs is next placed.1,
     )
 
 -- holds if the sections of a heading give parameters, with ordinals from `n` upwards, which agree with the state after
@@ -122,7 +122,7 @@ pub record OneType (w : Numbering) (n m k l : ℕ) (h g : KnownHeading) (before 
 
 module _ (w : Numbering) (fit : PartsFit) where
   pub one_type : (by : Bool) (xs : List ℕ) (t : Tree ℕ written_type) (k n : ℕ) (h : KnownHeading) (before : List Shape) (scope : Scope Name) (env : TypeEnvironment Name) → length before ≡ k → IsKnownAt w h.following before n scope env → NamesPlaced w n xs → AreSeen w scope t → (reported_type 0 h.following t).faults ≡ []
-      → OneType w n (ordinal_after_names n xs) k (k + constructor_count (tree_with_names w.source t)) h (with_parameters h by xs (reported_type 0 h.following t).known) before (scope_following w n xs scope) env (mode_of by) (map (text_at w.source) xs) (denoted (meanings naming_by_spelling env) k (tree_with_names w.source t))
+      → OneType w n (ordinal_after_names n xs) k (k + constructor_count (tree_with_names w.source t)) h (with_parameters h by xs (reported_type 0 h.following t).known) before (scope_following w n xs scope) env (mode_of by) (map (token_text_at w.source) xs) (denoted_type (meanings naming_by_spelling env) k (tree_with_names w.source t))
   one_type by xs t k n h before scope env at st placed seen none =
       let u : TypeWithState = (reported_type 0 h.following t).known in
       let s = type_denotes w fit n scope env 0 k t h.following before (omega (arith, at)) st seen none in
@@ -136,18 +136,18 @@ module _ (w : Numbering) (fit : PartsFit) where
         later = later_then n n h.following u.following (define_all u.following (a_variable u.of) xs) before s.after s.after (le_refl n) s.later all.later;
         holds = all.holds;
         own = own_known w u.following s.after n scope env (mode_of by) u.of s.shape xs s.known following placed;
-        formals = λ signature agree. formals_both (shape_in s.after) h.formals (map (λ x. record { by_place = by; of = u.of }) xs) signature (formals_of (map (typed_as (mode_of by) s.shape) (map (text_at w.source) xs)))
-            (formals_kept before s.after s.later.longer h.formals signature agree) (formals_same (shape_in s.after) (text_at w.source) by u.of s.shape s.known xs);
+        formals = λ signature agree. formals_both (shape_in s.after) h.formals (map (λ x. record { by_place = by; of = u.of }) xs) signature (formals_of (map (typed_as (mode_of by) s.shape) (map (token_text_at w.source) xs)))
+            (formals_kept before s.after s.later.longer h.formals signature agree) (formals_same (shape_in s.after) (token_text_at w.source) by u.of s.shape s.known xs);
       }
 
   -- If a section's parameters and the further sections' parameters have types, all of them together do.
-  parameters_then : (mode : Mode) (xs : List ℕ) (ns ys : List Name) (n k j m : ℕ) (h g l : KnownHeading) (before : List Shape) (scope : Scope Name) (env : TypeEnvironment Name) (given : Option Shape) (next : TypeEnvironment Name → Option (List (TypedParameter Name))) → ns ≡ map (text_at w.source) xs
-      → (one : OneType w n (ordinal_after_names n xs) k j h g before (scope_following w n xs scope) env mode (map (text_at w.source) xs) given) → Parameters (ordinal_after_names n xs) j m g l one.after ys (next (bind_names (map (text_at w.source) xs) (meant.a_variable one.shape) env))
-      → Parameters n k m h l before (map (text_at w.source) xs ++ ys) (option_and_then (λ s. option_and_then (λ rest. Some (map (typed_as mode s) ns ++ rest)) (next (bind_names ns (meant.a_variable s) env))) given)
+  parameters_then : (mode : Mode) (xs : List ℕ) (ns ys : List Name) (n k j m : ℕ) (h g l : KnownHeading) (before : List Shape) (scope : Scope Name) (env : TypeEnvironment Name) (given : Option Shape) (next : TypeEnvironment Name → Option (List (TypedParameter Name))) → ns ≡ map (token_text_at w.source) xs
+      → (one : OneType w n (ordinal_after_names n xs) k j h g before (scope_following w n xs scope) env mode (map (token_text_at w.source) xs) given) → Parameters (ordinal_after_names n xs) j m g l one.after ys (next (bind_names (map (token_text_at w.source) xs) (meant.a_variable one.shape) env))
+      → Parameters n k m h l before (map (token_text_at w.source) xs ++ ys) (option_and_then (λ s. option_and_then (λ rest. Some (map (typed_as mode s) ns ++ rest)) (next (bind_names ns (meant.a_variable s) env))) given)
   parameters_then mode xs ns ys n k j m h g l before scope env given next e one rest =
-      let own : List (TypedParameter Name) = map (typed_as mode one.shape) (map (text_at w.source) xs) in
-      let last : ℕ = ordinal_after_names n (map (text_at w.source) xs) in
-      let same : last ≡ ordinal_after_names n xs = ordinal_after_names-map (text_at w.source) n xs in
+      let own : List (TypedParameter Name) = map (typed_as mode one.shape) (map (token_text_at w.source) xs) in
+      let last : ℕ = ordinal_after_names n (map (token_text_at w.source) xs) in
+      let same : last ≡ ordinal_after_names n xs = ordinal_after_names-map (token_text_at w.source) n xs in
       record {
         parameters = own ++ rest.parameters;
         given_is = ap (option_and_then (λ s. option_and_then (λ rest. Some (map (typed_as mode s) ns ++ rest)) (next (bind_names ns (meant.a_variable s) env)))) one.given_is
@@ -156,15 +156,15 @@ module _ (w : Numbering) (fit : PartsFit) where
         after = rest.after;
         apart = apart_then k j m before one.after rest.after one.apart rest.apart;
         later = later_then n (ordinal_after_names n xs) h.following g.following l.following before one.after rest.after (le-ordinal_after_names n xs) one.later rest.later;
-        own = parameters_both rest.after l.following.declared n (map (text_at w.source) xs) ys own rest.parameters
-            (parameters_kept one.after rest.after g.following.declared l.following.declared n last rest.later.longer (λ j from to. rest.later.kept j (subst (λ m. j < m) same to)) (map (text_at w.source) xs) own (le_refl last) one.own)
+        own = parameters_both rest.after l.following.declared n (map (token_text_at w.source) xs) ys own rest.parameters
+            (parameters_kept one.after rest.after g.following.declared l.following.declared n last rest.later.longer (λ j from to. rest.later.kept j (subst (λ m. j < m) same to)) (map (token_text_at w.source) xs) own (le_refl last) one.own)
             (subst (λ m. ParametersKnown rest.after l.following.declared m ys rest.parameters) (sym same) rest.own);
         formals = λ signature agree. subst (FormalsAgree (shape_in rest.after) l.formals) (append_assoc signature (formals_of own) (formals_of rest.parameters) ∙ ap (λ z. signature ++ z) (sym (map-append (λ p. p.formal) own rest.parameters)))
             (rest.formals (signature ++ formals_of own) (one.formals signature agree));
       }
 
   pub sections_declare : (fs : Tree ℕ (items further_section)) (k n : ℕ) (h : KnownHeading) (before : List Shape) (scope : Scope Name) (env : TypeEnvironment Name) → length before ≡ k → IsKnownAt w h.following before n scope env → SectionsPlaced w scope n fs → (reported_sections h fs).faults ≡ []
-      → Parameters n k (k + formals_constructor_count (tree_with_names w.source fs)) h (reported_sections h fs).known before (map (text_at w.source) (formal_names fs)) (typed_parameters naming_by_spelling env k (tree_with_names w.source fs))
+      → Parameters n k (k + formals_constructor_count (tree_with_names w.source fs)) h (reported_sections h fs).known before (map (token_text_at w.source) (formal_names fs)) (typed_parameters naming_by_spelling env k (tree_with_names w.source fs))
   unfolding reported_sections reported_section reported_parameters typed_parameters
   sections_declare end k n h before scope env at st placed none = record {
     parameters = [];
@@ -181,21 +181,21 @@ module _ (w : Numbering) (fit : PartsFit) where
       let g : KnownHeading = with_parameters h false xs u.known in
       let a = none-reported (u.faults ++ []) (reported_sections g fs).faults none in
       let one = one_type false xs t k n h before scope env at st placed.0 placed.1 (none-reported u.faults [] a.0).0 in
-      let rest = sections_declare fs (k + constructor_count (tree_with_names w.source t)) (ordinal_after_names n xs) g one.after (scope_following w n xs scope) (bind_names (map (text_at w.source) xs) (meant.a_variable one.shape) env) (omega (arith, at, one.apart.counted)) one.holds placed.2 a.1 in
+      let rest = sections_declare fs (k + constructor_count (tree_with_names w.source t)) (ordinal_after_names n xs) g one.after (scope_following w n xs scope) (bind_names (map (token_text_at w.source) xs) (meant.a_variable one.shape) env) (omega (arith, at, one.apart.counted)) one.holds placed.2 a.1 in
       let own : ℕ = constructor_count (tree_with_names w.source t) in
       let others : ℕ = formals_constructor_count (tree_with_names w.source fs) in
-      subst₂ (λ l ys. Parameters n k l h (reported_sections g fs).known before ys (typed_parameters naming_by_spelling env k (tree_with_names w.source (more (then_section (value_section ns t)) fs)))) (more_constructors k own others) (sym (map-append (text_at w.source) xs (formal_names fs)))
-      (parameters_then by_value xs (names_in_list (tree_with_names w.source ns)) (map (text_at w.source) (formal_names fs)) n k (k + own) (k + own + others) h g (reported_sections g fs).known before scope env (denoted (meanings naming_by_spelling env) k (tree_with_names w.source t))
-      (λ e. typed_parameters naming_by_spelling e (k + constructor_count (tree_with_names w.source t)) (tree_with_names w.source fs)) (names_in_list-mapped (text_at w.source) (value_at w.source) ns) one rest)
+      subst₂ (λ l ys. Parameters n k l h (reported_sections g fs).known before ys (typed_parameters naming_by_spelling env k (tree_with_names w.source (more (then_section (value_section ns t)) fs)))) (more_constructors k own others) (sym (map-append (token_text_at w.source) xs (formal_names fs)))
+      (parameters_then by_value xs (names_in_list (tree_with_names w.source ns)) (map (token_text_at w.source) (formal_names fs)) n k (k + own) (k + own + others) h g (reported_sections g fs).known before scope env (denoted_type (meanings naming_by_spelling env) k (tree_with_names w.source t))
+      (λ e. typed_parameters naming_by_spelling e (k + constructor_count (tree_with_names w.source t)) (tree_with_names w.source fs)) (names_in_list-mapped_tree (token_text_at w.source) (token_value_at w.source) ns) one rest)
   sections_declare (more (then_section (variable_section ns t)) fs) k n h before scope env at st placed none =
       let xs : List ℕ = names_in_list ns in
       let u : Reported TypeWithState = reported_type 0 h.following t in
       let g : KnownHeading = with_parameters h true xs u.known in
       let a = none-reported (u.faults ++ []) (reported_sections g fs).faults none in
       let one = one_type true xs t k n h before scope env at st placed.0 placed.1 (none-reported u.faults [] a.0).0 in
-      let rest = sections_declare fs (k + constructor_count (tree_with_names w.source t)) (ordinal_after_names n xs) g one.after (scope_following w n xs scope) (bind_names (map (text_at w.source) xs) (meant.a_variable one.shape) env) (omega (arith, at, one.apart.counted)) one.holds placed.2 a.1 in
+      let rest = sections_declare fs (k + constructor_count (tree_with_names w.source t)) (ordinal_after_names n xs) g one.after (scope_following w n xs scope) (bind_names (map (token_text_at w.source) xs) (meant.a_variable one.shape) env) (omega (arith, at, one.apart.counted)) one.holds placed.2 a.1 in
       let own : ℕ = constructor_count (tree_with_names w.source t) in
       let others : ℕ = formals_constructor_count (tree_with_names w.source fs) in
-      subst₂ (λ l ys. Parameters n k l h (reported_sections g fs).known before ys (typed_parameters naming_by_spelling env k (tree_with_names w.source (more (then_section (variable_section ns t)) fs)))) (more_constructors k own others) (sym (map-append (text_at w.source) xs (formal_names fs)))
-      (parameters_then by_place xs (names_in_list (tree_with_names w.source ns)) (map (text_at w.source) (formal_names fs)) n k (k + own) (k + own + others) h g (reported_sections g fs).known before scope env (denoted (meanings naming_by_spelling env) k (tree_with_names w.source t))
-      (λ e. typed_parameters naming_by_spelling e (k + constructor_count (tree_with_names w.source t)) (tree_with_names w.source fs)) (names_in_list-mapped (text_at w.source) (value_at w.source) ns) one rest)
+      subst₂ (λ l ys. Parameters n k l h (reported_sections g fs).known before ys (typed_parameters naming_by_spelling env k (tree_with_names w.source (more (then_section (variable_section ns t)) fs)))) (more_constructors k own others) (sym (map-append (token_text_at w.source) xs (formal_names fs)))
+      (parameters_then by_place xs (names_in_list (tree_with_names w.source ns)) (map (token_text_at w.source) (formal_names fs)) n k (k + own) (k + own + others) h g (reported_sections g fs).known before scope env (denoted_type (meanings naming_by_spelling env) k (tree_with_names w.source t))
+      (λ e. typed_parameters naming_by_spelling e (k + constructor_count (tree_with_names w.source t)) (tree_with_names w.source fs)) (names_in_list-mapped_tree (token_text_at w.source) (token_value_at w.source) ns) one rest)

@@ -5,21 +5,21 @@ use Rattle.std.proofs.lemmas.Bool.{and_parts}
 use Rattle.ob0_scan.specs.declared.fault.FaultCode.TheVariants as code
 use Rattle.ob0_scan.specs.TextWithTokens.{TextWithTokens}
 use Rattle.ob0_tree.specs.ParsedModule.{named_tree_of, tree_of}
-use Rattle.ob0_tree.specs.Tree.{Tree, begins, block, body, constant, constants, declares, declares_constant, declares_constants, declares_procedure, declares_type, declares_types, declares_variable, declares_variables, end, formals, further_section, has_body, is_module, item, items, maybe, module_text, more, no_formals, none, occurrences, one, procedure, section, some_formals, then_section, type_name, type_names, value_section, variable, variable_section, variables}
+use Rattle.ob0_tree.specs.Tree.{Tree, begins, block, body, constant, constants, declares, declares_constant, declares_constants, declares_procedure, declares_type, declares_types, declares_variable, declares_variables, end, formals, further_section, forms_block, is_module, item, items, maybe, module_text, more, no_formals, none, occurrences, one, procedure, section, some_formals, then_section, type_definition, type_definitions, value_section, variable, variable_section, variables}
 use Rattle.ob0_language_names.specs.Names.{Label, Naming, naming_by_label, as_written, declared}
 use Rattle.ob0_language_names.specs.Occurrences.{bindings}
 use Rattle.ob0_language_names.specs.Parts.{formal_sections, names_in_list, procedure_formals, procedure_name, section_constants, section_names, section_type, section_types, section_variables}
 use Rattle.ob0_scope_table.specs.Resolution.{is_unbound, span_at, undeclared_faults_by_labels}
 use Rattle.ob0_language_names.specs.Scopes.{numbered}
-use Rattle.ob0_language_types.specs.Declarations.{constructors_before_variables, constructor_after_variables, declare_constants, declare_first, declare_types, formals_constructor_count, procedure_constructor_count}
-use Rattle.ob0_language_types.specs.Environments.{environment_from_binding, meanings, newest_object, outermost}
+use Rattle.ob0_language_types.specs.Declarations.{constructors_before_variables, constructors_before_procedures, declare_constants, declare_constants_and_types, declare_types, formals_constructor_count, procedure_constructor_count}
+use Rattle.ob0_language_types.specs.Environments.{environment_from_binding, meanings, newest_object, outermost_environment}
 use Rattle.ob0_language_types.specs.Expressions.{Object, a_constant, a_type, a_variable}
-use Rattle.ob0_language_types.specs.Typing.{constant_value, constructor_count, denoted}
-use Rattle.ob0_language_types.specs.WellTyped.{Signature, TypeEnvironment, TypedParameter, bind_names, bind_typed_parameters, block_fits, body_fits, declare_typed, passes_type_check, bind_procedure, procedure_fits, procedures_fit, section_mode, typed_parameters}
+use Rattle.ob0_language_types.specs.Typing.{constant_value, constructor_count, denoted_type}
+use Rattle.ob0_language_types.specs.WellTyped.{Signature, TypeEnvironment, TypedParameter, bind_names, bind_typed_parameters, block_is_well_typed, body_is_well_typed, declare_typed_variables, passes_type_check, bind_procedure, procedure_is_well_typed, procedures_are_well_typed, section_mode, typed_parameters}
 use Rattle.ob0_language_types.proofs.Proved.{numbering_keeps_type_check-holds}
 use Rattle.ob0_language_types.proofs.Conditions.{hold-true}
 use Rattle.ob0_language_values.specs.Values.{Shape}
-use Rattle.ob0_types_check.specs.WellTypedLaws.{NamesBound}
+use Rattle.ob0_types_check.specs.WellTypedLaws.{TypedModulesHaveBoundNames}
 use Rattle.ob0_types_check.proofs.BoundParts.{each-of-both, sequence-bound, type-bound, value-bound}
 use Rattle.ob0_types_check.proofs.DeclaredNames.{Each}
 use Rattle.ob0_types_check.proofs.TypedOperands.{and-then}
@@ -32,18 +32,18 @@ module _ {N : Type 0} (P : N → Type 0) (naming : Naming N) (bound : (env : Typ
       let (v, hv, later) = and-then (λ v. declare_constants naming ((x, a_constant v) ∷ env) cs) (constant_value (meanings naming env) e) after h in
       each-of-both P (occurrences e) (occurrences cs) (value-bound P (meanings naming env) (bound env) e v hv) (constants-bound cs ((x, a_constant v) ∷ env) after later)
 
-  types-bound : (ds : Tree N (items type_name)) (k : ℕ) (env after : TypeEnvironment N) → declare_types naming env k ds ≡ Some after → Each P (occurrences ds)
+  types-bound : (ds : Tree N (items type_definition)) (k : ℕ) (env after : TypeEnvironment N) → declare_types naming env k ds ≡ Some after → Each P (occurrences ds)
   unfolding declare_types
   types-bound end k env after h = tt
   types-bound (more (declares_type x u) ds) k env after h =
-      let (s, hs, later) = and-then (λ s. declare_types naming ((x, a_type s) ∷ env) (k + constructor_count u) ds) (denoted (meanings naming env) k u) after h in
+      let (s, hs, later) = and-then (λ s. declare_types naming ((x, a_type s) ∷ env) (k + constructor_count u) ds) (denoted_type (meanings naming env) k u) after h in
       each-of-both P (occurrences u) (occurrences ds) (type-bound P (meanings naming env) (bound env) k u s hs) (types-bound ds (k + constructor_count u) ((x, a_type s) ∷ env) after later)
 
-  variables-bound : (gs : Tree N (items variable)) (k : ℕ) (env after : TypeEnvironment N) → declare_typed naming k gs env ≡ Some after → Each P (occurrences gs)
-  unfolding declare_typed
+  variables-bound : (gs : Tree N (items variable)) (k : ℕ) (env after : TypeEnvironment N) → declare_typed_variables naming k gs env ≡ Some after → Each P (occurrences gs)
+  unfolding declare_typed_variables
   variables-bound end k env after h = tt
   variables-bound (more (declares_variable ns u) gs) k env after h =
-      let (s, hs, later) = and-then (λ s. declare_typed naming (k + constructor_count u) gs (bind_names (names_in_list ns) (a_variable s) env)) (denoted (meanings naming env) k u) after h in
+      let (s, hs, later) = and-then (λ s. declare_typed_variables naming (k + constructor_count u) gs (bind_names (names_in_list ns) (a_variable s) env)) (denoted_type (meanings naming env) k u) after h in
       each-of-both P (occurrences u) (occurrences gs) (type-bound P (meanings naming env) (bound env) k u s hs)
       (variables-bound gs (k + constructor_count u) (bind_names (names_in_list ns) (a_variable s) env) after later)
 
@@ -57,7 +57,7 @@ module _ {N : Type 0} (P : N → Type 0) (naming : Naming N) (bound : (env : Typ
   sections-bound (more (then_section f) fs) k env ps h =
       let inner : Shape → TypeEnvironment N = λ s. bind_names (section_names f) (a_variable s) env in
       let own : Shape → List (TypedParameter N) = λ s. map (λ x. record { name = x; formal = record { mode = section_mode f; shape = s } }) (section_names f) in
-      let (s, hs, later) = and-then (λ s. option_and_then (λ rest. Some (own s ++ rest)) (typed_parameters naming (inner s) (k + constructor_count (section_type f)) fs)) (denoted (meanings naming env) k (section_type f)) ps h in
+      let (s, hs, later) = and-then (λ s. option_and_then (λ rest. Some (own s ++ rest)) (typed_parameters naming (inner s) (k + constructor_count (section_type f)) fs)) (denoted_type (meanings naming env) k (section_type f)) ps h in
       let (rest, hr, last) = and-then (λ rest. Some (own s ++ rest)) (typed_parameters naming (inner s) (k + constructor_count (section_type f)) fs) ps later in
       each-of-both P (occurrences f) (occurrences fs) (section-bound f (type-bound P (meanings naming env) (bound env) k (section_type f) s hs))
       (sections-bound fs (k + constructor_count (section_type f)) (inner s) rest hr)
@@ -67,7 +67,7 @@ module _ {N : Type 0} (P : N → Type 0) (naming : Naming N) (bound : (env : Typ
   constant-section none h = tt
   constant-section (one (declares_constants cs)) h = h
 
-  type-section : (ts : Tree N (maybe type_names)) → Each P (occurrences (section_types ts)) → Each P (occurrences ts)
+  type-section : (ts : Tree N (maybe type_definitions)) → Each P (occurrences (section_types ts)) → Each P (occurrences ts)
   type-section none h = tt
   type-section (one (declares_types ts)) h = h
 
@@ -80,35 +80,35 @@ module _ {N : Type 0} (P : N → Type 0) (naming : Naming N) (bound : (env : Typ
   formal-section (one no_formals) h = tt
   formal-section (one (some_formals s rest)) h = h
 
-  body-bound : (statements : Tree N (maybe body)) (env : TypeEnvironment N) → body_fits naming env statements ≡ true → Each P (occurrences statements)
-  unfolding body_fits
+  body-bound : (statements : Tree N (maybe body)) (env : TypeEnvironment N) → body_is_well_typed naming env statements ≡ true → Each P (occurrences statements)
+  unfolding body_is_well_typed
   body-bound none env h = tt
   body-bound (one (begins s)) env h = sequence-bound P (meanings naming env) (bound env) s h
 
   mutual
-    unfolding block_fits declare_first
+    unfolding block_is_well_typed declare_constants_and_types
 
-    pub block-bound : (b : Tree N block) (k : ℕ) (env : TypeEnvironment N) → block_fits naming env k b ≡ true → Each P (occurrences b)
-    block-bound (has_body (declares cs ts vs ps) statements) k env h =
-        let b : Tree N block = has_body (declares cs ts vs ps) statements in
-        let (inner, whole, fitting) = hold-true (option_and_then (declare_typed naming (constructors_before_variables k b) (section_variables vs)) (declare_first naming env k b)) (λ inner. procedures_fit naming inner (constructor_after_variables k b) statements ps) h in
-        let (first, hf, hv) = and-then (declare_typed naming (constructors_before_variables k b) (section_variables vs)) (declare_first naming env k b) inner whole in
+    pub block-bound : (b : Tree N block) (k : ℕ) (env : TypeEnvironment N) → block_is_well_typed naming env k b ≡ true → Each P (occurrences b)
+    block-bound (forms_block (declares cs ts vs ps) statements) k env h =
+        let b : Tree N block = forms_block (declares cs ts vs ps) statements in
+        let (inner, whole, fitting) = hold-true (option_and_then (declare_typed_variables naming (constructors_before_variables k b) (section_variables vs)) (declare_constants_and_types naming env k b)) (λ inner. procedures_are_well_typed naming inner (constructors_before_procedures k b) statements ps) h in
+        let (first, hf, hv) = and-then (declare_typed_variables naming (constructors_before_variables k b) (section_variables vs)) (declare_constants_and_types naming env k b) inner whole in
         let (first_env, hc, ht) = and-then (λ with_constants. declare_types naming with_constants k (section_types ts)) (declare_constants naming env (section_constants cs)) first hf in
-        let rest = procedures-bound ps statements (constructor_after_variables k b) inner fitting in
+        let rest = procedures-bound ps statements (constructors_before_procedures k b) inner fitting in
         each-of-both P (occurrences cs ++ (occurrences ts ++ (occurrences vs ++ occurrences ps))) (occurrences statements)
         (each-of-both P (occurrences cs) (occurrences ts ++ (occurrences vs ++ occurrences ps)) (constant-section cs (constants-bound (section_constants cs) env first_env hc))
         (each-of-both P (occurrences ts) (occurrences vs ++ occurrences ps) (type-section ts (types-bound (section_types ts) k first_env first ht))
         (each-of-both P (occurrences vs) (occurrences ps) (variable-section vs (variables-bound (section_variables vs) (constructors_before_variables k b) first inner hv)) rest.0))) rest.1
 
-    procedures-bound : (ps : Tree N (items procedure)) (statements : Tree N (maybe body)) (k : ℕ) (env : TypeEnvironment N) → procedures_fit naming env k statements ps ≡ true → Each P (occurrences ps) × Each P (occurrences statements)
+    procedures-bound : (ps : Tree N (items procedure)) (statements : Tree N (maybe body)) (k : ℕ) (env : TypeEnvironment N) → procedures_are_well_typed naming env k statements ps ≡ true → Each P (occurrences ps) × Each P (occurrences statements)
     procedures-bound end statements k env h = (tt, body-bound statements env h)
     procedures-bound (more p rest) statements k env h =
-        let (ps, hp, fit) = hold-true (typed_parameters naming env k (procedure_formals p)) (λ ps. procedure_fits naming (bind_typed_parameters ps (bind_procedure (procedure_name p) ps env)) k p && procedures_fit naming (bind_procedure (procedure_name p) ps env) (k + procedure_constructor_count p) statements rest) h in
-        let parts = and_parts (procedure_fits naming (bind_typed_parameters ps (bind_procedure (procedure_name p) ps env)) k p) _ fit in
+        let (ps, hp, fit) = hold-true (typed_parameters naming env k (procedure_formals p)) (λ ps. procedure_is_well_typed naming (bind_typed_parameters ps (bind_procedure (procedure_name p) ps env)) k p && procedures_are_well_typed naming (bind_procedure (procedure_name p) ps env) (k + procedure_constructor_count p) statements rest) h in
+        let parts = and_parts (procedure_is_well_typed naming (bind_typed_parameters ps (bind_procedure (procedure_name p) ps env)) k p) _ fit in
         let others = procedures-bound rest statements (k + procedure_constructor_count p) (bind_procedure (procedure_name p) ps env) parts.1 in
         (each-of-both P (occurrences p) (occurrences rest) (procedure-bound p k (bind_typed_parameters ps (bind_procedure (procedure_name p) ps env)) (sections-bound (procedure_formals p) k env ps hp) parts.0) others.0, others.1)
 
-    procedure-bound : (p : Tree N (item procedure)) (k : ℕ) (env : TypeEnvironment N) → Each P (occurrences (procedure_formals p)) → procedure_fits naming env k p ≡ true → Each P (occurrences p)
+    procedure-bound : (p : Tree N (item procedure)) (k : ℕ) (env : TypeEnvironment N) → Each P (occurrences (procedure_formals p)) → procedure_is_well_typed naming env k p ≡ true → Each P (occurrences p)
     procedure-bound (declares_procedure x fs b closing) k env own h =
         each-of-both P (occurrences fs) (occurrences b) (formal-section fs own) (block-bound b (k + formals_constructor_count (formal_sections fs)) env h)
 
@@ -124,7 +124,7 @@ label-bound env (as_written x) o h = let no : None ≡ Some o = sym (only-writte
 
 pub labels-bound : (m : Tree Label module_text) → passes_type_check naming_by_label m ≡ true → Each (λ x. is_unbound x ≡ false) (occurrences m)
 unfolding passes_type_check
-labels-bound (is_module x b closing) h = block-bound (λ x. is_unbound x ≡ false) naming_by_label label-bound b 0 (outermost naming_by_label) h
+labels-bound (is_module x b closing) h = block-bound (λ x. is_unbound x ≡ false) naming_by_label label-bound b 0 (outermost_environment naming_by_label) h
 
 none-unbound : (source : TextWithTokens) (tokens : List ℕ) (labels : List Label) → Each (λ x. is_unbound x ≡ false) labels → undeclared_faults_by_labels source tokens labels ≡ []
 none-unbound source [] labels h = refl
@@ -132,8 +132,8 @@ none-unbound source (token ∷ tokens) [] h = refl
 none-unbound source (token ∷ tokens) (label ∷ labels) h =
     ap (λ b. if b then record { code = code.Undeclared; span = span_at source token } ∷ undeclared_faults_by_labels source tokens labels else undeclared_faults_by_labels source tokens labels) h.0 ∙ none-unbound source tokens labels h.1
 
-pub names_bound-holds : NamesBound
-names_bound-holds r is h =
+pub typed_modules_have_bound_names-holds : TypedModulesHaveBoundNames
+typed_modules_have_bound_names-holds r is h =
     let m = r.module_read in
     is.reported.undeclared
     ∙ none-unbound m.source (occurrences (tree_of m)) (bindings (named_tree_of m)) (labels-bound (numbered (named_tree_of m)) (sym (numbering_keeps_type_check-holds (named_tree_of m)) ∙ h))

@@ -6,8 +6,8 @@ use Rattle.ob0_language_names.specs.Parts.{names_in_list}
 use Rattle.ob0_tree.specs.Tree.{Tree, addend, adds, arguments, array_type, assigns, branches, calls, compares, designator, else_branch, else_part, elsif_branch, elsif_part, empty, end, expression, factor, field, fields, further_argument, further_fields, further_statement, index, integer, items, maybe, more, multiplier, multiplies, named_type, negation, no_arguments, no_fields, none, occurrences, one, parenthesised, product, record_type, relates, repeat_loop, runs, selector, sequence, simple, some_arguments, some_fields, statement, sum, term, then_argument, then_fields, then_statement, while_loop, written_type}
 use Rattle.ob0_language_types.specs.Arguments.{arguments_listed, further_arguments}
 use Rattle.ob0_language_types.specs.Expressions.{Meanings, Object, a_constant, a_procedure, a_standard, a_type, a_variable, evaluate}
-use Rattle.ob0_language_types.specs.Typing.{addition_type, array_length, negation_type, constant_of, constant_value, constant_meanings, denoted, denoted_group, denoted_groups, lone_designator, element_type, field_type, outcome_value, group_constructor_count, multiplication_type, object_type, relation_type, sign_type, type_at, type_of, type_of_addends, type_of_factor, type_of_multipliers, type_of_name, type_of_simple, type_of_term, prepend_fields, check_limits}
-use Rattle.ob0_language_types.specs.WellTyped.{FormalParameter, Mode, Signature, TypeMeanings, same_known_shape, argument_fits, arguments_fit, by_place, by_value, call_fits, condition_fits, else_fits, elsifs_fit, sequence_fits, signature_of, statement_fits, statements_fit, variable_type}
+use Rattle.ob0_language_types.specs.Typing.{addition_type, array_length, negation_type, constant_of, constant_value, constant_meanings, denoted_type, denoted_group_fields, denoted_further_fields, lone_designator, element_type, field_type, outcome_value, group_constructor_count, multiplication_type, object_type, relation_type, sign_type, type_after_selectors, type_of, type_of_addends, type_of_factor, type_of_multipliers, type_of_name, type_of_simple, type_of_term, prepend_fields, check_limits}
+use Rattle.ob0_language_types.specs.WellTyped.{FormalParameter, Mode, Signature, TypeMeanings, same_known_shape, argument_matches, arguments_match, by_place, by_value, call_is_well_typed, condition_is_boolean, else_is_well_typed, elsifs_are_well_typed, sequence_is_well_typed, signature_of, statement_is_well_typed, further_statements_are_well_typed, variable_type}
 use Rattle.ob0_language_types.proofs.Conditions.{same_known_shape-true}
 use Rattle.ob0_language_values.specs.Values.{FieldShapes, Shape, Value, array_shape, boolean_shape, record_shape}
 use Rattle.ob0_types_check.proofs.DeclaredNames.{Each}
@@ -61,21 +61,21 @@ module _ {N Q : Type 0} (P : N → Type 0) (meaning : Meanings N Shape Q) (bound
 
     factor-bound : (f : Tree N factor) (s : Shape) → type_of_factor meaning f ≡ Some s → Each P (occurrences f)
     factor-bound (designator x path) s h =
-        let (u, hu, last) = and-then (λ s. type_at meaning s path) (object_type (meaning.object_for x)) s h in
+        let (u, hu, last) = and-then (λ s. type_after_selectors meaning s path) (object_type (meaning.object_for x)) s h in
         let (o, ho) = name-of object_type refl (meaning.object_for x) u hu in
         (bound x o ho, selectors-bound u path s last)
     factor-bound (integer n) s h = tt
     factor-bound (parenthesised e) s h = expression-bound e s h
     factor-bound (negation f) s h = let (u, hu, last) = and-then negation_type (type_of_factor meaning f) s h in factor-bound f u hu
 
-    pub selectors-bound : (s : Shape) (path : Tree N (items selector)) (r : Shape) → type_at meaning s path ≡ Some r → Each P (occurrences path)
+    pub selectors-bound : (s : Shape) (path : Tree N (items selector)) (r : Shape) → type_after_selectors meaning s path ≡ Some r → Each P (occurrences path)
     selectors-bound s end r h = tt
     selectors-bound s (more (field x) rest) r h =
-        let (u, hu, last) = and-then (λ t. type_at meaning t rest) (field_type s (meaning.written x)) r h in
+        let (u, hu, last) = and-then (λ t. type_after_selectors meaning t rest) (field_type s (meaning.written x)) r h in
         selectors-bound u rest r last
     selectors-bound s (more (index e) rest) r h =
-        let (u, hu, later) = and-then (λ i. option_and_then (λ t. type_at meaning t rest) (element_type s i)) (type_of meaning e) r h in
-        let (v, hv, last) = and-then (λ t. type_at meaning t rest) (element_type s u) r later in
+        let (u, hu, later) = and-then (λ i. option_and_then (λ t. type_after_selectors meaning t rest) (element_type s i)) (type_of meaning e) r h in
+        let (v, hv, last) = and-then (λ t. type_after_selectors meaning t rest) (element_type s u) r later in
         each-of-both P (occurrences e) (occurrences rest) (expression-bound e u hu) (selectors-bound v rest r last)
 
 module _ {N V Q : Type 0} (P : N → Type 0) (meaning : Meanings N V Q) (bound : (x : N) (o : Object V Q) → meaning.object_for x ≡ Some o → P x) where
@@ -90,41 +90,41 @@ module _ {N V Q : Type 0} (P : N → Type 0) (meaning : Meanings N V Q) (bound :
       expression-bound P (constant_meanings {W = Shape} {Q = Unit {0}} meaning) (constant-bound (Unit {0})) e s hs
 
   mutual
-    unfolding denoted
+    unfolding denoted_type
 
-    pub type-bound : (k : ℕ) (t : Tree N written_type) (s : Shape) → denoted meaning k t ≡ Some s → Each P (occurrences t)
+    pub type-bound : (k : ℕ) (t : Tree N written_type) (s : Shape) → denoted_type meaning k t ≡ Some s → Each P (occurrences t)
     type-bound k (named_type x) s h = let (o, ho) = name-of type_of_name refl (meaning.object_for x) s h in (bound x o ho, tt)
     type-bound k (array_type e t) s h =
-        let (v, hv, later) = and-then (λ v. option_and_then (λ n. option_and_then (λ s. check_limits (array_shape k n s)) (denoted meaning (suc k) t)) (array_length v)) (constant_value meaning e) s h in
-        let (n, hn, last) = and-then (λ n. option_and_then (λ s. check_limits (array_shape k n s)) (denoted meaning (suc k) t)) (array_length v) s later in
-        let (u, hu, limits) = and-then (λ s. check_limits (array_shape k n s)) (denoted meaning (suc k) t) s last in
+        let (v, hv, later) = and-then (λ v. option_and_then (λ n. option_and_then (λ s. check_limits (array_shape k n s)) (denoted_type meaning (suc k) t)) (array_length v)) (constant_value meaning e) s h in
+        let (n, hn, last) = and-then (λ n. option_and_then (λ s. check_limits (array_shape k n s)) (denoted_type meaning (suc k) t)) (array_length v) s later in
+        let (u, hu, limits) = and-then (λ s. check_limits (array_shape k n s)) (denoted_type meaning (suc k) t) s last in
         each-of-both P (occurrences e) (occurrences t) (value-bound e v hv) (type-bound (suc k) t u hu)
     type-bound k (record_type g rest) s h =
-        let (later, hl, last) = and-then (λ later. option_and_then (λ fs. check_limits (record_shape k fs)) (denoted_group meaning (suc k) later g)) (denoted_groups meaning (suc k + group_constructor_count g) rest) s h in
-        let (fs, hf, limits) = and-then (λ fs. check_limits (record_shape k fs)) (denoted_group meaning (suc k) later g) s last in
+        let (later, hl, last) = and-then (λ later. option_and_then (λ fs. check_limits (record_shape k fs)) (denoted_group_fields meaning (suc k) later g)) (denoted_further_fields meaning (suc k + group_constructor_count g) rest) s h in
+        let (fs, hf, limits) = and-then (λ fs. check_limits (record_shape k fs)) (denoted_group_fields meaning (suc k) later g) s last in
         each-of-both P (occurrences g) (occurrences rest) (group-bound (suc k) later g fs hf) (groups-bound (suc k + group_constructor_count g) rest later hl)
 
-    group-bound : (k : ℕ) (later : FieldShapes) (g : Tree N fields) (fs : FieldShapes) → denoted_group meaning k later g ≡ Some fs → Each P (occurrences g)
+    group-bound : (k : ℕ) (later : FieldShapes) (g : Tree N fields) (fs : FieldShapes) → denoted_group_fields meaning k later g ≡ Some fs → Each P (occurrences g)
     group-bound k later no_fields fs h = tt
     group-bound k later (some_fields ns t) fs h =
-        let (s, hs, last) = and-then (λ s. Some (prepend_fields (map meaning.written (names_in_list ns)) s later)) (denoted meaning k t) fs h in type-bound k t s hs
+        let (s, hs, last) = and-then (λ s. Some (prepend_fields (map meaning.written (names_in_list ns)) s later)) (denoted_type meaning k t) fs h in type-bound k t s hs
 
-    groups-bound : (k : ℕ) (gs : Tree N (items further_fields)) (fs : FieldShapes) → denoted_groups meaning k gs ≡ Some fs → Each P (occurrences gs)
+    groups-bound : (k : ℕ) (gs : Tree N (items further_fields)) (fs : FieldShapes) → denoted_further_fields meaning k gs ≡ Some fs → Each P (occurrences gs)
     groups-bound k end fs h = tt
     groups-bound k (more (then_fields g) rest) fs h =
-        let (later, hl, last) = and-then (λ later. denoted_group meaning k later g) (denoted_groups meaning (k + group_constructor_count g) rest) fs h in
+        let (later, hl, last) = and-then (λ later. denoted_group_fields meaning k later g) (denoted_further_fields meaning (k + group_constructor_count g) rest) fs h in
         each-of-both P (occurrences g) (occurrences rest) (group-bound k later g fs last) (groups-bound (k + group_constructor_count g) rest later hl)
 
 module _ {N : Type 0} (P : N → Type 0) (meaning : TypeMeanings N) (bound : (x : N) (o : Object Shape Signature) → meaning.object_for x ≡ Some o → P x) where
-  condition-bound : (e : Tree N expression) → condition_fits meaning e ≡ true → Each P (occurrences e)
-  unfolding condition_fits
+  condition-bound : (e : Tree N expression) → condition_is_boolean meaning e ≡ true → Each P (occurrences e)
+  unfolding condition_is_boolean
   condition-bound e h = let (s, truth, typed) = same_known_shape-true (Some boolean_shape) (type_of meaning e) h in expression-bound P meaning bound e s typed
 
   variable-bound : (x : N) (path : Tree N (items selector)) (s : Shape) → variable_type meaning (Some (x, path)) ≡ Some s → P x × Each P (occurrences path)
   unfolding variable_type
   variable-bound x path s h = by-object (meaning.object_for x) refl h
     where
-      by-object : (o : Option (Object Shape Signature)) → meaning.object_for x ≡ o → (elim o [ Some (a_variable v) ↦ type_at meaning v path | _ ↦ None ]) ≡ Some s → P x × Each P (occurrences path)
+      by-object : (o : Option (Object Shape Signature)) → meaning.object_for x ≡ o → (elim o [ Some (a_variable v) ↦ type_after_selectors meaning v path | _ ↦ None ]) ≡ Some s → P x × Each P (occurrences path)
       by-object None e h = absurd (some-none s (sym h))
       by-object (Some (a_type t)) e h = absurd (some-none s (sym h))
       by-object (Some (a_constant c)) e h = absurd (some-none s (sym h))
@@ -146,8 +146,8 @@ module _ {N : Type 0} (P : N → Type 0) (meaning : TypeMeanings N) (bound : (x 
       let parts = variable-bound x path s h in
       (parts.0, each-of-both P ((occurrences path ++ []) ++ []) [] (each-of-both P (occurrences path ++ []) [] (each-of-both P (occurrences path) [] parts.1 tt) tt) tt)
 
-  argument-bound : (f : FormalParameter) (e : Tree N expression) → argument_fits meaning f e ≡ true → Each P (occurrences e)
-  unfolding argument_fits
+  argument-bound : (f : FormalParameter) (e : Tree N expression) → argument_matches meaning f e ≡ true → Each P (occurrences e)
+  unfolding argument_matches
   argument-bound f e h = by-mode f.mode h
     where
       by-mode : (m : Mode) → same_known_shape (Some f.shape) (elim m [ by_value ↦ type_of meaning e | by_place ↦ variable_type meaning (lone_designator e) ]) ≡ true → Each P (occurrences e)
@@ -158,13 +158,13 @@ module _ {N : Type 0} (P : N → Type 0) (meaning : TypeMeanings N) (bound : (x 
   EachBound [] = Unit {0}
   EachBound (e ∷ es) = Each P (occurrences e) × EachBound es
 
-  arguments-bound : (fs : Signature) (es : List (Tree N expression)) → arguments_fit meaning fs es ≡ true → EachBound es
-  unfolding arguments_fit
+  arguments-bound : (fs : Signature) (es : List (Tree N expression)) → arguments_match meaning fs es ≡ true → EachBound es
+  unfolding arguments_match
   arguments-bound [] [] h = tt
   arguments-bound [] (e ∷ es) h = absurd (true≢false (sym h))
   arguments-bound (f ∷ fs) [] h = absurd (true≢false (sym h))
   arguments-bound (f ∷ fs) (e ∷ es) h =
-      let parts = and_parts (argument_fits meaning f e) (arguments_fit meaning fs es) h in (argument-bound f e parts.0, arguments-bound fs es parts.1)
+      let parts = and_parts (argument_matches meaning f e) (arguments_match meaning fs es) h in (argument-bound f e parts.0, arguments-bound fs es parts.1)
 
   further-listed : (es : Tree N (items further_argument)) → EachBound (further_arguments es) → Each P (occurrences es)
   further-listed end h = tt
@@ -175,20 +175,20 @@ module _ {N : Type 0} (P : N → Type 0) (meaning : TypeMeanings N) (bound : (x 
   all-listed (one no_arguments) h = tt
   all-listed (one (some_arguments e es)) h = each-of-both P (occurrences e) (occurrences es) h.0 (further-listed es h.1)
 
-  call-bound : (x : N) (es : Tree N (maybe arguments)) → call_fits meaning (signature_of (meaning.object_for x)) (arguments_listed es) ≡ true → Each P (occurrences (calls x es))
-  unfolding call_fits
+  call-bound : (x : N) (es : Tree N (maybe arguments)) → call_is_well_typed meaning (signature_of (meaning.object_for x)) (arguments_listed es) ≡ true → Each P (occurrences (calls x es))
+  unfolding call_is_well_typed
   call-bound x es h = by-signature (signature_of (meaning.object_for x)) refl h
     where
-      by-signature : (s : Option Signature) → signature_of (meaning.object_for x) ≡ s → call_fits meaning s (arguments_listed es) ≡ true → Each P (occurrences (calls x es))
+      by-signature : (s : Option Signature) → signature_of (meaning.object_for x) ≡ s → call_is_well_typed meaning s (arguments_listed es) ≡ true → Each P (occurrences (calls x es))
       by-signature None e h = absurd (true≢false (sym h))
       by-signature (Some signature) e h =
           let (o, ho) = name-of signature_of refl (meaning.object_for x) signature e in
           (bound x o ho, all-listed es (arguments-bound signature (arguments_listed es) h))
 
   mutual
-    unfolding statement_fits
+    unfolding statement_is_well_typed
 
-    statement-bound : (a : Tree N statement) → statement_fits meaning a ≡ true → Each P (occurrences a)
+    statement-bound : (a : Tree N statement) → statement_is_well_typed meaning a ≡ true → Each P (occurrences a)
     statement-bound empty h = tt
     statement-bound (assigns x path e) h =
         let (s, left, right) = same_known_shape-true (variable_type meaning (Some (x, path))) (type_of meaning e) h in
@@ -196,32 +196,32 @@ module _ {N : Type 0} (P : N → Type 0) (meaning : TypeMeanings N) (bound : (x 
         (parts.0, each-of-both P (occurrences path) (occurrences e) parts.1 (expression-bound P meaning bound e s right))
     statement-bound (calls x es) h = call-bound x es h
     statement-bound (branches e statements rest last) h =
-        let first = and_parts (condition_fits meaning e) _ h in
-        let second = and_parts (sequence_fits meaning statements) _ first.1 in
-        let third = and_parts (elsifs_fit meaning rest) _ second.1 in
+        let first = and_parts (condition_is_boolean meaning e) _ h in
+        let second = and_parts (sequence_is_well_typed meaning statements) _ first.1 in
+        let third = and_parts (elsifs_are_well_typed meaning rest) _ second.1 in
         each-of-both P (occurrences e) _ (condition-bound e first.0)
         (each-of-both P (occurrences statements) _ (sequence-bound statements second.0) (each-of-both P (occurrences rest) (occurrences last) (elsifs-bound rest third.0) (else-bound last third.1)))
     statement-bound (while_loop e statements) h =
-        let parts = and_parts (condition_fits meaning e) _ h in each-of-both P (occurrences e) (occurrences statements) (condition-bound e parts.0) (sequence-bound statements parts.1)
+        let parts = and_parts (condition_is_boolean meaning e) _ h in each-of-both P (occurrences e) (occurrences statements) (condition-bound e parts.0) (sequence-bound statements parts.1)
     statement-bound (repeat_loop statements e) h =
-        let parts = and_parts (sequence_fits meaning statements) _ h in each-of-both P (occurrences statements) (occurrences e) (sequence-bound statements parts.0) (condition-bound e parts.1)
+        let parts = and_parts (sequence_is_well_typed meaning statements) _ h in each-of-both P (occurrences statements) (occurrences e) (sequence-bound statements parts.0) (condition-bound e parts.1)
 
-    pub sequence-bound : (a : Tree N sequence) → sequence_fits meaning a ≡ true → Each P (occurrences a)
+    pub sequence-bound : (a : Tree N sequence) → sequence_is_well_typed meaning a ≡ true → Each P (occurrences a)
     sequence-bound (runs a rest) h =
-        let parts = and_parts (statement_fits meaning a) _ h in each-of-both P (occurrences a) (occurrences rest) (statement-bound a parts.0) (statements-bound rest parts.1)
+        let parts = and_parts (statement_is_well_typed meaning a) _ h in each-of-both P (occurrences a) (occurrences rest) (statement-bound a parts.0) (statements-bound rest parts.1)
 
-    statements-bound : (a : Tree N (items further_statement)) → statements_fit meaning a ≡ true → Each P (occurrences a)
+    statements-bound : (a : Tree N (items further_statement)) → further_statements_are_well_typed meaning a ≡ true → Each P (occurrences a)
     statements-bound end h = tt
     statements-bound (more (then_statement a) rest) h =
-        let parts = and_parts (statement_fits meaning a) _ h in each-of-both P (occurrences a) (occurrences rest) (statement-bound a parts.0) (statements-bound rest parts.1)
+        let parts = and_parts (statement_is_well_typed meaning a) _ h in each-of-both P (occurrences a) (occurrences rest) (statement-bound a parts.0) (statements-bound rest parts.1)
 
-    elsifs-bound : (a : Tree N (items elsif_part)) → elsifs_fit meaning a ≡ true → Each P (occurrences a)
+    elsifs-bound : (a : Tree N (items elsif_part)) → elsifs_are_well_typed meaning a ≡ true → Each P (occurrences a)
     elsifs-bound end h = tt
     elsifs-bound (more (elsif_branch e statements) rest) h =
-        let first = and_parts (condition_fits meaning e) _ h in
-        let second = and_parts (sequence_fits meaning statements) _ first.1 in
+        let first = and_parts (condition_is_boolean meaning e) _ h in
+        let second = and_parts (sequence_is_well_typed meaning statements) _ first.1 in
         each-of-both P (occurrences e ++ occurrences statements) (occurrences rest) (each-of-both P (occurrences e) (occurrences statements) (condition-bound e first.0) (sequence-bound statements second.0)) (elsifs-bound rest second.1)
 
-    else-bound : (a : Tree N (maybe else_part)) → else_fits meaning a ≡ true → Each P (occurrences a)
+    else-bound : (a : Tree N (maybe else_part)) → else_is_well_typed meaning a ≡ true → Each P (occurrences a)
     else-bound none h = tt
     else-bound (one (else_branch statements)) h = sequence-bound statements h

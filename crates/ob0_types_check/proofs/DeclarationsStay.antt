@@ -12,12 +12,12 @@ use Rattle.ob0_tree.specs.ParsedModule.{named_tree_of, tree_of}
 use Rattle.ob0_tree.specs.Tree.{Tree, module_text}
 use Rattle.ob0_types_table.specs.declared.types.TypeId.{TypeId}
 use Rattle.ob0_types_check.specs.Agreement.{DeclarationAgrees, EntriesAgree, FieldsAgree, FormalsAgree, PartsAgree, TableAgrees, is_standard_procedure, shape_in}
-use Rattle.ob0_types_check.specs.DeclarationFaults.{reported_block, reported_module}
+use Rattle.ob0_types_check.specs.DeclarationFaults.{reported_block, module_faults}
 use Rattle.ob0_types_check.specs.Known.{KnownFormal, Meaning, Reported, a_constant, a_procedure, a_type, a_variable}
 use Rattle.ob0_types_check.specs.ModuleLaws.{KnowsDeclarations}
 use Rattle.ob0_types_check.specs.KnownDeclarations.{KnownField, CompositeType, PartTypes, KnownDeclarations, state_at_start, of_elements, of_fields}
-use Rattle.ob0_types_check.specs.SomeBodies.{IncludesFaultyBodies, every_body, reported_module_with}
-use Rattle.ob0_types_check.proofs.BlocksKnown.{declarations_known-holds}
+use Rattle.ob0_types_check.specs.SomeBodies.{IncludesFaultyBodies, every_body, reported_module_with_bodies}
+use Rattle.ob0_types_check.proofs.BlocksKnown.{walk_without_fault_finds_meanings-holds}
 use Rattle.ob0_types_check.proofs.ReportedWith.{module_forgets}
 use Rattle.ob0_types_check.proofs.SomeBodies.{IsKnownAlike, known_alike}
 use Rattle.ob0_types_check.proofs.TableKnown.{procedure_there}
@@ -94,15 +94,15 @@ module _ (p q : KnownDeclarations) (m n : Tree Name module_text) (h : KnowsDecla
 abbrev last_known : Resolution → KnownDeclarations
 last_known r = (reported_block (state_at_start r) (module_block (tree_of r.module_read))).known
 
-as_walked : (r : Resolution) → last_known r ≡ (reported_module_with every_body r).known.so_far
+as_walked : (r : Resolution) → last_known r ≡ (reported_module_with_bodies every_body r).known.so_far
 as_walked r = sym (ap (λ (t : Reported KnownDeclarations). t.known) (module_forgets r))
 
-pub declarations_stay : (wanted : ℕ → Bool) (r : Resolution) → IsResolution r → (w : IncludesFaultyBodies wanted r) → reported_module w.old ≡ [] → reported_module r ≡ []
+pub declarations_stay : (wanted : ℕ → Bool) (r : Resolution) → IsResolution r → (w : IncludesFaultyBodies wanted r) → module_faults w.old ≡ [] → module_faults r ≡ []
     → (k : ℕ) → declared_object (named_tree_of r.module_read) k ≡ declared_object (named_tree_of w.old.module_read) k
 declarations_stay wanted r is w none_before none =
     let old = w.old in
     let alike : IsKnownAlike old r = known_alike wanted r is w in
     let after = as_walked r ∙ alike.after in
     let before = as_walked old ∙ alike.before in
-    declared_alike (last_known r) (last_known old) (named_tree_of r.module_read) (named_tree_of old.module_read) (declarations_known-holds r is none) (declarations_known-holds old w.resolved none_before)
+    declared_alike (last_known r) (last_known old) (named_tree_of r.module_read) (named_tree_of old.module_read) (walk_without_fault_finds_meanings-holds r is none) (walk_without_fault_finds_meanings-holds old w.resolved none_before)
     (ap (λ (p : KnownDeclarations). p.declared) after ∙ sym (ap (λ (p : KnownDeclarations). p.declared) before)) (ap (λ (p : KnownDeclarations). p.made) after ∙ sym (ap (λ (p : KnownDeclarations). p.made) before))

@@ -9,7 +9,7 @@
 use Rattle.std.proofs.Common.{map, ◌≡◌, ◌≢◌, ℕ, suc, ◌<◌, ◌≤◌, Bool, true, false, List, [], ◌∷◌, length, Option, Some, None, option_and_then, slice_index_or, slice_set, refl, sym, ap, ◌∙◌, subst, arith, le_trans, le_of_lt, le_refl, get_or-set_other, get_or-set_same}
 use Rattle.std.proofs.lemmas.List.{length-set}
 use Rattle.ob0_tree.proofs.Occurring.{looked_up-occurrences, looked_up_only}
-use Rattle.ob0_tree.specs.Places.{text_at}
+use Rattle.ob0_tree.specs.Places.{token_text_at}
 use Rattle.ob0_tree.specs.Tree.{Sort, Tree, identifiers}
 use Rattle.ob0_tree.specs.declared.tree.Role.{Role}
 use Rattle.ob0_tree.specs.declared.tree.Role.TheVariants as role
@@ -23,7 +23,7 @@ use Rattle.ob0_language_types.specs.WellTyped.{Signature, TypeEnvironment, bind_
 use Rattle.ob0_language_values.specs.Values.{Shape}
 use Rattle.ob0_types_check.specs.Known.{KnownFormal, Meaning, a_constant, a_procedure, a_type, a_variable}
 use Rattle.ob0_types_check.specs.KnownDeclarations.{KnownDeclarations, define, define_all, facts_at, with_meaning}
-use Rattle.ob0_types_check.specs.Agreement.{Agrees, FormalsAgree, MeaningAgrees, KnownMeaningAgrees, TableAgrees, TokensAgree, is_standard_procedure, shape_in}
+use Rattle.ob0_types_check.specs.Agreement.{FactsAgree, FormalsAgree, MeaningAgrees, KnownMeaningAgrees, TableAgrees, TokensAgree, is_standard_procedure, shape_in}
 use Rattle.ob0_types_check.proofs.PartsFitting.{PartsFit}
 use Rattle.ob0_types_check.proofs.DeclaredNames.{AreSeen, Each, IsPlaced, IsSeen, NamesPlaced, Numbering, scope_following}
 use Rattle.ob0_types_check.proofs.DeclaredShapes.{Longer, longer_same, longer_then}
@@ -173,20 +173,20 @@ holds_defined w p q shapes n scope env m x o h d own agrees =
 
 -- In an expression or statements whose names are all visible in the scope, the facts agree with all names.
 module _ (w : Numbering) (p : KnownDeclarations) (only_constants : Bool) (shapes : List Shape) (n : ℕ) (scope : Scope Name) (env : TypeEnvironment Name) (h : IsKnownAt w p shapes n scope env) where
-  pub seen_holds : (x : ℕ) → IsSeen w scope x → KnownMeaningAgrees (shape_in shapes) ((facts_at p only_constants).object_for x) ((meanings naming_by_spelling env).object_for (text_at w.source x))
+  pub seen_holds : (x : ℕ) → IsSeen w scope x → KnownMeaningAgrees (shape_in shapes) ((facts_at p only_constants).object_for x) ((meanings naming_by_spelling env).object_for (token_text_at w.source x))
   seen_holds x (k, at, there) =
-      subst (λ o. KnownMeaningAgrees (shape_in shapes) (option_and_then (λ j. slice_index_or p.declared j None) o) (newest_object (environment_from_binding naming_by_spelling env (text_at w.source x)))) (sym (ap (λ os. ordinal_in os x) h.ordinals ∙ at))
-      (name_found shapes p.declared n scope env h.names (text_at w.source x) k there)
+      subst (λ o. KnownMeaningAgrees (shape_in shapes) (option_and_then (λ j. slice_index_or p.declared j None) o) (newest_object (environment_from_binding naming_by_spelling env (token_text_at w.source x)))) (sym (ap (λ os. ordinal_in os x) h.ordinals ∙ at))
+      (name_found shapes p.declared n scope env h.names (token_text_at w.source x) k there)
 
-  tokens_agree : (xs : List (Role × ℕ)) → Each (IsSeen w scope) (looked_up_only xs) → TokensAgree (facts_at p only_constants) (shape_in shapes) (text_at w.source) (meanings naming_by_spelling env) xs
+  tokens_agree : (xs : List (Role × ℕ)) → Each (IsSeen w scope) (looked_up_only xs) → TokensAgree (facts_at p only_constants) (shape_in shapes) (token_text_at w.source) (meanings naming_by_spelling env) xs
   tokens_agree [] seen = tt
   tokens_agree ((role.LookedUp, x) ∷ xs) seen = (seen_holds x seen.0, tokens_agree xs seen.1)
   tokens_agree ((role.Declaring, x) ∷ xs) seen = (tt, tokens_agree xs seen)
   tokens_agree ((role.ClosingName, x) ∷ xs) seen = (tt, tokens_agree xs seen)
-  tokens_agree ((role.FieldName, x) ∷ xs) seen = (ap (λ s. text_at s x) (sym h.source), tokens_agree xs seen)
+  tokens_agree ((role.FieldName, x) ∷ xs) seen = (ap (λ s. token_text_at s x) (sym h.source), tokens_agree xs seen)
   tokens_agree ((role.ModuleName, x) ∷ xs) seen = (tt, tokens_agree xs seen)
 
-  pub agrees_where_seen : {s : Sort} → PartsFit → (t : Tree ℕ s) → AreSeen w scope t → Agrees (facts_at p only_constants) (shape_in shapes) (text_at w.source) (meanings naming_by_spelling env) t
+  pub agrees_where_seen : {s : Sort} → PartsFit → (t : Tree ℕ s) → AreSeen w scope t → FactsAgree (facts_at p only_constants) (shape_in shapes) (token_text_at w.source) (meanings naming_by_spelling env) t
   agrees_where_seen fit t seen = record {
     types = fit.tables p.made shapes h.table;
     tokens = tokens_agree (identifiers role.Declaring t) (subst (Each (IsSeen w scope)) (sym (looked_up-occurrences role.Declaring (λ x xs. refl) t)) seen);
@@ -199,12 +199,12 @@ pub record AllDefined (w : Numbering) (p q : KnownDeclarations) (shapes : List S
   pub holds : IsKnownAt w q shapes m scope env
 
 pub all_defined : (w : Numbering) (p : KnownDeclarations) (shapes : List Shape) (n : ℕ) (scope : Scope Name) (env : TypeEnvironment Name) (m : Meaning TypeId) (xs : List ℕ) (o : meant.Object Shape Signature) → IsKnownAt w p shapes n scope env → NamesPlaced w n xs → is_standard_procedure (Some o) ≡ false → MeaningAgrees (shape_in shapes) m (Some o)
-    → AllDefined w p (define_all p m xs) shapes n (ordinal_after_names n xs) (scope_following w n xs scope) (bind_names (map (text_at w.source) xs) o env)
+    → AllDefined w p (define_all p m xs) shapes n (ordinal_after_names n xs) (scope_following w n xs scope) (bind_names (map (token_text_at w.source) xs) o env)
 all_defined w p shapes n scope env m [] o h placed own agrees = record { later = later_same n p shapes h.table; holds = h }
 all_defined w p shapes n scope env m (x ∷ xs) o h placed own agrees =
     let one = defined w p shapes n m x h.ordinals h.room h.table placed.0 in
-    let first = holds_defined w p (define p m x) shapes n scope env m (text_at w.source x) o h one own agrees in
-    let rest = all_defined w (define p m x) shapes (suc n) ((text_at w.source x, n) ∷ scope) ((text_at w.source x, o) ∷ env) m xs o first placed.1 own agrees in
+    let first = holds_defined w p (define p m x) shapes n scope env m (token_text_at w.source x) o h one own agrees in
+    let rest = all_defined w (define p m x) shapes (suc n) ((token_text_at w.source x, n) ∷ scope) ((token_text_at w.source x, o) ∷ env) m xs o first placed.1 own agrees in
     record {
       later = later_then n (suc n) p (define p m x) (define_all (define p m x) m xs) shapes shapes shapes (le_of_lt (le_refl (suc n))) one.later rest.later;
       holds = rest.holds;

@@ -6,8 +6,8 @@ use Rattle.ob0_scan.specs.declared.fault.Fault.{Fault}
 use Rattle.ob0_tree.specs.declared.tree.Role.{Role}
 use Rattle.ob0_tree.specs.declared.tree.Role.TheVariants as role
 use Rattle.ob0_tree.specs.ParsedModule.{tree_of}
-use Rattle.ob0_tree.specs.Places.{text_at}
-use Rattle.ob0_tree.specs.Tree.{Tree, block, constant, constants, declares, declares_constant, declares_constants, declares_procedure, declares_type, declares_types, declares_variable, declares_variables, end, formals, further_name, further_section, has_body, identifiers, item, items, listed, maybe, more, names, no_formals, none, occurrences, one, procedure, section, some_formals, then_name, then_section, type_name, type_names, value_section, variable, variable_section, variables}
+use Rattle.ob0_tree.specs.Places.{token_text_at}
+use Rattle.ob0_tree.specs.Tree.{Tree, block, constant, constants, declares, declares_constant, declares_constants, declares_procedure, declares_type, declares_types, declares_variable, declares_variables, end, formals, further_name, further_section, forms_block, identifiers, item, items, listed, maybe, more, names, no_formals, none, occurrences, one, procedure, section, some_formals, then_name, then_section, type_definition, type_definitions, value_section, variable, variable_section, variables}
 use Rattle.ob0_language_names.specs.Names.{naming_by_spelling}
 use Rattle.ob0_language_names.specs.Parts.{constant_names, formal_names, formal_sections, further_names, module_block, declared_type_names, names_in_list, section_constants, section_names, section_types, section_variables, variable_names}
 use Rattle.ob0_scope_table.specs.Resolution.{IsResolution, Resolution, declaring_names, is_undeclared_fault, is_unbound, label_at, ordinal_in, span_at, undeclared_faults_by_labels}
@@ -47,7 +47,7 @@ counts_constants : (k : ℕ) (cs : Tree ℕ (items constant)) → Counts k (iden
 counts_constants k end = record { counts = omega arith }
 counts_constants k (more (declares_constant x e) cs) = first (both (plain (suc k) (declares_nothing tt e)) (counts_constants (suc k) cs))
 
-counts_types : (k : ℕ) (ds : Tree ℕ (items type_name)) → Counts k (identifiers role.Declaring ds) (ordinal_after_names k (declared_type_names ds))
+counts_types : (k : ℕ) (ds : Tree ℕ (items type_definition)) → Counts k (identifiers role.Declaring ds) (ordinal_after_names k (declared_type_names ds))
 counts_types k end = record { counts = omega arith }
 counts_types k (more (declares_type x t) ds) = first (both (plain (suc k) (declares_nothing tt t)) (counts_types (suc k) ds))
 
@@ -76,7 +76,7 @@ counts_constant_section : (k : ℕ) (cs : Tree ℕ (maybe constants)) → Counts
 counts_constant_section k none = record { counts = omega arith }
 counts_constant_section k (one (declares_constants cs)) = counts_constants k cs
 
-counts_type_section : (k : ℕ) (ts : Tree ℕ (maybe type_names)) → Counts k (identifiers role.Declaring ts) (ordinal_after_names k (declared_type_names (section_types ts)))
+counts_type_section : (k : ℕ) (ts : Tree ℕ (maybe type_definitions)) → Counts k (identifiers role.Declaring ts) (ordinal_after_names k (declared_type_names (section_types ts)))
 counts_type_section k none = record { counts = omega arith }
 counts_type_section k (one (declares_types ts)) = counts_types k ts
 
@@ -86,7 +86,7 @@ counts_variable_section k (one (declares_variables vs)) = counts_variables k vs
 
 mutual
   counts_block : (k : ℕ) (b : Tree ℕ block) → Counts k (identifiers role.Declaring b) (ordinal_after_block k b)
-  counts_block k (has_body (declares cs ts vs ps) statements) =
+  counts_block k (forms_block (declares cs ts vs ps) statements) =
       let k₁ : ℕ = ordinal_after_names k (constant_names (section_constants cs)) in
       let k₂ : ℕ = ordinal_after_names k₁ (declared_type_names (section_types ts)) in
       let k₃ : ℕ = ordinal_after_names k₂ (variable_names (section_variables vs)) in
@@ -103,7 +103,7 @@ mutual
 
 -- If no name is reported as undeclared, each name is bound.
 one_bound : (n : Numbering) (x : ℕ) (xs : List ℕ) (later : List Fault) (o : Option ℕ) (f : Fault) → ordinal_in n.ordinals x ≡ o → (later ≡ [] → Each (IsBound n) xs)
-    → (if is_unbound (label_from_ordinal naming_by_spelling o (text_at n.source x)) then f ∷ later else later) ≡ [] → Each (IsBound n) (x ∷ xs)
+    → (if is_unbound (label_from_ordinal naming_by_spelling o (token_text_at n.source x)) then f ∷ later else later) ≡ [] → Each (IsBound n) (x ∷ xs)
 one_bound n x xs later None f h others e = absurd (cc)
 one_bound n x xs later (Some k) f h others e = ((k, h), others e)
 

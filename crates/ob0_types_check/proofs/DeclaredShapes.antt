@@ -3,7 +3,7 @@
 -- other, so lists needn't be reassociated.
 use Rattle.std.proofs.Common.{◌≡◌, ℕ, zero, suc, ◌+◌, ◌*◌, max, true, ◌&&◌, List, [], ◌∷◌, ◌++◌, length, Option, Some, None, option_and_then, slice_get, nat_le, if◌then◌else◌, map, refl, sym, ap, ◌∙◌, subst, append_assoc, append-nil, arith}
 use Rattle.std.proofs.Math.Nat.{max_comm, mul_comm}
-use Rattle.ob0_tree.specs.Places.{text_at}
+use Rattle.ob0_tree.specs.Places.{token_text_at}
 use Rattle.ob0_language_names.specs.Names.{Name}
 use Rattle.ob0_types_table.specs.declared.types.TypeId.{TypeId}
 use Rattle.ob0_types_table.specs.declared.types.TypeId.TheVariants as type
@@ -168,22 +168,22 @@ pub record GatheredAgrees (shapes : List Shape) (g : KnownFields) (fs : FieldSha
   pub depth_is : g.size.depth ≡ field_depth fs
 
 name_put : (shapes : List Shape) (g : KnownFields) (fs : FieldShapes) (x : ℕ) (t : TypeId) (s : Shape) → GatheredAgrees shapes g fs → TableAgrees g.following.made shapes → shape_in shapes t ≡ Some s
-    → GatheredAgrees shapes (with_known_field t g x) (followed fs (next_field_shape (text_at g.following.source x) s no_field_shape))
+    → GatheredAgrees shapes (with_known_field t g x) (followed fs (next_field_shape (token_text_at g.following.source x) s no_field_shape))
 name_put shapes g fs x t s h table is =
     let z = size_agrees g.following.made shapes t s table is in
-    let one : FieldShapes = next_field_shape (text_at g.following.source x) s no_field_shape in
+    let one : FieldShapes = next_field_shape (token_text_at g.following.source x) s no_field_shape in
     record {
-      fields = field_put shapes g.fields fs (text_at g.following.source x) t s h.fields is;
+      fields = field_put shapes g.fields fs (token_text_at g.following.source x) t s h.fields is;
       scalars_are = omega (arith, h.scalars_are, z.scalars_are, scalars-followed fs one);
       depth_is = omega (arith, h.depth_is, z.depth_is, depth-followed fs one);
     }
 
 pub names_put : (shapes : List Shape) (g : KnownFields) (fs : FieldShapes) (xs : List ℕ) (t : TypeId) (s : Shape) → GatheredAgrees shapes g fs → TableAgrees g.following.made shapes → shape_in shapes t ≡ Some s
-    → GatheredAgrees shapes (with_known_fields t g xs) (followed fs (prepend_fields (map (text_at g.following.source) xs) s no_field_shape))
+    → GatheredAgrees shapes (with_known_fields t g xs) (followed fs (prepend_fields (map (token_text_at g.following.source) xs) s no_field_shape))
 names_put shapes g fs [] t s h table is = subst (GatheredAgrees shapes g) (sym (followed-nothing fs)) h
 names_put shapes g fs (x ∷ xs) t s h table is =
-    let one : FieldShapes = next_field_shape (text_at g.following.source x) s no_field_shape in
-    subst (GatheredAgrees shapes (with_known_fields t (with_known_field t g x) xs)) (followed-assoc fs one (prepend_fields (map (text_at g.following.source) xs) s no_field_shape))
+    let one : FieldShapes = next_field_shape (token_text_at g.following.source x) s no_field_shape in
+    subst (GatheredAgrees shapes (with_known_fields t (with_known_field t g x) xs)) (followed-assoc fs one (prepend_fields (map (token_text_at g.following.source) xs) s no_field_shape))
     (names_put shapes (with_known_field t g x) (followed fs one) xs t s (name_put shapes g fs x t s h table is) table is)
 
 pub record_sized : (shapes : List Shape) (g : KnownFields) (k : ℕ) (fs : FieldShapes) → GatheredAgrees shapes g fs → SizeAgrees (record_size g.size) (record_shape k fs)

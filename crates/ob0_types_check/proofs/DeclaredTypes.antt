@@ -2,28 +2,28 @@
 -- gathered from the left, but their shapes are built from the right. So `GroupGathers` is about the fields of a group
 -- before any fields that follow. Definitions nest two sums differently; `grouped` proves that they are equal.
 use Rattle.std.proofs.Common.{◌≡◌, ℕ, suc, ◌+◌, Bool, true, false, List, [], ◌∷◌, ◌++◌, length, map, Option, Some, None, option_and_then, if◌then◌else◌, refl, sym, ap, ◌∙◌, subst, subst₂, le_refl, arith}
-use Rattle.ob0_tree.specs.Places.{tree_with_names, text_at, value_at}
-use Rattle.ob0_tree.specs.Tree.{Tree, array_type, end, fields, further_fields, items, mapped, more, named_type, no_fields, occurrences, record_type, some_fields, then_fields, written_type}
+use Rattle.ob0_tree.specs.Places.{tree_with_names, token_text_at, token_value_at}
+use Rattle.ob0_tree.specs.Tree.{Tree, array_type, end, fields, further_fields, items, mapped_tree, more, named_type, no_fields, occurrences, record_type, some_fields, then_fields, written_type}
 use Rattle.ob0_language_names.specs.Names.{Name, naming_by_spelling}
 use Rattle.ob0_language_names.specs.Parts.{names_in_list}
 use Rattle.ob0_language_names.specs.Scopes.{Scope}
 use Rattle.ob0_types_table.specs.declared.types.TypeId.{TypeId}
 use Rattle.ob0_language_types.specs.Environments.{meanings}
 use Rattle.ob0_language_types.specs.Expressions as meant
-use Rattle.ob0_language_types.specs.Typing.{array_length, constant_value, denoted, denoted_group, denoted_groups, constructor_count, group_constructor_count, groups_constructor_count, type_of_name, prepend_fields, check_limits}
+use Rattle.ob0_language_types.specs.Typing.{array_length, constant_value, denoted_type, denoted_group_fields, denoted_further_fields, constructor_count, group_constructor_count, groups_constructor_count, type_of_name, prepend_fields, check_limits}
 use Rattle.ob0_language_types.specs.WellTyped.{Signature, TypeEnvironment}
 use Rattle.ob0_language_values.specs.Values.{FieldShapes, Shape, Value, array_shape, no_field_shape, record_shape}
 use Rattle.ob0_types_check.specs.ExpressionFaults.{reported_expression}
 use Rattle.ob0_types_check.specs.Known.{Meaning, Operand, Reported, a_constant, a_procedure, a_type, a_variable}
 use Rattle.ob0_types_check.specs.Operations.{without_fault}
-use Rattle.ob0_types_check.specs.KnownDeclarations.{PartTypes, Size, KnownDeclarations, TypeWithState, facts_at, is_within_limits, made, make_type, of_elements, of_fields, size_at, type_too_large, type_at_index}
+use Rattle.ob0_types_check.specs.KnownDeclarations.{PartTypes, Size, KnownDeclarations, TypeWithState, facts_at, is_within_limits, append_composite, make_type, of_elements, of_fields, size_at, type_too_large, type_at_index}
 use Rattle.ob0_types_check.specs.TypeFaults.{length_of, type_by_meaning}
 use Rattle.ob0_types_check.specs.WrittenTypeFaults.{KnownFields, made_array_type, array_size, with_field_group, no_known_fields, made_record_type, record_size, record_keyword, reported_fields, reported_groups, next_type_ordinal, reported_type, with_known_field, with_known_fields, token_before_group}
 use Rattle.ob0_types_check.specs.Agreement.{PartsAgree, KnownMeaningAgrees, TableAgrees, shape_in}
-use Rattle.ob0_types_check.specs.WellTypedLaws.{constructor_ordinal}
+use Rattle.ob0_types_check.specs.WellTypedLaws.{ordinal_of_shape}
 use Rattle.ob0_types_check.proofs.MadeOnce.{Apart, apart_made, apart_same, apart_then}
 use Rattle.ob0_types_check.proofs.PartsFitting.{PartsFit}
-use Rattle.ob0_types_check.proofs.DeclaredNames.{AreSeen, IsSeen, Numbering, each_part, names_in_list-mapped}
+use Rattle.ob0_types_check.proofs.DeclaredNames.{AreSeen, IsSeen, Numbering, each_part, names_in_list-mapped_tree}
 use Rattle.ob0_types_check.proofs.DeclaredShapes.{GatheredAgrees, SizeAgrees, array_sized, followed, followed-assoc, followed-nothing, gathered_kept, is_limited, last_array, last_record, longer_more, longer_then, names_put, record_sized, size_agrees, table_long, table_more, prepend_fields-followed}
 use Rattle.ob0_types_check.proofs.DeclaredKnown.{Later, IsKnownAt, agrees_where_seen, later_same, later_then, seen_holds, holds_later}
 use Rattle.ob0_types_check.proofs.Unreported.{none-reported}
@@ -52,12 +52,12 @@ pub record MadeDenotes (n : ℕ) (p : KnownDeclarations) (before : List Shape) (
   pub limited : check_limits s ≡ Some s
   pub denotes : Denotes n p before k l (Some s) u
 
-made_denotes : (n : ℕ) (p q : KnownDeclarations) (before mid : List Shape) (k l word ordinal : ℕ) (parts : PartTypes) (size : Size) (s : Shape) → ordinal ≡ k → constructor_ordinal s ≡ Some k → Apart (suc k) l before mid → Later n p q before mid → PartsAgree (shape_in mid) k parts s → SizeAgrees size s → shape_in (mid ++ s ∷ []) (type_at_index parts (length q.made)) ≡ Some s
+made_denotes : (n : ℕ) (p q : KnownDeclarations) (before mid : List Shape) (k l word ordinal : ℕ) (parts : PartTypes) (size : Size) (s : Shape) → ordinal ≡ k → ordinal_of_shape s ≡ Some k → Apart (suc k) l before mid → Later n p q before mid → PartsAgree (shape_in mid) k parts s → SizeAgrees size s → shape_in (mid ++ s ∷ []) (type_at_index parts (length q.made)) ≡ Some s
     → (make_type q word ordinal parts size).faults ≡ [] → MadeDenotes n p before k l s (make_type q word ordinal parts size).known
 made_denotes n p q before mid k l word ordinal parts size s here number own later agrees sized last none =
     by_size (is_within_limits size) refl none
   where
-    by_size : (b : Bool) → is_within_limits size ≡ b → (if b then without_fault (made q ordinal parts size) else type_too_large q word).faults ≡ [] → MadeDenotes n p before k l s (if b then without_fault (made q ordinal parts size) else type_too_large q word).known
+    by_size : (b : Bool) → is_within_limits size ≡ b → (if b then without_fault (append_composite q ordinal parts size) else type_too_large q word).faults ≡ [] → MadeDenotes n p before k l s (if b then without_fault (append_composite q ordinal parts size) else type_too_large q word).known
     by_size false e h = absurd (cc)
     by_size true e h = record {
       limited = is_limited size s sized e;
@@ -121,7 +121,7 @@ names_following t g [] = refl
 names_following t g (x ∷ xs) = names_following t (with_known_field t g x) xs
 
 -- Fields of one type have shapes if their type denotes one.
-names_gather : (n : ℕ) (w : Numbering) (g : KnownFields) (before : List Shape) (k l : ℕ) (first : FieldShapes) (xs : List ℕ) (ys : List Name) (given : Option Shape) (u : TypeWithState) → g.following.source ≡ w.source → ys ≡ map (text_at w.source) xs → GatheredAgrees before g first → Denotes n g.following before k l given u
+names_gather : (n : ℕ) (w : Numbering) (g : KnownFields) (before : List Shape) (k l : ℕ) (first : FieldShapes) (xs : List ℕ) (ys : List Name) (given : Option Shape) (u : TypeWithState) → g.following.source ≡ w.source → ys ≡ map (token_text_at w.source) xs → GatheredAgrees before g first → Denotes n g.following before k l given u
     → GroupGathers n g.following before k l first (λ later. option_and_then (λ s. Some (prepend_fields ys s later)) given) (with_field_group g xs u)
 names_gather n w g before k l first xs ys given u source texts h d =
     let own : FieldShapes = prepend_fields ys d.shape no_field_shape in
@@ -136,7 +136,7 @@ names_gather n w g before k l first xs ys given u source texts h d =
         after = d.after;
         apart = d.apart;
         later = subst (λ z. Later n g.following z before d.after) (sym (names_following u.of start xs)) d.later;
-        agrees = subst (λ zs. GatheredAgrees d.after (with_known_fields u.of start xs) (followed first (prepend_fields zs d.shape no_field_shape))) ((λ i. map (text_at (text i)) xs) ∙ sym texts) put;
+        agrees = subst (λ zs. GatheredAgrees d.after (with_known_fields u.of start xs) (followed first (prepend_fields zs d.shape no_field_shape))) ((λ i. map (token_text_at (text i)) xs) ∙ sym texts) put;
       };
     }
 
@@ -202,12 +202,12 @@ more_groups k m n = omega arith
 
 module _ (w : Numbering) (fit : PartsFit) (n : ℕ) (scope : Scope Name) (env : TypeEnvironment Name) where
   mutual
-    unfolding reported_type denoted
+    unfolding reported_type denoted_type
 
     pub type_denotes : (around k : ℕ) (t : Tree ℕ written_type) (p : KnownDeclarations) (before : List Shape) → length before + around ≡ k → IsKnownAt w p before n scope env → AreSeen w scope t → (reported_type around p t).faults ≡ []
-        → Denotes n p before k (k + constructor_count (tree_with_names w.source t)) (denoted (meanings naming_by_spelling env) k (tree_with_names w.source t)) (reported_type around p t).known
+        → Denotes n p before k (k + constructor_count (tree_with_names w.source t)) (denoted_type (meanings naming_by_spelling env) k (tree_with_names w.source t)) (reported_type around p t).known
     type_denotes around k (named_type x) p before at st seen e =
-        named_denotes n p p before k (k + 0) (omega arith) x ((facts_at p false).object_for x) ((meanings naming_by_spelling env).object_for (text_at w.source x)) st.table (seen_holds w p false before n scope env st x seen.0) (none-reported (type_by_meaning (facts_at p false) x ((facts_at p false).object_for x)).faults [] e).0
+        named_denotes n p p before k (k + 0) (omega arith) x ((facts_at p false).object_for x) ((meanings naming_by_spelling env).object_for (token_text_at w.source x)) st.table (seen_holds w p false before n scope env st x seen.0) (none-reported (type_by_meaning (facts_at p false) x ((facts_at p false).object_for x)).faults [] e).0
     type_denotes around k (array_type e u) p before at st seen h =
         let parts = each_part (IsSeen w scope) (occurrences e) (occurrences u) seen in
         let o : Operand TypeId = (reported_expression (facts_at p true) e).known in
@@ -218,12 +218,12 @@ module _ (w : Numbering) (fit : PartsFit) (n : ℕ) (scope : Scope Name) (env : 
         let a = none-reported (reported_expression (facts_at p true) e).faults (l.faults ++ (el.faults ++ (made_array_type ordinal o l.known el.known).faults)) h in
         let b = none-reported l.faults (el.faults ++ (made_array_type ordinal o l.known el.known).faults) a.1 in
         let c = none-reported el.faults (made_array_type ordinal o l.known el.known).faults b.1 in
-        let long = fit.lengths p before (text_at w.source) (meanings naming_by_spelling env) e (agrees_where_seen w p true before n scope env st fit e parts.0) (λ i. a.0 i ++ b.0 i) in
-        let given : constant_value (meanings naming_by_spelling env) (tree_with_names w.source e) ≡ Some long.value = ap (λ s. constant_value (meanings naming_by_spelling env) (mapped (text_at w.source) (value_at s) e)) (sym st.source) ∙ long.given in
+        let long = fit.lengths p before (token_text_at w.source) (meanings naming_by_spelling env) e (agrees_where_seen w p true before n scope env st fit e parts.0) (λ i. a.0 i ++ b.0 i) in
+        let given : constant_value (meanings naming_by_spelling env) (tree_with_names w.source e) ≡ Some long.value = ap (λ s. constant_value (meanings naming_by_spelling env) (mapped_tree (token_text_at w.source) (token_value_at s) e)) (sym st.source) ∙ long.given in
         let element = type_denotes (suc around) (suc k) u p before (omega (arith, at)) st parts.1 c.0 in
         let inner : ℕ = constructor_count (tree_with_names w.source u) in
-        subst₂ (λ j z. Denotes n p before k j z (made_array_type ordinal o l.known el.known).known) (later_constructor k inner) (sym (array_given k (constant_value (meanings naming_by_spelling env) (tree_with_names w.source e)) long.value long.length (denoted (meanings naming_by_spelling env) (suc k) (tree_with_names w.source u)) given long.counted))
-        (sized_array n p before k (suc k + inner) ordinal o l.known long.length (denoted (meanings naming_by_spelling env) (suc k) (tree_with_names w.source u)) el.known long.known here element c.1)
+        subst₂ (λ j z. Denotes n p before k j z (made_array_type ordinal o l.known el.known).known) (later_constructor k inner) (sym (array_given k (constant_value (meanings naming_by_spelling env) (tree_with_names w.source e)) long.value long.length (denoted_type (meanings naming_by_spelling env) (suc k) (tree_with_names w.source u)) given long.counted))
+        (sized_array n p before k (suc k + inner) ordinal o l.known long.length (denoted_type (meanings naming_by_spelling env) (suc k) (tree_with_names w.source u)) el.known long.known here element c.1)
     type_denotes around k (record_type g rest) p before at st seen h =
         let parts = each_part (IsSeen w scope) (occurrences g) (occurrences rest) seen in
         let word : ℕ = token_before_group g (record_keyword rest) in
@@ -238,21 +238,21 @@ module _ (w : Numbering) (fit : PartsFit) (n : ℕ) (scope : Scope Name) (env : 
         let other = groups_gather (suc around) (suc k + group_constructor_count (tree_with_names w.source g)) rest first.known one.gathers.after one.own (omega (arith, at, one.gathers.apart.counted)) later parts.1 one.gathers.agrees b.0 in
         let c : ℕ = group_constructor_count (tree_with_names w.source g) in
         let d : ℕ = groups_constructor_count (tree_with_names w.source rest) in
-        subst₂ (λ j z. Denotes n p before k j z (made_record_type word ordinal all.known).known) (later_groups k c d) (grouped (denoted_groups (meanings naming_by_spelling env) (suc k + group_constructor_count (tree_with_names w.source g)) (tree_with_names w.source rest)) (λ ys. denoted_group (meanings naming_by_spelling env) (suc k) ys (tree_with_names w.source g)) (λ fs. check_limits (record_shape k fs)))
-        (record_denotes n p before k (suc k + c + d) word ordinal (option_and_then (λ ys. denoted_group (meanings naming_by_spelling env) (suc k) ys (tree_with_names w.source g)) (denoted_groups (meanings naming_by_spelling env) (suc k + group_constructor_count (tree_with_names w.source g)) (tree_with_names w.source rest))) all.known here
-        (both_gather n p before (suc k) (suc k + c) (suc k + c + d) no_field_shape (λ ys. denoted_group (meanings naming_by_spelling env) (suc k) ys (tree_with_names w.source g)) first.known all.known (denoted_groups (meanings naming_by_spelling env) (suc k + group_constructor_count (tree_with_names w.source g)) (tree_with_names w.source rest)) one other) b.1)
+        subst₂ (λ j z. Denotes n p before k j z (made_record_type word ordinal all.known).known) (later_groups k c d) (grouped (denoted_further_fields (meanings naming_by_spelling env) (suc k + group_constructor_count (tree_with_names w.source g)) (tree_with_names w.source rest)) (λ ys. denoted_group_fields (meanings naming_by_spelling env) (suc k) ys (tree_with_names w.source g)) (λ fs. check_limits (record_shape k fs)))
+        (record_denotes n p before k (suc k + c + d) word ordinal (option_and_then (λ ys. denoted_group_fields (meanings naming_by_spelling env) (suc k) ys (tree_with_names w.source g)) (denoted_further_fields (meanings naming_by_spelling env) (suc k + group_constructor_count (tree_with_names w.source g)) (tree_with_names w.source rest))) all.known here
+        (both_gather n p before (suc k) (suc k + c) (suc k + c + d) no_field_shape (λ ys. denoted_group_fields (meanings naming_by_spelling env) (suc k) ys (tree_with_names w.source g)) first.known all.known (denoted_further_fields (meanings naming_by_spelling env) (suc k + group_constructor_count (tree_with_names w.source g)) (tree_with_names w.source rest)) one other) b.1)
 
     pub group_gathers : (around k : ℕ) (t : Tree ℕ fields) (g : KnownFields) (before : List Shape) (first : FieldShapes) → length before + around ≡ k → IsKnownAt w g.following before n scope env → AreSeen w scope t → GatheredAgrees before g first → (reported_fields around g t).faults ≡ []
-        → GroupGathers n g.following before k (k + group_constructor_count (tree_with_names w.source t)) first (λ ys. denoted_group (meanings naming_by_spelling env) k ys (tree_with_names w.source t)) (reported_fields around g t).known
+        → GroupGathers n g.following before k (k + group_constructor_count (tree_with_names w.source t)) first (λ ys. denoted_group_fields (meanings naming_by_spelling env) k ys (tree_with_names w.source t)) (reported_fields around g t).known
     group_gathers around k no_fields g before first at st seen agrees h = record { own = no_field_shape; given_is = λ ys. refl; gathers = nothing_more n g before k (k + 0) (omega arith) first st.table agrees }
     group_gathers around k (some_fields ns t) g before first at st seen agrees h =
         let u : Reported TypeWithState = reported_type around g.following t in
         let d = type_denotes around k t g.following before at st seen (none-reported u.faults [] h).0 in
-        names_gather n w g before k (k + constructor_count (tree_with_names w.source t)) first (names_in_list ns) (map (λ x. x) (names_in_list (tree_with_names w.source ns))) (denoted (meanings naming_by_spelling env) k (tree_with_names w.source t)) u.known st.source
-        (map-same (names_in_list (tree_with_names w.source ns)) ∙ names_in_list-mapped (text_at w.source) (value_at w.source) ns) agrees d
+        names_gather n w g before k (k + constructor_count (tree_with_names w.source t)) first (names_in_list ns) (map (λ x. x) (names_in_list (tree_with_names w.source ns))) (denoted_type (meanings naming_by_spelling env) k (tree_with_names w.source t)) u.known st.source
+        (map-same (names_in_list (tree_with_names w.source ns)) ∙ names_in_list-mapped_tree (token_text_at w.source) (token_value_at w.source) ns) agrees d
 
     pub groups_gather : (around k : ℕ) (t : Tree ℕ (items further_fields)) (g : KnownFields) (before : List Shape) (first : FieldShapes) → length before + around ≡ k → IsKnownAt w g.following before n scope env → AreSeen w scope t → GatheredAgrees before g first → (reported_groups around g t).faults ≡ []
-        → GroupsGather n g.following before k (k + groups_constructor_count (tree_with_names w.source t)) first (denoted_groups (meanings naming_by_spelling env) k (tree_with_names w.source t)) (reported_groups around g t).known
+        → GroupsGather n g.following before k (k + groups_constructor_count (tree_with_names w.source t)) first (denoted_further_fields (meanings naming_by_spelling env) k (tree_with_names w.source t)) (reported_groups around g t).known
     groups_gather around k end g before first at st seen agrees h = record { own = no_field_shape; given_is = refl; gathers = nothing_more n g before k (k + 0) (omega arith) first st.table agrees }
     groups_gather around k (more (then_fields f) rest) g before first at st seen agrees h =
         let parts = each_part (IsSeen w scope) (occurrences f) (occurrences rest) seen in
@@ -264,5 +264,5 @@ module _ (w : Numbering) (fit : PartsFit) (n : ℕ) (scope : Scope Name) (env : 
         let other = groups_gather around (k + group_constructor_count (tree_with_names w.source f)) rest next.known one.gathers.after (followed first one.own) (omega (arith, at, one.gathers.apart.counted)) later parts.1 one.gathers.agrees a.1 in
         let c : ℕ = group_constructor_count (tree_with_names w.source f) in
         let d : ℕ = groups_constructor_count (tree_with_names w.source rest) in
-        subst (λ j. GroupsGather n g.following before k j first (denoted_groups (meanings naming_by_spelling env) k (tree_with_names w.source (more (then_fields f) rest))) all.known) (more_groups k c d)
-        (both_gather n g.following before k (k + c) (k + c + d) first (λ ys. denoted_group (meanings naming_by_spelling env) k ys (tree_with_names w.source f)) next.known all.known (denoted_groups (meanings naming_by_spelling env) (k + group_constructor_count (tree_with_names w.source f)) (tree_with_names w.source rest)) one other)
+        subst (λ j. GroupsGather n g.following before k j first (denoted_further_fields (meanings naming_by_spelling env) k (tree_with_names w.source (more (then_fields f) rest))) all.known) (more_groups k c d)
+        (both_gather n g.following before k (k + c) (k + c + d) first (λ ys. denoted_group_fields (meanings naming_by_spelling env) k ys (tree_with_names w.source f)) next.known all.known (denoted_further_fields (meanings naming_by_spelling env) (k + group_constructor_count (tree_with_names w.source f)) (tree_with_names w.source rest)) one other)

@@ -10,13 +10,13 @@ use Rattle.ob0_tree.specs.declared.tree.Relation.{Relation}
 use Rattle.ob0_tree.specs.declared.tree.Role.{Role}
 use Rattle.ob0_tree.specs.declared.tree.Role.TheVariants as role
 use Rattle.ob0_tree.specs.declared.tree.Sign.{Sign}
-use Rattle.ob0_tree.specs.Places.{text_at, value_at}
-use Rattle.ob0_tree.specs.Tree.{Sort, Tree, addend, adds, compares, designator, end, expression, factor, field, identifiers, index, integer, item, items, mapped, more, multiplier, multiplies, negation, none, one, parenthesised, product, relates, selector, simple, sum, term}
+use Rattle.ob0_tree.specs.Places.{token_text_at, token_value_at}
+use Rattle.ob0_tree.specs.Tree.{Sort, Tree, addend, adds, compares, designator, end, expression, factor, field, identifiers, index, integer, item, items, mapped_tree, more, multiplier, multiplies, negation, none, one, parenthesised, product, relates, selector, simple, sum, term}
 use Rattle.ob0_language_types.specs.Expressions.{Meanings, a_variable, evaluate, evaluate_addends, evaluate_factor, evaluate_multipliers, evaluate_simple, evaluate_term}
 use Rattle.ob0_language_types.specs.Selected.{apply_to_both}
-use Rattle.ob0_language_types.specs.Typing.{addition_type, negation_type, constant_of, constant_meanings, element_type, field_type, outcome_value, multiplication_type, object_type, relation_type, sign_type, type_at, type_of, type_of_addends, type_of_factor, type_of_multipliers, type_of_simple, type_of_term}
+use Rattle.ob0_language_types.specs.Typing.{addition_type, negation_type, constant_of, constant_meanings, element_type, field_type, outcome_value, multiplication_type, object_type, relation_type, sign_type, type_after_selectors, type_of, type_of_addends, type_of_factor, type_of_multipliers, type_of_simple, type_of_term}
 use Rattle.ob0_types_table.specs.Operators.{product_value, sum_value}
-use Rattle.ob0_language_values.specs.Values.{Place, Shape, Value, boolean_shape, integer_shape, negate, number, relate}
+use Rattle.ob0_language_values.specs.Values.{Place, Shape, Value, boolean_shape, integer_shape, negate, number, apply_relation}
 use Rattle.ob0_language_values.specs.Values.{apply_sign as with_sign}
 use Rattle.ob0_types_check.specs.ExpressionFaults.{reported_addends, reported_expression, reported_factor, reported_multipliers, reported_selectors, reported_simple, reported_term}
 use Rattle.ob0_types_check.specs.Known.{Facts, Operand}
@@ -24,25 +24,25 @@ use Rattle.ob0_types_check.specs.Operations.{add_operands, complement_operand, e
 use Rattle.ob0_types_check.specs.Agreement.{TypesAgree}
 use Rattle.ob0_types_check.proofs.Operands.{IsOf, added-fits, complement-of, complemented-fits, element-fits, field-fits, multiplied-fits, none-of, related-fits, relation-of, apply_sign-fits, some-of}
 use Rattle.ob0_types_check.proofs.Unreported.{goes-on, none-reported, then-assoc, then-itself}
-use Rattle.ob0_types_check.proofs.Valued.{addend-valued, multiplier-valued, name-valued, negation-valued, parts-valued, related-valued, simple-valued, term-valued}
+use Rattle.ob0_types_check.proofs.Valued.{addend-value_agrees, multiplier-value_agrees, name-value_agrees, negation-value_agrees, parts-value_agrees, related-value_agrees, simple-value_agrees, term-value_agrees}
 
 -- holds if an operand has this type and this value
 pub record Fits {T : Type 0} (shape : T → Option Shape) (o : Operand T) (type : Option Shape) (value : Option Value) : Type 0 where
   pub of : Shape
   pub known : shape o.of ≡ Some of
   pub typed : type ≡ Some of
-  pub valued : o.value ≡ value
+  pub value_agrees : o.value ≡ value
   pub scalar : IsOf of o.value
 
 -- holds if the operand of a name has the type and the value of its object; an operand that may be a place is a
 -- variable's
 pub record NameFits {T N P : Type 0} (facts : Facts T) (shape : T → Option Shape) (label : ℕ → N) (meaning : Meanings N Shape P) (x : ℕ) : Type 0 where
   pub fits : Fits shape (name_operand facts x).known (object_type (meaning.object_for (label x))) (constant_of (meaning.object_for (label x)))
-  pub placed : (name_operand facts x).known.is_place ≡ true → meaning.object_for (label x) ≡ Some (a_variable fits.of)
+  pub placed : (name_operand facts x).known.may_be_variable ≡ true → meaning.object_for (label x) ≡ Some (a_variable fits.of)
 
 abbrev pub TokenFits : {T N P : Type 0} → Facts T → (T → Option Shape) → (ℕ → N) → Meanings N Shape P → Role → ℕ → Type 0
 TokenFits facts shape label meaning role.LookedUp x = (name_operand facts x).faults ≡ [] → NameFits facts shape label meaning x
-TokenFits facts shape label meaning role.FieldName x = meaning.written (label x) ≡ text_at facts.source x
+TokenFits facts shape label meaning role.FieldName x = meaning.written (label x) ≡ token_text_at facts.source x
 TokenFits facts shape label meaning role.Declaring x = Unit {0}
 TokenFits facts shape label meaning role.ClosingName x = Unit {0}
 TokenFits facts shape label meaning role.ModuleName x = Unit {0}
@@ -69,25 +69,25 @@ module _ {T : Type 0} (facts : Facts T) where
   parts-have-none x (field n) path = parts-none (field_operand facts x n).known path refl
   parts-have-none x (index e) path = parts-none (element_operand facts x (reported_expression facts e).known).known path refl
 
-  pub parts-placed : (x : Operand T) (path : Tree ℕ (items selector)) → (reported_selectors facts x path).known.is_place ≡ x.is_place
+  pub parts-placed : (x : Operand T) (path : Tree ℕ (items selector)) → (reported_selectors facts x path).known.may_be_variable ≡ x.may_be_variable
   unfolding reported_expression
   parts-placed x end = refl
   parts-placed x (more (field n) rest) = parts-placed (field_operand facts x n).known rest
   parts-placed x (more (index e) rest) = parts-placed (element_operand facts x (reported_expression facts e).known).known rest
 
-  pub addends-apart : (x : Operand T) (rest : Tree ℕ (items addend)) → x.is_place ≡ false → (reported_addends facts x rest).known.is_place ≡ false
+  pub addends-apart : (x : Operand T) (rest : Tree ℕ (items addend)) → x.may_be_variable ≡ false → (reported_addends facts x rest).known.may_be_variable ≡ false
   unfolding reported_expression
   addends-apart x end h = h
   addends-apart x (more (adds o t) rest) h = addends-apart (add_operands facts o x (reported_term facts t).known).known rest refl
 
-  pub multipliers-apart : (x : Operand T) (rest : Tree ℕ (items multiplier)) → x.is_place ≡ false → (reported_multipliers facts x rest).known.is_place ≡ false
+  pub multipliers-apart : (x : Operand T) (rest : Tree ℕ (items multiplier)) → x.may_be_variable ≡ false → (reported_multipliers facts x rest).known.may_be_variable ≡ false
   unfolding reported_expression
   multipliers-apart x end h = h
   multipliers-apart x (more (multiplies o f) rest) h = multipliers-apart (multiply_operands facts o x (reported_factor facts f).known).known rest refl
 
 module _ {T N P : Type 0} (facts : Facts T) (shape : T → Option Shape) (types : TypesAgree facts.types shape) (label : ℕ → N) (meaning : Meanings N Shape P) where
   abbrev pub tree : {s : Sort} → Tree ℕ s → Tree N s
-  tree t = mapped label (value_at facts.source) t
+  tree t = mapped_tree label (token_value_at facts.source) t
 
   abbrev pub All : {s : Sort} → Tree ℕ s → Type 0
   All t = TokensFit facts shape label meaning (identifiers role.Declaring t)
@@ -122,7 +122,7 @@ module _ {T N P : Type 0} (facts : Facts T) (shape : T → Option Shape) (types 
   pub record FitsSelectors (o : Operand T) (s : Shape) (path : Tree ℕ (items selector)) : Type 0 where
     pub of : Shape
     pub known : shape (reported_selectors facts o path).known.of ≡ Some of
-    pub typed : type_at meaning s (tree path) ≡ Some of
+    pub typed : type_after_selectors meaning s (tree path) ≡ Some of
 
   -- Each production fits if its parts fit.
 
@@ -135,7 +135,7 @@ module _ {T N P : Type 0} (facts : Facts T) (shape : T → Option Shape) (types 
         known = known;
         typed = goes-on (λ x. option_and_then (relation_type r x) (type_of_simple meaning (tree b))) (type_of_simple meaning (tree a)) fa.of (Some boolean_shape) fa.typed
             (goes-on (relation_type r fa.of) (type_of_simple meaning (tree b)) fb.of (Some boolean_shape) fb.typed typed);
-        valued = (λ i. apply_to_both (λ x y. outcome_value (relate r x y)) (fa.valued i) (fb.valued i)) ∙ sym (related-valued among r (tree a) (tree b));
+        value_agrees = (λ i. apply_to_both (λ x y. outcome_value (apply_relation r x y)) (fa.value_agrees i) (fb.value_agrees i)) ∙ sym (related-value_agrees among r (tree a) (tree b));
         scalar = relation-of r (reported_simple facts a).known.value (reported_simple facts b).known.value;
       }
 
@@ -147,9 +147,9 @@ module _ {T N P : Type 0} (facts : Facts T) (shape : T → Option Shape) (types 
     known = fr.known;
     typed = goes-on (λ y. option_and_then (λ z. type_of_addends meaning z (tree rest)) (addition_type o s y)) (type_of_term meaning (tree t)) ft.of (Some fr.of) ft.typed
         (goes-on (λ z. type_of_addends meaning z (tree rest)) (addition_type o s ft.of) w (Some fr.of) typed fr.typed);
-    valued = fr.valued
+    value_agrees = fr.value_agrees
         ∙ (then-assoc (sum_value o (reported_term facts t).known.value) (λ v. outcome_value (evaluate_addends among [] v (tree rest))) x.value
-        ∙ (λ i. option_and_then (λ v. (ap (λ y. option_and_then (λ u. outcome_value (evaluate_addends among [] u (tree rest))) (sum_value o y v)) ft.valued ∙ sym (addend-valued among o (tree t) (tree rest) v)) i) x.value));
+        ∙ (λ i. option_and_then (λ v. (ap (λ y. option_and_then (λ u. outcome_value (evaluate_addends among [] u (tree rest))) (sum_value o y v)) ft.value_agrees ∙ sym (addend-value_agrees among o (tree t) (tree rest) v)) i) x.value));
     scalar = fr.scalar;
   }
 
@@ -161,9 +161,9 @@ module _ {T N P : Type 0} (facts : Facts T) (shape : T → Option Shape) (types 
     known = fr.known;
     typed = goes-on (λ y. option_and_then (λ z. type_of_multipliers meaning z (tree rest)) (multiplication_type o s y)) (type_of_factor meaning (tree f)) ff.of (Some fr.of) ff.typed
         (goes-on (λ z. type_of_multipliers meaning z (tree rest)) (multiplication_type o s ff.of) w (Some fr.of) typed fr.typed);
-    valued = fr.valued
+    value_agrees = fr.value_agrees
         ∙ (then-assoc (product_value o (reported_factor facts f).known.value) (λ v. outcome_value (evaluate_multipliers among [] v (tree rest))) x.value
-        ∙ (λ i. option_and_then (λ v. (ap (λ y. option_and_then (λ u. outcome_value (evaluate_multipliers among [] u (tree rest))) (product_value o y v)) ff.valued ∙ sym (multiplier-valued among o (tree f) (tree rest) v)) i) x.value));
+        ∙ (λ i. option_and_then (λ v. (ap (λ y. option_and_then (λ u. outcome_value (evaluate_multipliers among [] u (tree rest))) (product_value o y v)) ff.value_agrees ∙ sym (multiplier-value_agrees among o (tree f) (tree rest) v)) i) x.value));
     scalar = fr.scalar;
   }
 
@@ -179,10 +179,10 @@ module _ {T N P : Type 0} (facts : Facts T) (shape : T → Option Shape) (types 
     known = fr.known;
     typed = goes-on (λ x. option_and_then (λ y. type_of_addends meaning y (tree rest)) (sign_type g x)) (type_of_term meaning (tree t)) ft.of (Some fr.of) ft.typed
         (goes-on (λ y. type_of_addends meaning y (tree rest)) (sign_type g ft.of) w (Some fr.of) typed fr.typed);
-    valued = fr.valued
-        ∙ (ap (option_and_then (λ v. outcome_value (evaluate_addends among [] v (tree rest)))) (sign-value g (reported_term facts t).known ∙ ap (option_and_then (λ x. outcome_value (with_sign g x))) ft.valued)
+    value_agrees = fr.value_agrees
+        ∙ (ap (option_and_then (λ v. outcome_value (evaluate_addends among [] v (tree rest)))) (sign-value g (reported_term facts t).known ∙ ap (option_and_then (λ x. outcome_value (with_sign g x))) ft.value_agrees)
         ∙ (then-assoc (λ x. outcome_value (with_sign g x)) (λ v. outcome_value (evaluate_addends among [] v (tree rest))) (outcome_value (evaluate_term among [] (tree t)))
-        ∙ sym (simple-valued among g (tree t) (tree rest))));
+        ∙ sym (simple-value_agrees among g (tree t) (tree rest))));
     scalar = fr.scalar;
   }
 
@@ -192,17 +192,17 @@ module _ {T N P : Type 0} (facts : Facts T) (shape : T → Option Shape) (types 
     of = fr.of;
     known = fr.known;
     typed = goes-on (λ x. type_of_multipliers meaning x (tree rest)) (type_of_factor meaning (tree f)) ff.of (Some fr.of) ff.typed fr.typed;
-    valued = fr.valued ∙ (ap (option_and_then (λ v. outcome_value (evaluate_multipliers among [] v (tree rest)))) ff.valued ∙ sym (term-valued among (tree f) (tree rest)));
+    value_agrees = fr.value_agrees ∙ (ap (option_and_then (λ v. outcome_value (evaluate_multipliers among [] v (tree rest)))) ff.value_agrees ∙ sym (term-value_agrees among (tree f) (tree rest)));
     scalar = fr.scalar;
   }
 
-  designator-valued : (x : ℕ) (path : Tree ℕ (items selector)) → NameFits facts shape label meaning x
+  designator-value_agrees : (x : ℕ) (path : Tree ℕ (items selector)) → NameFits facts shape label meaning x
       → (reported_factor facts (designator x path)).known.value ≡ outcome_value (evaluate_factor among [] (tree (designator x path)))
   unfolding reported_expression type_of evaluate
-  designator-valued x end name = name.fits.valued ∙ sym (name-valued among (label x) (constant_of (meaning.object_for (label x))) refl)
-  designator-valued x (more s path) name =
+  designator-value_agrees x end name = name.fits.value_agrees ∙ sym (name-value_agrees among (label x) (constant_of (meaning.object_for (label x))) refl)
+  designator-value_agrees x (more s path) name =
       parts-have-none facts (name_operand facts x).known s path
-      ∙ sym (parts-valued among (label x) (constant_of (meaning.object_for (label x))) (tree s) (tree path) refl (λ v e. ap is_some (name.fits.scalar v (name.fits.valued ∙ e))))
+      ∙ sym (parts-value_agrees among (label x) (constant_of (meaning.object_for (label x))) (tree s) (tree path) refl (λ v e. ap is_some (name.fits.scalar v (name.fits.value_agrees ∙ e))))
 
   designator-scalar : (x : ℕ) (path : Tree ℕ (items selector)) (name : NameFits facts shape label meaning x) (fs : FitsSelectors (name_operand facts x).known name.fits.of path) → IsOf fs.of (reported_factor facts (designator x path)).known.value
   unfolding reported_expression
@@ -214,8 +214,8 @@ module _ {T N P : Type 0} (facts : Facts T) (shape : T → Option Shape) (types 
   designator-whole x path name fs = record {
     of = fs.of;
     known = fs.known;
-    typed = goes-on (λ s. type_at meaning s (tree path)) (object_type (meaning.object_for (label x))) name.fits.of (Some fs.of) name.fits.typed fs.typed;
-    valued = designator-valued x path name;
+    typed = goes-on (λ s. type_after_selectors meaning s (tree path)) (object_type (meaning.object_for (label x))) name.fits.of (Some fs.of) name.fits.typed fs.typed;
+    value_agrees = designator-value_agrees x path name;
     scalar = designator-scalar x path name fs;
   }
 
@@ -227,25 +227,25 @@ module _ {T N P : Type 0} (facts : Facts T) (shape : T → Option Shape) (types 
         of = boolean_shape;
         known = known;
         typed = goes-on negation_type (type_of_factor meaning (tree f)) ff.of (Some boolean_shape) ff.typed typed;
-        valued = ap (option_and_then (λ x. outcome_value (negate x))) ff.valued ∙ sym (negation-valued among (tree f));
+        value_agrees = ap (option_and_then (λ x. outcome_value (negate x))) ff.value_agrees ∙ sym (negation-value_agrees among (tree f));
         scalar = complement-of (reported_factor facts f).known.value;
       }
 
   parentheses-whole : (e : Tree ℕ expression) → FitsExpression e → FitsFactor (parenthesised e)
   unfolding reported_expression type_of evaluate
-  parentheses-whole e fe = record { of = fe.of; known = fe.known; typed = fe.typed; valued = fe.valued; scalar = fe.scalar }
+  parentheses-whole e fe = record { of = fe.of; known = fe.known; typed = fe.typed; value_agrees = fe.value_agrees; scalar = fe.scalar }
 
   integer-whole : (n : ℕ) → FitsFactor (integer n)
   unfolding reported_expression type_of evaluate
-  integer-whole n = record { of = integer_shape; known = types.integer; typed = refl; valued = refl; scalar = some-of integer_shape (number (pos (value_at facts.source n))) refl }
+  integer-whole n = record { of = integer_shape; known = types.integer; typed = refl; value_agrees = refl; scalar = some-of integer_shape (number (pos (token_value_at facts.source n))) refl }
 
-  field-whole : (x : Operand T) (s : Shape) (n : ℕ) (rest : Tree ℕ (items selector)) (u : Shape) → field_type s (text_at facts.source n) ≡ Some u → meaning.written (label n) ≡ text_at facts.source n
+  field-whole : (x : Operand T) (s : Shape) (n : ℕ) (rest : Tree ℕ (items selector)) (u : Shape) → field_type s (token_text_at facts.source n) ≡ Some u → meaning.written (label n) ≡ token_text_at facts.source n
       → FitsSelectors (field_operand facts x n).known u rest → FitsSelectors x s (more (field n) rest)
   unfolding reported_expression type_of
   field-whole x s n rest u typed written fs = record {
     of = fs.of;
     known = fs.known;
-    typed = goes-on (λ t. type_at meaning t (tree rest)) (field_type s (meaning.written (label n))) u (Some fs.of) (ap (field_type s) written ∙ typed) fs.typed;
+    typed = goes-on (λ t. type_after_selectors meaning t (tree rest)) (field_type s (meaning.written (label n))) u (Some fs.of) (ap (field_type s) written ∙ typed) fs.typed;
   }
 
   index-whole : (x : Operand T) (s : Shape) (e : Tree ℕ expression) (rest : Tree ℕ (items selector)) (fe : FitsExpression e) (u : Shape) → element_type s fe.of ≡ Some u
@@ -254,17 +254,17 @@ module _ {T N P : Type 0} (facts : Facts T) (shape : T → Option Shape) (types 
   index-whole x s e rest fe u typed fs = record {
     of = fs.of;
     known = fs.known;
-    typed = goes-on (λ i. option_and_then (λ t. type_at meaning t (tree rest)) (element_type s i)) (type_of meaning (tree e)) fe.of (Some fs.of) fe.typed
-        (goes-on (λ t. type_at meaning t (tree rest)) (element_type s fe.of) u (Some fs.of) typed fs.typed);
+    typed = goes-on (λ i. option_and_then (λ t. type_after_selectors meaning t (tree rest)) (element_type s i)) (type_of meaning (tree e)) fe.of (Some fs.of) fe.typed
+        (goes-on (λ t. type_after_selectors meaning t (tree rest)) (element_type s fe.of) u (Some fs.of) typed fs.typed);
   }
 
   ended-addends : (x : Operand T) (s : Shape) → shape x.of ≡ Some s → IsOf s x.value → FitsAddends x s end
   unfolding reported_expression type_of evaluate
-  ended-addends x s hx scalar = record { of = s; known = hx; typed = refl; valued = then-itself x.value; scalar = scalar }
+  ended-addends x s hx scalar = record { of = s; known = hx; typed = refl; value_agrees = then-itself x.value; scalar = scalar }
 
   ended-multipliers : (x : Operand T) (s : Shape) → shape x.of ≡ Some s → IsOf s x.value → FitsMultipliers x s end
   unfolding reported_expression type_of evaluate
-  ended-multipliers x s hx scalar = record { of = s; known = hx; typed = refl; valued = then-itself x.value; scalar = scalar }
+  ended-multipliers x s hx scalar = record { of = s; known = hx; typed = refl; value_agrees = then-itself x.value; scalar = scalar }
 
   ended-selectors : (x : Operand T) (s : Shape) → shape x.of ≡ Some s → FitsSelectors x s end
   unfolding reported_expression type_of

@@ -17,18 +17,18 @@ use Rattle.ob0_types_check.proofs.Operands.{none-of, some-of}
 use Rattle.ob0_scan.specs.declared.fault.FaultCode.TheVariants as code
 
 -- holds if the operand of a name has the type and the value of the name's object
-pub record ObjectFits {T P : Type 0} (shape : T → Option Shape) (k : Operand T) (o : Option (Object Shape P)) : Type 0 where
+pub record RunObjectAgrees {T P : Type 0} (shape : T → Option Shape) (k : Operand T) (o : Option (Object Shape P)) : Type 0 where
   pub fits : Fits shape k (object_type o) (constant_of o)
-  pub placed : k.is_place ≡ true → o ≡ Some (meant.a_variable fits.of)
+  pub placed : k.may_be_variable ≡ true → o ≡ Some (meant.a_variable fits.of)
 
 module _ {T : Type 0} (facts : Facts T) (shape : T → Option Shape) (types : TypesAgree facts.types shape) where
-  constant-fits : {P : Type 0} (x : ℕ) (v : Value) → is_some (value_type v) ≡ true → ObjectFits {P = P} shape (constant_name_operand facts.types (Some v) x) (Some (meant.a_constant v))
+  constant-fits : {P : Type 0} (x : ℕ) (v : Value) → is_some (value_type v) ≡ true → RunObjectAgrees {P = P} shape (constant_name_operand facts.types (Some v) x) (Some (meant.a_constant v))
   constant-fits x (number n) h = record {
-    fits = record { of = integer_shape; known = types.integer; typed = refl; valued = refl; scalar = some-of integer_shape (number n) refl };
+    fits = record { of = integer_shape; known = types.integer; typed = refl; value_agrees = refl; scalar = some-of integer_shape (number n) refl };
     placed = λ e. absurd (true≢false (sym e));
   }
   constant-fits x (truth b) h = record {
-    fits = record { of = boolean_shape; known = types.boolean; typed = refl; valued = refl; scalar = some-of boolean_shape (truth b) refl };
+    fits = record { of = boolean_shape; known = types.boolean; typed = refl; value_agrees = refl; scalar = some-of boolean_shape (truth b) refl };
     placed = λ e. absurd (true≢false (sym e));
   }
   constant-fits x (elements vs) h = absurd (cc)
@@ -36,18 +36,18 @@ module _ {T : Type 0} (facts : Facts T) (shape : T → Option Shape) (types : Ty
 
   variable-fits : {P : Type 0} (x : ℕ) (t : T) (s : Shape) → shape t ≡ Some s → (b : Bool)
       → (if b then record { known = typed_name_operand facts.types.unknown x; faults = fault_at_token facts code.NotConstant x } else without_fault (typed_name_operand t x)).faults ≡ []
-      → ObjectFits {P = P} shape (if b then record { known = typed_name_operand facts.types.unknown x; faults = fault_at_token facts code.NotConstant x } else without_fault (typed_name_operand t x)).known (Some (meant.a_variable s))
+      → RunObjectAgrees {P = P} shape (if b then record { known = typed_name_operand facts.types.unknown x; faults = fault_at_token facts code.NotConstant x } else without_fault (typed_name_operand t x)).known (Some (meant.a_variable s))
   variable-fits x t s known true h = absurd (cc)
-  variable-fits x t s known false h = record { fits = record { of = s; known = known; typed = refl; valued = refl; scalar = none-of s }; placed = λ e. refl }
+  variable-fits x t s known false h = record { fits = record { of = s; known = known; typed = refl; value_agrees = refl; scalar = none-of s }; placed = λ e. refl }
 
-  holds-fits : (x : ℕ) (m : Option (Meaning T)) (o : Option (Object Shape Signature)) → KnownMeaningAgrees shape m o → (operand_by_meaning facts x m).faults ≡ [] → ObjectFits shape (operand_by_meaning facts x m).known o
+  holds-fits : (x : ℕ) (m : Option (Meaning T)) (o : Option (Object Shape Signature)) → KnownMeaningAgrees shape m o → (operand_by_meaning facts x m).faults ≡ [] → RunObjectAgrees shape (operand_by_meaning facts x m).known o
   holds-fits x None o a h = absurd a
   holds-fits x (Some (a_type t)) o a h = absurd (cc)
   holds-fits x (Some (a_procedure fs)) o a h = absurd (cc)
   holds-fits x (Some (a_constant c)) o (v, reported, holds, scalar) h =
-      subst₂ (λ c o. ObjectFits shape (constant_name_operand facts.types c x) o) (sym reported) (sym holds) (constant-fits x v scalar)
+      subst₂ (λ c o. RunObjectAgrees shape (constant_name_operand facts.types c x) o) (sym reported) (sym holds) (constant-fits x v scalar)
   holds-fits x (Some (a_variable t)) o (s, known, holds) h =
-      subst (λ o. ObjectFits shape (operand_by_meaning facts x (Some (a_variable t))).known o) (sym holds) (variable-fits x t s known facts.only_constants h)
+      subst (λ o. RunObjectAgrees shape (operand_by_meaning facts x (Some (a_variable t))).known o) (sym holds) (variable-fits x t s known facts.only_constants h)
 
   -- The operand of a name in a constant expression, in which names may only refer to constants, has the type and value
   -- of its object.
@@ -56,12 +56,12 @@ module _ {T : Type 0} (facts : Facts T) (shape : T → Option Shape) (types : Ty
   no-variable x t false only h = true≢false (sym only)
 
   only-fits : {Q : Type 0} (x : ℕ) (m : Option (Meaning T)) (o : Option (Object Shape Signature)) → facts.only_constants ≡ true → KnownMeaningAgrees shape m o → (operand_by_meaning facts x m).faults ≡ []
-      → ObjectFits {P = Q} shape (operand_by_meaning facts x m).known (option_map meant.a_constant (constant_of o))
+      → RunObjectAgrees {P = Q} shape (operand_by_meaning facts x m).known (option_map meant.a_constant (constant_of o))
   only-fits x None o only a h = absurd a
   only-fits x (Some (a_type t)) o only a h = absurd (cc)
   only-fits x (Some (a_procedure fs)) o only a h = absurd (cc)
   only-fits {Q = Q} x (Some (a_constant c)) o only (v, reported, holds, scalar) h =
-      subst₂ (λ c o. ObjectFits {P = Q} shape (constant_name_operand facts.types c x) (option_map meant.a_constant (constant_of o))) (sym reported) (sym holds) (constant-fits x v scalar)
+      subst₂ (λ c o. RunObjectAgrees {P = Q} shape (constant_name_operand facts.types c x) (option_map meant.a_constant (constant_of o))) (sym reported) (sym holds) (constant-fits x v scalar)
   only-fits x (Some (a_variable t)) o only a h = absurd (no-variable x t facts.only_constants only h)
 
 module _ {T N : Type 0} (facts : Facts T) (shape : T → Option Shape) (types : TypesAgree facts.types shape) (label : ℕ → N) (meaning : TypeMeanings N) where

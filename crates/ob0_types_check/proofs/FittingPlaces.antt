@@ -2,23 +2,23 @@
 use Rattle.std.proofs.Common.{◌≡◌, ℕ, true, false, true≢false, List, [], ◌++◌, Option, Some, None, refl, sym, ap, ◌∙◌}
 use Rattle.ob0_tree.specs.declared.tree.Role.{Role}
 use Rattle.ob0_tree.specs.declared.tree.Role.TheVariants as role
-use Rattle.ob0_tree.specs.Places.{value_at}
-use Rattle.ob0_tree.specs.Tree.{Sort, Tree, adds, compares, designator, end, expression, factor, identifiers, integer, items, mapped, more, multiplies, negation, none, one, parenthesised, product, relates, selector, sum}
+use Rattle.ob0_tree.specs.Places.{token_value_at}
+use Rattle.ob0_tree.specs.Tree.{Sort, Tree, adds, compares, designator, end, expression, factor, identifiers, integer, items, mapped_tree, more, multiplies, negation, none, one, parenthesised, product, relates, selector, sum}
 use Rattle.ob0_language_types.specs.Expressions.{Meanings, a_variable}
-use Rattle.ob0_language_types.specs.Typing.{lone_designator, type_at}
+use Rattle.ob0_language_types.specs.Typing.{lone_designator, type_after_selectors}
 use Rattle.ob0_language_types.specs.WellTyped.{variable_type}
 use Rattle.ob0_language_values.specs.Values.{Shape}
 use Rattle.ob0_types_check.specs.ExpressionFaults.{reported_expression, reported_factor, reported_selectors, reported_term}
 use Rattle.ob0_types_check.specs.Known.{Facts, Operand}
 use Rattle.ob0_types_check.specs.Operations.{add_operands, multiply_operands, name_operand, sign_operand}
 use Rattle.ob0_types_check.specs.Agreement.{TypesAgree}
-use Rattle.ob0_types_check.specs.ReportLaws.{OperandFits}
+use Rattle.ob0_types_check.specs.ReportLaws.{OperandAgrees}
 use Rattle.ob0_types_check.proofs.FittingExpressions.{FitsExpression, FitsSelectors, NameFits, TokensFit, addends-apart, expression-fits, multipliers-apart, parts-placed, selectors-fit, split-tokens}
 use Rattle.ob0_types_check.proofs.Unreported.{none-reported}
 
 module _ {T N P : Type 0} (facts : Facts T) (shape : T → Option Shape) (types : TypesAgree facts.types shape) (label : ℕ → N) (meaning : Meanings N Shape P) where
   abbrev here : {s : Sort} → Tree ℕ s → Tree N s
-  here t = mapped label (value_at facts.source) t
+  here t = mapped_tree label (token_value_at facts.source) t
 
   abbrev Agreed : {s : Sort} → Tree ℕ s → Type 0
   Agreed t = TokensFit facts shape label meaning (identifiers role.Declaring t)
@@ -30,9 +30,9 @@ module _ {T N P : Type 0} (facts : Facts T) (shape : T → Option Shape) (types 
   split = split-tokens facts shape label meaning
 
   pub variable-typed : (x : ℕ) (path : Tree ℕ (items selector)) (s : Shape) (u : Option Shape) → meaning.object_for (label x) ≡ Some (a_variable s)
-      → type_at meaning s (mapped label (value_at facts.source) path) ≡ u → variable_type meaning (Some (label x, mapped label (value_at facts.source) path)) ≡ u
+      → type_after_selectors meaning s (mapped_tree label (token_value_at facts.source) path) ≡ u → variable_type meaning (Some (label x, mapped_tree label (token_value_at facts.source) path)) ≡ u
   unfolding variable_type
-  variable-typed x path s u holds typed = ap (λ o. elim o [ Some (a_variable s) ↦ type_at meaning s (here path) | _ ↦ None ]) holds ∙ typed
+  variable-typed x path s u holds typed = ap (λ o. elim o [ Some (a_variable s) ↦ type_after_selectors meaning s (here path) | _ ↦ None ]) holds ∙ typed
 
   -- holds if an operand has the type of the variable that the expression designates
   pub record IsPlaced (o : Operand T) (e : Tree N expression) : Type 0 where
@@ -41,7 +41,7 @@ module _ {T N P : Type 0} (facts : Facts T) (shape : T → Option Shape) (types 
     pub placed : variable_type meaning (lone_designator e) ≡ Some of
 
   designator-placed : (x : ℕ) (path : Tree ℕ (items selector)) (f : Tree N factor) → NameFits facts shape label meaning x → Agreed path → (reported_selectors facts (name_operand facts x).known path).faults ≡ []
-      → (reported_selectors facts (name_operand facts x).known path).known.is_place ≡ true
+      → (reported_selectors facts (name_operand facts x).known path).known.may_be_variable ≡ true
       → IsPlaced (reported_selectors facts (name_operand facts x).known path).known (compares (sum None (product (designator (label x) (here path)) end) end) none)
   designator-placed x path f name k h e =
       let fs : FitsSelectors facts shape types label meaning (name_operand facts x).known name.fits.of path = selectors-fit facts shape types label meaning (name_operand facts x).known name.fits.of path name.fits.known k h in
@@ -51,10 +51,10 @@ module _ {T N P : Type 0} (facts : Facts T) (shape : T → Option Shape) (types 
         placed = variable-typed x path name.fits.of (Some fs.of) (name.placed (sym (parts-placed facts (name_operand facts x).known path) ∙ e)) fs.typed;
       }
 
-  no-place : {A : Type 0} (o : Operand T) → o.is_place ≡ false → o.is_place ≡ true → A
+  no-place : {A : Type 0} (o : Operand T) → o.may_be_variable ≡ false → o.may_be_variable ≡ true → A
   no-place o f e = absurd (true≢false (sym e ∙ f))
 
-  placed-factor : (f : Tree ℕ factor) → Agreed f → (reported_factor facts f).faults ≡ [] → (reported_factor facts f).known.is_place ≡ true
+  placed-factor : (f : Tree ℕ factor) → Agreed f → (reported_factor facts f).faults ≡ [] → (reported_factor facts f).known.may_be_variable ≡ true
       → IsPlaced (reported_factor facts f).known (compares (sum None (product (here f) end) end) none)
   unfolding reported_expression
   placed-factor (designator x path) k h e =
@@ -64,7 +64,7 @@ module _ {T N P : Type 0} (facts : Facts T) (shape : T → Option Shape) (types 
   placed-factor (parenthesised a) k h e = no-place (reported_factor facts (parenthesised a)).known refl e
   placed-factor (negation a) k h e = no-place (reported_factor facts (negation a)).known refl e
 
-  pub expression-placed : (e : Tree ℕ expression) → Agreed e → (reported_expression facts e).faults ≡ [] → (reported_expression facts e).known.is_place ≡ true → IsPlaced (reported_expression facts e).known (here e)
+  pub expression-placed : (e : Tree ℕ expression) → Agreed e → (reported_expression facts e).faults ≡ [] → (reported_expression facts e).known.may_be_variable ≡ true → IsPlaced (reported_expression facts e).known (here e)
   unfolding reported_expression
   expression-placed (compares a (one (relates r b))) k h e = no-place (reported_expression facts (compares a (one (relates r b)))).known refl e
   expression-placed (compares (sum g t (more (adds o u) rest)) none) k h e =
@@ -78,15 +78,15 @@ module _ {T N P : Type 0} (facts : Facts T) (shape : T → Option Shape) (types 
       placed-factor f (split (ids f) [] (split (ids (product f end)) [] (split (ids (sum None (product f end) end)) [] k).0).0).0
       (none-reported (reported_factor facts f).faults _ (none-reported (reported_term facts (product f end)).faults _ h).0).0 e
 
-  -- An operand for which no fault is reported agrees with its expression (`OperandFits`).
-  pub operand-fits : (e : Tree ℕ expression) → Agreed e → (reported_expression facts e).faults ≡ [] → OperandFits shape meaning (reported_expression facts e).known (here e)
+  -- An operand for which no fault is reported agrees with its expression (`OperandAgrees`).
+  pub operand-fits : (e : Tree ℕ expression) → Agreed e → (reported_expression facts e).faults ≡ [] → OperandAgrees shape meaning (reported_expression facts e).known (here e)
   operand-fits e k h =
       let fe : FitsExpression facts shape types label meaning e = expression-fits facts shape types label meaning e k h in
       record {
         of = fe.of;
         known = fe.known;
         typed = fe.typed;
-        valued = fe.valued;
+        value_agrees = fe.value_agrees;
         scalar = fe.scalar;
         placed = λ i. let p : IsPlaced (reported_expression facts e).known (here e) = expression-placed e k h i in p.placed ∙ (sym p.known ∙ fe.known);
       }

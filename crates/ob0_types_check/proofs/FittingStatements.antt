@@ -6,22 +6,22 @@ use Rattle.ob0_types_table.specs.Tables.{mode_of}
 use Rattle.ob0_types_table.proofs.SameShapes.{same_shape-refl}
 use Rattle.ob0_tree.specs.declared.tree.Role.{Role}
 use Rattle.ob0_tree.specs.declared.tree.Role.TheVariants as role
-use Rattle.ob0_tree.specs.Places.{value_at}
-use Rattle.ob0_tree.specs.Tree.{Sort, Tree, arguments, assigns, branches, calls, else_branch, else_part, elsif_branch, elsif_part, empty, end, expression, further_argument, further_statement, identifiers, items, mapped, maybe, more, no_arguments, none, one, repeat_loop, runs, selector, sequence, some_arguments, statement, then_argument, then_statement, while_loop}
+use Rattle.ob0_tree.specs.Places.{token_value_at}
+use Rattle.ob0_tree.specs.Tree.{Sort, Tree, arguments, assigns, branches, calls, else_branch, else_part, elsif_branch, elsif_part, empty, end, expression, further_argument, further_statement, identifiers, items, mapped_tree, maybe, more, no_arguments, none, one, repeat_loop, runs, selector, sequence, some_arguments, statement, then_argument, then_statement, while_loop}
 use Rattle.ob0_language_types.specs.Arguments.{arguments_listed, further_arguments}
 use Rattle.ob0_language_types.specs.Expressions as meant
 use Rattle.ob0_language_types.specs.Expressions.{Object}
 use Rattle.ob0_language_types.specs.Typing.{lone_designator, type_of}
-use Rattle.ob0_language_types.specs.WellTyped.{FormalParameter, Signature, TypeMeanings, same_known_shape, argument_fits, arguments_fit, by_place, by_value, call_fits, condition_fits, else_fits, elsifs_fit, sequence_fits, signature_of, statement_fits, statements_fit, variable_type}
+use Rattle.ob0_language_types.specs.WellTyped.{FormalParameter, Signature, TypeMeanings, same_known_shape, argument_matches, arguments_match, by_place, by_value, call_is_well_typed, condition_is_boolean, else_is_well_typed, elsifs_are_well_typed, sequence_is_well_typed, signature_of, statement_is_well_typed, further_statements_are_well_typed, variable_type}
 use Rattle.ob0_language_values.specs.Values.{Shape, boolean_shape}
 use Rattle.ob0_types_check.specs.ExpressionFaults.{reported_expression}
 use Rattle.ob0_types_check.specs.Known.{Facts, Meaning, Operand, Reported, a_constant, a_procedure, a_type, a_variable}
 use Rattle.ob0_types_check.specs.Known as known
 use Rattle.ob0_types_check.specs.Operations.{typed_name_operand, required_type, fault_at_operand}
 use Rattle.ob0_types_check.specs.KnownDeclarations.{facts_at}
-use Rattle.ob0_types_check.specs.StatementFaults.{target_name_type, target_type_by_meaning, reported_call_by_meaning, reported_argument, reported_arguments, reported_required, reported_assignment, reported_call, reported_condition, reported_else, reported_elsifs, reported_sequence, reported_statement, reported_statements, reported_target}
+use Rattle.ob0_types_check.specs.StatementFaults.{target_name_type, target_type_by_meaning, call_faults_by_meaning, faults_of_argument, argument_faults, typed_expression_faults, assignment_faults, call_faults, condition_faults, else_faults, elsif_faults, sequence_faults, statement_faults, further_statement_faults, reported_target}
 use Rattle.ob0_types_check.specs.Agreement.{FormalsAgree, KnownMeaningAgrees, TokensAgree, TypesAgree, shape_in}
-use Rattle.ob0_types_check.specs.ReportLaws.{OperandFits, StatementsFit}
+use Rattle.ob0_types_check.specs.ReportLaws.{OperandAgrees, StatementsWithoutFaultAreTyped}
 use Rattle.ob0_types_check.proofs.FittingExpressions.{FitsSelectors, selectors-fit}
 use Rattle.ob0_types_check.proofs.FittingNames.{tokens-fit}
 use Rattle.ob0_types_check.proofs.FittingPlaces.{operand-fits, variable-typed}
@@ -42,7 +42,7 @@ counted false xs x h = absurd (cc)
 
 module _ {T N : Type 0} (facts : Facts T) (shape : T → Option Shape) (types : TypesAgree facts.types shape) (label : ℕ → N) (meaning : TypeMeanings N) where
   abbrev here : {s : Sort} → Tree ℕ s → Tree N s
-  here t = mapped label (value_at facts.source) t
+  here t = mapped_tree label (token_value_at facts.source) t
 
   abbrev ids : {s : Sort} → Tree ℕ s → List (Role × ℕ)
   ids t = identifiers role.Declaring t
@@ -54,20 +54,20 @@ module _ {T N : Type 0} (facts : Facts T) (shape : T → Option Shape) (types : 
   split [] ys h = (tt, h)
   split (x ∷ xs) ys h = let rest = split xs ys h.1 in ((h.0, rest.0), rest.1)
 
-  pub known-operand : (e : Tree ℕ expression) → Agreed e → (reported_expression facts e).faults ≡ [] → OperandFits shape meaning (reported_expression facts e).known (here e)
+  pub known-operand : (e : Tree ℕ expression) → Agreed e → (reported_expression facts e).faults ≡ [] → OperandAgrees shape meaning (reported_expression facts e).known (here e)
   known-operand e k h = operand-fits facts shape types label meaning e (tokens-fit facts shape types label meaning (ids e) k) h
 
   -- An expression that must have a type has it if no fault is reported.
-  requested-typed : (wanted : T) (w : Shape) (e : Tree ℕ expression) → shape wanted ≡ Some w → Agreed e → reported_required facts wanted e ≡ [] → type_of meaning (here e) ≡ Some w
-  unfolding reported_required
+  requested-typed : (wanted : T) (w : Shape) (e : Tree ℕ expression) → shape wanted ≡ Some w → Agreed e → typed_expression_faults facts wanted e ≡ [] → type_of meaning (here e) ≡ Some w
+  unfolding typed_expression_faults
   requested-typed wanted w e hw k h =
       let parts = none-reported (reported_expression facts e).faults _ h in
-      let o : OperandFits shape meaning (reported_expression facts e).known (here e) = known-operand e k parts.0 in
+      let o : OperandAgrees shape meaning (reported_expression facts e).known (here e) = known-operand e k parts.0 in
       let (given, same) = requested-fits facts shape types wanted (reported_expression facts e).known o.of w o.known hw parts.1 in
       o.typed ∙ ap (λ s. Some s) same
 
-  condition-fits : (e : Tree ℕ expression) → Agreed e → reported_condition facts e ≡ [] → condition_fits meaning (here e) ≡ true
-  unfolding condition_fits
+  condition-fits : (e : Tree ℕ expression) → Agreed e → condition_faults facts e ≡ [] → condition_is_boolean meaning (here e) ≡ true
+  unfolding condition_is_boolean
   condition-fits e k h = ap (same_known_shape (Some boolean_shape)) (requested-typed facts.types.boolean boolean_shape e types.boolean k h)
 
   -- holds if the name that is assigned to is a variable of the reported type
@@ -84,8 +84,8 @@ module _ {T N : Type 0} (facts : Facts T) (shape : T → Option Shape) (types : 
   assigned-holds x (Some (a_procedure fs)) o a h = absurd (cc)
   assigned-holds x (Some (a_variable t)) o (s, reported, holds) h = record { of = s; known = reported; holds = holds }
 
-  assignment-fits : (x : ℕ) (path : Tree ℕ (items selector)) (e : Tree ℕ expression) → Agreed (assigns x path e) → reported_assignment facts (reported_target facts x path) e ≡ [] → statement_fits meaning (here (assigns x path e)) ≡ true
-  unfolding reported_target statement_fits
+  assignment-fits : (x : ℕ) (path : Tree ℕ (items selector)) (e : Tree ℕ expression) → Agreed (assigns x path e) → assignment_faults facts (reported_target facts x path) e ≡ [] → statement_is_well_typed meaning (here (assigns x path e)) ≡ true
+  unfolding reported_target statement_is_well_typed
   assignment-fits x path e k h =
       let parts = none-reported (reported_target facts x path).faults _ h in
       let target = none-reported (target_name_type facts x).faults _ parts.0 in
@@ -99,49 +99,49 @@ module _ {T N : Type 0} (facts : Facts T) (shape : T → Option Shape) (types : 
 
   -- Arguments and calls fit if no fault is reported for them.
 
-  required_of_argument-fits : (b : Bool) (of : T) (g : FormalParameter) (e : Tree ℕ expression) (o : Operand T) → OperandFits shape meaning o (here e) → g.mode ≡ mode_of b → shape of ≡ Some g.shape
-      → (if b && not o.is_place then record { known = facts.types.unknown; faults = fault_at_operand facts code.NotVariable o } else required_type facts of o).faults ≡ [] → argument_fits meaning g (here e) ≡ true
-  unfolding argument_fits
-  required_of_argument-fits true of g e o fe mode wanted h =
-      let parts = second-reported (not o.is_place) (record { known = facts.types.unknown; faults = fault_at_operand facts code.NotVariable o }) (required_type facts of o) _ refl h in
+  required_type_of_argument-fits : (b : Bool) (of : T) (g : FormalParameter) (e : Tree ℕ expression) (o : Operand T) → OperandAgrees shape meaning o (here e) → g.mode ≡ mode_of b → shape of ≡ Some g.shape
+      → (if b && not o.may_be_variable then record { known = facts.types.unknown; faults = fault_at_operand facts code.NotVariable o } else required_type facts of o).faults ≡ [] → argument_matches meaning g (here e) ≡ true
+  unfolding argument_matches
+  required_type_of_argument-fits true of g e o fe mode wanted h =
+      let parts = second-reported (not o.may_be_variable) (record { known = facts.types.unknown; faults = fault_at_operand facts code.NotVariable o }) (required_type facts of o) _ refl h in
       let (given, same) = requested-fits facts shape types of o fe.of g.shape fe.known wanted parts.1 in
       (λ i. same_known_shape (Some g.shape) (elim (mode i) [ by_value ↦ type_of meaning (here e) | by_place ↦ variable_type meaning (lone_designator (here e)) ]))
-      ∙ same_known_shape-same g.shape (Some g.shape) (variable_type meaning (lone_designator (here e))) refl (fe.placed (not-false o.is_place parts.0) ∙ ap (λ s. Some s) same)
-  required_of_argument-fits false of g e o fe mode wanted h =
+      ∙ same_known_shape-same g.shape (Some g.shape) (variable_type meaning (lone_designator (here e))) refl (fe.placed (not-false o.may_be_variable parts.0) ∙ ap (λ s. Some s) same)
+  required_type_of_argument-fits false of g e o fe mode wanted h =
       let (given, same) = requested-fits facts shape types of o fe.of g.shape fe.known wanted h in
       (λ i. same_known_shape (Some g.shape) (elim (mode i) [ by_value ↦ type_of meaning (here e) | by_place ↦ variable_type meaning (lone_designator (here e)) ]))
       ∙ same_known_shape-same g.shape (Some g.shape) (type_of meaning (here e)) refl (fe.typed ∙ ap (λ s. Some s) same)
 
-  argument-fits : (f : known.KnownFormal T) (g : FormalParameter) (e : Tree ℕ expression) → g.mode ≡ mode_of f.by_place → shape f.of ≡ Some g.shape → Agreed e → reported_argument facts f e ≡ [] → argument_fits meaning g (here e) ≡ true
-  unfolding reported_argument
+  argument-fits : (f : known.KnownFormal T) (g : FormalParameter) (e : Tree ℕ expression) → g.mode ≡ mode_of f.by_place → shape f.of ≡ Some g.shape → Agreed e → faults_of_argument facts f e ≡ [] → argument_matches meaning g (here e) ≡ true
+  unfolding faults_of_argument
   argument-fits f g e mode wanted k h =
       let parts = none-reported (reported_expression facts e).faults _ h in
-      required_of_argument-fits f.by_place f.of g e (reported_expression facts e).known (known-operand e k parts.0) mode wanted parts.1
+      required_type_of_argument-fits f.by_place f.of g e (reported_expression facts e).known (known-operand e k parts.0) mode wanted parts.1
 
   abbrev pub EachAgreed : List (Tree ℕ expression) → Type 0
   EachAgreed [] = Unit {0}
   EachAgreed (e ∷ es) = Agreed e × EachAgreed es
 
-  arguments-fit : (fs : List (known.KnownFormal T)) (gs : Signature) (es : List (Tree ℕ expression)) → FormalsAgree shape fs gs → length fs ≡ length es → EachAgreed es → reported_arguments facts fs es ≡ []
-      → arguments_fit meaning gs (map here es) ≡ true
-  unfolding arguments_fit
+  arguments-fit : (fs : List (known.KnownFormal T)) (gs : Signature) (es : List (Tree ℕ expression)) → FormalsAgree shape fs gs → length fs ≡ length es → EachAgreed es → argument_faults facts fs es ≡ []
+      → arguments_match meaning gs (map here es) ≡ true
+  unfolding arguments_match
   arguments-fit [] [] [] a n k h = refl
   arguments-fit [] [] (e ∷ es) a n k h = absurd (omega (arith, n))
   arguments-fit [] (g ∷ gs) es a n k h = absurd a
   arguments-fit (f ∷ fs) [] es a n k h = absurd a
   arguments-fit (f ∷ fs) (g ∷ gs) [] a n k h = absurd (omega (arith, n))
   arguments-fit (f ∷ fs) (g ∷ gs) (e ∷ es) a n k h =
-      let parts = none-reported (reported_argument facts f e) _ h in
-      and_from (argument_fits meaning g (here e)) (arguments_fit meaning gs (map here es)) (argument-fits f g e a.0 a.1 k.0 parts.0) (arguments-fit fs gs es a.2 (omega (arith, n)) k.1 parts.1)
+      let parts = none-reported (faults_of_argument facts f e) _ h in
+      and_from (argument_matches meaning g (here e)) (arguments_match meaning gs (map here es)) (argument-fits f g e a.0 a.1 k.0 parts.0) (arguments-fit fs gs es a.2 (omega (arith, n)) k.1 parts.1)
 
-  further-mapped : (es : Tree ℕ (items further_argument)) → further_arguments (here es) ≡ map here (further_arguments es)
-  further-mapped end = refl
-  further-mapped (more (then_argument e) es) = λ i. here e ∷ further-mapped es i
+  further-mapped_tree : (es : Tree ℕ (items further_argument)) → further_arguments (here es) ≡ map here (further_arguments es)
+  further-mapped_tree end = refl
+  further-mapped_tree (more (then_argument e) es) = λ i. here e ∷ further-mapped_tree es i
 
-  pub arguments-mapped : (es : Tree ℕ (maybe arguments)) → arguments_listed (here es) ≡ map here (arguments_listed es)
-  arguments-mapped none = refl
-  arguments-mapped (one no_arguments) = refl
-  arguments-mapped (one (some_arguments e es)) = λ i. here e ∷ further-mapped es i
+  pub arguments-mapped_tree : (es : Tree ℕ (maybe arguments)) → arguments_listed (here es) ≡ map here (arguments_listed es)
+  arguments-mapped_tree none = refl
+  arguments-mapped_tree (one no_arguments) = refl
+  arguments-mapped_tree (one (some_arguments e es)) = λ i. here e ∷ further-mapped_tree es i
 
   further-agreed : (es : Tree ℕ (items further_argument)) → Agreed es → EachAgreed (further_arguments es)
   further-agreed end k = tt
@@ -152,26 +152,26 @@ module _ {T N : Type 0} (facts : Facts T) (shape : T → Option Shape) (types : 
   arguments-agreed (one no_arguments) k = tt
   arguments-agreed (one (some_arguments e es)) k = let parts = split (ids e) (ids es) k in (parts.0, further-agreed es parts.1)
 
-  called-fits : (x : ℕ) (m : Option (Meaning T)) (o : Option (Object Shape Signature)) (es : List (Tree ℕ expression)) → KnownMeaningAgrees shape m o → EachAgreed es → reported_call_by_meaning facts x m es ≡ [] → call_fits meaning (signature_of o) (map here es) ≡ true
-  unfolding call_fits
+  called-fits : (x : ℕ) (m : Option (Meaning T)) (o : Option (Object Shape Signature)) (es : List (Tree ℕ expression)) → KnownMeaningAgrees shape m o → EachAgreed es → call_faults_by_meaning facts x m es ≡ [] → call_is_well_typed meaning (signature_of o) (map here es) ≡ true
+  unfolding call_is_well_typed
   called-fits x None o es a k h = absurd a
   called-fits x (Some (a_type t)) o es a k h = absurd (cc)
   called-fits x (Some (a_constant c)) o es a k h = absurd (cc)
   called-fits x (Some (a_variable t)) o es a k h = absurd (cc)
   called-fits x (Some (a_procedure fs)) o es (signature, holds, formals) k h =
-      let parts = counted (nat_eq (length fs) (length es)) (reported_arguments facts fs es) _ h in
-      ap (λ s. call_fits meaning s (map here es)) holds ∙ arguments-fit fs signature es formals (eqb-true (length fs) (length es) parts.0) k parts.1
+      let parts = counted (nat_eq (length fs) (length es)) (argument_faults facts fs es) _ h in
+      ap (λ s. call_is_well_typed meaning s (map here es)) holds ∙ arguments-fit fs signature es formals (eqb-true (length fs) (length es) parts.0) k parts.1
 
-  call-fits : (x : ℕ) (es : Tree ℕ (maybe arguments)) → Agreed (calls x es) → reported_call facts x (arguments_listed es) ≡ [] → statement_fits meaning (here (calls x es)) ≡ true
-  unfolding statement_fits
+  call-fits : (x : ℕ) (es : Tree ℕ (maybe arguments)) → Agreed (calls x es) → call_faults facts x (arguments_listed es) ≡ [] → statement_is_well_typed meaning (here (calls x es)) ≡ true
+  unfolding statement_is_well_typed
   call-fits x es k h =
-      ap (call_fits meaning (signature_of (meaning.object_for (label x)))) (arguments-mapped es)
+      ap (call_is_well_typed meaning (signature_of (meaning.object_for (label x)))) (arguments-mapped_tree es)
       ∙ called-fits x (facts.object_for x) (meaning.object_for (label x)) (arguments_listed es) k.0 (arguments-agreed es k.1) h
 
   mutual
-    unfolding reported_statement statement_fits
+    unfolding statement_faults statement_is_well_typed
 
-    pub statement-fits : (a : Tree ℕ statement) → Agreed a → reported_statement facts a ≡ [] → statement_fits meaning (here a) ≡ true
+    pub statement-fits : (a : Tree ℕ statement) → Agreed a → statement_faults facts a ≡ [] → statement_is_well_typed meaning (here a) ≡ true
     statement-fits empty k h = refl
     statement-fits (assigns x path e) k h = assignment-fits x path e k h
     statement-fits (calls x es) k h = call-fits x es k h
@@ -179,45 +179,45 @@ module _ {T N : Type 0} (facts : Facts T) (shape : T → Option Shape) (types : 
         let tokens = split (ids e) _ k in
         let others = split (ids statements) _ tokens.1 in
         let ends = split (ids rest) (ids last) others.1 in
-        let first = none-reported (reported_condition facts e) _ h in
-        let second = none-reported (reported_sequence facts statements) _ first.1 in
-        let third = none-reported (reported_elsifs facts rest) _ second.1 in
+        let first = none-reported (condition_faults facts e) _ h in
+        let second = none-reported (sequence_faults facts statements) _ first.1 in
+        let third = none-reported (elsif_faults facts rest) _ second.1 in
         and_from _ _ (condition-fits e tokens.0 first.0)
         (and_from _ _ (sequence-fits statements others.0 second.0) (and_from _ _ (elsifs-fit rest ends.0 third.0) (else-fits last ends.1 third.1)))
     statement-fits (while_loop e statements) k h =
         let tokens = split (ids e) (ids statements) k in
-        let parts = none-reported (reported_condition facts e) _ h in
+        let parts = none-reported (condition_faults facts e) _ h in
         and_from _ _ (condition-fits e tokens.0 parts.0) (sequence-fits statements tokens.1 parts.1)
     statement-fits (repeat_loop statements e) k h =
         let tokens = split (ids statements) (ids e) k in
-        let parts = none-reported (reported_sequence facts statements) _ h in
+        let parts = none-reported (sequence_faults facts statements) _ h in
         and_from _ _ (sequence-fits statements tokens.0 parts.0) (condition-fits e tokens.1 parts.1)
 
-    pub sequence-fits : (a : Tree ℕ sequence) → Agreed a → reported_sequence facts a ≡ [] → sequence_fits meaning (here a) ≡ true
+    pub sequence-fits : (a : Tree ℕ sequence) → Agreed a → sequence_faults facts a ≡ [] → sequence_is_well_typed meaning (here a) ≡ true
     sequence-fits (runs a rest) k h =
         let tokens = split (ids a) (ids rest) k in
-        let parts = none-reported (reported_statement facts a) _ h in
+        let parts = none-reported (statement_faults facts a) _ h in
         and_from _ _ (statement-fits a tokens.0 parts.0) (statements-fit rest tokens.1 parts.1)
 
-    statements-fit : (a : Tree ℕ (items further_statement)) → Agreed a → reported_statements facts a ≡ [] → statements_fit meaning (here a) ≡ true
+    statements-fit : (a : Tree ℕ (items further_statement)) → Agreed a → further_statement_faults facts a ≡ [] → further_statements_are_well_typed meaning (here a) ≡ true
     statements-fit end k h = refl
     statements-fit (more (then_statement a) rest) k h =
         let tokens = split (ids a) (ids rest) k in
-        let parts = none-reported (reported_statement facts a) _ h in
+        let parts = none-reported (statement_faults facts a) _ h in
         and_from _ _ (statement-fits a tokens.0 parts.0) (statements-fit rest tokens.1 parts.1)
 
-    elsifs-fit : (a : Tree ℕ (items elsif_part)) → Agreed a → reported_elsifs facts a ≡ [] → elsifs_fit meaning (here a) ≡ true
+    elsifs-fit : (a : Tree ℕ (items elsif_part)) → Agreed a → elsif_faults facts a ≡ [] → elsifs_are_well_typed meaning (here a) ≡ true
     elsifs-fit end k h = refl
     elsifs-fit (more (elsif_branch e statements) rest) k h =
         let tokens = split (ids (elsif_branch e statements)) (ids rest) k in
         let inner = split (ids e) (ids statements) tokens.0 in
-        let first = none-reported (reported_condition facts e) _ h in
-        let second = none-reported (reported_sequence facts statements) _ first.1 in
+        let first = none-reported (condition_faults facts e) _ h in
+        let second = none-reported (sequence_faults facts statements) _ first.1 in
         and_from _ _ (condition-fits e inner.0 first.0) (and_from _ _ (sequence-fits statements inner.1 second.0) (elsifs-fit rest tokens.1 second.1))
 
-    else-fits : (a : Tree ℕ (maybe else_part)) → Agreed a → reported_else facts a ≡ [] → else_fits meaning (here a) ≡ true
+    else-fits : (a : Tree ℕ (maybe else_part)) → Agreed a → else_faults facts a ≡ [] → else_is_well_typed meaning (here a) ≡ true
     else-fits none k h = refl
     else-fits (one (else_branch statements)) k h = sequence-fits statements k h
 
-pub statements_fit-holds : {N : Type 0} → StatementsFit N
-statements_fit-holds p shapes label meaning statements agrees h = sequence-fits (facts_at p false) (shape_in shapes) agrees.types label meaning statements agrees.tokens h
+pub statements_without_fault_are_typed-holds : {N : Type 0} → StatementsWithoutFaultAreTyped N
+statements_without_fault_are_typed-holds p shapes label meaning statements agrees h = sequence-fits (facts_at p false) (shape_in shapes) agrees.types label meaning statements agrees.tokens h

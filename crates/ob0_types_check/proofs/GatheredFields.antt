@@ -6,13 +6,13 @@ use Rattle.std.proofs.Common.{◌≡◌, ℕ, ◌+◌, ◌-◌, ◌^◌, ◌<◌
 use Rattle.std.proofs.lemmas.List.{drop_all, drop_more}
 use Rattle.ob0_scan.specs.declared.fault.Fault.{Fault}
 use Rattle.ob0_types_table.specs.declared.types.TypeId.{TypeId}
-use Rattle.ob0_tree.specs.Places.{text_at}
+use Rattle.ob0_tree.specs.Places.{token_text_at}
 use Rattle.ob0_tree.specs.View.{fields_of, further_fields_of_group}
 use Rattle.ob0_tree.specs.declared.tree.Fields.{Fields}
 use Rattle.ob0_types_check.specs.declared.reporting.checker_state.CheckerState.{CheckerState}
 use Rattle.ob0_types_check.specs.declared.reporting.written_types.KnownFields as gathering
 use Rattle.ob0_types_check.specs.Known.{Reported}
-use Rattle.ob0_types_check.specs.Operations.{ReportsAfter}
+use Rattle.ob0_types_check.specs.Operations.{ReturnsAndReports}
 use Rattle.ob0_types_check.specs.KnownDeclarations.{Size, empty_size, size_at}
 use Rattle.ob0_types_check.specs.CheckerViews.{AddsKnownFields, HasKnownFields, capped_size, fields_in, size_of, declarations_in_state}
 use Rattle.ob0_types_check.specs.WrittenTypeFaults.{KnownFields, sum_of_sizes, no_known_fields, reported_fields, reported_groups, with_known_field, with_known_fields}
@@ -28,10 +28,10 @@ beside_counted z w =
 
 -- If the code has gathered the same fields, it still has when both add a field.
 pub one_more : (g : KnownFields) (s : CheckerState) (old new : gathering.KnownFields) (token : ℕ) (t : TypeId) (w : Size) → HasKnownFields g s old
-    → fields_in new.fields.items ≡ fields_in old.fields.items ++ record { name = text_at s.resolved.now.module_read.source token; of = t } ∷ []
+    → fields_in new.fields.items ≡ fields_in old.fields.items ++ record { name = token_text_at s.resolved.now.module_read.source token; of = t } ∷ []
     → size_of new.size ≡ capped_size (sum_of_sizes (size_of old.size) w) → w ≡ size_at (declarations_in_state s).made t → HasKnownFields (with_known_field t g token) s new
 one_more g s old new token t w h fields size is = record {
-  fields = fields ∙ (λ j. h.fields j ++ record { name = text_at (h.following j).source token; of = t } ∷ []);
+  fields = fields ∙ (λ j. h.fields j ++ record { name = token_text_at (h.following j).source token; of = t } ∷ []);
   size = size ∙ (λ j. capped_size (sum_of_sizes (h.size j) (is j))) ∙ beside_counted g.size (size_at (declarations_in_state s).made t) ∙ ap (λ p. capped_size (sum_of_sizes g.size (size_at p.made t))) h.following;
   following = h.following;
 }
@@ -61,7 +61,7 @@ pub record GroupsGathered (around : ℕ) (start : KnownFields) (before : List Fa
   pub is : HasKnownFields out s gathered
   pub reported : Chained (reported_groups around) further_fields_of_group before start xs done now out
 
-pub gathers : {before after : List Fault} {s : CheckerState} {gathered : gathering.KnownFields} {x : KnownFields} {t : Reported KnownFields} → ReportsAfter before after x t → HasKnownFields x s gathered → AddsKnownFields before after s gathered t
+pub gathers : {before after : List Fault} {s : CheckerState} {gathered : gathering.KnownFields} {x : KnownFields} {t : Reported KnownFields} → ReturnsAndReports before after x t → HasKnownFields x s gathered → AddsKnownFields before after s gathered t
 gathers {s = s} {gathered = gathered} reports is = record { reported = reports.reported; now = subst (λ z. HasKnownFields z s gathered) reports.known is }
 
 pub groups_begin : {around : ℕ} {before : List Fault} {xs : List Fields} (s : CheckerState) (gathered : gathering.KnownFields) → fields_in gathered.fields.items ≡ [] → size_of gathered.size ≡ empty_size
@@ -74,5 +74,5 @@ pub groups_go_on : {around : ℕ} {start : KnownFields} {before : List Fault} {x
 groups_go_on {around = around} {now = now} {next = next} x n less here step =
     let reported = reported_fields around n.out (fields_of x) in
     let h = step n.out n.is in
-    let reports : ReportsAfter now next reported.known reported = record { known = refl; reported = h.reported } in
-    record { out = reported.known; is = h.now; reported = chain_goes_on x (groups_chain around) n.reported less here (subst (ReportsAfter now next reported.known) (sym (group_reported around n.out (fields_of x))) reports) }
+    let reports : ReturnsAndReports now next reported.known reported = record { known = refl; reported = h.reported } in
+    record { out = reported.known; is = h.now; reported = chain_goes_on x (groups_chain around) n.reported less here (subst (ReturnsAndReports now next reported.known) (sym (group_reported around n.out (fields_of x))) reports) }

@@ -5,13 +5,13 @@ use Rattle.std.proofs.Common.{◌≡◌, ℕ, ◌+◌, ◌<◌, ◌≤◌, List,
 use Rattle.std.proofs.lemmas.List.{drop_all, drop_more}
 use Rattle.ob0_scan.specs.declared.fault.Fault.{Fault}
 use Rattle.ob0_types_check.specs.Known.{Reported}
-use Rattle.ob0_types_check.specs.Operations.{ReportsAfter}
+use Rattle.ob0_types_check.specs.Operations.{ReturnsAndReports}
 
 pub reported_both : (before a b : List Fault) {between after : List Fault} → between ≡ before ++ a → after ≡ between ++ b → after ≡ before ++ (a ++ b)
 reported_both before a b p q = q ∙ ap (λ f. f ++ b) p ∙ append_assoc before a b
 
 -- If a result is reported and then further faults, the faults are the result's faults and then the further faults.
-pub reported_following : {A : Type 0} {before between after : List Fault} {x : A} {t : Reported A} (next : A → List Fault) → ReportsAfter before between x t → after ≡ between ++ next x → after ≡ before ++ (t.faults ++ next t.known)
+pub reported_following : {A : Type 0} {before between after : List Fault} {x : A} {t : Reported A} (next : A → List Fault) → ReturnsAndReports before between x t → after ≡ between ++ next x → after ≡ before ++ (t.faults ++ next t.known)
 reported_following {before = before} {x = x} {t = t} next s q = reported_both before t.faults (next x) s.reported q ∙ ap (λ z. before ++ (t.faults ++ next z)) s.known
 
 -- holds if the faults of a list are the faults of its elements, one after another

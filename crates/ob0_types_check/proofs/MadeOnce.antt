@@ -5,12 +5,12 @@
 -- field of each record about declarations.
 use Rattle.std.proofs.Common.{◌≡◌, ℕ, zero, suc, ◌+◌, ◌<◌, ◌≤◌, List, [], ◌∷◌, ◌++◌, length, slice_get, Some, refl, sym, ap, ◌∙◌, subst, arith, le_refl, le_trans, length-append}
 use Rattle.ob0_language_values.specs.Values.{Shape}
-use Rattle.ob0_types_check.specs.WellTypedLaws.{HaveDistinctConstructors, constructor_ordinal}
+use Rattle.ob0_types_check.specs.WellTypedLaws.{HaveDistinctOrdinals, ordinal_of_shape}
 use Rattle.ob0_types_check.proofs.Unreported.{some-same}
 
 -- holds if no type of the list is made by the word with this ordinal
 abbrev pub Lacks : ℕ → List Shape → Type 0
-Lacks j shapes = (i : ℕ) (s : Shape) → slice_get shapes i ≡ Some s → constructor_ordinal s ≡ Some j → ⊥
+Lacks j shapes = (i : ℕ) (s : Shape) → slice_get shapes i ≡ Some s → ordinal_of_shape s ≡ Some j → ⊥
 
 -- Holds if the list grew by as many types as there are ordinals from `k` up to `l`, without `l`. Words ARRAY and RECORD
 -- with other ordinals made no new type.
@@ -18,7 +18,7 @@ pub record Apart (k l : ℕ) (before after : List Shape) : Type 0 where
   pub le : k ≤ l
   pub counted : length after + k ≡ length before + l
   pub outside : (j : ℕ) → (k ≤ j → j < l → ⊥) → Lacks j before → Lacks j after
-  pub once : ((j : ℕ) → k ≤ j → j < l → Lacks j before) → HaveDistinctConstructors before → HaveDistinctConstructors after
+  pub once : ((j : ℕ) → k ≤ j → j < l → Lacks j before) → HaveDistinctOrdinals before → HaveDistinctOrdinals after
 
 pub apart_same : (k l : ℕ) (shapes : List Shape) → l ≡ k → Apart k l shapes shapes
 apart_same k l shapes e = record { le = omega (arith, e); counted = omega (arith, e); outside = λ j out h. h; once = λ fresh h. h }
@@ -44,19 +44,19 @@ pushed [] x (suc i) s h old new = absurd (cc)
 pushed (y ∷ xs) x zero s h old new = old h
 pushed (y ∷ xs) x (suc i) s h old new = pushed xs x i s h old (λ e same. new (ap suc e) same)
 
-pushed_lacks : (xs : List Shape) (x : Shape) (k j : ℕ) → constructor_ordinal x ≡ Some k → (k ≡ j → ⊥) → Lacks j xs → Lacks j (xs ++ x ∷ [])
+pushed_lacks : (xs : List Shape) (x : Shape) (k j : ℕ) → ordinal_of_shape x ≡ Some k → (k ≡ j → ⊥) → Lacks j xs → Lacks j (xs ++ x ∷ [])
 pushed_lacks xs x k j number other h i s at is =
-    pushed xs x i s at (λ old. h i s old is) (λ e same. other (some-same k j (sym number ∙ (ap constructor_ordinal same ∙ is))))
+    pushed xs x i s at (λ old. h i s old is) (λ e same. other (some-same k j (sym number ∙ (ap ordinal_of_shape same ∙ is))))
 
-pushed_once : (xs : List Shape) (x : Shape) (k : ℕ) → constructor_ordinal x ≡ Some k → Lacks k xs → HaveDistinctConstructors xs → HaveDistinctConstructors (xs ++ x ∷ [])
+pushed_once : (xs : List Shape) (x : Shape) (k : ℕ) → ordinal_of_shape x ≡ Some k → Lacks k xs → HaveDistinctOrdinals xs → HaveDistinctOrdinals (xs ++ x ∷ [])
 pushed_once xs x k number lacks h i j c s t at there is also =
     pushed xs x i s at
     (λ old. pushed xs x j t there (λ older. h i j c s t old older is also)
-    (λ e same. absurd (lacks i s old (is ∙ sym (sym number ∙ (ap constructor_ordinal same ∙ also))))))
-    (λ e same. pushed xs x j t there (λ older. absurd (lacks j t older (also ∙ sym (sym number ∙ (ap constructor_ordinal same ∙ is))))) (λ f other. e ∙ sym f))
+    (λ e same. absurd (lacks i s old (is ∙ sym (sym number ∙ (ap ordinal_of_shape same ∙ also))))))
+    (λ e same. pushed xs x j t there (λ older. absurd (lacks j t older (also ∙ sym (sym number ∙ (ap ordinal_of_shape same ∙ is))))) (λ f other. e ∙ sym f))
 
 -- An array or record that is made after its parts extends the range of words by its own word.
-pub apart_made : (k l : ℕ) (before mid : List Shape) (s : Shape) → constructor_ordinal s ≡ Some k → Apart (suc k) l before mid → Apart k l before (mid ++ s ∷ [])
+pub apart_made : (k l : ℕ) (before mid : List Shape) (s : Shape) → ordinal_of_shape s ≡ Some k → Apart (suc k) l before mid → Apart k l before (mid ++ s ∷ [])
 apart_made k l before mid s number f = record {
   le = omega (arith, f.le);
   counted = omega (arith, f.counted, length-append mid (s ∷ []));
@@ -69,7 +69,7 @@ apart_made k l before mid s number f = record {
 pub record Fresh (k : ℕ) (shapes : List Shape) : Type 0 where
   pub counted : length shapes ≡ k
   pub lacks : (j : ℕ) → k ≤ j → Lacks j shapes
-  pub once : HaveDistinctConstructors shapes
+  pub once : HaveDistinctOrdinals shapes
 
 pub fresh_after : (k l : ℕ) (before after : List Shape) → Apart k l before after → Fresh k before → Fresh l after
 fresh_after k l before after f h = record {

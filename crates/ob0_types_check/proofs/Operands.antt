@@ -11,13 +11,13 @@ use Rattle.ob0_tree.specs.declared.tree.Relation.{Relation}
 use Rattle.ob0_tree.specs.declared.tree.Relation.TheVariants as relation
 use Rattle.ob0_tree.specs.declared.tree.Sign.{Sign}
 use Rattle.ob0_tree.specs.declared.tree.Sign.TheVariants as sign
-use Rattle.ob0_tree.specs.Places.{text_at}
+use Rattle.ob0_tree.specs.Places.{token_text_at}
 use Rattle.ob0_language_types.specs.Selected.{apply_to_both}
 use Rattle.ob0_language_types.specs.Typing.{addition_type, negation_type, element_type, field_type, outcome_value, multiplication_type, relation_type, shape_of_field, sign_type, value_type}
-use Rattle.ob0_language_values.specs.Values.{Overflow, Shape, Value, add, add_short_circuits, boolean_shape, checked_division, division_outcome, ends, gives, checked_number, integer_shape, multiply, multiply_short_circuits, negate, number, quotient, relate, remainder, truth}
+use Rattle.ob0_language_values.specs.Values.{Overflow, Shape, Value, add, add_short_circuits, boolean_shape, checked_division, division_outcome, ends_run_with, succeeds_with, checked_number, integer_shape, multiply, multiply_short_circuits, negate, number, quotient, apply_relation, remainder, truth}
 use Rattle.ob0_language_values.specs.Values as values
 use Rattle.ob0_types_check.specs.Known.{Facts, Form, Operand, Reported, a_record, a_scalar, an_array, unknown_form}
-use Rattle.ob0_types_check.specs.Operations.{add_operands, required_type, required_type_of_both, fault_at_operand, complement_operand, element_type_in_form, element_operand, field_type_in_form, field_operand, fits, found_field_type, multiply_operands, relate_operands, sign_operand, comparison_type, add_operand_type, equality_operand_type, multiply_operand_type, relation_operand_type}
+use Rattle.ob0_types_check.specs.Operations.{add_operands, required_type, required_type_of_both, fault_at_operand, complement_operand, element_type_in_form, element_operand, field_type_in_form, field_operand, may_be_same_type, field_type_or_fault, multiply_operands, relate_operands, sign_operand, comparison_type, operand_type_of_addition, operand_type_of_equality, operand_type_of_multiplication, operand_type_of_relation}
 use Rattle.ob0_types_check.specs.Agreement.{FormAgrees, TypesAgree}
 use Rattle.ob0_types_check.proofs.Unreported.{first-of, first-reported, none-if, none-reported, not-true, some-none, some-same}
 
@@ -45,7 +45,7 @@ shape_multiplied multiply_operator.And = boolean_shape
 
 checked_number-of : (n : ℤ) → IsOf integer_shape (outcome_value (checked_number n))
 checked_number-of n =
-    elim (values.fits n) as (λ b. IsOf integer_shape (outcome_value (if b then gives (number n) else ends Overflow)))
+    elim (values.fits_in_32_bits n) as (λ b. IsOf integer_shape (outcome_value (if b then succeeds_with (number n) else ends_run_with Overflow)))
     [ true ↦ some-of integer_shape (number n) refl | false ↦ none-of integer_shape ]
 
 division_outcome-of : (result : Option ℤ) → IsOf integer_shape (outcome_value (division_outcome result))
@@ -65,11 +65,11 @@ multiply-of multiply_operator.Modulo (number a) (number b) = division_outcome-of
 multiply-of multiply_operator.And (truth a) (truth b) = some-of boolean_shape (truth _) refl
 multiply-of _ _ _ = none-of _
 
-relate-of : (r : Relation) (v w : Value) → IsOf boolean_shape (outcome_value (relate r v w))
-relate-of r (number a) (number b) = some-of boolean_shape (truth _) refl
-relate-of relation.Equal (truth a) (truth b) = some-of boolean_shape (truth _) refl
-relate-of relation.NotEqual (truth a) (truth b) = some-of boolean_shape (truth _) refl
-relate-of _ _ _ = none-of boolean_shape
+apply_relation-of : (r : Relation) (v w : Value) → IsOf boolean_shape (outcome_value (apply_relation r v w))
+apply_relation-of r (number a) (number b) = some-of boolean_shape (truth _) refl
+apply_relation-of relation.Equal (truth a) (truth b) = some-of boolean_shape (truth _) refl
+apply_relation-of relation.NotEqual (truth a) (truth b) = some-of boolean_shape (truth _) refl
+apply_relation-of _ _ _ = none-of boolean_shape
 
 apply_sign-of : (s : Sign) (v : Value) → IsOf integer_shape (outcome_value (values.apply_sign (Some s) v))
 apply_sign-of sign.Plus (number a) = checked_number-of a
@@ -100,9 +100,9 @@ product-of o a b s same h =
     (λ x e. settled-of (shape_multiplied o) (multiply_short_circuits o x) x (option_and_then (λ y. outcome_value (multiply o x y)) b) (h x e ∙ ap (λ u. Some u) same)
     (then-of (shape_multiplied o) (λ y. outcome_value (multiply o x y)) b (λ y f. multiply-of o x y)))
 
-pub relation-of : (r : Relation) (a b : Option Value) → IsOf boolean_shape (apply_to_both (λ x y. outcome_value (relate r x y)) a b)
+pub relation-of : (r : Relation) (a b : Option Value) → IsOf boolean_shape (apply_to_both (λ x y. outcome_value (apply_relation r x y)) a b)
 relation-of r a b =
-    then-of boolean_shape (λ x. option_and_then (λ y. outcome_value (relate r x y)) b) a (λ x e. then-of boolean_shape (λ y. outcome_value (relate r x y)) b (λ y f. relate-of r x y))
+    then-of boolean_shape (λ x. option_and_then (λ y. outcome_value (apply_relation r x y)) b) a (λ x e. then-of boolean_shape (λ y. outcome_value (apply_relation r x y)) b (λ y f. apply_relation-of r x y))
 
 sign-of : (s : Sign) (a : Option Value) → IsOf integer_shape (option_and_then (λ x. outcome_value (values.apply_sign (Some s) x)) a)
 sign-of s a = then-of integer_shape (λ x. outcome_value (values.apply_sign (Some s) x)) a (λ x e. apply_sign-of s x)
@@ -132,13 +132,13 @@ module _ {T : Type 0} (facts : Facts T) (shape : T → Option Shape) (types : Ty
   same-shape : (t u : T) (s w : Shape) → shape t ≡ Some s → shape u ≡ Some w → facts.types.same t u ≡ true → s ≡ w
   same-shape t u s w ht hu e = some-same s w (sym ht ∙ types.same t u e ∙ hu)
 
-  same-where-fits : (t u : T) (s w : Shape) → shape t ≡ Some s → shape u ≡ Some w → fits facts.types t u ≡ true → facts.types.same t u ≡ true
+  same-where-fits : (t u : T) (s w : Shape) → shape t ≡ Some s → shape u ≡ Some w → may_be_same_type facts.types t u ≡ true → facts.types.same t u ≡ true
   same-where-fits t u s w ht hu e =
       first-of (facts.types.same t u) (facts.types.same t facts.types.unknown) (facts.types.same u facts.types.unknown) e (is-known t s ht) (is-known u w hu)
 
   pub requested-fits : (wanted : T) (o : Operand T) (s w : Shape) → shape o.of ≡ Some s → shape wanted ≡ Some w → (required_type facts wanted o).faults ≡ [] → ((required_type facts wanted o).known ≡ wanted) × (s ≡ w)
   requested-fits wanted o s w hs hw h =
-      let same : facts.types.same o.of wanted ≡ true = same-where-fits o.of wanted s w hs hw (none-if (fits facts.types o.of wanted) _ h) in
+      let same : facts.types.same o.of wanted ≡ true = same-where-fits o.of wanted s w hs hw (none-if (may_be_same_type facts.types o.of wanted) _ h) in
       (ap (λ b. if b then wanted else facts.types.unknown) same, same-shape o.of wanted s w hs hw same)
 
   apply_to_both-requested : (wanted : T) (a b : Operand T) (s t w : Shape) → shape a.of ≡ Some s → shape b.of ≡ Some t → shape wanted ≡ Some w → (required_type_of_both facts wanted a b).faults ≡ []
@@ -146,26 +146,26 @@ module _ {T : Type 0} (facts : Facts T) (shape : T → Option Shape) (types : Ty
   apply_to_both-requested wanted a b s t w hs ht hw h =
       let left : Reported T = record { known = if facts.types.same a.of wanted then (required_type facts wanted b).known else facts.types.unknown; faults = (required_type facts wanted b).faults } in
       let wrong : Reported T = record { known = facts.types.unknown; faults = fault_at_operand facts code.TypeMismatch a } in
-      let (fit, none) = first-reported (fits facts.types a.of wanted) left wrong _ refl h in
+      let (fit, none) = first-reported (may_be_same_type facts.types a.of wanted) left wrong _ refl h in
       let same : facts.types.same a.of wanted ≡ true = same-where-fits a.of wanted s w hs hw fit in
       let (known, right) = requested-fits wanted b t w ht hw none in
       (ap (λ c. (if c then left else wrong).known) fit ∙ (ap (λ c. if c then (required_type facts wanted b).known else facts.types.unknown) same ∙ known), same-shape a.of wanted s w hs hw same, right)
 
   -- The types that operators require have shapes.
 
-  add-wanted : (o : AddOperator) → shape (add_operand_type facts.types o) ≡ Some (shape_added o)
+  add-wanted : (o : AddOperator) → shape (operand_type_of_addition facts.types o) ≡ Some (shape_added o)
   add-wanted add_operator.Add = types.integer
   add-wanted add_operator.Subtract = types.integer
   add-wanted add_operator.Or = types.boolean
 
-  multiply-wanted : (o : MultiplyOperator) → shape (multiply_operand_type facts.types o) ≡ Some (shape_multiplied o)
+  multiply-wanted : (o : MultiplyOperator) → shape (operand_type_of_multiplication facts.types o) ≡ Some (shape_multiplied o)
   multiply-wanted multiply_operator.Multiply = types.integer
   multiply-wanted multiply_operator.Divide = types.integer
   multiply-wanted multiply_operator.Modulo = types.integer
   multiply-wanted multiply_operator.And = types.boolean
 
   equality-wanted : (r : Relation) → relation_type r boolean_shape boolean_shape ≡ Some boolean_shape → (t : T) (s : Shape) → shape t ≡ Some s
-      → (w : Shape) × (shape (equality_operand_type facts.types t) ≡ Some w) × (relation_type r w w ≡ Some boolean_shape)
+      → (w : Shape) × (shape (operand_type_of_equality facts.types t) ≡ Some w) × (relation_type r w w ≡ Some boolean_shape)
   equality-wanted r apply_to_both t s h =
       elim (facts.types.same t facts.types.integer)
       as (λ b. (w : Shape) × (shape (if b then facts.types.integer else if facts.types.same t facts.types.unknown then facts.types.unknown else facts.types.boolean) ≡ Some w) × (relation_type r w w ≡ Some boolean_shape)) [
@@ -173,7 +173,7 @@ module _ {T : Type 0} (facts : Facts T) (shape : T → Option Shape) (types : Ty
         | false ↦ (boolean_shape, ap (λ b. shape (if b then facts.types.unknown else facts.types.boolean)) (not-true (facts.types.same t facts.types.unknown) (is-known t s h)) ∙ types.boolean, apply_to_both)
       ]
 
-  relation-wanted : (r : Relation) (t : T) (s : Shape) → shape t ≡ Some s → (w : Shape) × (shape (relation_operand_type facts.types r t) ≡ Some w) × (relation_type r w w ≡ Some boolean_shape)
+  relation-wanted : (r : Relation) (t : T) (s : Shape) → shape t ≡ Some s → (w : Shape) × (shape (operand_type_of_relation facts.types r t) ≡ Some w) × (relation_type r w w ≡ Some boolean_shape)
   relation-wanted relation.Equal t s h = equality-wanted relation.Equal refl t s h
   relation-wanted relation.NotEqual t s h = equality-wanted relation.NotEqual refl t s h
   relation-wanted relation.Less t s h = (integer_shape, types.integer, refl)
@@ -189,21 +189,21 @@ module _ {T : Type 0} (facts : Facts T) (shape : T → Option Shape) (types : Ty
   pub added-fits : (o : AddOperator) (a b : Operand T) (s t : Shape) → shape a.of ≡ Some s → shape b.of ≡ Some t → (add_operands facts o a b).faults ≡ []
       → (w : Shape) × (shape (add_operands facts o a b).known.of ≡ Some w) × (addition_type o s t ≡ Some w) × (IsOf s a.value → IsOf w (add_operands facts o a b).known.value)
   added-fits o a b s t hs ht h =
-      let (known, left, right) = apply_to_both-requested (add_operand_type facts.types o) a b s t (shape_added o) hs ht (add-wanted o) (none-reported _ _ h).0 in
+      let (known, left, right) = apply_to_both-requested (operand_type_of_addition facts.types o) a b s t (shape_added o) hs ht (add-wanted o) (none-reported _ _ h).0 in
       (shape_added o, ap shape known ∙ add-wanted o, (λ i. addition_type o (left i) (right i)) ∙ add-typed o, sum-of o a.value b.value s left)
 
   pub multiplied-fits : (o : MultiplyOperator) (a b : Operand T) (s t : Shape) → shape a.of ≡ Some s → shape b.of ≡ Some t → (multiply_operands facts o a b).faults ≡ []
       → (w : Shape) × (shape (multiply_operands facts o a b).known.of ≡ Some w) × (multiplication_type o s t ≡ Some w) × (IsOf s a.value → IsOf w (multiply_operands facts o a b).known.value)
   multiplied-fits o a b s t hs ht h =
-      let (known, left, right) = apply_to_both-requested (multiply_operand_type facts.types o) a b s t (shape_multiplied o) hs ht (multiply-wanted o) (none-reported _ _ h).0 in
+      let (known, left, right) = apply_to_both-requested (operand_type_of_multiplication facts.types o) a b s t (shape_multiplied o) hs ht (multiply-wanted o) (none-reported _ _ h).0 in
       (shape_multiplied o, ap shape known ∙ multiply-wanted o, (λ i. multiplication_type o (left i) (right i)) ∙ multiply-typed o, product-of o a.value b.value s left)
 
   pub related-fits : (r : Relation) (a b : Operand T) (s t : Shape) → shape a.of ≡ Some s → shape b.of ≡ Some t → (relate_operands facts r a b).faults ≡ []
       → (shape (relate_operands facts r a b).known.of ≡ Some boolean_shape) × (relation_type r s t ≡ Some boolean_shape)
   related-fits r a b s t hs ht h =
       let (w, hw, typed) = relation-wanted r a.of s hs in
-      let (known, left, right) = apply_to_both-requested (relation_operand_type facts.types r a.of) a b s t w hs ht hw (none-reported _ _ h).0 in
-      (ap (λ u. shape (comparison_type facts.types u)) known ∙ truth-known (relation_operand_type facts.types r a.of) w hw, (λ i. relation_type r (left i) (right i)) ∙ typed)
+      let (known, left, right) = apply_to_both-requested (operand_type_of_relation facts.types r a.of) a b s t w hs ht hw (none-reported _ _ h).0 in
+      (ap (λ u. shape (comparison_type facts.types u)) known ∙ truth-known (operand_type_of_relation facts.types r a.of) w hw, (λ i. relation_type r (left i) (right i)) ∙ typed)
 
   pub apply_sign-fits : (g : Option Sign) (o : Operand T) (s : Shape) → shape o.of ≡ Some s → (sign_operand facts g o).faults ≡ []
       → (w : Shape) × (shape (sign_operand facts g o).known.of ≡ Some w) × (sign_type g s ≡ Some w) × (IsOf s o.value → IsOf w (sign_operand facts g o).known.value)
@@ -220,28 +220,28 @@ module _ {T : Type 0} (facts : Facts T) (shape : T → Option Shape) (types : Ty
 
   -- A selection for which no fault is reported has the right type.
 
-  found-fits : (x : ℕ) (o : Option T) (t : Option Shape) → option_map shape o ≡ option_map Some t → (found_field_type facts x o).faults ≡ [] → (u : Shape) × (shape (found_field_type facts x o).known ≡ Some u) × (t ≡ Some u)
+  found-fits : (x : ℕ) (o : Option T) (t : Option Shape) → option_map shape o ≡ option_map Some t → (field_type_or_fault facts x o).faults ≡ [] → (u : Shape) × (shape (field_type_or_fault facts x o).known ≡ Some u) × (t ≡ Some u)
   found-fits x None t e h = absurd (cc)
   found-fits x (Some u) None e h = absurd (cc)
   found-fits x (Some u) (Some v) e h = (v, some-same (shape u) (Some v) e, refl)
 
-  field-found : (f : Form T) (s : Shape) → FormAgrees shape f s → (x : ℕ) → (field_type_in_form facts x f).faults ≡ [] → (u : Shape) × (shape (field_type_in_form facts x f).known ≡ Some u) × (field_type s (text_at facts.source x) ≡ Some u)
+  field-found : (f : Form T) (s : Shape) → FormAgrees shape f s → (x : ℕ) → (field_type_in_form facts x f).faults ≡ [] → (u : Shape) × (shape (field_type_in_form facts x f).known ≡ Some u) × (field_type s (token_text_at facts.source x) ≡ Some u)
   field-found a_scalar s a x h = absurd (cc)
   field-found (an_array t) s a x h = absurd (cc)
   field-found (a_record fields) s (k, fs, e, each) x h =
-      let (u, known, found) = found-fits x (fields (text_at facts.source x)) (shape_of_field fs (text_at facts.source x)) (each (text_at facts.source x)) h in
-      (u, known, ap (λ s. field_type s (text_at facts.source x)) e ∙ found)
+      let (u, known, found) = found-fits x (fields (token_text_at facts.source x)) (shape_of_field fs (token_text_at facts.source x)) (each (token_text_at facts.source x)) h in
+      (u, known, ap (λ s. field_type s (token_text_at facts.source x)) e ∙ found)
   field-found unknown_form s a x h = absurd a
 
   pub field-fits : (o : Operand T) (s : Shape) → shape o.of ≡ Some s → (x : ℕ) → (field_operand facts o x).faults ≡ []
-      → (u : Shape) × (shape (field_operand facts o x).known.of ≡ Some u) × (field_type s (text_at facts.source x) ≡ Some u)
-  field-fits o s hs x h = field-found (facts.types.form o.of) s (types.formed o.of s hs) x (none-reported _ _ h).0
+      → (u : Shape) × (shape (field_operand facts o x).known.of ≡ Some u) × (field_type s (token_text_at facts.source x) ≡ Some u)
+  field-fits o s hs x h = field-found (facts.types.form o.of) s (types.form_agrees o.of s hs) x (none-reported _ _ h).0
 
   element-found : (f : Form T) (s : Shape) → FormAgrees shape f s → (o : Operand T) (n : T) → n ≡ facts.types.integer → (element_type_in_form facts o n f).faults ≡ []
       → (u : Shape) × (shape (element_type_in_form facts o n f).known ≡ Some u) × (element_type s integer_shape ≡ Some u)
   element-found a_scalar s a o n e h = absurd (cc)
   element-found (an_array t) s (k, count, u, same, known) o n e h =
-      (u, ap (λ n. shape (if facts.types.same n facts.types.integer then t else facts.types.unknown)) e ∙ (ap (λ b. shape (if b then t else facts.types.unknown)) types.alone ∙ known), ap (λ s. element_type s integer_shape) same)
+      (u, ap (λ n. shape (if facts.types.same n facts.types.integer then t else facts.types.unknown)) e ∙ (ap (λ b. shape (if b then t else facts.types.unknown)) types.integer_same ∙ known), ap (λ s. element_type s integer_shape) same)
   element-found (a_record fields) s a o n e h = absurd (cc)
   element-found unknown_form s a o n e h = absurd a
 
@@ -250,5 +250,5 @@ module _ {T : Type 0} (facts : Facts T) (shape : T → Option Shape) (types : Ty
   element-fits o i s t hs ht h =
       let parts = none-reported (required_type facts facts.types.integer i).faults _ h in
       let (known, index) = requested-fits facts.types.integer i t integer_shape ht types.integer parts.0 in
-      let (u, found, typed) = element-found (facts.types.form o.of) s (types.formed o.of s hs) i (required_type facts facts.types.integer i).known known (none-reported _ _ parts.1).0 in
+      let (u, found, typed) = element-found (facts.types.form o.of) s (types.form_agrees o.of s hs) i (required_type facts facts.types.integer i).known known (none-reported _ _ parts.1).0 in
       (u, found, ap (element_type s) index ∙ typed)

@@ -1,8 +1,8 @@
 -- The proofs of the laws about reported expressions.
 use Rattle.std.proofs.Common.{◌≡◌, ℕ, Bool, true, false, [], Option, Some, None, option_map, is_some, if◌then◌else◌, refl, sym, ap, ◌∙◌}
 use Rattle.ob0_tree.specs.declared.tree.Role.TheVariants as role
-use Rattle.ob0_tree.specs.Places.{value_at}
-use Rattle.ob0_tree.specs.Tree.{Tree, expression, identifiers, mapped}
+use Rattle.ob0_tree.specs.Places.{token_value_at}
+use Rattle.ob0_tree.specs.Tree.{Tree, expression, identifiers, mapped_tree}
 use Rattle.ob0_language_types.specs.Expressions.{Meanings, Object, a_constant, evaluate}
 use Rattle.ob0_language_types.specs.Typing.{array_length, constant_of, constant_value, constant_meanings, outcome_value, type_of}
 use Rattle.ob0_language_types.specs.WellTyped.{TypeMeanings}
@@ -11,9 +11,9 @@ use Rattle.ob0_types_check.specs.ExpressionFaults.{reported_expression}
 use Rattle.ob0_types_check.specs.Known.{Facts, Operand}
 use Rattle.ob0_types_check.specs.Operations.{required_type, without_fault}
 use Rattle.ob0_types_check.specs.KnownDeclarations.{facts_at}
-use Rattle.ob0_types_check.specs.TypeFaults.{operand_value, length_or_fault, length_by_value, length_of, reported_constant, valued}
-use Rattle.ob0_types_check.specs.Agreement.{Agrees, TypesAgree, shape_in}
-use Rattle.ob0_types_check.specs.ReportLaws.{ConstantsFit, ExpressionsFit, ReportedLengthsAgree, OperandFits, allowed_meanings}
+use Rattle.ob0_types_check.specs.TypeFaults.{operand_value, length_or_fault, length_by_value, length_of, reported_constant, value_or_fault}
+use Rattle.ob0_types_check.specs.Agreement.{FactsAgree, TypesAgree, shape_in}
+use Rattle.ob0_types_check.specs.ReportLaws.{ConstantsWithoutFaultAgree, ExpressionsWithoutFaultAgree, LengthsWithoutFaultAgree, OperandAgrees, allowed_meanings}
 use Rattle.ob0_types_check.proofs.FittingExpressions.{FitsExpression, expression-fits}
 use Rattle.ob0_types_check.proofs.FittingNames.{only-tokens, tokens-fit}
 use Rattle.ob0_types_check.proofs.FittingPlaces.{operand-fits}
@@ -26,8 +26,8 @@ only-once o = elim (constant_of o) as (λ c. option_map {U = Object Place (Unit 
 pub constants-again : {N V P : Type 0} (meaning : Meanings N V P) → constant_meanings {W = Place} {Q = Unit {0}} (constant_meanings {W = Shape} {Q = Unit {0}} meaning) ≡ constant_meanings meaning
 constants-again meaning = λ i. record { object_for = λ x. only-once (meaning.object_for x) i; written = meaning.written }
 
-module _ {T N : Type 0} (facts : Facts T) (shape : T → Option Shape) (label : ℕ → N) (meaning : TypeMeanings N) (e : Tree ℕ expression) (agrees : Agrees facts shape label meaning e) where
-  pub here-fits : (b : Bool) → facts.only_constants ≡ b → (reported_expression facts e).faults ≡ [] → OperandFits shape (allowed_meanings b meaning) (reported_expression facts e).known (mapped label (value_at facts.source) e)
+module _ {T N : Type 0} (facts : Facts T) (shape : T → Option Shape) (label : ℕ → N) (meaning : TypeMeanings N) (e : Tree ℕ expression) (agrees : FactsAgree facts shape label meaning e) where
+  pub here-fits : (b : Bool) → facts.only_constants ≡ b → (reported_expression facts e).faults ≡ [] → OperandAgrees shape (allowed_meanings b meaning) (reported_expression facts e).known (mapped_tree label (token_value_at facts.source) e)
   here-fits true only h = operand-fits facts shape agrees.types label (constant_meanings meaning) e (only-tokens facts shape agrees.types label meaning _ only (identifiers role.Declaring e) agrees.tokens) h
   here-fits false only h = operand-fits facts shape agrees.types label meaning e (tokens-fit facts shape agrees.types label meaning (identifiers role.Declaring e) agrees.tokens) h
 
@@ -35,7 +35,7 @@ module _ {T N : Type 0} (facts : Facts T) (shape : T → Option Shape) (label : 
   pub record IsConstant : Type 0 where
     pub of : Shape
     pub known : shape (reported_expression facts e).known.of ≡ Some of
-    pub given : (v : Value) → (reported_expression facts e).known.value ≡ Some v → constant_value meaning (mapped label (value_at facts.source) e) ≡ Some v
+    pub given : (v : Value) → (reported_expression facts e).known.value ≡ Some v → constant_value meaning (mapped_tree label (token_value_at facts.source) e) ≡ Some v
     pub scalar : IsOf of (reported_expression facts e).known.value
 
   pub constant-known : facts.only_constants ≡ true → (reported_expression facts e).faults ≡ [] → IsConstant
@@ -46,8 +46,8 @@ module _ {T N : Type 0} (facts : Facts T) (shape : T → Option Shape) (label : 
       record {
         of = fe.of;
         known = fe.known;
-        given = λ v is. goes-on (λ s. outcome_value (evaluate {P = Unit {0}} (constant_meanings meaning) [] (mapped label (value_at facts.source) e))) (type_of {P = Unit {0}} (constant_meanings meaning) (mapped label (value_at facts.source) e)) fe.of (Some v) fe.typed
-            (ap (λ m. outcome_value (evaluate {P = Unit {0}} m [] (mapped label (value_at facts.source) e))) (sym (constants-again meaning)) ∙ (sym fe.valued ∙ is));
+        given = λ v is. goes-on (λ s. outcome_value (evaluate {P = Unit {0}} (constant_meanings meaning) [] (mapped_tree label (token_value_at facts.source) e))) (type_of {P = Unit {0}} (constant_meanings meaning) (mapped_tree label (token_value_at facts.source) e)) fe.of (Some v) fe.typed
+            (ap (λ m. outcome_value (evaluate {P = Unit {0}} m [] (mapped_tree label (token_value_at facts.source) e))) (sym (constants-again meaning)) ∙ (sym fe.value_agrees ∙ is));
         scalar = fe.scalar;
       }
 
@@ -57,18 +57,18 @@ pub record HasReportedValue {T : Type 0} (o : Operand T) (reported : Option Valu
   pub known : reported ≡ Some value
   pub there : o.value ≡ Some value
 
-value-there : {T : Type 0} (facts : Facts T) (o : Operand T) (c : Option Value) → o.value ≡ c → (valued facts o c).faults ≡ [] → HasReportedValue o (valued facts o c).known
+value-there : {T : Type 0} (facts : Facts T) (o : Operand T) (c : Option Value) → o.value ≡ c → (value_or_fault facts o c).faults ≡ [] → HasReportedValue o (value_or_fault facts o c).known
 value-there facts o None e h = absurd (cc)
 value-there facts o (Some v) e h = record { value = v; known = refl; there = e }
 
 pub operand_value-there : {T : Type 0} (facts : Facts T) (o : Operand T) → facts.types.same o.of facts.types.unknown ≡ false → (operand_value facts o).faults ≡ [] → HasReportedValue o (operand_value facts o).known
 operand_value-there facts o known h =
-    let w = value-there facts o o.value refl (sym (ap (λ b. (if b then without_fault None else valued facts o o.value).faults) known) ∙ h) in
-    record { value = w.value; known = ap (λ b. (if b then without_fault None else valued facts o o.value).known) known ∙ w.known; there = w.there }
+    let w = value-there facts o o.value refl (sym (ap (λ b. (if b then without_fault None else value_or_fault facts o o.value).faults) known) ∙ h) in
+    record { value = w.value; known = ap (λ b. (if b then without_fault None else value_or_fault facts o o.value).known) known ∙ w.known; there = w.there }
 
-pub constants_fit-holds : {N : Type 0} → ConstantsFit N
+pub constants_without_fault_agree-holds : {N : Type 0} → ConstantsWithoutFaultAgree N
 unfolding reported_constant
-constants_fit-holds p shapes label meaning e agrees h =
+constants_without_fault_agree-holds p shapes label meaning e agrees h =
     let facts = facts_at p true in
     let parts = none-reported (reported_expression facts e).faults _ h in
     let c = constant-known facts (shape_in shapes) label meaning e agrees refl parts.0 in
@@ -76,8 +76,8 @@ constants_fit-holds p shapes label meaning e agrees h =
     let w = operand_value-there facts o (not-true (facts.types.same o.of facts.types.unknown) (is-known facts (shape_in shapes) agrees.types o.of c.of c.known)) parts.1 in
     record { value = w.value; known = w.known; given = c.given w.value w.there; scalar = ap is_some (c.scalar w.value w.there) }
 
-pub expressions_fit-holds : {N : Type 0} → ExpressionsFit N
-expressions_fit-holds p only shapes label meaning e agrees h = here-fits (facts_at p only) (shape_in shapes) label meaning e agrees only refl h
+pub expressions_without_fault_agree-holds : {N : Type 0} → ExpressionsWithoutFaultAgree N
+expressions_without_fault_agree-holds p only shapes label meaning e agrees h = here-fits (facts_at p only) (shape_in shapes) label meaning e agrees only refl h
 
 -- holds if a length is reported and is the length that the operand's value gives
 pub record IsLong {T : Type 0} (o : Operand T) (reported : Option ℕ) : Type 0 where
@@ -99,7 +99,7 @@ pub length-there : {T : Type 0} (facts : Facts T) (shape : T → Option Shape) (
 length-there facts shape types o s hs h =
     let parts = none-reported (required_type facts facts.types.integer o).faults _ h in
     let (given, same) = requested-fits facts shape types facts.types.integer o s integer_shape hs types.integer parts.0 in
-    let alone : facts.types.same (required_type facts facts.types.integer o).known facts.types.integer ≡ true = ap (λ t. facts.types.same t facts.types.integer) given ∙ types.alone in
+    let alone : facts.types.same (required_type facts facts.types.integer o).known facts.types.integer ≡ true = ap (λ t. facts.types.same t facts.types.integer) given ∙ types.integer_same in
     let long : IsLong o (length_by_value facts o o.value).known = length-given facts o o.value refl (sym (ap (λ b. (if b then length_by_value facts o o.value else without_fault None).faults) alone) ∙ parts.1) in
     record {
       value = long.value;
@@ -109,8 +109,8 @@ length-there facts shape types o s hs h =
       counted = long.counted;
     }
 
-pub lengths_fit-holds : {N : Type 0} → ReportedLengthsAgree N
-lengths_fit-holds p shapes label meaning e agrees h =
+pub lengths_without_fault_agree-holds : {N : Type 0} → LengthsWithoutFaultAgree N
+lengths_without_fault_agree-holds p shapes label meaning e agrees h =
     let parts = none-reported (reported_expression (facts_at p true) e).faults _ h in
     let c = constant-known (facts_at p true) (shape_in shapes) label meaning e agrees refl parts.0 in
     let long = length-there (facts_at p false) (shape_in shapes) agrees.types (reported_expression (facts_at p true) e).known c.of c.known parts.1 in

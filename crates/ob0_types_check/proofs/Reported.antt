@@ -5,12 +5,12 @@ use Rattle.ob0_scan.specs.declared.fault.Fault.{Fault}
 use Rattle.ob0_tree.specs.ParsedModule.{named_tree_of}
 use Rattle.ob0_scope_table.specs.Resolution.{IsResolution, Resolution, is_undeclared_fault}
 use Rattle.ob0_types_table.specs.Tables.{AreEntriesInOrder}
-use Rattle.ob0_types_check.specs.DeclarationFaults.{reported_module}
-use Rattle.ob0_types_check.specs.ModuleLaws.{DeclarationsKnown, HasDeclarations, KnowsDeclarations}
+use Rattle.ob0_types_check.specs.DeclarationFaults.{module_faults}
+use Rattle.ob0_types_check.specs.ModuleLaws.{WalkWithoutFaultFindsMeanings, HasDeclarations, KnowsDeclarations}
 use Rattle.ob0_types_check.specs.Known.{Reported}
-use Rattle.ob0_types_check.specs.Operations.{ReportsAfter}
+use Rattle.ob0_types_check.specs.Operations.{ReturnsAndReports}
 use Rattle.ob0_types_check.specs.KnownDeclarations.{KnownDeclarations}
-use Rattle.ob0_types_check.specs.SomeBodies.{IsFinishedWalk, WalkProgress, every_body, reported_module_with, walked_in}
+use Rattle.ob0_types_check.specs.SomeBodies.{IsFinishedWalk, WalkProgress, every_body, reported_module_with_bodies, walk_progress_of}
 use Rattle.ob0_types_check.specs.CheckerViews.{declarations_in_state, table_in}
 use Rattle.ob0_types_check.specs.declared.reporting.checker_state.CheckerState.{CheckerState}
 use Rattle.ob0_types_check.proofs.Listed.{nothing_left}
@@ -26,17 +26,17 @@ pub is_something : (xs : List Fault) (n : ℕ) (b : Bool) → n ≡ length xs �
 is_something xs n b long e h none = true≢false (sym (eq-eqb n 0 (long ∙ ap length none)) ∙ (sym e ∙ h))
 
 -- A walk over some bodies ends with the faults of the module if it reports the same as the walk over all bodies.
-pub walked : (r : Resolution) (before after : List Fault) (s : CheckerState) (faulty : List ℕ) (t : Reported WalkProgress) → before ≡ filter is_undeclared_fault r.faults → reported_module_with every_body r ≡ t → ReportsAfter before after (walked_in s faulty) t → IsFinishedWalk r after s faulty
-walked r before after s faulty t first is reported =
+pub walked : (r : Resolution) (before after : List Fault) (s : CheckerState) (bodies_with_faults : List ℕ) (t : Reported WalkProgress) → before ≡ filter is_undeclared_fault r.faults → reported_module_with_bodies every_body r ≡ t → ReturnsAndReports before after (walk_progress_of s bodies_with_faults) t → IsFinishedWalk r after s bodies_with_faults
+walked r before after s bodies_with_faults t first is reported =
     let all = sym (module_forgets r) in
     record {
       faults = reported.reported ∙ ((λ i. first i ++ (sym is i).faults) ∙ (ap (λ (x : Reported KnownDeclarations). filter is_undeclared_fault r.faults ++ x.faults) (sym all) ∙ sym (module_reported r)));
       known = ap (λ (w : WalkProgress). w.so_far) (reported.known ∙ ap (λ (x : Reported WalkProgress). x.known) (sym is)) ∙ ap (λ (x : Reported KnownDeclarations). x.known) (sym all);
-      faulty_are = ap (λ (w : WalkProgress). w.faulty) (reported.known ∙ ap (λ (x : Reported WalkProgress). x.known) (sym is));
+      faulty_are = ap (λ (w : WalkProgress). w.bodies_with_faults) (reported.known ∙ ap (λ (x : Reported WalkProgress). x.known) (sym is));
     }
 
-module _ (r : Resolution) (after : List Fault) (s : CheckerState) (faulty : List ℕ) (w : IsFinishedWalk r after s faulty) (law : DeclarationsKnown) (is : IsResolution r) (none : after ≡ []) where
-  pub nothing : reported_module r ≡ []
+module _ (r : Resolution) (after : List Fault) (s : CheckerState) (bodies_with_faults : List ℕ) (w : IsFinishedWalk r after s bodies_with_faults) (law : WalkWithoutFaultFindsMeanings) (is : IsResolution r) (none : after ≡ []) where
+  pub nothing : module_faults r ≡ []
   nothing = sym w.faults ∙ none
 
   pub knows : KnowsDeclarations (declarations_in_state s) (named_tree_of r.module_read)

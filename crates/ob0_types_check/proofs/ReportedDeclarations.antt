@@ -7,17 +7,17 @@ use Rattle.ob0_tree.specs.ParsedModule.{tree_of}
 use Rattle.ob0_language_names.specs.Parts.{formal_sections, further_names, module_block, names_in_list, section_constants, section_types, section_variables}
 use Rattle.ob0_types_table.specs.declared.known.FormalParameter as formal
 use Rattle.ob0_types_table.specs.declared.types.TypeId.{TypeId}
-use Rattle.ob0_tree.specs.Tree.{Tree, begins, block, body, constant, constants, declares, declares_constant, declares_procedure, declares_type, declares_variable, end, expression, formals, further_section, has_body, item, items, maybe, more, names, none, one, procedure, sequence, then_name, then_section, type_name, type_names, value_section, variable, variable_section, variables, written_type}
+use Rattle.ob0_tree.specs.Tree.{Tree, begins, block, body, constant, constants, declares, declares_constant, declares_procedure, declares_type, declares_variable, end, expression, formals, further_section, forms_block, item, items, maybe, more, names, none, one, procedure, sequence, then_name, then_section, type_definition, type_definitions, value_section, variable, variable_section, variables, written_type}
 use Rattle.ob0_tree.specs.View.{block_of, formals_of_list, formals_of, further_section_of, items_of, names_of, procedure_of}
 use Rattle.ob0_tree.specs.declared.tree.Names.{Names}
 use Rattle.ob0_tree.specs.declared.tree.Procedure.{Procedure, out-Procedure, roll-out-Procedure}
 use Rattle.ob0_tree.specs.declared.tree.ParameterSection.{ParameterSection}
 use Rattle.ob0_tree.proofs.Viewed.{procedure_made}
-use Rattle.ob0_types_check.specs.DeclarationFaults.{KnownHeading, state_after_heading, constant_declared, reported_block, reported_body, reported_constants, reported_module, reported_parameters, reported_procedure, reported_procedures, reported_section, reported_sections, reported_types, reported_variables, type_declared, variables_declared, with_parameters}
+use Rattle.ob0_types_check.specs.DeclarationFaults.{KnownHeading, state_after_heading, reported_constant_declaration, reported_block, reported_body, reported_constants, module_faults, reported_parameters, reported_procedure, reported_procedures, reported_section, reported_sections, reported_types, reported_variables, reported_type_declaration, reported_variable_group, with_parameters}
 use Rattle.ob0_types_check.specs.Known.{Meaning, a_constant, a_type, a_variable}
 use Rattle.ob0_types_check.specs.Operations.{without_fault, ◌>>=◌}
 use Rattle.ob0_types_check.specs.KnownDeclarations.{KnownDeclarations, state_at_start, define, define_all, facts_at}
-use Rattle.ob0_types_check.specs.StatementFaults.{reported_sequence}
+use Rattle.ob0_types_check.specs.StatementFaults.{sequence_faults}
 use Rattle.ob0_types_check.specs.CheckerViews.{formal_of}
 use Rattle.ob0_types_check.specs.TypeFaults.{reported_constant}
 use Rattle.ob0_types_check.specs.WrittenTypeFaults.{reported_type}
@@ -41,49 +41,49 @@ alike f (x ∷ xs) = ap (λ fs. formal_of f ∷ fs) (alike f xs)
 pub parameters_added : (old : List formal.FormalParameter) (f : formal.FormalParameter) (xs : List ℕ) → map formal_of (old ++ map (λ x. f) xs) ≡ map formal_of old ++ map (λ x. formal_of f) xs
 parameters_added old f xs = map-append formal_of old (map (λ x. f) xs) ∙ ap (λ fs. map formal_of old ++ fs) (alike f xs)
 
-pub constant_reported : (p : KnownDeclarations) (x : ℕ) (e : Tree ℕ expression) → constant_declared p (declares_constant x e) ≡ (reported_constant (facts_at p true) e >>= (λ v. without_fault (define p (a_constant v) x)))
-unfolding constant_declared
+pub constant_reported : (p : KnownDeclarations) (x : ℕ) (e : Tree ℕ expression) → reported_constant_declaration p (declares_constant x e) ≡ (reported_constant (facts_at p true) e >>= (λ v. without_fault (define p (a_constant v) x)))
+unfolding reported_constant_declaration
 constant_reported p x e = refl
 
 pub constants_ended : (p : KnownDeclarations) → reported_constants p end ≡ without_fault p
 unfolding reported_constants
 constants_ended p = refl
 
-constants_stepped : (p : KnownDeclarations) (t : Tree ℕ (item constant)) (ts : Tree ℕ (items constant)) → reported_constants p (more t ts) ≡ (constant_declared p t >>= (λ q. reported_constants q ts))
+constants_stepped : (p : KnownDeclarations) (t : Tree ℕ (item constant)) (ts : Tree ℕ (items constant)) → reported_constants p (more t ts) ≡ (reported_constant_declaration p t >>= (λ q. reported_constants q ts))
 unfolding reported_constants
 constants_stepped p t ts = refl
 
-pub constants_chain : IsChain reported_constants constant_declared
+pub constants_chain : IsChain reported_constants reported_constant_declaration
 constants_chain = record { ended = constants_ended; stepped = constants_stepped }
 
-pub type_reported : (p : KnownDeclarations) (x : ℕ) (t : Tree ℕ written_type) → type_declared p (declares_type x t) ≡ (reported_type 0 p t >>= (λ u. without_fault (define u.following (a_type u.of) x)))
-unfolding type_declared
+pub type_reported : (p : KnownDeclarations) (x : ℕ) (t : Tree ℕ written_type) → reported_type_declaration p (declares_type x t) ≡ (reported_type 0 p t >>= (λ u. without_fault (define u.following (a_type u.of) x)))
+unfolding reported_type_declaration
 type_reported p x t = refl
 
 pub types_ended : (p : KnownDeclarations) → reported_types p end ≡ without_fault p
 unfolding reported_types
 types_ended p = refl
 
-types_stepped : (p : KnownDeclarations) (t : Tree ℕ (item type_name)) (ts : Tree ℕ (items type_name)) → reported_types p (more t ts) ≡ (type_declared p t >>= (λ q. reported_types q ts))
+types_stepped : (p : KnownDeclarations) (t : Tree ℕ (item type_definition)) (ts : Tree ℕ (items type_definition)) → reported_types p (more t ts) ≡ (reported_type_declaration p t >>= (λ q. reported_types q ts))
 unfolding reported_types
 types_stepped p t ts = refl
 
-pub types_chain : IsChain reported_types type_declared
+pub types_chain : IsChain reported_types reported_type_declaration
 types_chain = record { ended = types_ended; stepped = types_stepped }
 
-pub variables_reported : (p : KnownDeclarations) (ns : Names) (t : Tree ℕ written_type) → variables_declared p (declares_variable (names_of ns) t) ≡ (reported_type 0 p t >>= (λ u. without_fault (define_all u.following (a_variable u.of) (ns.first ∷ ns.more.items))))
-unfolding variables_declared
+pub variables_reported : (p : KnownDeclarations) (ns : Names) (t : Tree ℕ written_type) → reported_variable_group p (declares_variable (names_of ns) t) ≡ (reported_type 0 p t >>= (λ u. without_fault (define_all u.following (a_variable u.of) (ns.first ∷ ns.more.items))))
+unfolding reported_variable_group
 variables_reported p ns t = ap (λ xs. reported_type 0 p t >>= (λ u. without_fault (define_all u.following (a_variable u.of) xs))) (names_are ns)
 
 pub variables_ended : (p : KnownDeclarations) → reported_variables p end ≡ without_fault p
 unfolding reported_variables
 variables_ended p = refl
 
-variables_stepped : (p : KnownDeclarations) (t : Tree ℕ (item variable)) (ts : Tree ℕ (items variable)) → reported_variables p (more t ts) ≡ (variables_declared p t >>= (λ q. reported_variables q ts))
+variables_stepped : (p : KnownDeclarations) (t : Tree ℕ (item variable)) (ts : Tree ℕ (items variable)) → reported_variables p (more t ts) ≡ (reported_variable_group p t >>= (λ q. reported_variables q ts))
 unfolding reported_variables
 variables_stepped p t ts = refl
 
-pub variables_chain : IsChain reported_variables variables_declared
+pub variables_chain : IsChain reported_variables reported_variable_group
 variables_chain = record { ended = variables_ended; stepped = variables_stepped }
 
 parameters_reported : (h : KnownHeading) (b : Bool) (ns : Tree ℕ names) (t : Tree ℕ written_type) → reported_section h (then_section (if b then variable_section ns t else value_section ns t)) ≡ (reported_type 0 h.following t >>= (λ u. without_fault (with_parameters h b (names_in_list ns) u)))
@@ -114,12 +114,12 @@ pub no_body_reported : (p : KnownDeclarations) → reported_body p none ≡ with
 unfolding reported_body
 no_body_reported p = refl
 
-pub body_reported : (p : KnownDeclarations) (a : Tree ℕ sequence) → reported_body p (one (begins a)) ≡ record { known = p; faults = reported_sequence (facts_at p false) a }
+pub body_reported : (p : KnownDeclarations) (a : Tree ℕ sequence) → reported_body p (one (begins a)) ≡ record { known = p; faults = sequence_faults (facts_at p false) a }
 unfolding reported_body
 body_reported p a = refl
 
-pub block_reported : (p : KnownDeclarations) (cs : Tree ℕ (maybe constants)) (ts : Tree ℕ (maybe type_names)) (vs : Tree ℕ (maybe variables)) (ps : Tree ℕ (items procedure)) (a : Tree ℕ (maybe body))
-    → reported_block p (has_body (declares cs ts vs ps) a)
+pub block_reported : (p : KnownDeclarations) (cs : Tree ℕ (maybe constants)) (ts : Tree ℕ (maybe type_definitions)) (vs : Tree ℕ (maybe variables)) (ps : Tree ℕ (items procedure)) (a : Tree ℕ (maybe body))
+    → reported_block p (forms_block (declares cs ts vs ps) a)
     ≡ (reported_constants p (section_constants cs) >>= (λ q. reported_types q (section_types ts) >>= (λ r. reported_variables r (section_variables vs) >>= (λ s. reported_procedures s ps >>= (λ t. reported_body t a)))))
 unfolding reported_block
 block_reported p cs ts vs ps a = refl
@@ -146,6 +146,6 @@ procedure_reported p d =
     let x = out-Procedure d in
     ap (reported_procedure p) (sym (ap procedure_of (roll-out-Procedure d)) ∙ procedure_made x) ∙ with_parts p x.name (formals_of x.formals) (block_of x.block) x.closing
 
-pub module_reported : (r : Resolution) → reported_module r ≡ filter is_undeclared_fault r.faults ++ (reported_block (state_at_start r) (module_block (tree_of r.module_read))).faults
-unfolding reported_module
+pub module_reported : (r : Resolution) → module_faults r ≡ filter is_undeclared_fault r.faults ++ (reported_block (state_at_start r) (module_block (tree_of r.module_read))).faults
+unfolding module_faults
 module_reported r = refl

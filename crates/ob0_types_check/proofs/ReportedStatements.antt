@@ -14,7 +14,7 @@ use Rattle.ob0_language_types.specs.Arguments.{arguments_listed, further_argumen
 use Rattle.ob0_types_check.specs.ExpressionFaults.{reported_expression, reported_selectors}
 use Rattle.ob0_types_check.specs.Known.{Facts, KnownFormal, a_procedure}
 use Rattle.ob0_types_check.specs.Operations.{typed_name_operand, required_type, fault_at_token, ◌>>=◌}
-use Rattle.ob0_types_check.specs.StatementFaults.{target_name_type, reported_call_by_meaning, required_of_argument, reported_argument, reported_arguments, reported_required, reported_assignment, reported_call, reported_condition, reported_else, reported_elsifs, reported_untyped_arguments, reported_sequence, reported_statement, reported_statements, reported_target}
+use Rattle.ob0_types_check.specs.StatementFaults.{target_name_type, call_faults_by_meaning, required_type_of_argument, faults_of_argument, argument_faults, typed_expression_faults, assignment_faults, call_faults, condition_faults, else_faults, elsif_faults, untyped_argument_faults, sequence_faults, statement_faults, further_statement_faults, reported_target}
 use Rattle.ob0_types_check.specs.CheckerViews.{formal_of}
 use Rattle.ob0_types_check.proofs.Listed.{IsEach, IsPairwise}
 
@@ -22,108 +22,108 @@ further_listed : (es : List Expression) → further_arguments (items_of further_
 further_listed [] = refl
 further_listed (e ∷ es) = ap (λ z. expression_of e ∷ z) (further_listed es)
 
-pub all_listed : (es : List Expression) → arguments_listed (one (view.arguments_listed es)) ≡ map expression_of es
+pub all_listed : (es : List Expression) → arguments_listed (one (view.arguments_of_list es)) ≡ map expression_of es
 all_listed [] = refl
 all_listed (e ∷ es) = ap (λ z. expression_of e ∷ z) (further_listed es)
 
 module _ {T : Type 0} (facts : Facts T) where
-  pub requested_reported : (wanted : T) (e : Tree ℕ expression) → reported_required facts wanted e ≡ (reported_expression facts e >>= required_type facts wanted).faults
-  unfolding reported_required
+  pub requested_reported : (wanted : T) (e : Tree ℕ expression) → typed_expression_faults facts wanted e ≡ (reported_expression facts e >>= required_type facts wanted).faults
+  unfolding typed_expression_faults
   requested_reported wanted e = refl
 
   pub target_reported : (x : ℕ) (path : Tree ℕ (items selector)) → reported_target facts x path ≡ (target_name_type facts x >>= (λ t. reported_selectors facts (typed_name_operand t x) path))
   unfolding reported_target
   target_reported x path = refl
 
-  pub argument_reported : (f : KnownFormal T) (e : Tree ℕ expression) → reported_argument facts f e ≡ (reported_expression facts e >>= required_of_argument facts f).faults
-  unfolding reported_argument
+  pub argument_reported : (f : KnownFormal T) (e : Tree ℕ expression) → faults_of_argument facts f e ≡ (reported_expression facts e >>= required_type_of_argument facts f).faults
+  unfolding faults_of_argument
   argument_reported f e = refl
 
-  pub empty_reported : reported_statement facts empty ≡ []
-  unfolding reported_statement
+  pub empty_reported : statement_faults facts empty ≡ []
+  unfolding statement_faults
   empty_reported = refl
 
-  pub assigned_reported : (x : ℕ) (path : Tree ℕ (items selector)) (e : Tree ℕ expression) → reported_statement facts (assigns x path e) ≡ reported_assignment facts (reported_target facts x path) e
-  unfolding reported_statement
+  pub assigned_reported : (x : ℕ) (path : Tree ℕ (items selector)) (e : Tree ℕ expression) → statement_faults facts (assigns x path e) ≡ assignment_faults facts (reported_target facts x path) e
+  unfolding statement_faults
   assigned_reported x path e = refl
 
-  pub called_reported : (p : ℕ) (es : Tree ℕ (maybe arguments)) → reported_statement facts (calls p es) ≡ reported_call facts p (arguments_listed es)
-  unfolding reported_statement
+  pub called_reported : (p : ℕ) (es : Tree ℕ (maybe arguments)) → statement_faults facts (calls p es) ≡ call_faults facts p (arguments_listed es)
+  unfolding statement_faults
   called_reported p es = refl
 
   pub branches_reported : (e : Tree ℕ expression) (a : Tree ℕ sequence) (rest : Tree ℕ (items elsif_part)) (last : Tree ℕ (maybe else_part))
-      → reported_statement facts (branches e a rest last) ≡ reported_condition facts e ++ (reported_sequence facts a ++ (reported_elsifs facts rest ++ reported_else facts last))
-  unfolding reported_statement
+      → statement_faults facts (branches e a rest last) ≡ condition_faults facts e ++ (sequence_faults facts a ++ (elsif_faults facts rest ++ else_faults facts last))
+  unfolding statement_faults
   branches_reported e a rest last = refl
 
-  pub while_reported : (e : Tree ℕ expression) (a : Tree ℕ sequence) → reported_statement facts (while_loop e a) ≡ reported_condition facts e ++ reported_sequence facts a
-  unfolding reported_statement
+  pub while_reported : (e : Tree ℕ expression) (a : Tree ℕ sequence) → statement_faults facts (while_loop e a) ≡ condition_faults facts e ++ sequence_faults facts a
+  unfolding statement_faults
   while_reported e a = refl
 
-  pub repeat_reported : (e : Tree ℕ expression) (a : Tree ℕ sequence) → reported_statement facts (repeat_loop a e) ≡ reported_sequence facts a ++ reported_condition facts e
-  unfolding reported_statement
+  pub repeat_reported : (e : Tree ℕ expression) (a : Tree ℕ sequence) → statement_faults facts (repeat_loop a e) ≡ sequence_faults facts a ++ condition_faults facts e
+  unfolding statement_faults
   repeat_reported e a = refl
 
-  pub no_else_reported : reported_else facts none ≡ []
-  unfolding reported_statement
+  pub no_else_reported : else_faults facts none ≡ []
+  unfolding statement_faults
   no_else_reported = refl
 
-  pub else_reported : (a : Tree ℕ sequence) → reported_else facts (one (else_branch a)) ≡ reported_sequence facts a
-  unfolding reported_statement
+  pub else_reported : (a : Tree ℕ sequence) → else_faults facts (one (else_branch a)) ≡ sequence_faults facts a
+  unfolding statement_faults
   else_reported a = refl
 
   -- The faults of a sequence or a branch are the faults of its first statement or branch, followed by the faults of the
   -- rest.
-  flat : (ss : List Statement) → reported_sequence facts (sequence_of_list ss) ≡ reported_statements facts (items_of further_statement_of ss)
-  unfolding reported_statement
+  flat : (ss : List Statement) → sequence_faults facts (sequence_of_list ss) ≡ further_statement_faults facts (items_of further_statement_of ss)
+  unfolding statement_faults
   flat [] = refl
   flat (s ∷ ss) = refl
 
-  none_in_sequence : reported_sequence facts (sequence_of_list []) ≡ []
-  unfolding reported_statement
+  none_in_sequence : sequence_faults facts (sequence_of_list []) ≡ []
+  unfolding statement_faults
   none_in_sequence = refl
 
-  some_in_sequence : (s : Statement) (ss : List Statement) → reported_sequence facts (sequence_of_list (s ∷ ss)) ≡ reported_statement facts (statement_of s) ++ reported_statements facts (items_of further_statement_of ss)
-  unfolding reported_statement
+  some_in_sequence : (s : Statement) (ss : List Statement) → sequence_faults facts (sequence_of_list (s ∷ ss)) ≡ statement_faults facts (statement_of s) ++ further_statement_faults facts (items_of further_statement_of ss)
+  unfolding statement_faults
   some_in_sequence s ss = refl
 
-  pub sequence_each : IsEach (λ ss. reported_sequence facts (sequence_of_list ss)) (λ s. reported_statement facts (statement_of s))
+  pub sequence_each : IsEach (λ ss. sequence_faults facts (sequence_of_list ss)) (λ s. statement_faults facts (statement_of s))
   sequence_each = record {
     ended = none_in_sequence;
-    stepped = λ s ss. some_in_sequence s ss ∙ ap (λ f. reported_statement facts (statement_of s) ++ f) (sym (flat ss));
+    stepped = λ s ss. some_in_sequence s ss ∙ ap (λ f. statement_faults facts (statement_of s) ++ f) (sym (flat ss));
   }
 
-  no_elsifs : reported_elsifs facts end ≡ []
-  unfolding reported_statement
+  no_elsifs : elsif_faults facts end ≡ []
+  unfolding statement_faults
   no_elsifs = refl
 
-  some_elsifs : (e : Tree ℕ expression) (a : Tree ℕ sequence) (rest : Tree ℕ (items elsif_part)) → reported_elsifs facts (more (elsif_branch e a) rest) ≡ reported_condition facts e ++ (reported_sequence facts a ++ reported_elsifs facts rest)
-  unfolding reported_statement
+  some_elsifs : (e : Tree ℕ expression) (a : Tree ℕ sequence) (rest : Tree ℕ (items elsif_part)) → elsif_faults facts (more (elsif_branch e a) rest) ≡ condition_faults facts e ++ (sequence_faults facts a ++ elsif_faults facts rest)
+  unfolding statement_faults
   some_elsifs e a rest = refl
 
-  pub elsifs_each : IsEach (λ es. reported_elsifs facts (items_of elsif_of es)) (λ e. reported_condition facts (expression_of e.condition) ++ reported_sequence facts (sequence_of_list e.then.items))
+  pub elsifs_each : IsEach (λ es. elsif_faults facts (items_of elsif_of es)) (λ e. condition_faults facts (expression_of e.condition) ++ sequence_faults facts (sequence_of_list e.then.items))
   elsifs_each = record {
     ended = no_elsifs;
     stepped = λ e es. some_elsifs (expression_of e.condition) (sequence_of_list e.then.items) (items_of elsif_of es)
-        ∙ sym (append_assoc (reported_condition facts (expression_of e.condition)) (reported_sequence facts (sequence_of_list e.then.items)) (reported_elsifs facts (items_of elsif_of es)));
+        ∙ sym (append_assoc (condition_faults facts (expression_of e.condition)) (sequence_faults facts (sequence_of_list e.then.items)) (elsif_faults facts (items_of elsif_of es)));
   }
 
-  pub parts_each : IsEach (λ (es : List Expression). reported_untyped_arguments facts (map expression_of es)) (λ e. (reported_expression facts (expression_of e)).faults)
+  pub parts_each : IsEach (λ (es : List Expression). untyped_argument_faults facts (map expression_of es)) (λ e. (reported_expression facts (expression_of e)).faults)
   parts_each = record { ended = refl; stepped = λ e es. refl }
 
 module _ (facts : Facts TypeId) where
-  pub argument_pairs : IsPairwise (λ (fs : List formal.FormalParameter) (es : List Expression). reported_arguments facts (map formal_of fs) (map expression_of es)) (λ f e. reported_argument facts (formal_of f) (expression_of e))
+  pub argument_pairs : IsPairwise (λ (fs : List formal.FormalParameter) (es : List Expression). argument_faults facts (map formal_of fs) (map expression_of es)) (λ f e. faults_of_argument facts (formal_of f) (expression_of e))
   argument_pairs = record { ended = refl; stepped = λ f e fs es. refl }
 
   -- The faults of a call depend on whether there are as many arguments as parameters.
   pub count_is_right : (p : ℕ) (fs : List formal.FormalParameter) (es : List Expression) → length fs ≡ length es
-      → reported_call_by_meaning facts p (Some (a_procedure (map formal_of fs))) (map expression_of es) ≡ reported_arguments facts (map formal_of fs) (map expression_of es)
+      → call_faults_by_meaning facts p (Some (a_procedure (map formal_of fs))) (map expression_of es) ≡ argument_faults facts (map formal_of fs) (map expression_of es)
   count_is_right p fs es e =
-      ap (λ b. if b then reported_arguments facts (map formal_of fs) (map expression_of es) else fault_at_token facts code.ArgumentCount p)
+      ap (λ b. if b then argument_faults facts (map formal_of fs) (map expression_of es) else fault_at_token facts code.ArgumentCount p)
       (eq-eqb (length (map formal_of fs)) (length (map expression_of es)) (length-map fs formal_of ∙ e ∙ sym (length-map es expression_of)))
 
   pub count_differs : (p : ℕ) (fs : List formal.FormalParameter) (es : List Expression) → length fs ≢ length es
-      → reported_call_by_meaning facts p (Some (a_procedure (map formal_of fs))) (map expression_of es) ≡ fault_at_token facts code.ArgumentCount p
+      → call_faults_by_meaning facts p (Some (a_procedure (map formal_of fs))) (map expression_of es) ≡ fault_at_token facts code.ArgumentCount p
   count_differs p fs es d =
-      ap (λ b. if b then reported_arguments facts (map formal_of fs) (map expression_of es) else fault_at_token facts code.ArgumentCount p)
+      ap (λ b. if b then argument_faults facts (map formal_of fs) (map expression_of es) else fault_at_token facts code.ArgumentCount p)
       (ne_eqb (length (map formal_of fs)) (length (map expression_of es)) (λ e. d (sym (length-map fs formal_of) ∙ e ∙ length-map es expression_of)))

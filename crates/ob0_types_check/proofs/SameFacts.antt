@@ -15,10 +15,10 @@ use Rattle.ob0_types_table.specs.declared.types.TypeId.TheVariants as type
 use Rattle.ob0_types_check.specs.declared.reporting.checker_state.Meaning.{Meaning}
 use Rattle.ob0_types_check.specs.declared.reporting.checker_state.CheckerState.{CheckerState}
 use Rattle.ob0_types_check.specs.Known.{a_record, an_array}
-use Rattle.ob0_types_check.specs.KnownDeclarations.{made_element_type, facts_at, made_field_type, type_of_first_field, form_at, same_type}
-use Rattle.ob0_types_check.specs.CheckerViews.{entry_element_type, facts_in, entry_field_type, fields_in, form_in, composite_type_of, known_meaning, declarations_in_state}
+use Rattle.ob0_types_check.specs.KnownDeclarations.{element_type_of_composite, facts_at, field_type_of_composite, type_of_first_field, form_at, same_type}
+use Rattle.ob0_types_check.specs.CheckerViews.{entry_element_type, facts_in, entry_field_type, fields_in, form_in, composite_type_of, meaning_view, declarations_in_state}
 
-elements_same : (o : Option TypeEntry) → entry_element_type o ≡ made_element_type (option_map composite_type_of o)
+elements_same : (o : Option TypeEntry) → entry_element_type o ≡ element_type_of_composite (option_map composite_type_of o)
 elements_same None = refl
 elements_same (Some (made.Array a)) = refl
 elements_same (Some (made.Record r)) = refl
@@ -27,7 +27,7 @@ field_alike : (fs : List Field) (x : Name) → first_field_type fs x ≡ type_of
 field_alike [] x = refl
 field_alike (f ∷ fs) x = ap (λ o. if same_name x (string_bytes f.name) then Some f.of else o) (field_alike fs x)
 
-field_same : (o : Option TypeEntry) (x : Name) → entry_field_type o x ≡ made_field_type (option_map composite_type_of o) x
+field_same : (o : Option TypeEntry) (x : Name) → entry_field_type o x ≡ field_type_of_composite (option_map composite_type_of o) x
 field_same None x = refl
 field_same (Some (made.Array a)) x = refl
 field_same (Some (made.Record r)) x = field_alike r.fields x
@@ -35,13 +35,13 @@ field_same (Some (made.Record r)) x = field_alike r.fields x
 form_same : (cs : List TypeEntry) (t : TypeId) → form_in cs t ≡ form_at (map composite_type_of cs) t
 form_same cs type.Integer = refl
 form_same cs type.Boolean = refl
-form_same cs (type.Array i) = ap an_array (elements_same (slice_get cs i) ∙ sym (ap made_element_type (slice_get-map composite_type_of cs i)))
-form_same cs (type.Record i) = ap a_record ((λ j x. field_same (slice_get cs i) x j) ∙ sym (ap made_field_type (slice_get-map composite_type_of cs i)))
+form_same cs (type.Array i) = ap an_array (elements_same (slice_get cs i) ∙ sym (ap element_type_of_composite (slice_get-map composite_type_of cs i)))
+form_same cs (type.Record i) = ap a_record ((λ j x. field_same (slice_get cs i) x j) ∙ sym (ap field_type_of_composite (slice_get-map composite_type_of cs i)))
 form_same cs type.Unknown = refl
 
-identifier_meaning_at : (ms : List (Option Meaning)) (o : Option ℕ) → option_map known_meaning (option_and_then (λ k. slice_index_or ms k None) o) ≡ option_and_then (λ k. slice_index_or (map (option_map known_meaning) ms) k None) o
+identifier_meaning_at : (ms : List (Option Meaning)) (o : Option ℕ) → option_map meaning_view (option_and_then (λ k. slice_index_or ms k None) o) ≡ option_and_then (λ k. slice_index_or (map (option_map meaning_view) ms) k None) o
 identifier_meaning_at ms None = refl
-identifier_meaning_at ms (Some k) = sym (get_or-map (option_map known_meaning) ms k None)
+identifier_meaning_at ms (Some k) = sym (get_or-map (option_map meaning_view) ms k None)
 
 -- The facts from the code's state are the facts from the definitions' state.
 pub facts_same : (s : CheckerState) (only_constants : Bool) → facts_in s only_constants ≡ facts_at (declarations_in_state s) only_constants
@@ -53,5 +53,5 @@ facts_same s only_constants = λ j. record {
 }
 
 -- Setting a declaration before converting the list is the same as converting it and then setting the declaration.
-pub declared_within : (ms : List (Option Meaning)) (k : ℕ) (m : Meaning) → map (option_map known_meaning) (set ms k (Some m)) ≡ set (map (option_map known_meaning) ms) k (Some (known_meaning m))
-declared_within ms k m = map-set (option_map known_meaning) ms k (Some m)
+pub declared_within : (ms : List (Option Meaning)) (k : ℕ) (m : Meaning) → map (option_map meaning_view) (set ms k (Some m)) ≡ set (map (option_map meaning_view) ms) k (Some (meaning_view m))
+declared_within ms k m = map-set (option_map meaning_view) ms k (Some m)

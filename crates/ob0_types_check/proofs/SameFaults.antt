@@ -11,12 +11,12 @@ use Rattle.ob0_tree.specs.declared.tree.AddOperator.{AddOperator}
 use Rattle.ob0_tree.specs.declared.tree.MultiplyOperator.{MultiplyOperator}
 use Rattle.ob0_tree.specs.declared.tree.Relation.{Relation}
 use Rattle.ob0_tree.specs.declared.tree.Sign.{Sign}
-use Rattle.ob0_tree.specs.Places.{text_at, value_at}
+use Rattle.ob0_tree.specs.Places.{token_text_at, token_value_at}
 use Rattle.ob0_tree.specs.Tree.{Sort, Tree, addend, arguments, no_arguments, some_arguments, then_argument, further_argument, adds, assigns, branches, calls, compares, designator, else_branch, else_part, elsif_branch, elsif_part, empty, end, expression, factor, field, further_statement, index, integer, items, maybe, more, multiplier, multiplies, negation, none, one, parenthesised, product, relates, repeat_loop, runs, selector, sequence, simple, statement, sum, term, then_statement, while_loop}
 use Rattle.ob0_language_types.specs.Arguments.{arguments_listed, further_arguments}
 use Rattle.ob0_language_types.specs.Selected.{apply_to_both}
 use Rattle.ob0_language_types.specs.Typing.{array_length, outcome_value}
-use Rattle.ob0_language_values.specs.Values.{Value, negate, number, relate}
+use Rattle.ob0_language_values.specs.Values.{Value, negate, number, apply_relation}
 use Rattle.ob0_language_values.specs.Values.{apply_sign as with_sign}
 use Rattle.ob0_scope_table.specs.TokenProperty.{EachTokenHas}
 use Rattle.ob0_scope_table.specs.FaultTokens.{AreAtSameTokens}
@@ -25,9 +25,9 @@ use Rattle.ob0_scope_table.proofs.FaultTokens.{both_same, none_same, one_same}
 use Rattle.ob0_types_table.specs.Operators.{product_value, sum_value}
 use Rattle.ob0_types_check.specs.ExpressionFaults.{reported_addends, reported_expression, reported_factor, reported_multipliers, reported_selectors, reported_simple, reported_term}
 use Rattle.ob0_types_check.specs.Known.{Facts, Form, KnownFormal, Meaning, Operand, Reported, Types, a_constant, a_procedure, a_record, a_scalar, a_type, a_variable, an_array, unknown_form}
-use Rattle.ob0_types_check.specs.Operations.{constant_name_operand, typed_name_operand, number_operand, add_operands, signed_operand, fault_at_tokens, comparison_type, complement_operand, element_type_in_form, element_operand, operand_in_parentheses, field_type_in_form, field_operand, fits, found_field_type, joint_operand, multiply_operands, name_operand, operand_by_meaning, extended_operand, relate_operands, required_type, required_type_of_both, add_operand_type, multiply_operand_type, relation_operand_type, without_fault, sign_operand, token_after, token_before, ◌>>=◌}
-use Rattle.ob0_types_check.specs.StatementFaults.{reported_call_by_meaning, required_of_argument, reported_argument, reported_arguments, reported_assignment, reported_call, reported_else, reported_elsifs, reported_untyped_arguments, reported_required, reported_sequence, reported_statement, reported_statements, reported_target, target_type_by_meaning, target_name_type}
-use Rattle.ob0_types_check.specs.TypeFaults.{length_or_fault, length_by_value, length_of, operand_value, reported_constant, type_by_meaning, type_named_at, valued}
+use Rattle.ob0_types_check.specs.Operations.{constant_name_operand, typed_name_operand, number_operand, add_operands, prefixed_operand, fault_at_tokens, comparison_type, complement_operand, element_type_in_form, element_operand, operand_in_parentheses, field_type_in_form, field_operand, may_be_same_type, field_type_or_fault, joint_operand, multiply_operands, name_operand, operand_by_meaning, extended_operand, relate_operands, required_type, required_type_of_both, operand_type_of_addition, operand_type_of_multiplication, operand_type_of_relation, without_fault, sign_operand, token_after, token_before, ◌>>=◌}
+use Rattle.ob0_types_check.specs.StatementFaults.{call_faults_by_meaning, required_type_of_argument, faults_of_argument, argument_faults, assignment_faults, call_faults, else_faults, elsif_faults, untyped_argument_faults, typed_expression_faults, sequence_faults, statement_faults, further_statement_faults, reported_target, target_type_by_meaning, target_name_type}
+use Rattle.ob0_types_check.specs.TypeFaults.{length_or_fault, length_by_value, length_of, operand_value, reported_constant, type_by_meaning, type_named_at, value_or_fault}
 
 -- returns the facts at a place, given the meaning of each declaration
 abbrev pub facts_over : {T : Type 0} → TextWithTokens → List (Option ℕ) → Types T → (ℕ → Option (Meaning T)) → Bool → Facts T
@@ -38,8 +38,8 @@ facts_over source ordinals types declared only_constants =
 -- and binding in both.
 pub record Alikeness (old new : TextWithTokens) (os ns : List (Option ℕ)) (P : ℕ → Type 0) : Type 0 where
   pub count : length new.tokens ≡ length old.tokens
-  pub written : (k : ℕ) → P k → text_at new k ≡ text_at old k
-  pub value : (k : ℕ) → P k → value_at new k ≡ value_at old k
+  pub written : (k : ℕ) → P k → token_text_at new k ≡ token_text_at old k
+  pub value : (k : ℕ) → P k → token_value_at new k ≡ token_value_at old k
   pub bound : (k : ℕ) → P k → ordinal_in ns k ≡ ordinal_in os k
 
 module _ (old new : TextWithTokens) where
@@ -108,41 +108,41 @@ module _ (old new : TextWithTokens) (os ns : List (Option ℕ)) (P : ℕ → Typ
     -- ---- operations
 
     pub required_same : (wanted : T) (o : Operand T) → Eq (required_type fo wanted o) (required_type fn wanted o)
-    required_same wanted o = record { value = (required_type fo wanted o).known; before = refl; after = refl; faults = unless_fits (fits types o.of wanted) code.TypeMismatch o.first o.last }
+    required_same wanted o = record { value = (required_type fo wanted o).known; before = refl; after = refl; faults = unless_fits (may_be_same_type types o.of wanted) code.TypeMismatch o.first o.last }
 
     both_required : (wanted : T) (a b : Operand T) → Eq (required_type_of_both fo wanted a b) (required_type_of_both fn wanted a b)
     both_required wanted a b =
-        either old new (fits types a.of wanted)
+        either old new (may_be_same_type types a.of wanted)
         (record { value = if types.same a.of wanted then (required_type fo wanted b).known else types.unknown; before = refl; after = refl; faults = (required_same wanted b).faults })
         (faulty types.unknown code.TypeMismatch a.first a.last)
 
     added_same : (o : AddOperator) (a b : Operand T) → Eq (add_operands fo o a b) (add_operands fn o a b)
-    added_same o a b = gives old new (λ t. joint_operand t (option_and_then (sum_value o b.value) a.value) a b) (both_required (add_operand_type types o) a b)
+    added_same o a b = gives old new (λ t. joint_operand t (option_and_then (sum_value o b.value) a.value) a b) (both_required (operand_type_of_addition types o) a b)
 
     multiplied_same : (o : MultiplyOperator) (a b : Operand T) → Eq (multiply_operands fo o a b) (multiply_operands fn o a b)
-    multiplied_same o a b = gives old new (λ t. joint_operand t (option_and_then (product_value o b.value) a.value) a b) (both_required (multiply_operand_type types o) a b)
+    multiplied_same o a b = gives old new (λ t. joint_operand t (option_and_then (product_value o b.value) a.value) a b) (both_required (operand_type_of_multiplication types o) a b)
 
     related_same : (r : Relation) (a b : Operand T) → Eq (relate_operands fo r a b) (relate_operands fn r a b)
     related_same r a b =
-        gives old new (λ t. joint_operand (comparison_type types t) (apply_to_both (λ x y. outcome_value (relate r x y)) a.value b.value) a b) (both_required (relation_operand_type types r a.of) a b)
+        gives old new (λ t. joint_operand (comparison_type types t) (apply_to_both (λ x y. outcome_value (apply_relation r x y)) a.value b.value) a b) (both_required (operand_type_of_relation types r a.of) a b)
 
     signed_same : (s : Option Sign) (o : Operand T) → Eq (sign_operand fo s o) (sign_operand fn s o)
     signed_same None o = equal old new o
-    signed_same (Some s) o = gives old new (λ t. signed_operand t (option_and_then (λ x. outcome_value (with_sign (Some s) x)) o.value) o) (required_same types.integer o)
+    signed_same (Some s) o = gives old new (λ t. prefixed_operand t (option_and_then (λ x. outcome_value (with_sign (Some s) x)) o.value) o) (required_same types.integer o)
 
     complement_same : (o : Operand T) → Eq (complement_operand fo o) (complement_operand fn o)
-    complement_same o = gives old new (λ t. signed_operand t (option_and_then (λ x. outcome_value (negate x)) o.value) o) (required_same types.boolean o)
+    complement_same o = gives old new (λ t. prefixed_operand t (option_and_then (λ x. outcome_value (negate x)) o.value) o) (required_same types.boolean o)
 
     number_same : (n : ℕ) → P n → Eq (without_fault (number_operand fo n)) (without_fault (number_operand fn n))
     number_same n h = record { value = number_operand fo n; before = refl; after = ap a_number_of (w.value n h); faults = none_same old new } where
       a_number_of : ℕ → Operand T
-      a_number_of v = record { of = types.integer; value = Some (number (pos v)); is_place = false; first = n; last = n }
+      a_number_of v = record { of = types.integer; value = Some (number (pos v)); may_be_variable = false; first = n; last = n }
 
     enclosed_same : (o : Operand T) → Eq (without_fault (operand_in_parentheses fo o)) (without_fault (operand_in_parentheses fn o))
     enclosed_same o = record {
       value = operand_in_parentheses fo o;
       before = refl;
-      after = ap (λ last. record { of = o.of; value = o.value; is_place = false; first = token_before o.first; last = last }) (after_same o.last);
+      after = ap (λ last. record { of = o.of; value = o.value; may_be_variable = false; first = token_before o.first; last = last }) (after_same o.last);
       faults = none_same old new;
     }
 
@@ -156,12 +156,12 @@ module _ (old new : TextWithTokens) (os ns : List (Option ℕ)) (P : ℕ → Typ
     named_same : (token : ℕ) → P token → Eq (name_operand fo token) (name_operand fn token)
     named_same token h = subst (λ m. Eq (name_operand fo token) (operand_by_meaning fn token m)) (meant token h) (operand_of_name token (fo.object_for token))
 
-    found_same : (token : ℕ) (t : Option T) → Eq (found_field_type fo token t) (found_field_type fn token t)
+    found_same : (token : ℕ) (t : Option T) → Eq (field_type_or_fault fo token t) (field_type_or_fault fn token t)
     found_same token None = faulty types.unknown code.NoField token token
     found_same token (Some t) = equal old new t
 
     field_same : (token : ℕ) → P token → (form : Form T) → Eq (field_type_in_form fo token form) (field_type_in_form fn token form)
-    field_same token h (a_record fields) = subst (λ x. Eq (field_type_in_form fo token (a_record fields)) (found_field_type fn token (fields x))) (sym (w.written token h)) (found_same token (fields (text_at old token)))
+    field_same token h (a_record fields) = subst (λ x. Eq (field_type_in_form fo token (a_record fields)) (field_type_or_fault fn token (fields x))) (sym (w.written token h)) (found_same token (fields (token_text_at old token)))
     field_same token h unknown_form = equal old new types.unknown
     field_same token h a_scalar = faulty types.unknown code.NotRecord (token_before token) (token_before token)
     field_same token h (an_array t) = faulty types.unknown code.NotRecord (token_before token) (token_before token)
@@ -228,7 +228,7 @@ module _ (old new : TextWithTokens) (os ns : List (Option ℕ)) (P : ℕ → Typ
 
     -- ---- constants, lengths and names of types
 
-    value_same : (o : Operand T) (v : Option Value) → Eq (valued fo o v) (valued fn o v)
+    value_same : (o : Operand T) (v : Option Value) → Eq (value_or_fault fo o v) (value_or_fault fn o v)
     value_same o None = faulty None code.ConstFault o.first o.last
     value_same o (Some v) = equal old new (Some v)
 
@@ -264,8 +264,8 @@ module _ (old new : TextWithTokens) (os ns : List (Option ℕ)) (P : ℕ → Typ
     abbrev Alright : List Fault → List Fault → Type 0
     Alright a b = Same old new a b
 
-    required_there : (wanted : T) (e : Tree ℕ expression) → Each e → Alright (reported_required fo wanted e) (reported_required fn wanted e)
-    unfolding reported_required
+    required_there : (wanted : T) (e : Tree ℕ expression) → Each e → Alright (typed_expression_faults fo wanted e) (typed_expression_faults fn wanted e)
+    unfolding typed_expression_faults
     required_there wanted e h = (goes_on old new (required_type fo wanted) (required_type fn wanted) (expression_same e h) (λ o. required_same wanted o)).faults
 
     target_meant : (token : ℕ) (m : Option (Meaning T)) → Eq (target_type_by_meaning fo token m) (target_type_by_meaning fn token m)
@@ -282,18 +282,18 @@ module _ (old new : TextWithTokens) (os ns : List (Option ℕ)) (P : ℕ → Typ
     unfolding reported_target
     target_same x path h each = goes_on old new (λ t. reported_selectors fo (typed_name_operand t x) path) (λ t. reported_selectors fn (typed_name_operand t x) path) (target_named x h) (λ t. selectors_same (typed_name_operand t x) path each)
 
-    assigned_same : (a b : Reported (Operand T)) (e : Tree ℕ expression) → Each e → Eq a b → Alright (reported_assignment fo a e) (reported_assignment fn b e)
+    assigned_same : (a b : Reported (Operand T)) (e : Tree ℕ expression) → Each e → Eq a b → Alright (assignment_faults fo a e) (assignment_faults fn b e)
     assigned_same a b e h p =
         both_same old new p.faults
-        (subst (λ (x : Operand T). Alright (reported_required fo x.of e) (reported_required fn b.known.of e)) (sym p.before)
-        (subst (λ (x : Operand T). Alright (reported_required fo p.value.of e) (reported_required fn x.of e)) (sym p.after) (required_there p.value.of e h)))
+        (subst (λ (x : Operand T). Alright (typed_expression_faults fo x.of e) (typed_expression_faults fn b.known.of e)) (sym p.before)
+        (subst (λ (x : Operand T). Alright (typed_expression_faults fo p.value.of e) (typed_expression_faults fn x.of e)) (sym p.after) (required_there p.value.of e h)))
 
-    passed_same : (f : KnownFormal T) (o : Operand T) → Eq (required_of_argument fo f o) (required_of_argument fn f o)
-    passed_same f o = either old new (f.by_place && not o.is_place) (faulty types.unknown code.NotVariable o.first o.last) (required_same f.of o)
+    passed_same : (f : KnownFormal T) (o : Operand T) → Eq (required_type_of_argument fo f o) (required_type_of_argument fn f o)
+    passed_same f o = either old new (f.by_place && not o.may_be_variable) (faulty types.unknown code.NotVariable o.first o.last) (required_same f.of o)
 
-    argument_same : (f : KnownFormal T) (e : Tree ℕ expression) → Each e → Alright (reported_argument fo f e) (reported_argument fn f e)
-    unfolding reported_argument
-    argument_same f e h = (goes_on old new (required_of_argument fo f) (required_of_argument fn f) (expression_same e h) (λ o. passed_same f o)).faults
+    argument_same : (f : KnownFormal T) (e : Tree ℕ expression) → Each e → Alright (faults_of_argument fo f e) (faults_of_argument fn f e)
+    unfolding faults_of_argument
+    argument_same f e h = (goes_on old new (required_type_of_argument fo f) (required_type_of_argument fn f) (expression_same e h) (λ o. passed_same f o)).faults
 
     -- holds if each token of some expressions has the property
     abbrev EachOf : List (Tree ℕ expression) → Type 0
@@ -309,34 +309,34 @@ module _ (old new : TextWithTokens) (os ns : List (Option ℕ)) (P : ℕ → Typ
     arguments_each (one no_arguments) h = tt
     arguments_each (one (some_arguments e es)) h = (h.0, further_each es h.1)
 
-    arguments_same : (fs : List (KnownFormal T)) (es : List (Tree ℕ expression)) → EachOf es → Alright (reported_arguments fo fs es) (reported_arguments fn fs es)
+    arguments_same : (fs : List (KnownFormal T)) (es : List (Tree ℕ expression)) → EachOf es → Alright (argument_faults fo fs es) (argument_faults fn fs es)
     arguments_same [] es h = none_same old new
     arguments_same (f ∷ fs) [] h = none_same old new
     arguments_same (f ∷ fs) (e ∷ es) h = both_same old new (argument_same f e h.0) (arguments_same fs es h.1)
 
-    parts_same : (es : List (Tree ℕ expression)) → EachOf es → Alright (reported_untyped_arguments fo es) (reported_untyped_arguments fn es)
+    parts_same : (es : List (Tree ℕ expression)) → EachOf es → Alright (untyped_argument_faults fo es) (untyped_argument_faults fn es)
     parts_same [] h = none_same old new
     parts_same (e ∷ es) h = both_same old new (expression_same e h.0).faults (parts_same es h.1)
 
     counted_same : (b : Bool) (p : ℕ) (fs : List (KnownFormal T)) (es : List (Tree ℕ expression)) → EachOf es
-        → Alright (if b then reported_arguments fo fs es else fault_at_tokens fo code.ArgumentCount p p) (if b then reported_arguments fn fs es else fault_at_tokens fn code.ArgumentCount p p)
+        → Alright (if b then argument_faults fo fs es else fault_at_tokens fo code.ArgumentCount p p) (if b then argument_faults fn fs es else fault_at_tokens fn code.ArgumentCount p p)
     counted_same true p fs es h = arguments_same fs es h
     counted_same false p fs es h = at_same code.ArgumentCount p p
 
-    call_meant : (p : ℕ) (m : Option (Meaning T)) (es : List (Tree ℕ expression)) → EachOf es → Alright (reported_call_by_meaning fo p m es) (reported_call_by_meaning fn p m es)
+    call_meant : (p : ℕ) (m : Option (Meaning T)) (es : List (Tree ℕ expression)) → EachOf es → Alright (call_faults_by_meaning fo p m es) (call_faults_by_meaning fn p m es)
     call_meant p (Some (a_procedure fs)) es h = counted_same (nat_eq (length fs) (length es)) p fs es h
     call_meant p (Some (a_type t)) es h = both_same old new (at_same code.WrongKind p p) (parts_same es h)
     call_meant p (Some (a_constant v)) es h = both_same old new (at_same code.WrongKind p p) (parts_same es h)
     call_meant p (Some (a_variable t)) es h = both_same old new (at_same code.WrongKind p p) (parts_same es h)
     call_meant p None es h = parts_same es h
 
-    call_same : (p : ℕ) (es : List (Tree ℕ expression)) → P p → EachOf es → Alright (reported_call fo p es) (reported_call fn p es)
-    call_same p es h each = subst (λ m. Alright (reported_call fo p es) (reported_call_by_meaning fn p m es)) (meant p h) (call_meant p (fo.object_for p) es each)
+    call_same : (p : ℕ) (es : List (Tree ℕ expression)) → P p → EachOf es → Alright (call_faults fo p es) (call_faults fn p es)
+    call_same p es h each = subst (λ m. Alright (call_faults fo p es) (call_faults_by_meaning fn p m es)) (meant p h) (call_meant p (fo.object_for p) es each)
 
     mutual
-      unfolding reported_statement
+      unfolding statement_faults
 
-      statement_same : (s : Tree ℕ statement) → Each s → Alright (reported_statement fo s) (reported_statement fn s)
+      statement_same : (s : Tree ℕ statement) → Each s → Alright (statement_faults fo s) (statement_faults fn s)
       statement_same empty h = none_same old new
       statement_same (assigns x path e) h = assigned_same (reported_target fo x path) (reported_target fn x path) e h.2 (target_same x path h.0 h.1)
       statement_same (calls p es) h = call_same p (arguments_listed es) h.0 (arguments_each es h.1)
@@ -345,18 +345,18 @@ module _ (old new : TextWithTokens) (os ns : List (Option ℕ)) (P : ℕ → Typ
       statement_same (while_loop e statements) h = both_same old new (required_there types.boolean e h.0) (sequence_same statements h.1)
       statement_same (repeat_loop statements e) h = both_same old new (sequence_same statements h.0) (required_there types.boolean e h.1)
 
-      pub sequence_same : (s : Tree ℕ sequence) → Each s → Alright (reported_sequence fo s) (reported_sequence fn s)
+      pub sequence_same : (s : Tree ℕ sequence) → Each s → Alright (sequence_faults fo s) (sequence_faults fn s)
       sequence_same (runs a rest) h = both_same old new (statement_same a h.0) (statements_same rest h.1)
 
-      statements_same : (rest : Tree ℕ (items further_statement)) → Each rest → Alright (reported_statements fo rest) (reported_statements fn rest)
+      statements_same : (rest : Tree ℕ (items further_statement)) → Each rest → Alright (further_statement_faults fo rest) (further_statement_faults fn rest)
       statements_same end h = none_same old new
       statements_same (more (then_statement a) rest) h = both_same old new (statement_same a h.0) (statements_same rest h.1)
 
-      elsifs_same : (rest : Tree ℕ (items elsif_part)) → Each rest → Alright (reported_elsifs fo rest) (reported_elsifs fn rest)
+      elsifs_same : (rest : Tree ℕ (items elsif_part)) → Each rest → Alright (elsif_faults fo rest) (elsif_faults fn rest)
       elsifs_same end h = none_same old new
       elsifs_same (more (elsif_branch e statements) rest) h =
           both_same old new (required_there types.boolean e h.0.0) (both_same old new (sequence_same statements h.0.1) (elsifs_same rest h.1))
 
-      else_same : (last : Tree ℕ (maybe else_part)) → Each last → Alright (reported_else fo last) (reported_else fn last)
+      else_same : (last : Tree ℕ (maybe else_part)) → Each last → Alright (else_faults fo last) (else_faults fn last)
       else_same none h = none_same old new
       else_same (one (else_branch statements)) h = sequence_same statements h

@@ -6,7 +6,7 @@ use Rattle.ob0_scan.specs.declared.fault.Fault.{Fault}
 use Rattle.ob0_scan.specs.TextWithTokens.{TextWithTokens}
 use Rattle.ob0_language_names.specs.Parts.{formal_sections, further_names, module_block, names_in_list, section_constants, section_types, section_variables}
 use Rattle.ob0_tree.specs.ParsedModule.{parsed_module, tree_of}
-use Rattle.ob0_tree.specs.Tree.{Sort, Tree, no_formals, some_formals, listed, then_name, further_name, constants, type_names, variables, formals, declares_constants, declares_types, declares_variables, array_type, begins, block, body, constant, declares, declares_constant, declares_procedure, declares_type, declares_variable, end, fields, further_fields, further_section, has_body, item, items, maybe, more, named_type, names, no_fields, none, one, procedure, record_type, some_fields, then_fields, then_section, type_name, value_section, variable, variable_section, written_type}
+use Rattle.ob0_tree.specs.Tree.{Sort, Tree, no_formals, some_formals, listed, then_name, further_name, constants, type_definitions, variables, formals, declares_constants, declares_types, declares_variables, array_type, begins, block, body, constant, declares, declares_constant, declares_procedure, declares_type, declares_variable, end, fields, further_fields, further_section, forms_block, item, items, maybe, more, named_type, names, no_fields, none, one, procedure, record_type, some_fields, then_fields, then_section, type_definition, value_section, variable, variable_section, written_type}
 use Rattle.ob0_tree.specs.declared.tree.ModuleTree.{ModuleTree}
 use Rattle.std.proofs.lemmas.List.{length-map}
 use Rattle.ob0_scan.specs.TextWithTokens.{word_of_token}
@@ -17,10 +17,10 @@ use Rattle.ob0_scope_table.proofs.Placed.{each_token}
 use Rattle.ob0_scope_table.proofs.FaultTokens.{both_same, filter_same, none_same, texts_stay, values_stay}
 use Rattle.ob0_types_table.specs.declared.types.TypeId.{TypeId}
 use Rattle.ob0_types_table.specs.declared.types.TypeId.TheVariants as type
-use Rattle.ob0_types_check.specs.DeclarationFaults.{KnownHeading, state_after_heading, constant_declared, reported_block, reported_body, reported_constants, reported_module, reported_parameters, reported_procedure, reported_procedures, reported_section, reported_sections, reported_types, reported_variables, type_declared, variables_declared, with_parameters}
+use Rattle.ob0_types_check.specs.DeclarationFaults.{KnownHeading, state_after_heading, reported_constant_declaration, reported_block, reported_body, reported_constants, module_faults, reported_parameters, reported_procedure, reported_procedures, reported_section, reported_sections, reported_types, reported_variables, reported_type_declaration, reported_variable_group, with_parameters}
 use Rattle.ob0_types_check.specs.Known.{Meaning, Operand, Reported, a_constant, a_procedure, a_type, a_variable}
 use Rattle.ob0_types_check.specs.Operations.{without_fault, token_before, ◌>>=◌}
-use Rattle.ob0_types_check.specs.KnownDeclarations.{PartTypes, Size, KnownDeclarations, TypeWithState, state_at_start, define, define_all, facts_at, is_within_limits, made, make_type, of_elements, of_fields, size_at, type_too_large, types_so_far, with_meaning}
+use Rattle.ob0_types_check.specs.KnownDeclarations.{PartTypes, Size, KnownDeclarations, TypeWithState, state_at_start, define, define_all, facts_at, is_within_limits, append_composite, make_type, of_elements, of_fields, size_at, type_too_large, types_so_far, with_meaning}
 use Rattle.ob0_types_check.specs.TypeFaults.{length_of}
 use Rattle.ob0_types_check.specs.WrittenTypeFaults.{KnownFields, made_array_type, array_size, with_field_group, no_known_fields, next_type_ordinal, made_record_type, record_size, record_keyword, reported_fields, reported_groups, reported_type, with_known_fields, with_known_field, token_before_group}
 use Rattle.ob0_types_check.proofs.SameFaults.{Alike, Alikeness, at_same, constant_same, expression_same, goes_on, length_same, rightly, sequence_same, type_named_same}
@@ -123,8 +123,8 @@ module _ (old new : TextWithTokens) (os ns : List (Option ℕ)) (P : ℕ → Typ
   -- ---- written types
 
   made_within : (b : Bool) (p : KnownDeclarations) (word ordinal : ℕ) (parts : PartTypes) (size : Size)
-      → Typed (if b then without_fault (made (so_old p) ordinal parts size) else type_too_large (so_old p) word) (if b then without_fault (made (so_new p) ordinal parts size) else type_too_large (so_new p) word)
-  made_within true p word ordinal parts size = rightly old new typed_old typed_new (made p ordinal parts size)
+      → Typed (if b then without_fault (append_composite (so_old p) ordinal parts size) else type_too_large (so_old p) word) (if b then without_fault (append_composite (so_new p) ordinal parts size) else type_too_large (so_new p) word)
+  made_within true p word ordinal parts size = rightly old new typed_old typed_new (append_composite p ordinal parts size)
   made_within false p word ordinal parts size = record {
     value = record { of = type.Unknown; following = p };
     before = refl;
@@ -200,8 +200,8 @@ module _ (old new : TextWithTokens) (os ns : List (Option ℕ)) (P : ℕ → Typ
   all_defined : (p : KnownDeclarations) (m : Meaning TypeId) (xs : List ℕ) → AllOf xs → So (without_fault (define_all (so_old p) m xs)) (without_fault (define_all (so_new p) m xs))
   all_defined p m xs h = so (define_all (so_old p) m xs) (define_all (so_old p) m xs) (define_all (so_new p) m xs) (all_before p m xs) (all_after p m xs h)
 
-  constant_after : (p : KnownDeclarations) (c : Tree ℕ (item constant)) → Each c → So (constant_declared (so_old p) c) (constant_declared (so_new p) c)
-  unfolding constant_declared
+  constant_after : (p : KnownDeclarations) (c : Tree ℕ (item constant)) → Each c → So (reported_constant_declaration (so_old p) c) (reported_constant_declaration (so_new p) c)
+  unfolding reported_constant_declaration
   constant_after p (declares_constant x e) h =
       goes_on old new (λ v. without_fault (define (so_old p) (a_constant v) x)) (λ v. without_fault (define (so_new p) (a_constant v) x)) (constant_same old new os ns P w (types_so_far p.made) (declared_at p) true e h.1)
       (λ v. defined p (a_constant v) x h.0)
@@ -211,19 +211,19 @@ module _ (old new : TextWithTokens) (os ns : List (Option ℕ)) (P : ℕ → Typ
   constants_same p end h = rightly old new so_old so_new p
   constants_same p (more c rest) h = goes_on old new (λ q. reported_constants q rest) (λ q. reported_constants q rest) (constant_after p c h.0) (λ q. constants_same q rest h.1)
 
-  select_type : (p : KnownDeclarations) (d : Tree ℕ (item type_name)) → Each d → So (type_declared (so_old p) d) (type_declared (so_new p) d)
-  unfolding type_declared
+  select_type : (p : KnownDeclarations) (d : Tree ℕ (item type_definition)) → Each d → So (reported_type_declaration (so_old p) d) (reported_type_declaration (so_new p) d)
+  unfolding reported_type_declaration
   select_type p (declares_type x t) h =
       goes_on old new (λ u. without_fault (define u.following (a_type u.of) x)) (λ u. without_fault (define u.following (a_type u.of) x)) (written_same 0 p t h.1)
       (λ u. defined u.following (a_type u.of) x h.0)
 
-  pub types_same : (p : KnownDeclarations) (ds : Tree ℕ (items type_name)) → Each ds → So (reported_types (so_old p) ds) (reported_types (so_new p) ds)
+  pub types_same : (p : KnownDeclarations) (ds : Tree ℕ (items type_definition)) → Each ds → So (reported_types (so_old p) ds) (reported_types (so_new p) ds)
   unfolding reported_types
   types_same p end h = rightly old new so_old so_new p
   types_same p (more d rest) h = goes_on old new (λ q. reported_types q rest) (λ q. reported_types q rest) (select_type p d h.0) (λ q. types_same q rest h.1)
 
-  variables_after : (p : KnownDeclarations) (g : Tree ℕ (item variable)) → Each g → So (variables_declared (so_old p) g) (variables_declared (so_new p) g)
-  unfolding variables_declared
+  variables_after : (p : KnownDeclarations) (g : Tree ℕ (item variable)) → Each g → So (reported_variable_group (so_old p) g) (reported_variable_group (so_new p) g)
+  unfolding reported_variable_group
   variables_after p (declares_variable ns t) h =
       goes_on old new (λ u. without_fault (define_all u.following (a_variable u.of) (names_in_list ns))) (λ u. without_fault (define_all u.following (a_variable u.of) (names_in_list ns))) (written_same 0 p t h.1)
       (λ u. all_defined u.following (a_variable u.of) (names_in_list ns) (names_each ns h.0))
@@ -276,7 +276,7 @@ module _ (old new : TextWithTokens) (os ns : List (Option ℕ)) (P : ℕ → Typ
   constants_each none h = tt
   constants_each (one (declares_constants cs)) h = h
 
-  pub types_each : (ts : Tree ℕ (maybe type_names)) → Each ts → Each (section_types ts)
+  pub types_each : (ts : Tree ℕ (maybe type_definitions)) → Each ts → Each (section_types ts)
   types_each none h = tt
   types_each (one (declares_types ts)) h = h
 
@@ -303,7 +303,7 @@ module _ (old new : TextWithTokens) (os ns : List (Option ℕ)) (P : ℕ → Typ
     unfolding reported_block
 
     pub block_same : (p : KnownDeclarations) (b : Tree ℕ block) → Each b → So (reported_block (so_old p) b) (reported_block (so_new p) b)
-    block_same p (has_body (declares cs ts vs ps) statements) h =
+    block_same p (forms_block (declares cs ts vs ps) statements) h =
         goes_on old new (λ q. reported_types q (section_types ts) >>= (λ r. reported_variables r (section_variables vs) >>= (λ s. reported_procedures s ps >>= (λ t. reported_body t statements))))
         (λ q. reported_types q (section_types ts) >>= (λ r. reported_variables r (section_variables vs) >>= (λ s. reported_procedures s ps >>= (λ t. reported_body t statements))))
         (constants_same p (section_constants cs) (constants_each cs h.0.0))
@@ -333,9 +333,9 @@ same_count old new w = sym (length-map new.tokens (word_of_token new.text)) ∙ 
 -- If all tokens of two texts have the same spellings, the undeclared names and the faults of types are at the same
 -- tokens.
 pub module_same : (old new : TextWithTokens) (w : AreWrittenAlike old new) (tree : ModuleTree) (ordinals : List (Option ℕ)) (declarations uses : List ℕ) (before after : List Fault) → AreAtSameTokens old new before after
-    → AreAtSameTokens old new (reported_module (record { module_read = parsed_module old tree; ordinals = ordinals; declarations = declarations; uses = uses; faults = before }))
-    (reported_module (record { module_read = parsed_module new tree; ordinals = ordinals; declarations = declarations; uses = uses; faults = after }))
-unfolding reported_module
+    → AreAtSameTokens old new (module_faults (record { module_read = parsed_module old tree; ordinals = ordinals; declarations = declarations; uses = uses; faults = before }))
+    (module_faults (record { module_read = parsed_module new tree; ordinals = ordinals; declarations = declarations; uses = uses; faults = after }))
+unfolding module_faults
 module_same old new w tree ordinals declarations uses before after h =
     let first : KnownDeclarations = state_at_start (record { module_read = parsed_module old tree; ordinals = ordinals; declarations = declarations; uses = uses; faults = before }) in
     let P : ℕ → Type 0 = λ k. Unit {0} in

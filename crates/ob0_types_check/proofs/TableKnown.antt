@@ -25,7 +25,7 @@ use Rattle.ob0_types_table.specs.declared.types.TypeId.TheVariants as type
 use Rattle.ob0_language_values.specs.Values.{FieldShapes, Shape, array_shape, boolean_shape, integer_shape, next_field_shape, no_field_shape, record_shape}
 use Rattle.ob0_types_check.specs.Agreement.{DeclarationAgrees, EntriesAgree, FieldsAgree, FormalsAgree, CompositeAgrees, MeaningAgrees, as_array, as_record, is_standard_procedure, shape_in}
 use Rattle.ob0_types_check.specs.ModuleLaws.{KnowsDeclarations}
-use Rattle.ob0_types_check.specs.CheckerViews.{fields_in, formal_of, composite_type_of, known_meaning, table_object, declarations_in_state, table_in, with_standard_procedures}
+use Rattle.ob0_types_check.specs.CheckerViews.{fields_in, formal_of, composite_type_of, meaning_view, table_object, declarations_in_state, table_in, with_standard_procedures}
 use Rattle.ob0_types_check.specs.declared.reporting.checker_state.Meaning.{Meaning}
 use Rattle.ob0_types_check.specs.declared.reporting.checker_state.Meaning.TheVariants as declared
 use Rattle.ob0_types_check.specs.declared.reporting.checker_state.CheckerState.{CheckerState}
@@ -114,14 +114,14 @@ procedure_there (Some (meant.a_variable s)) signature own e = absurd (cc)
 procedure_there (Some (meant.a_procedure g)) signature own e = ap (λ z. Some (meant.a_procedure z)) (sym (some-same g signature e))
 procedure_there (Some (meant.a_standard p)) signature own e = absurd (cc)
 
-object_there : (shapes : List Shape) (m : Meaning) (o : Option (meant.Object Shape Signature)) → MeaningAgrees (shape_in shapes) (known_meaning m) o → is_standard_procedure o ≡ false → object_view shapes (table_object m) ≡ o
+object_there : (shapes : List Shape) (m : Meaning) (o : Option (meant.Object Shape Signature)) → MeaningAgrees (shape_in shapes) (meaning_view m) o → is_standard_procedure o ≡ false → object_view shapes (table_object m) ≡ o
 object_there shapes (declared.Named t) o (s, there, is) own = ap (λ z. Some (meant.a_type z)) (type_there shapes t s there) ∙ sym is
 object_there shapes (declared.Constant (Some v)) o (w, there, is, scalar) own = ap (λ z. Some (meant.a_constant z)) (some-same _ w there) ∙ sym is
 object_there shapes (declared.Constant None) o (w, there, is, scalar) own = absurd (cc)
 object_there shapes (declared.Variable t) o (s, there, is) own = ap (λ z. Some (meant.a_variable z)) (type_there shapes t s there) ∙ sym is
 object_there shapes (declared.Procedure fs) o (signature, there, formals) own = ap (λ z. Some (meant.a_procedure z)) (formals_there shapes fs.items signature formals) ∙ procedure_there o signature own there
 
-declared_there : (shapes : List Shape) (m : Option Meaning) (o : Option (meant.Object Shape Signature)) → DeclarationAgrees (shape_in shapes) (option_map known_meaning m) o → is_standard_procedure o ≡ false → option_and_then (object_view shapes) (option_map table_object m) ≡ o
+declared_there : (shapes : List Shape) (m : Option Meaning) (o : Option (meant.Object Shape Signature)) → DeclarationAgrees (shape_in shapes) (option_map meaning_view m) o → is_standard_procedure o ≡ false → option_and_then (object_view shapes) (option_map table_object m) ≡ o
 declared_there shapes None o h own = sym h
 declared_there shapes (Some m) o h own = object_there shapes m o h own
 
@@ -150,7 +150,7 @@ module _ (s : CheckerState) (m : Tree Name module_text) (h : KnowsDeclarations (
   plain_there k own =
       ap (option_and_then (object_view h.shapes)) (get_or-map (option_map table_object) s.meanings.items k None)
       ∙ declared_there h.shapes (slice_index_or s.meanings.items k None) (declared_object m k)
-      (subst (λ z. DeclarationAgrees (shape_in h.shapes) z (declared_object m k)) (get_or-map (option_map known_meaning) s.meanings.items k None) (h.declared k)) own
+      (subst (λ z. DeclarationAgrees (shape_in h.shapes) z (declared_object m k)) (get_or-map (option_map meaning_view) s.meanings.items k None) (h.declared k)) own
 
   kept : (k : ℕ) → (k ≡ 4 → ⊥) → (k ≡ 5 → ⊥) → (k ≡ 6 → ⊥) → slice_index_or (with_standard_procedures objects) k None ≡ slice_index_or objects k None
   kept k a b c = apart 6 k c _ _ ∙ (apart 5 k b _ _ ∙ apart 4 k a objects _)
@@ -159,7 +159,7 @@ module _ (s : CheckerState) (m : Tree Name module_text) (h : KnowsDeclarations (
   other_there k a b c own = ap (option_and_then (object_view h.shapes)) (kept k a b c) ∙ plain_there k own
 
   long : 7 ≤ length objects
-  long = omega (arith, h.room, length-map {B = Option object.Object} s.meanings.items (option_map table_object), length-map s.meanings.items (option_map known_meaning))
+  long = omega (arith, h.room, length-map {B = Option object.Object} s.meanings.items (option_map table_object), length-map s.meanings.items (option_map meaning_view))
 
   each_there : (k : ℕ) → option_and_then (object_view h.shapes) (slice_index_or (with_standard_procedures objects) k None) ≡ declared_object m k
   each_there zero = other_there 0 (λ e. absurd (cc)) (λ e. absurd (cc)) (λ e. absurd (cc)) (ap is_standard_procedure (h.predeclared 0 (omega arith)))

@@ -10,7 +10,7 @@ use Rattle.ob0_language_types.specs.Typing.{shape_of_field}
 use Rattle.ob0_language_values.specs.Values.{FieldShapes, Shape, array_shape, next_field_shape, no_field_shape, record_shape}
 use Rattle.ob0_types_check.proofs.DeclaredShapes.{longer_more, made_kept}
 use Rattle.ob0_types_check.specs.Known.{a_record, an_array}
-use Rattle.ob0_types_check.specs.KnownDeclarations.{CompositeType, PartTypes, KnownField, made_element_type, element_type_in, made_field_type, field_type_in, type_of_first_field, form_at, of_elements, of_fields, same_type}
+use Rattle.ob0_types_check.specs.KnownDeclarations.{CompositeType, PartTypes, KnownField, element_type_of_composite, element_type_of_parts, field_type_of_composite, field_type_of_parts, type_of_first_field, form_at, of_elements, of_fields, same_type}
 use Rattle.ob0_types_check.specs.Agreement.{EntriesAgree, FieldsAgree, FormAgrees, CompositeAgrees, PartsAgree, TableAgrees, as_array, as_record, shape_in}
 use Rattle.ob0_types_check.specs.ReportLaws.{TableTypesAgree}
 use Rattle.ob0_types_check.proofs.Unreported.{some-none, some-same}
@@ -33,7 +33,7 @@ entry-found known (m ∷ ms) (u ∷ us) (suc i) s each h =
 pub found : (made : List CompositeType) (shapes : List Shape) (i : ℕ) (s : Shape) → TableAgrees made shapes → slice_get shapes i ≡ Some s → Found (shape_in shapes) made i s
 found made shapes i s each h = entry-found [] made shapes i s each h
 
-array-formed : (shape : TypeId → Option Shape) (k : ℕ) (p : PartTypes) (r s : Shape) → PartsAgree shape k p r → as_array r ≡ Some s → FormAgrees shape (an_array (element_type_in p)) s
+array-formed : (shape : TypeId → Option Shape) (k : ℕ) (p : PartTypes) (r s : Shape) → PartsAgree shape k p r → as_array r ≡ Some s → FormAgrees shape (an_array (element_type_of_parts p)) s
 array-formed shape k (of_elements n t) r s (u, e, known) h = (k, n, u, some-same s (array_shape k n u) (sym h ∙ ap as_array e), known)
 array-formed shape k (of_fields fields) r s (fs, e, each) h = absurd (some-none s (sym h ∙ ap as_array e))
 
@@ -46,7 +46,7 @@ field-there shape (f ∷ fields) (next_field_shape y s fs) h x =
     ap (λ z. option_map shape (if same_name x z then Some f.of else type_of_first_field fields x)) h.0
     ∙ (elim (same_name x y) as (λ b. option_map shape (if b then Some f.of else type_of_first_field fields x) ≡ option_map Some (if b then Some s else shape_of_field fs x)) [ true ↦ ap Some h.1 | false ↦ field-there shape fields fs h.2 x ])
 
-record-formed : (shape : TypeId → Option Shape) (k : ℕ) (p : PartTypes) (r s : Shape) → PartsAgree shape k p r → as_record r ≡ Some s → FormAgrees shape (a_record (field_type_in p)) s
+record-formed : (shape : TypeId → Option Shape) (k : ℕ) (p : PartTypes) (r s : Shape) → PartsAgree shape k p r → as_record r ≡ Some s → FormAgrees shape (a_record (field_type_of_parts p)) s
 record-formed shape k (of_elements n t) r s (u, e, known) h = absurd (some-none s (sym h ∙ ap as_record e))
 record-formed shape k (of_fields fields) r s (fs, e, each) h = (k, fs, some-same s (record_shape k fs) (sym h ∙ ap as_record e), field-there shape fields fs each)
 
@@ -57,11 +57,11 @@ formed-there made shapes each type.Unknown s h = absurd (cc)
 formed-there made shapes each (type.Array i) s h =
     option_and_then_some as_array (slice_get shapes i) s h
     (λ r at is. let f = found made shapes i r each at in
-    subst (λ o. FormAgrees (shape_in shapes) (an_array (made_element_type o)) s) (sym f.there) (array-formed (shape_in shapes) f.entry.ordinal f.entry.parts r s f.agrees.parts is))
+    subst (λ o. FormAgrees (shape_in shapes) (an_array (element_type_of_composite o)) s) (sym f.there) (array-formed (shape_in shapes) f.entry.ordinal f.entry.parts r s f.agrees.parts is))
 formed-there made shapes each (type.Record i) s h =
     option_and_then_some as_record (slice_get shapes i) s h
     (λ r at is. let f = found made shapes i r each at in
-    subst (λ o. FormAgrees (shape_in shapes) (a_record (made_field_type o)) s) (sym f.there) (record-formed (shape_in shapes) f.entry.ordinal f.entry.parts r s f.agrees.parts is))
+    subst (λ o. FormAgrees (shape_in shapes) (a_record (field_type_of_composite o)) s) (sym f.there) (record-formed (shape_in shapes) f.entry.ordinal f.entry.parts r s f.agrees.parts is))
 
 same-there : (shapes : List Shape) (s t : TypeId) → same_type s t ≡ true → shape_in shapes s ≡ shape_in shapes t
 same-there shapes type.Integer type.Integer h = refl
@@ -72,4 +72,4 @@ same-there shapes (type.Record i) (type.Record j) h = ap (λ k. option_and_then 
 same-there shapes _ _ h = absurd (cc)
 
 pub table_types_agree-holds : TableTypesAgree
-table_types_agree-holds made shapes each = record { integer = refl; boolean = refl; unknown = refl; alone = refl; same = same-there shapes; formed = formed-there made shapes each }
+table_types_agree-holds made shapes each = record { integer = refl; boolean = refl; unknown = refl; integer_same = refl; same = same-there shapes; form_agrees = formed-there made shapes each }

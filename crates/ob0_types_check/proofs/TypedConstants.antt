@@ -1,8 +1,8 @@
 -- No fault is reported for an expression that has a type, a constant that has a value, or a valid length.
 use Rattle.std.proofs.Common.{◌≡◌, ℕ, Bool, true, false, zero, suc, pos, negsuc, [], Option, Some, None, option_and_then, if◌then◌else◌, is_some, refl, sym, ap, ◌∙◌}
 use Rattle.ob0_tree.specs.declared.tree.Role.TheVariants as role
-use Rattle.ob0_tree.specs.Places.{value_at}
-use Rattle.ob0_tree.specs.Tree.{Tree, expression, identifiers, mapped}
+use Rattle.ob0_tree.specs.Places.{token_value_at}
+use Rattle.ob0_tree.specs.Tree.{Tree, expression, identifiers, mapped_tree}
 use Rattle.ob0_language_types.specs.Expressions.{Meanings, evaluate}
 use Rattle.ob0_language_types.specs.Typing.{array_length, constant_value, constant_meanings, outcome_value, type_of, value_type}
 use Rattle.ob0_language_types.specs.WellTyped.{Signature, TypeMeanings}
@@ -11,9 +11,9 @@ use Rattle.ob0_types_check.specs.ExpressionFaults.{reported_expression}
 use Rattle.ob0_types_check.specs.Known.{Facts, Operand}
 use Rattle.ob0_types_check.specs.Operations.{required_type, without_fault}
 use Rattle.ob0_types_check.specs.KnownDeclarations.{facts_at}
-use Rattle.ob0_types_check.specs.TypeFaults.{operand_value, length_or_fault, length_by_value, length_of, reported_constant, valued}
-use Rattle.ob0_types_check.specs.Agreement.{Agrees, shape_in}
-use Rattle.ob0_types_check.specs.WellTypedLaws.{NoFaultInConstants, NoFaultInExpressions, NoFaultInLengths}
+use Rattle.ob0_types_check.specs.TypeFaults.{operand_value, length_or_fault, length_by_value, length_of, reported_constant, value_or_fault}
+use Rattle.ob0_types_check.specs.Agreement.{FactsAgree, shape_in}
+use Rattle.ob0_types_check.specs.WellTypedLaws.{ValuedConstantsHaveNoFault, TypedExpressionsHaveNoFault, ValidLengthsHaveNoFault}
 use Rattle.ob0_types_check.proofs.FittingExpressions.{FitsExpression, expression-fits}
 use Rattle.ob0_types_check.proofs.FittingNames.{only-tokens, tokens-fit}
 use Rattle.ob0_types_check.proofs.Proved.{constants-again}
@@ -26,9 +26,9 @@ pub is-there : {A : Type 0} (o : Option A) → is_some o ≡ true → (a : A) ×
 is-there None h = absurd (cc)
 is-there (Some a) h = (a, refl)
 
-module _ {T N : Type 0} (facts : Facts T) (shape : T → Option Shape) (apart : TypesApart facts.types shape) (label : ℕ → N) (meaning : TypeMeanings N) (e : Tree ℕ expression) (agrees : Agrees facts shape label meaning e) where
+module _ {T N : Type 0} (facts : Facts T) (shape : T → Option Shape) (apart : TypesApart facts.types shape) (label : ℕ → N) (meaning : TypeMeanings N) (e : Tree ℕ expression) (agrees : FactsAgree facts shape label meaning e) where
   abbrev here : Tree N expression
-  here = mapped label (value_at facts.source) e
+  here = mapped_tree label (token_value_at facts.source) e
 
   pub typed-right : facts.only_constants ≡ false → (s : Shape) → type_of meaning here ≡ Some s → (reported_expression facts e).faults ≡ []
   typed-right only s h =
@@ -56,12 +56,12 @@ module _ {T N : Type 0} (facts : Facts T) (shape : T → Option Shape) (apart : 
       let none = constant-right (Unit {0}) only s hs in
       let fe : FitsExpression facts shape agrees.types label among e
       = expression-fits facts shape agrees.types label among e (only-tokens facts shape agrees.types label meaning _ only (identifiers role.Declaring e) agrees.tokens) none in
-      let value : (reported_expression facts e).known.value ≡ Some v = fe.valued ∙ (ap (λ m. outcome_value (evaluate {P = Unit {0}} m [] here)) (constants-again meaning) ∙ given) in
+      let value : (reported_expression facts e).known.value ≡ Some v = fe.value_agrees ∙ (ap (λ m. outcome_value (evaluate {P = Unit {0}} m [] here)) (constants-again meaning) ∙ given) in
       record { none = none; of = fe.of; known = fe.known; value = value; scalar = fe.scalar v value }
 
-operand_value-right : {T : Type 0} (facts : Facts T) (o : Operand T) (b : Bool) (c : Option Value) (v : Value) → c ≡ Some v → (if b then without_fault None else valued facts o c).faults ≡ []
+operand_value-right : {T : Type 0} (facts : Facts T) (o : Operand T) (b : Bool) (c : Option Value) (v : Value) → c ≡ Some v → (if b then without_fault None else value_or_fault facts o c).faults ≡ []
 operand_value-right facts o true c v h = refl
-operand_value-right facts o false c v h = ap (λ c. (valued facts o c).faults) h
+operand_value-right facts o false c v h = ap (λ c. (value_or_fault facts o c).faults) h
 
 bounds-right : {T : Type 0} (facts : Facts T) (o : Operand T) (b : Bool) (c : Option Value) (v : Value) (n : ℕ) → c ≡ Some v → array_length v ≡ Some n → (if b then length_by_value facts o c else without_fault None).faults ≡ []
 bounds-right facts o true c v n h k = ap (λ c. (length_by_value facts o c).faults) h ∙ ap (λ m. (length_or_fault facts o m).faults) k
@@ -75,29 +75,29 @@ length-integer (truth b) n s h k = absurd (cc)
 length-integer (elements vs) n s h k = absurd (cc)
 length-integer (members j ms) n s h k = absurd (cc)
 
-pub no_fault_in_expressions-holds : {N : Type 0} → NoFaultInExpressions N
-no_fault_in_expressions-holds p true shapes label meaning e agrees h =
-    let (s, hs) = is-there (type_of (constant_meanings meaning) (mapped label (value_at p.source) e)) h in
+pub typed_expressions_have_no_fault-holds : {N : Type 0} → TypedExpressionsHaveNoFault N
+typed_expressions_have_no_fault-holds p true shapes label meaning e agrees h =
+    let (s, hs) = is-there (type_of (constant_meanings meaning) (mapped_tree label (token_value_at p.source) e)) h in
     constant-right (facts_at p true) (shape_in shapes) (types-apart p.made shapes) label meaning e agrees Signature refl s hs
-no_fault_in_expressions-holds p false shapes label meaning e agrees h =
-    let (s, hs) = is-there (type_of meaning (mapped label (value_at p.source) e)) h in
+typed_expressions_have_no_fault-holds p false shapes label meaning e agrees h =
+    let (s, hs) = is-there (type_of meaning (mapped_tree label (token_value_at p.source) e)) h in
     typed-right (facts_at p false) (shape_in shapes) (types-apart p.made shapes) label meaning e agrees refl s hs
 
-pub no_fault_in_constants-holds : {N : Type 0} → NoFaultInConstants N
+pub valued_constants_have_no_fault-holds : {N : Type 0} → ValuedConstantsHaveNoFault N
 unfolding reported_constant
-no_fault_in_constants-holds p shapes label meaning e agrees h =
+valued_constants_have_no_fault-holds p shapes label meaning e agrees h =
     let facts = facts_at p true in
-    let (v, hv) = is-there (constant_value meaning (mapped label (value_at p.source) e)) h in
+    let (v, hv) = is-there (constant_value meaning (mapped_tree label (token_value_at p.source) e)) h in
     let c = value-known facts (shape_in shapes) (types-apart p.made shapes) label meaning e agrees refl v hv in
     let o : Operand _ = (reported_expression facts e).known in
     none-of-both (reported_expression facts e).faults (operand_value facts o).faults c.none (operand_value-right facts o (facts.types.same o.of facts.types.unknown) o.value v c.value)
 
-pub no_fault_in_lengths-holds : {N : Type 0} → NoFaultInLengths N
-no_fault_in_lengths-holds p shapes label meaning e agrees h =
+pub valid_lengths_have_no_fault-holds : {N : Type 0} → ValidLengthsHaveNoFault N
+valid_lengths_have_no_fault-holds p shapes label meaning e agrees h =
     let facts = facts_at p true in
     let after = facts_at p false in
-    let (n, hn) = is-there (option_and_then array_length (constant_value meaning (mapped label (value_at p.source) e))) h in
-    let (v, hv, counted) = and-then array_length (constant_value meaning (mapped label (value_at p.source) e)) n hn in
+    let (n, hn) = is-there (option_and_then array_length (constant_value meaning (mapped_tree label (token_value_at p.source) e))) h in
+    let (v, hv, counted) = and-then array_length (constant_value meaning (mapped_tree label (token_value_at p.source) e)) n hn in
     let apart = types-apart p.made shapes in
     let c = value-known facts (shape_in shapes) apart label meaning e agrees refl v hv in
     let o : Operand _ = (reported_expression facts e).known in

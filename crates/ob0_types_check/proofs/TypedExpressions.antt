@@ -4,10 +4,10 @@
 use Rattle.std.proofs.Common.{◌≡◌, ℕ, List, [], ◌∷◌, ◌++◌, Option, Some, option_and_then, refl, sym, ap, ◌∙◌}
 use Rattle.ob0_tree.specs.declared.tree.Role.{Role}
 use Rattle.ob0_tree.specs.declared.tree.Role.TheVariants as role
-use Rattle.ob0_tree.specs.Places.{text_at, value_at}
-use Rattle.ob0_tree.specs.Tree.{Sort, Tree, addend, adds, compares, designator, end, expression, factor, field, identifiers, index, integer, items, mapped, more, multiplier, multiplies, negation, none, one, parenthesised, product, relates, selector, simple, sum, term}
+use Rattle.ob0_tree.specs.Places.{token_text_at, token_value_at}
+use Rattle.ob0_tree.specs.Tree.{Sort, Tree, addend, adds, compares, designator, end, expression, factor, field, identifiers, index, integer, items, mapped_tree, more, multiplier, multiplies, negation, none, one, parenthesised, product, relates, selector, simple, sum, term}
 use Rattle.ob0_language_types.specs.Expressions.{Meanings}
-use Rattle.ob0_language_types.specs.Typing.{addition_type, negation_type, element_type, field_type, multiplication_type, object_type, relation_type, sign_type, type_at, type_of, type_of_addends, type_of_factor, type_of_multipliers, type_of_simple, type_of_term}
+use Rattle.ob0_language_types.specs.Typing.{addition_type, negation_type, element_type, field_type, multiplication_type, object_type, relation_type, sign_type, type_after_selectors, type_of, type_of_addends, type_of_factor, type_of_multipliers, type_of_simple, type_of_term}
 use Rattle.ob0_language_values.specs.Values.{Shape, Value}
 use Rattle.ob0_types_check.specs.ExpressionFaults.{reported_addends, reported_expression, reported_factor, reported_multipliers, reported_selectors, reported_simple, reported_term}
 use Rattle.ob0_types_check.specs.Known.{Facts, Operand}
@@ -40,7 +40,7 @@ split-names facts label meaning (x ∷ xs) ys h = let rest = split-names facts l
 
 module _ {T N P : Type 0} (facts : Facts T) (shape : T → Option Shape) (types : TypesAgree facts.types shape) (apart : TypesApart facts.types shape) (label : ℕ → N) (meaning : Meanings N Shape P) where
   abbrev tree : {s : Sort} → Tree ℕ s → Tree N s
-  tree t = mapped label (value_at facts.source) t
+  tree t = mapped_tree label (token_value_at facts.source) t
 
   abbrev ids : {s : Sort} → Tree ℕ s → List (Role × ℕ)
   ids t = identifiers role.Declaring t
@@ -123,7 +123,7 @@ module _ {T N P : Type 0} (facts : Facts T) (shape : T → Option Shape) (types 
 
     factor-right : (f : Tree ℕ factor) → AllTyped f → (s : Shape) → type_of_factor meaning (tree f) ≡ Some s → (reported_factor facts f).faults ≡ []
     factor-right (designator x path) (k, n) s h =
-        let (u, hu, last) = and-then (λ s. type_at meaning s (tree path)) (object_type (meaning.object_for (label x))) s h in
+        let (u, hu, last) = and-then (λ s. type_after_selectors meaning s (tree path)) (object_type (meaning.object_for (label x))) s h in
         let left = n.0 u hu in
         let name : NameFits facts shape label meaning x = k.0 left in
         none-of-both (name_operand facts x).faults _ left (selectors-right (name_operand facts x).known u path (known-as u name.fits hu) (k.1, n.1) s last)
@@ -135,18 +135,18 @@ module _ {T N P : Type 0} (facts : Facts T) (shape : T → Option Shape) (types 
         let ff : FitsFactor facts shape types label meaning f = factor-fits facts shape types label meaning f k.0 left in
         none-of-both (reported_factor facts f).faults _ left (complemented-right facts shape types apart (reported_factor facts f).known u s typed (known-as u ff hu))
 
-    pub selectors-right : (x : Operand T) (s : Shape) (path : Tree ℕ (items selector)) → shape x.of ≡ Some s → AllTyped path → (r : Shape) → type_at meaning s (tree path) ≡ Some r → (reported_selectors facts x path).faults ≡ []
+    pub selectors-right : (x : Operand T) (s : Shape) (path : Tree ℕ (items selector)) → shape x.of ≡ Some s → AllTyped path → (r : Shape) → type_after_selectors meaning s (tree path) ≡ Some r → (reported_selectors facts x path).faults ≡ []
     selectors-right x s end hx k r h = refl
     selectors-right x s (more (field n) rest) hx (k, m) r h =
-        let (u, hu, last) = and-then (λ t. type_at meaning t (tree rest)) (field_type s (meaning.written (label n))) r h in
-        let here : field_type s (text_at facts.source n) ≡ Some u = sym (ap (field_type s) k.0) ∙ hu in
+        let (u, hu, last) = and-then (λ t. type_after_selectors meaning t (tree rest)) (field_type s (meaning.written (label n))) r h in
+        let here : field_type s (token_text_at facts.source n) ≡ Some u = sym (ap (field_type s) k.0) ∙ hu in
         let left = field-right facts shape types apart x s hx n u here in
         let (v, known, typed) = field-fits facts shape types x s hx n left in
         none-of-both (field_operand facts x n).faults _ left (selectors-right (field_operand facts x n).known u rest (known ∙ (sym typed ∙ here)) (k.1, m.1) r last)
     selectors-right x s (more (index e) rest) hx k r h =
         let parts = split (ids e) (ids rest) k in
-        let (v, hv, later) = and-then (λ i. option_and_then (λ t. type_at meaning t (tree rest)) (element_type s i)) (type_of meaning (tree e)) r h in
-        let (u, hu, last) = and-then (λ t. type_at meaning t (tree rest)) (element_type s v) r later in
+        let (v, hv, later) = and-then (λ i. option_and_then (λ t. type_after_selectors meaning t (tree rest)) (element_type s i)) (type_of meaning (tree e)) r h in
+        let (u, hu, last) = and-then (λ t. type_after_selectors meaning t (tree rest)) (element_type s v) r later in
         let left = expression-right e parts.0 v hv in
         let fe : FitsExpression facts shape types label meaning e = expression-fits facts shape types label meaning e parts.0.0 left in
         let he = known-as v fe hv in

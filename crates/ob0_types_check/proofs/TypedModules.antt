@@ -2,25 +2,25 @@
 use Rattle.std.proofs.Common.{◌≡◌, ℕ, suc, ◌+◌, Bool, true, ◌&&◌, List, [], ◌∷◌, ◌++◌, Option, Some, option_and_then, refl, sym, ap, ◌∙◌, subst, le_refl, arith}
 use Rattle.std.proofs.lemmas.Bool.{and_parts}
 use Rattle.ob0_tree.specs.ParsedModule.{tree_of}
-use Rattle.ob0_tree.specs.Places.{tree_with_names, text_at, value_at}
-use Rattle.ob0_tree.specs.Tree.{Tree, block, body, declares, declares_procedure, end, has_body, item, items, maybe, more, procedure}
+use Rattle.ob0_tree.specs.Places.{tree_with_names, token_text_at, token_value_at}
+use Rattle.ob0_tree.specs.Tree.{Tree, block, body, declares, declares_procedure, end, forms_block, item, items, maybe, more, procedure}
 use Rattle.ob0_language_names.specs.Names.{Name, naming_by_spelling}
 use Rattle.ob0_language_names.specs.Parts.{formal_names, formal_sections, module_block, procedure_formals, procedure_name, section_constants, section_types, section_variables}
 use Rattle.ob0_language_names.specs.Scopes.{Scope, ordinal_after_names, ordinal_after_procedure, first_procedure_ordinal, first_type_ordinal, first_variable_ordinal, predeclared_scope}
-use Rattle.ob0_language_types.specs.Declarations.{constructors_before_variables, constructor_after_variables, declare_constants, declare_first, declare_types, formals_constructor_count, procedure_constructor_count, types_constructor_count}
-use Rattle.ob0_language_types.specs.Environments.{outermost}
-use Rattle.ob0_language_types.specs.WellTyped.{TypeEnvironment, TypedParameter, bind_typed_parameters, block_fits, declare_typed, passes_type_check, bind_procedure, some_satisfies, procedure_fits, procedures_fit, typed_parameters}
+use Rattle.ob0_language_types.specs.Declarations.{constructors_before_variables, constructors_before_procedures, declare_constants, declare_constants_and_types, declare_types, formals_constructor_count, procedure_constructor_count, types_constructor_count}
+use Rattle.ob0_language_types.specs.Environments.{outermost_environment}
+use Rattle.ob0_language_types.specs.WellTyped.{TypeEnvironment, TypedParameter, bind_typed_parameters, block_is_well_typed, declare_typed_variables, passes_type_check, bind_procedure, option_satisfies, procedure_is_well_typed, procedures_are_well_typed, typed_parameters}
 use Rattle.ob0_language_types.proofs.Conditions.{hold-true}
 use Rattle.ob0_language_values.specs.Values.{Shape}
-use Rattle.ob0_types_check.specs.DeclarationFaults.{reported_constants, reported_module, reported_block, reported_body, reported_procedure, reported_procedures, reported_sections, reported_types, reported_variables}
+use Rattle.ob0_types_check.specs.DeclarationFaults.{reported_constants, module_faults, reported_block, reported_body, reported_procedure, reported_procedures, reported_sections, reported_types, reported_variables}
 use Rattle.ob0_types_check.specs.Known.{Reported}
 use Rattle.ob0_types_check.specs.KnownDeclarations.{KnownDeclarations, state_at_start}
-use Rattle.ob0_types_check.specs.WellTypedLaws.{NoFaultInModules}
+use Rattle.ob0_types_check.specs.WellTypedLaws.{TypedModulesHaveNoFault}
 use Rattle.ob0_types_check.proofs.BlocksDeclared.{constants_declare, next_le, types_declare}
 use Rattle.ob0_types_check.proofs.BlocksFit.{declarations_reported, first_holds, heading_known, heading_reported, procedure_reported}
-use Rattle.ob0_types_check.proofs.BoundModules.{names_bound-holds}
+use Rattle.ob0_types_check.proofs.BoundModules.{typed_modules_have_bound_names-holds}
 use Rattle.ob0_types_check.proofs.DeclaredModules.{module_placed, numbering_of}
-use Rattle.ob0_types_check.proofs.DeclaredNames.{BlockPlaced, Numbering, ProcedurePlaced, ProceduresPlaced, following_constants, following_procedure, following_types, following_variables, constants-mapped, formals-mapped, scope_following, types-mapped, variables-mapped}
+use Rattle.ob0_types_check.proofs.DeclaredNames.{BlockPlaced, Numbering, ProcedurePlaced, ProceduresPlaced, following_constants, following_procedure, following_types, following_variables, constants-mapped_tree, formals-mapped_tree, scope_following, types-mapped_tree, variables-mapped_tree}
 use Rattle.ob0_types_check.proofs.DeclaredKnown.{IsKnownAt, later_same, holds_later}
 use Rattle.ob0_types_check.proofs.MadeOnce.{Fresh, fresh_after, fresh_first}
 use Rattle.ob0_types_check.proofs.PartsFitting.{PartsFit, parts_fit}
@@ -30,56 +30,56 @@ use Rattle.ob0_types_check.proofs.TypedTypes.{PartsRight, given-again, parts_rig
 use Rattle.ob0_types_check.proofs.Unreported.{some-same}
 
 -- If a test holds for a value that is present, it holds for the value itself.
-held-again : {A : Type 0} (o : Option A) (test : A → Bool) (a : A) → o ≡ Some a → some_satisfies o test ≡ true → test a ≡ true
-held-again o test a e h = sym (ap (λ o. some_satisfies o test) e) ∙ h
+held-again : {A : Type 0} (o : Option A) (test : A → Bool) (a : A) → o ≡ Some a → option_satisfies o test ≡ true → test a ≡ true
+held-again o test a e h = sym (ap (λ o. option_satisfies o test) e) ∙ h
 
 module _ (w : Numbering) (fit : PartsFit) (fine : PartsRight) where
   mutual
-    unfolding reported_block block_fits declare_first
+    unfolding reported_block block_is_well_typed declare_constants_and_types
 
     pub block_right : (b : Tree ℕ block) (k n : ℕ) (p : KnownDeclarations) (before : List Shape) (scope : Scope Name) (env : TypeEnvironment Name) → IsKnownAt w p before n scope env → Fresh k before → BlockPlaced w scope n b
-        → block_fits naming_by_spelling env k (tree_with_names w.source b) ≡ true → (reported_block p b).faults ≡ []
-    block_right (has_body (declares cs ts vs ps) statements) k n p before scope env st fresh placed h =
-        let text : ℕ → Name = text_at w.source in
-        let value : ℕ → ℕ = value_at w.source in
-        let b : Tree ℕ block = has_body (declares cs ts vs ps) statements in
+        → block_is_well_typed naming_by_spelling env k (tree_with_names w.source b) ≡ true → (reported_block p b).faults ≡ []
+    block_right (forms_block (declares cs ts vs ps) statements) k n p before scope env st fresh placed h =
+        let text : ℕ → Name = token_text_at w.source in
+        let value : ℕ → ℕ = token_value_at w.source in
+        let b : Tree ℕ block = forms_block (declares cs ts vs ps) statements in
         let nb : Tree Name block = tree_with_names w.source b in
         let t₁ : Reported KnownDeclarations = reported_constants p (section_constants cs) in
         let t₂ : Reported KnownDeclarations = reported_types t₁.known (section_types ts) in
         let t₃ : Reported KnownDeclarations = reported_variables t₂.known (section_variables vs) in
         let t₄ : Reported KnownDeclarations = reported_procedures t₃.known ps in
-        let variables : TypeEnvironment Name → Option (TypeEnvironment Name) = declare_typed naming_by_spelling (constructors_before_variables k nb) (section_variables (tree_with_names w.source vs)) in
+        let variables : TypeEnvironment Name → Option (TypeEnvironment Name) = declare_typed_variables naming_by_spelling (constructors_before_variables k nb) (section_variables (tree_with_names w.source vs)) in
         let types : TypeEnvironment Name → Option (TypeEnvironment Name) = λ e. declare_types naming_by_spelling e k (section_types (tree_with_names w.source ts)) in
-        let test : TypeEnvironment Name → Bool = λ inner. procedures_fit naming_by_spelling inner (constructor_after_variables k nb) (tree_with_names w.source statements) (tree_with_names w.source ps) in
-        let (inner, whole, fitting) = hold-true (option_and_then variables (declare_first naming_by_spelling env k nb)) test h in
-        let (first, hf, hv) = and-then variables (declare_first naming_by_spelling env k nb) inner whole in
+        let test : TypeEnvironment Name → Bool = λ inner. procedures_are_well_typed naming_by_spelling inner (constructors_before_procedures k nb) (tree_with_names w.source statements) (tree_with_names w.source ps) in
+        let (inner, whole, fitting) = hold-true (option_and_then variables (declare_constants_and_types naming_by_spelling env k nb)) test h in
+        let (first, hf, hv) = and-then variables (declare_constants_and_types naming_by_spelling env k nb) inner whole in
         let (constant, hc, ht) = and-then types (declare_constants naming_by_spelling env (section_constants (tree_with_names w.source cs))) first hf in
-        let none₁ = constants_right w fit fine (section_constants cs) n p before scope env st placed.0 constant (sym (ap (declare_constants naming_by_spelling env) (constants-mapped text value cs)) ∙ hc) in
+        let none₁ = constants_right w fit fine (section_constants cs) n p before scope env st placed.0 constant (sym (ap (declare_constants naming_by_spelling env) (constants-mapped_tree text value cs)) ∙ hc) in
         let dc = constants_declare w fit (section_constants cs) k n p before scope env st placed.0 none₁ in
-        let c_is : declare_constants naming_by_spelling env (section_constants (tree_with_names w.source cs)) ≡ Some dc.env = ap (declare_constants naming_by_spelling env) (constants-mapped text value cs) ∙ dc.given_is in
+        let c_is : declare_constants naming_by_spelling env (section_constants (tree_with_names w.source cs)) ≡ Some dc.env = ap (declare_constants naming_by_spelling env) (constants-mapped_tree text value cs) ∙ dc.given_is in
         let t_is : types dc.env ≡ Some first = given-again types (declare_constants naming_by_spelling env (section_constants (tree_with_names w.source cs))) dc.env (Some first) c_is hf in
-        let none₂ = types_right w fit fine (section_types ts) k (first_type_ordinal n b) t₁.known dc.after (following_constants w scope n b) dc.env (omega (arith, fresh.counted, dc.apart.counted)) dc.holds placed.1 first (sym (ap (declare_types naming_by_spelling dc.env k) (types-mapped text value ts)) ∙ t_is) in
+        let none₂ = types_right w fit fine (section_types ts) k (first_type_ordinal n b) t₁.known dc.after (following_constants w scope n b) dc.env (omega (arith, fresh.counted, dc.apart.counted)) dc.holds placed.1 first (sym (ap (declare_types naming_by_spelling dc.env k) (types-mapped_tree text value ts)) ∙ t_is) in
         let dt = types_declare w fit (section_types ts) k (first_type_ordinal n b) t₁.known dc.after (following_constants w scope n b) dc.env (omega (arith, fresh.counted, dc.apart.counted)) dc.holds placed.1 none₂ in
-        let first_is : first ≡ dt.env = some-same first dt.env (sym t_is ∙ (ap (declare_types naming_by_spelling dc.env k) (types-mapped text value ts) ∙ dt.given_is)) in
-        let v_is : declare_typed naming_by_spelling (constructors_before_variables k nb) (tree_with_names w.source (section_variables vs)) dt.env ≡ Some inner =
-        (λ i. declare_typed naming_by_spelling (constructors_before_variables k nb) (sym (variables-mapped text value vs) i) (sym first_is i)) ∙ hv in
-        let t_same : types_constructor_count (section_types (tree_with_names w.source ts)) ≡ types_constructor_count (tree_with_names w.source (section_types ts)) = ap types_constructor_count (types-mapped text value ts) in
+        let first_is : first ≡ dt.env = some-same first dt.env (sym t_is ∙ (ap (declare_types naming_by_spelling dc.env k) (types-mapped_tree text value ts) ∙ dt.given_is)) in
+        let v_is : declare_typed_variables naming_by_spelling (constructors_before_variables k nb) (tree_with_names w.source (section_variables vs)) dt.env ≡ Some inner =
+        (λ i. declare_typed_variables naming_by_spelling (constructors_before_variables k nb) (sym (variables-mapped_tree text value vs) i) (sym first_is i)) ∙ hv in
+        let t_same : types_constructor_count (section_types (tree_with_names w.source ts)) ≡ types_constructor_count (tree_with_names w.source (section_types ts)) = ap types_constructor_count (types-mapped_tree text value ts) in
         let none₃ = variables_right w fit fine (section_variables vs) (constructors_before_variables k nb) (first_variable_ordinal n b) t₂.known dt.after (following_types w scope n b) dt.env (omega (arith, fresh.counted, dc.apart.counted, dt.apart.counted, t_same)) dt.holds placed.2 inner v_is in
         let d = declarations_reported w fit cs ts vs ps statements k n p before scope env fresh.counted st placed.0 placed.1 placed.2 none₁ none₂ none₃ in
-        let rest = procedures_right ps statements (constructor_after_variables k nb) (first_procedure_ordinal n b) t₃.known d.after (following_variables w scope n b) d.env d.holds (fresh_after k (constructor_after_variables k nb) before d.after d.apart fresh) placed.3
-        (held-again (option_and_then variables (declare_first naming_by_spelling env k nb)) test d.env d.given_is h) in
+        let rest = procedures_right ps statements (constructors_before_procedures k nb) (first_procedure_ordinal n b) t₃.known d.after (following_variables w scope n b) d.env d.holds (fresh_after k (constructors_before_procedures k nb) before d.after d.apart fresh) placed.3
+        (held-again (option_and_then variables (declare_constants_and_types naming_by_spelling env k nb)) test d.env d.given_is h) in
         none-of-both t₁.faults (t₂.faults ++ (t₃.faults ++ (t₄.faults ++ (reported_body t₄.known statements).faults))) none₁
         (none-of-both t₂.faults (t₃.faults ++ (t₄.faults ++ (reported_body t₄.known statements).faults)) none₂
         (none-of-both t₃.faults (t₄.faults ++ (reported_body t₄.known statements).faults) none₃ (none-of-both t₄.faults (reported_body t₄.known statements).faults rest.0 rest.1)))
 
     procedures_right : (ps : Tree ℕ (items procedure)) (statements : Tree ℕ (maybe body)) (k n : ℕ) (p : KnownDeclarations) (before : List Shape) (scope : Scope Name) (env : TypeEnvironment Name) → IsKnownAt w p before n scope env → Fresh k before → ProceduresPlaced w scope n statements ps
-        → procedures_fit naming_by_spelling env k (tree_with_names w.source statements) (tree_with_names w.source ps) ≡ true → ((reported_procedures p ps).faults ≡ []) × ((reported_body (reported_procedures p ps).known statements).faults ≡ [])
+        → procedures_are_well_typed naming_by_spelling env k (tree_with_names w.source statements) (tree_with_names w.source ps) ≡ true → ((reported_procedures p ps).faults ≡ []) × ((reported_body (reported_procedures p ps).known statements).faults ≡ [])
     procedures_right end statements k n p before scope env st fresh placed h = (refl, body_right w fit fine statements n p before scope env st fresh.once placed h)
     procedures_right (more d rest) statements k n p before scope env st fresh placed h =
         let nd : Tree Name (item procedure) = tree_with_names w.source d in
         let q : KnownDeclarations = (reported_procedure p d).known in
-        let own : List (TypedParameter Name) → Bool = λ ps. procedure_fits naming_by_spelling (bind_typed_parameters ps (bind_procedure (procedure_name nd) ps env)) k nd in
-        let others : List (TypedParameter Name) → Bool = λ ps. procedures_fit naming_by_spelling (bind_procedure (procedure_name nd) ps env) (k + procedure_constructor_count nd) (tree_with_names w.source statements) (tree_with_names w.source rest) in
+        let own : List (TypedParameter Name) → Bool = λ ps. procedure_is_well_typed naming_by_spelling (bind_typed_parameters ps (bind_procedure (procedure_name nd) ps env)) k nd in
+        let others : List (TypedParameter Name) → Bool = λ ps. procedures_are_well_typed naming_by_spelling (bind_procedure (procedure_name nd) ps env) (k + procedure_constructor_count nd) (tree_with_names w.source statements) (tree_with_names w.source rest) in
         let given : Option (List (TypedParameter Name)) = typed_parameters naming_by_spelling env k (procedure_formals nd) in
         let (ps, hp, fitting) = hold-true given (λ ps. own ps && others ps) h in
         let none = procedure_right d k n p before scope env st fresh placed.0 ps hp (and_parts (own ps) (others ps) fitting).0 in
@@ -91,25 +91,25 @@ module _ (w : Numbering) (fit : PartsFit) (fine : PartsRight) where
 
     procedure_right : (d : Tree ℕ (item procedure)) (k n : ℕ) (p : KnownDeclarations) (before : List Shape) (scope : Scope Name) (env : TypeEnvironment Name) → IsKnownAt w p before n scope env → Fresh k before → ProcedurePlaced w scope n d
         → (ps : List (TypedParameter Name)) → typed_parameters naming_by_spelling env k (procedure_formals (tree_with_names w.source d)) ≡ Some ps
-        → procedure_fits naming_by_spelling (bind_typed_parameters ps (bind_procedure (procedure_name (tree_with_names w.source d)) ps env)) k (tree_with_names w.source d) ≡ true → (reported_procedure p d).faults ≡ []
+        → procedure_is_well_typed naming_by_spelling (bind_typed_parameters ps (bind_procedure (procedure_name (tree_with_names w.source d)) ps env)) k (tree_with_names w.source d) ≡ true → (reported_procedure p d).faults ≡ []
     procedure_right (declares_procedure x fs b closing) k n p before scope env st fresh placed ps hp h =
-        let text : ℕ → Name = text_at w.source in
+        let text : ℕ → Name = token_text_at w.source in
         let weak = holds_later w n n (suc n) p p before before scope env (le_refl n) (next_le n) st (later_same n p before st.table) in
-        let none = sections_right w fit fine (formal_sections fs) k (suc n) (record { formals = []; following = p }) before scope env fresh.counted weak placed.1 ps (sym (ap (typed_parameters naming_by_spelling env k) (formals-mapped text (value_at w.source) fs)) ∙ hp) in
+        let none = sections_right w fit fine (formal_sections fs) k (suc n) (record { formals = []; following = p }) before scope env fresh.counted weak placed.1 ps (sym (ap (typed_parameters naming_by_spelling env k) (formals-mapped_tree text (token_value_at w.source) fs)) ∙ hp) in
         let e = heading_reported w fit x fs k n p before scope env fresh.counted st placed.0 placed.1 none in
         let same : ps ≡ e.parameters = some-same ps e.parameters (sym hp ∙ e.typed) in
         let first : ℕ = k + formals_constructor_count (formal_sections (tree_with_names w.source fs)) in
         let m : ℕ = ordinal_after_names (suc n) (formal_names (formal_sections fs)) in
-        let inner : block_fits naming_by_spelling (bind_typed_parameters e.parameters (bind_procedure (text x) e.parameters env)) first (tree_with_names w.source b) ≡ true =
-        subst (λ qs. block_fits naming_by_spelling (bind_typed_parameters qs (bind_procedure (text x) qs env)) first (tree_with_names w.source b) ≡ true) same h in
+        let inner : block_is_well_typed naming_by_spelling (bind_typed_parameters e.parameters (bind_procedure (text x) e.parameters env)) first (tree_with_names w.source b) ≡ true =
+        subst (λ qs. block_is_well_typed naming_by_spelling (bind_typed_parameters qs (bind_procedure (text x) qs env)) first (tree_with_names w.source b) ≡ true) same h in
         none-of-both (reported_sections (record { formals = []; following = p }) (formal_sections fs)).faults (reported_block (heading_known p x fs) b).faults none
         (block_right b first m (heading_known p x fs) e.after (scope_following w (suc n) (formal_names (formal_sections fs)) ((text x, n) ∷ scope)) (bind_typed_parameters e.parameters (bind_procedure (text x) e.parameters env)) e.inside
         (fresh_after k first before e.after e.apart fresh) placed.2 inner)
 
-pub no_fault_in_modules-holds : NoFaultInModules
-unfolding reported_module passes_type_check
-no_fault_in_modules-holds r is h =
+pub typed_modules_have_no_fault-holds : TypedModulesHaveNoFault
+unfolding module_faults passes_type_check
+typed_modules_have_no_fault-holds r is h =
     let m = r.module_read in
-    let names = names_bound-holds r is h in
+    let names = typed_modules_have_bound_names-holds r is h in
     none-of-both _ (reported_block (state_at_start r) (module_block (tree_of m))).faults names
-    (block_right (numbering_of r) parts_fit parts_right (module_block (tree_of m)) 0 7 (state_at_start r) [] (predeclared_scope naming_by_spelling) (outermost naming_by_spelling) (first_holds r) fresh_first (module_placed r is names) h)
+    (block_right (numbering_of r) parts_fit parts_right (module_block (tree_of m)) 0 7 (state_at_start r) [] (predeclared_scope naming_by_spelling) (outermost_environment naming_by_spelling) (first_holds r) fresh_first (module_placed r is names) h)

@@ -12,11 +12,11 @@ use Rattle.ob0_tree.specs.declared.tree.Relation.{Relation}
 use Rattle.ob0_tree.specs.declared.tree.Relation.TheVariants as relation
 use Rattle.ob0_tree.specs.declared.tree.Sign.{Sign}
 use Rattle.ob0_tree.specs.declared.tree.Sign.TheVariants as sign
-use Rattle.ob0_tree.specs.Places.{text_at}
+use Rattle.ob0_tree.specs.Places.{token_text_at}
 use Rattle.ob0_language_types.specs.Typing.{addition_type, negation_type, element_type, field_type, multiplication_type, relation_type, shape_of_field, sign_type}
 use Rattle.ob0_language_values.specs.Values.{Shape, array_shape, boolean_shape, integer_shape, record_shape}
 use Rattle.ob0_types_check.specs.Known.{Facts, Form, Operand, Reported, Types, a_record, a_scalar, an_array, unknown_form}
-use Rattle.ob0_types_check.specs.Operations.{add_operands, required_type, required_type_of_both, fault_at_operand, complement_operand, element_type_in_form, element_operand, field_type_in_form, field_operand, fits, found_field_type, multiply_operands, relate_operands, sign_operand, add_operand_type, equality_operand_type, multiply_operand_type, relation_operand_type}
+use Rattle.ob0_types_check.specs.Operations.{add_operands, required_type, required_type_of_both, fault_at_operand, complement_operand, element_type_in_form, element_operand, field_type_in_form, field_operand, may_be_same_type, field_type_or_fault, multiply_operands, relate_operands, sign_operand, operand_type_of_addition, operand_type_of_equality, operand_type_of_multiplication, operand_type_of_relation}
 use Rattle.ob0_types_check.specs.Agreement.{FormAgrees, TypesAgree, as_array, as_record}
 use Rattle.ob0_types_check.proofs.Unreported.{not-true, some-none}
 
@@ -36,7 +36,7 @@ pub record TypesApart {T : Type 0} (types : Types T) (shape : T → Option Shape
   pub scalar : (t : T) (s : Shape) → shape t ≡ Some s → types.form t ≡ a_scalar → (as_array s ≡ None) × (as_record s ≡ None)
 
 module _ {T : Type 0} (facts : Facts T) (shape : T → Option Shape) (types : TypesAgree facts.types shape) (apart : TypesApart facts.types shape) where
-  same-fits : (t u : T) → facts.types.same t u ≡ true → fits facts.types t u ≡ true
+  same-fits : (t u : T) → facts.types.same t u ≡ true → may_be_same_type facts.types t u ≡ true
   same-fits t u e = ap (λ b. b || (facts.types.same t facts.types.unknown || facts.types.same u facts.types.unknown)) e
 
   pub required_type-right : (wanted : T) (o : Operand T) → facts.types.same o.of wanted ≡ true → (required_type facts wanted o).faults ≡ []
@@ -52,13 +52,13 @@ module _ {T : Type 0} (facts : Facts T) (shape : T → Option Shape) (types : Ty
   abbrev AreRequired : T → T → T → Type 0
   AreRequired wanted a b = (facts.types.same a wanted ≡ true) × (facts.types.same b wanted ≡ true)
 
-  add-required_type : (o : AddOperator) (s t w : Shape) → addition_type o s t ≡ Some w → (a b : T) → shape a ≡ Some s → shape b ≡ Some t → AreRequired (add_operand_type facts.types o) a b
+  add-required_type : (o : AddOperator) (s t w : Shape) → addition_type o s t ≡ Some w → (a b : T) → shape a ≡ Some s → shape b ≡ Some t → AreRequired (operand_type_of_addition facts.types o) a b
   add-required_type add_operator.Add integer_shape integer_shape w e a b p q = (apart.integer a p, apart.integer b q)
   add-required_type add_operator.Subtract integer_shape integer_shape w e a b p q = (apart.integer a p, apart.integer b q)
   add-required_type add_operator.Or boolean_shape boolean_shape w e a b p q = (apart.boolean a p, apart.boolean b q)
   add-required_type _ _ _ w e a b p q = absurd (cc)
 
-  multiply-required_type : (o : MultiplyOperator) (s t w : Shape) → multiplication_type o s t ≡ Some w → (a b : T) → shape a ≡ Some s → shape b ≡ Some t → AreRequired (multiply_operand_type facts.types o) a b
+  multiply-required_type : (o : MultiplyOperator) (s t w : Shape) → multiplication_type o s t ≡ Some w → (a b : T) → shape a ≡ Some s → shape b ≡ Some t → AreRequired (operand_type_of_multiplication facts.types o) a b
   multiply-required_type multiply_operator.Multiply integer_shape integer_shape w e a b p q = (apart.integer a p, apart.integer b q)
   multiply-required_type multiply_operator.Divide integer_shape integer_shape w e a b p q = (apart.integer a p, apart.integer b q)
   multiply-required_type multiply_operator.Modulo integer_shape integer_shape w e a b p q = (apart.integer a p, apart.integer b q)
@@ -66,10 +66,10 @@ module _ {T : Type 0} (facts : Facts T) (shape : T → Option Shape) (types : Ty
   multiply-required_type _ _ _ w e a b p q = absurd (cc)
 
   -- The type that a comparison requires follows from the type of its left side.
-  integers-equal : (a : T) → facts.types.same a facts.types.integer ≡ true → equality_operand_type facts.types a ≡ facts.types.integer
+  integers-equal : (a : T) → facts.types.same a facts.types.integer ≡ true → operand_type_of_equality facts.types a ≡ facts.types.integer
   integers-equal a e = ap (λ b. if b then facts.types.integer else (if facts.types.same a facts.types.unknown then facts.types.unknown else facts.types.boolean)) e
 
-  integers-related : (r : Relation) (a : T) → facts.types.same a facts.types.integer ≡ true → relation_operand_type facts.types r a ≡ facts.types.integer
+  integers-related : (r : Relation) (a : T) → facts.types.same a facts.types.integer ≡ true → operand_type_of_relation facts.types r a ≡ facts.types.integer
   integers-related relation.Equal a e = integers-equal a e
   integers-related relation.NotEqual a e = integers-equal a e
   integers-related relation.Less a e = refl
@@ -83,22 +83,22 @@ module _ {T : Type 0} (facts : Facts T) (shape : T → Option Shape) (types : Ty
   no-unknown : (a : T) → shape a ≡ Some boolean_shape → facts.types.same a facts.types.unknown ≡ true → ⊥
   no-unknown a h e = some-none boolean_shape (sym h ∙ (types.same a facts.types.unknown e ∙ types.unknown))
 
-  truths-equal : (a : T) → shape a ≡ Some boolean_shape → equality_operand_type facts.types a ≡ facts.types.boolean
+  truths-equal : (a : T) → shape a ≡ Some boolean_shape → operand_type_of_equality facts.types a ≡ facts.types.boolean
   truths-equal a h =
       ap (λ b. if b then facts.types.integer else (if facts.types.same a facts.types.unknown then facts.types.unknown else facts.types.boolean)) (not-true (facts.types.same a facts.types.integer) (no-integer a h))
       ∙ ap (λ b. if b then facts.types.unknown else facts.types.boolean) (not-true (facts.types.same a facts.types.unknown) (no-unknown a h))
 
-  of-integers : (r : Relation) (a b : T) → shape a ≡ Some integer_shape → shape b ≡ Some integer_shape → AreRequired (relation_operand_type facts.types r a) a b
+  of-integers : (r : Relation) (a b : T) → shape a ≡ Some integer_shape → shape b ≡ Some integer_shape → AreRequired (operand_type_of_relation facts.types r a) a b
   of-integers r a b p q =
       let wanted = integers-related r a (apart.integer a p) in
       (ap (facts.types.same a) wanted ∙ apart.integer a p, ap (facts.types.same b) wanted ∙ apart.integer b q)
 
-  of-truths : (a b : T) → shape a ≡ Some boolean_shape → shape b ≡ Some boolean_shape → AreRequired (equality_operand_type facts.types a) a b
+  of-truths : (a b : T) → shape a ≡ Some boolean_shape → shape b ≡ Some boolean_shape → AreRequired (operand_type_of_equality facts.types a) a b
   of-truths a b p q =
       let wanted = truths-equal a p in
       (ap (facts.types.same a) wanted ∙ apart.boolean a p, ap (facts.types.same b) wanted ∙ apart.boolean b q)
 
-  relation-required_type : (r : Relation) (s t w : Shape) → relation_type r s t ≡ Some w → (a b : T) → shape a ≡ Some s → shape b ≡ Some t → AreRequired (relation_operand_type facts.types r a) a b
+  relation-required_type : (r : Relation) (s t w : Shape) → relation_type r s t ≡ Some w → (a b : T) → shape a ≡ Some s → shape b ≡ Some t → AreRequired (operand_type_of_relation facts.types r a) a b
   relation-required_type r integer_shape integer_shape w e a b p q = of-integers r a b p q
   relation-required_type relation.Equal boolean_shape boolean_shape w e a b p q = of-truths a b p q
   relation-required_type relation.NotEqual boolean_shape boolean_shape w e a b p q = of-truths a b p q
@@ -107,17 +107,17 @@ module _ {T : Type 0} (facts : Facts T) (shape : T → Option Shape) (types : Ty
   pub added-right : (o : AddOperator) (a b : Operand T) (s t w : Shape) → addition_type o s t ≡ Some w → shape a.of ≡ Some s → shape b.of ≡ Some t → (add_operands facts o a b).faults ≡ []
   added-right o a b s t w e p q =
       let both = add-required_type o s t w e a.of b.of p q in
-      none-of-both (required_type_of_both facts (add_operand_type facts.types o) a b).faults [] (both-right (add_operand_type facts.types o) a b both.0 both.1) refl
+      none-of-both (required_type_of_both facts (operand_type_of_addition facts.types o) a b).faults [] (both-right (operand_type_of_addition facts.types o) a b both.0 both.1) refl
 
   pub multiplied-right : (o : MultiplyOperator) (a b : Operand T) (s t w : Shape) → multiplication_type o s t ≡ Some w → shape a.of ≡ Some s → shape b.of ≡ Some t → (multiply_operands facts o a b).faults ≡ []
   multiplied-right o a b s t w e p q =
       let both = multiply-required_type o s t w e a.of b.of p q in
-      none-of-both (required_type_of_both facts (multiply_operand_type facts.types o) a b).faults [] (both-right (multiply_operand_type facts.types o) a b both.0 both.1) refl
+      none-of-both (required_type_of_both facts (operand_type_of_multiplication facts.types o) a b).faults [] (both-right (operand_type_of_multiplication facts.types o) a b both.0 both.1) refl
 
   pub related-right : (r : Relation) (a b : Operand T) (s t w : Shape) → relation_type r s t ≡ Some w → shape a.of ≡ Some s → shape b.of ≡ Some t → (relate_operands facts r a b).faults ≡ []
   related-right r a b s t w e p q =
       let both = relation-required_type r s t w e a.of b.of p q in
-      none-of-both (required_type_of_both facts (relation_operand_type facts.types r a.of) a b).faults [] (both-right (relation_operand_type facts.types r a.of) a b both.0 both.1) refl
+      none-of-both (required_type_of_both facts (operand_type_of_relation facts.types r a.of) a b).faults [] (both-right (operand_type_of_relation facts.types r a.of) a b both.0 both.1) refl
 
   sign-required_type : (g : Sign) (s w : Shape) → sign_type (Some g) s ≡ Some w → s ≡ integer_shape
   sign-required_type sign.Plus integer_shape w e = refl
@@ -139,7 +139,7 @@ module _ {T : Type 0} (facts : Facts T) (shape : T → Option Shape) (types : Ty
 
   -- No fault is reported for a selection that has a type.
 
-  found-right : (x : ℕ) (m : Option T) (o : Option Shape) (u : Shape) → option_map shape m ≡ option_map Some o → o ≡ Some u → (found_field_type facts x m).faults ≡ []
+  found-right : (x : ℕ) (m : Option T) (o : Option Shape) (u : Shape) → option_map shape m ≡ option_map Some o → o ≡ Some u → (field_type_or_fault facts x m).faults ≡ []
   found-right x None None u e h = absurd (cc)
   found-right x None (Some v) u e h = absurd (cc)
   found-right x (Some t) o u e h = refl
@@ -159,17 +159,17 @@ module _ {T : Type 0} (facts : Facts T) (shape : T → Option Shape) (types : Ty
   abbrev IsApart : Form T → Shape → Type 0
   IsApart f s = f ≡ a_scalar → (as_array s ≡ None) × (as_record s ≡ None)
 
-  field-found : (f : Form T) (s : Shape) → FormAgrees shape f s → IsApart f s → (x : ℕ) (u : Shape) → field_type s (text_at facts.source x) ≡ Some u → (field_type_in_form facts x f).faults ≡ []
-  field-found a_scalar s a far x u h = absurd (no-record s (far refl).1 (text_at facts.source x) u h)
-  field-found (an_array t) s (k, n, v, e, known) far x u h = absurd (some-none u (sym h ∙ ap (λ z. field_type z (text_at facts.source x)) e))
+  field-found : (f : Form T) (s : Shape) → FormAgrees shape f s → IsApart f s → (x : ℕ) (u : Shape) → field_type s (token_text_at facts.source x) ≡ Some u → (field_type_in_form facts x f).faults ≡ []
+  field-found a_scalar s a far x u h = absurd (no-record s (far refl).1 (token_text_at facts.source x) u h)
+  field-found (an_array t) s (k, n, v, e, known) far x u h = absurd (some-none u (sym h ∙ ap (λ z. field_type z (token_text_at facts.source x)) e))
   field-found (a_record fields) s (k, fs, e, each) far x u h =
-      found-right x (fields (text_at facts.source x)) (shape_of_field fs (text_at facts.source x)) u (each (text_at facts.source x))
-      (sym (ap (λ z. field_type z (text_at facts.source x)) e) ∙ h)
+      found-right x (fields (token_text_at facts.source x)) (shape_of_field fs (token_text_at facts.source x)) u (each (token_text_at facts.source x))
+      (sym (ap (λ z. field_type z (token_text_at facts.source x)) e) ∙ h)
   field-found unknown_form s a far x u h = absurd a
 
-  pub field-right : (o : Operand T) (s : Shape) → shape o.of ≡ Some s → (x : ℕ) (u : Shape) → field_type s (text_at facts.source x) ≡ Some u → (field_operand facts o x).faults ≡ []
+  pub field-right : (o : Operand T) (s : Shape) → shape o.of ≡ Some s → (x : ℕ) (u : Shape) → field_type s (token_text_at facts.source x) ≡ Some u → (field_operand facts o x).faults ≡ []
   field-right o s hs x u h =
-      none-of-both (field_type_in_form facts x (facts.types.form o.of)).faults [] (field-found (facts.types.form o.of) s (types.formed o.of s hs) (apart.scalar o.of s hs) x u h) refl
+      none-of-both (field_type_in_form facts x (facts.types.form o.of)).faults [] (field-found (facts.types.form o.of) s (types.form_agrees o.of s hs) (apart.scalar o.of s hs) x u h) refl
 
   element-found : (f : Form T) (s t : Shape) → FormAgrees shape f s → IsApart f s → (i : Operand T) (n : T) (u : Shape) → element_type s t ≡ Some u → (element_type_in_form facts i n f).faults ≡ []
   element-found a_scalar s t a far i n u h = absurd (no-array s (far refl).0 t u h)
@@ -186,4 +186,4 @@ module _ {T : Type 0} (facts : Facts T) (shape : T → Option Shape) (types : Ty
       let n : T = (required_type facts facts.types.integer i).known in
       let inner : List Fault = (element_type_in_form facts i n (facts.types.form o.of)).faults in
       none-of-both (required_type facts facts.types.integer i).faults (inner ++ []) (required_type-right facts.types.integer i (apart.integer i.of (ht ∙ ap Some (index-required_type s t u e))))
-      (none-of-both inner [] (element-found (facts.types.form o.of) s t (types.formed o.of s hs) (apart.scalar o.of s hs) i n u e) refl)
+      (none-of-both inner [] (element-found (facts.types.form o.of) s t (types.form_agrees o.of s hs) (apart.scalar o.of s hs) i n u e) refl)

@@ -7,13 +7,13 @@ use Rattle.ob0_types_table.specs.declared.types.TypeId.{TypeId}
 use Rattle.ob0_types_table.specs.declared.types.TypeId.TheVariants as type
 use Rattle.ob0_tree.specs.declared.tree.Role.{Role}
 use Rattle.ob0_tree.specs.declared.tree.Role.TheVariants as role
-use Rattle.ob0_tree.specs.Places.{value_at}
-use Rattle.ob0_tree.specs.Tree.{Sort, Tree, adds, arguments, assigns, branches, calls, compares, designator, else_branch, else_part, elsif_branch, elsif_part, empty, end, expression, further_statement, identifiers, integer, items, mapped, maybe, more, multiplies, negation, none, one, parenthesised, product, relates, repeat_loop, runs, selector, sequence, statement, sum, then_statement, while_loop}
+use Rattle.ob0_tree.specs.Places.{token_value_at}
+use Rattle.ob0_tree.specs.Tree.{Sort, Tree, adds, arguments, assigns, branches, calls, compares, designator, else_branch, else_part, elsif_branch, elsif_part, empty, end, expression, further_statement, identifiers, integer, items, mapped_tree, maybe, more, multiplies, negation, none, one, parenthesised, product, relates, repeat_loop, runs, selector, sequence, statement, sum, then_statement, while_loop}
 use Rattle.ob0_language_types.specs.Arguments.{arguments_listed}
 use Rattle.ob0_language_types.specs.Expressions as meant
 use Rattle.ob0_language_types.specs.Expressions.{Object}
-use Rattle.ob0_language_types.specs.Typing.{lone_designator, object_type, type_at, type_of, type_of_factor}
-use Rattle.ob0_language_types.specs.WellTyped.{FormalParameter, Signature, TypeMeanings, same_known_shape, argument_fits, arguments_fit, by_place, by_value, call_fits, condition_fits, else_fits, elsifs_fit, sequence_fits, signature_of, statement_fits, statements_fit, variable_type}
+use Rattle.ob0_language_types.specs.Typing.{lone_designator, object_type, type_after_selectors, type_of, type_of_factor}
+use Rattle.ob0_language_types.specs.WellTyped.{FormalParameter, Signature, TypeMeanings, same_known_shape, argument_matches, arguments_match, by_place, by_value, call_is_well_typed, condition_is_boolean, else_is_well_typed, elsifs_are_well_typed, sequence_is_well_typed, signature_of, statement_is_well_typed, further_statements_are_well_typed, variable_type}
 use Rattle.ob0_language_types.proofs.Conditions.{same_known_shape-true}
 use Rattle.ob0_language_values.specs.Values.{Shape, array_shape, boolean_shape, integer_shape, record_shape}
 use Rattle.ob0_types_check.specs.ExpressionFaults.{reported_expression}
@@ -21,11 +21,11 @@ use Rattle.ob0_types_check.specs.Known.{Facts, Meaning, Operand, a_constant, a_p
 use Rattle.ob0_types_check.specs.Known as known
 use Rattle.ob0_types_check.specs.Operations.{typed_name_operand, fault_at_operand, fault_at_token, name_operand, operand_by_meaning, required_type, without_fault}
 use Rattle.ob0_types_check.specs.KnownDeclarations.{CompositeType, facts_at, types_so_far}
-use Rattle.ob0_types_check.specs.StatementFaults.{reported_call_by_meaning, required_of_argument, reported_argument, reported_arguments, reported_required, reported_assignment, reported_call, reported_condition, reported_else, reported_elsifs, reported_sequence, reported_statement, reported_statements, reported_target}
+use Rattle.ob0_types_check.specs.StatementFaults.{call_faults_by_meaning, required_type_of_argument, faults_of_argument, argument_faults, typed_expression_faults, assignment_faults, call_faults, condition_faults, else_faults, elsif_faults, sequence_faults, statement_faults, further_statement_faults, reported_target}
 use Rattle.ob0_types_check.specs.Agreement.{FormalsAgree, KnownMeaningAgrees, TokensAgree, TypesAgree, as_array, as_record, shape_in}
-use Rattle.ob0_types_check.specs.WellTypedLaws.{HaveDistinctConstructors, constructor_ordinal, NoFaultInStatements}
+use Rattle.ob0_types_check.specs.WellTypedLaws.{HaveDistinctOrdinals, ordinal_of_shape, TypedStatementsHaveNoFault}
 use Rattle.ob0_types_check.proofs.FittingExpressions.{parts-placed}
-use Rattle.ob0_types_check.proofs.FittingStatements.{EachAgreed, arguments-agreed, arguments-mapped, split}
+use Rattle.ob0_types_check.proofs.FittingStatements.{EachAgreed, arguments-agreed, arguments-mapped_tree, split}
 use Rattle.ob0_types_check.proofs.TypedNames.{types-apart}
 use Rattle.ob0_types_check.proofs.TypedOperands.{TypesApart, and-then, required_type-right, none-of-both}
 use Rattle.ob0_types_check.proofs.Unreported.{goes-on, some-none, some-same}
@@ -33,7 +33,7 @@ use Rattle.ob0_types_check.proofs.TypedTargets.{expression-typed, no-signature, 
 
 module _ {T N : Type 0} (facts : Facts T) (shape : T → Option Shape) (types : TypesAgree facts.types shape) (apart : TypesApart facts.types shape) (alike : (t u : T) (s : Shape) → shape t ≡ Some s → shape u ≡ Some s → facts.types.same t u ≡ true) (only : facts.only_constants ≡ false) (label : ℕ → N) (meaning : TypeMeanings N) where
   abbrev here : {s : Sort} → Tree ℕ s → Tree N s
-  here t = mapped label (value_at facts.source) t
+  here t = mapped_tree label (token_value_at facts.source) t
 
   abbrev ids : {s : Sort} → Tree ℕ s → List (Role × ℕ)
   ids t = identifiers role.Declaring t
@@ -45,33 +45,33 @@ module _ {T N : Type 0} (facts : Facts T) (shape : T → Option Shape) (types : 
   apart-in = split facts shape types label meaning
 
   -- No fault is reported for an expression that has the required type.
-  required_type-typed : (wanted : T) (w : Shape) (e : Tree ℕ expression) → shape wanted ≡ Some w → Named e → type_of meaning (here e) ≡ Some w → reported_required facts wanted e ≡ []
-  unfolding reported_required
+  required_type-typed : (wanted : T) (w : Shape) (e : Tree ℕ expression) → shape wanted ≡ Some w → Named e → type_of meaning (here e) ≡ Some w → typed_expression_faults facts wanted e ≡ []
+  unfolding typed_expression_faults
   required_type-typed wanted w e hw k h =
       let o : Operand T = (reported_expression facts e).known in
       none-of-both (reported_expression facts e).faults (required_type facts wanted o).faults (expression-typed facts shape types apart only label meaning e k w h) (required_type-right facts shape types apart wanted o (alike o.of wanted w (operand-typed facts shape types apart only label meaning e k w h) hw))
 
-  condition-right : (e : Tree ℕ expression) → Named e → condition_fits meaning (here e) ≡ true → reported_condition facts e ≡ []
-  unfolding condition_fits
+  condition-right : (e : Tree ℕ expression) → Named e → condition_is_boolean meaning (here e) ≡ true → condition_faults facts e ≡ []
+  unfolding condition_is_boolean
   condition-right e k h =
       let (s, truth, typed) = same_known_shape-true (Some boolean_shape) (type_of meaning (here e)) h in
       required_type-typed facts.types.boolean boolean_shape e types.boolean k (typed ∙ sym truth)
 
-  assignment-right : (x : ℕ) (path : Tree ℕ (items selector)) (e : Tree ℕ expression) → Named (assigns x path e) → statement_fits meaning (here (assigns x path e)) ≡ true → reported_assignment facts (reported_target facts x path) e ≡ []
-  unfolding statement_fits
+  assignment-right : (x : ℕ) (path : Tree ℕ (items selector)) (e : Tree ℕ expression) → Named (assigns x path e) → statement_is_well_typed meaning (here (assigns x path e)) ≡ true → assignment_faults facts (reported_target facts x path) e ≡ []
+  unfolding statement_is_well_typed
   assignment-right x path e k h =
       let (s, left, without_fault) = same_known_shape-true (variable_type meaning (Some (label x, here path))) (type_of meaning (here e)) h in
       let rest = apart-in (ids path) (ids e) k.1 in
       let t = target-typed facts shape types apart only label meaning x path s (k.0, rest.0) left in
-      none-of-both (reported_target facts x path).faults (reported_required facts (reported_target facts x path).known.of e) t.none (required_type-typed (reported_target facts x path).known.of s e t.known rest.1 without_fault)
+      none-of-both (reported_target facts x path).faults (typed_expression_faults facts (reported_target facts x path).known.of e) t.none (required_type-typed (reported_target facts x path).known.of s e t.known rest.1 without_fault)
 
   -- No fault is reported for a well-typed call.
 
-  variable-place : (x : ℕ) (t : T) (b : Bool) → (if b then record { known = typed_name_operand facts.types.unknown x; faults = fault_at_token facts code.NotConstant x } else without_fault (typed_name_operand t x)).known.is_place ≡ true
+  variable-place : (x : ℕ) (t : T) (b : Bool) → (if b then record { known = typed_name_operand facts.types.unknown x; faults = fault_at_token facts code.NotConstant x } else without_fault (typed_name_operand t x)).known.may_be_variable ≡ true
   variable-place x t true = refl
   variable-place x t false = refl
 
-  named-place : (x : ℕ) (m : Option (Meaning T)) (o : Option (Object Shape Signature)) (v : Shape) → KnownMeaningAgrees shape m o → o ≡ Some (meant.a_variable v) → (operand_by_meaning facts x m).known.is_place ≡ true
+  named-place : (x : ℕ) (m : Option (Meaning T)) (o : Option (Object Shape Signature)) (v : Shape) → KnownMeaningAgrees shape m o → o ≡ Some (meant.a_variable v) → (operand_by_meaning facts x m).known.may_be_variable ≡ true
   named-place x None o v a e = absurd a
   named-place x (Some (a_type t)) o v (s, reported, holds) e = absurd (some-none v (sym (ap object_type e) ∙ ap object_type holds))
   named-place x (Some (a_constant c)) o v (w, reported, holds, scalar) e = let same : Some (meant.a_constant w) ≡ Some (meant.a_variable v) = sym holds ∙ e in absurd (cc)
@@ -81,7 +81,7 @@ module _ {T N : Type 0} (facts : Facts T) (shape : T → Option Shape) (types : 
   -- holds if an expression has this type and its operand is a place
   pub record CanCountFrom (e : Tree ℕ expression) (s : Shape) : Type 0 where
     pub typed : type_of meaning (here e) ≡ Some s
-    pub placed : (reported_expression facts e).known.is_place ≡ true
+    pub placed : (reported_expression facts e).known.may_be_variable ≡ true
 
   no-designator : {A : Type 0} (s : Shape) → variable_type meaning None ≡ Some s → A
   unfolding variable_type
@@ -97,71 +97,71 @@ module _ {T N : Type 0} (facts : Facts T) (shape : T → Option Shape) (types : 
   place-known (compares (sum None (product (designator x path) end) (more (adds o u) rest)) c) k s h = no-designator s h
   place-known (compares (sum None (product (designator x path) end) end) (one (relates r b))) k s h = no-designator s h
   place-known (compares (sum None (product (designator x path) end) end) none) k s h =
-      let (v, holds, typed) = variable-of (meaning.object_for (label x)) (λ v. type_at meaning v (here path)) s h in
-      let factor : type_of_factor meaning (here (designator x path)) ≡ Some s = goes-on (λ s. type_at meaning s (here path)) (object_type (meaning.object_for (label x))) v (Some s) (ap object_type holds) typed in
+      let (v, holds, typed) = variable-of (meaning.object_for (label x)) (λ v. type_after_selectors meaning v (here path)) s h in
+      let factor : type_of_factor meaning (here (designator x path)) ≡ Some s = goes-on (λ s. type_after_selectors meaning s (here path)) (object_type (meaning.object_for (label x))) v (Some s) (ap object_type holds) typed in
       record {
         typed = ap (λ o. option_and_then (λ x. option_and_then (λ y. Some y) (Some x)) (option_and_then (λ x. Some x) o)) factor;
         placed = parts-placed facts (name_operand facts x).known path ∙ named-place x (facts.object_for x) (meaning.object_for (label x)) v k.0 holds;
       }
 
-  required_of_argument-right : (b : Bool) (of : T) (g : FormalParameter) (e : Tree ℕ expression) → g.mode ≡ mode_of b → shape of ≡ Some g.shape → Named e → argument_fits meaning g (here e) ≡ true
-      → (reported_expression facts e).faults ++ (required_of_argument facts (record { by_place = b; of = of }) (reported_expression facts e).known).faults ≡ []
-  unfolding argument_fits
-  required_of_argument-right true of g e mode wanted k h =
+  required_type_of_argument-right : (b : Bool) (of : T) (g : FormalParameter) (e : Tree ℕ expression) → g.mode ≡ mode_of b → shape of ≡ Some g.shape → Named e → argument_matches meaning g (here e) ≡ true
+      → (reported_expression facts e).faults ++ (required_type_of_argument facts (record { by_place = b; of = of }) (reported_expression facts e).known).faults ≡ []
+  unfolding argument_matches
+  required_type_of_argument-right true of g e mode wanted k h =
       let o : Operand T = (reported_expression facts e).known in
       let (s, own, given) = same_known_shape-true (Some g.shape) (variable_type meaning (lone_designator (here e))) (sym (λ i. same_known_shape (Some g.shape) (elim (mode i) [ by_value ↦ type_of meaning (here e) | by_place ↦ variable_type meaning (lone_designator (here e)) ])) ∙ h) in
       let p : CanCountFrom e g.shape = place-known e k g.shape (given ∙ sym own) in
       none-of-both (reported_expression facts e).faults _ (expression-typed facts shape types apart only label meaning e k g.shape p.typed)
       (ap (λ b. (if not b then record { known = facts.types.unknown; faults = fault_at_operand facts code.NotVariable o } else required_type facts of o).faults) p.placed
       ∙ required_type-right facts shape types apart of o (alike o.of of g.shape (operand-typed facts shape types apart only label meaning e k g.shape p.typed) wanted))
-  required_of_argument-right false of g e mode wanted k h =
+  required_type_of_argument-right false of g e mode wanted k h =
       let o : Operand T = (reported_expression facts e).known in
       let (s, own, given) = same_known_shape-true (Some g.shape) (type_of meaning (here e)) (sym (λ i. same_known_shape (Some g.shape) (elim (mode i) [ by_value ↦ type_of meaning (here e) | by_place ↦ variable_type meaning (lone_designator (here e)) ])) ∙ h) in
       let typed : type_of meaning (here e) ≡ Some g.shape = given ∙ sym own in
       none-of-both (reported_expression facts e).faults _ (expression-typed facts shape types apart only label meaning e k g.shape typed)
       (required_type-right facts shape types apart of o (alike o.of of g.shape (operand-typed facts shape types apart only label meaning e k g.shape typed) wanted))
 
-  argument-right : (f : known.KnownFormal T) (g : FormalParameter) (e : Tree ℕ expression) → g.mode ≡ mode_of f.by_place → shape f.of ≡ Some g.shape → Named e → argument_fits meaning g (here e) ≡ true → reported_argument facts f e ≡ []
-  unfolding reported_argument
-  argument-right f g e mode wanted k h = required_of_argument-right f.by_place f.of g e mode wanted k h
+  argument-right : (f : known.KnownFormal T) (g : FormalParameter) (e : Tree ℕ expression) → g.mode ≡ mode_of f.by_place → shape f.of ≡ Some g.shape → Named e → argument_matches meaning g (here e) ≡ true → faults_of_argument facts f e ≡ []
+  unfolding faults_of_argument
+  argument-right f g e mode wanted k h = required_type_of_argument-right f.by_place f.of g e mode wanted k h
 
-  arguments-right : (fs : List (known.KnownFormal T)) (gs : Signature) (es : List (Tree ℕ expression)) → FormalsAgree shape fs gs → EachAgreed facts shape types label meaning es → arguments_fit meaning gs (map here es) ≡ true
-      → (length fs ≡ length es) × (reported_arguments facts fs es ≡ [])
-  unfolding arguments_fit
+  arguments-right : (fs : List (known.KnownFormal T)) (gs : Signature) (es : List (Tree ℕ expression)) → FormalsAgree shape fs gs → EachAgreed facts shape types label meaning es → arguments_match meaning gs (map here es) ≡ true
+      → (length fs ≡ length es) × (argument_faults facts fs es ≡ [])
+  unfolding arguments_match
   arguments-right [] [] [] a k h = (refl, refl)
   arguments-right [] [] (e ∷ es) a k h = absurd (true≢false (sym h))
   arguments-right [] (g ∷ gs) es a k h = absurd a
   arguments-right (f ∷ fs) [] es a k h = absurd a
   arguments-right (f ∷ fs) (g ∷ gs) [] a k h = absurd (true≢false (sym h))
   arguments-right (f ∷ fs) (g ∷ gs) (e ∷ es) a k h =
-      let parts = and_parts (argument_fits meaning g (here e)) (arguments_fit meaning gs (map here es)) h in
+      let parts = and_parts (argument_matches meaning g (here e)) (arguments_match meaning gs (map here es)) h in
       let rest = arguments-right fs gs es a.2 k.1 parts.1 in
-      (λ i. suc (rest.0 i), none-of-both (reported_argument facts f e) (reported_arguments facts fs es) (argument-right f g e a.0 a.1 k.0 parts.0) rest.1)
+      (λ i. suc (rest.0 i), none-of-both (faults_of_argument facts f e) (argument_faults facts fs es) (argument-right f g e a.0 a.1 k.0 parts.0) rest.1)
 
-  not-called : {A : Type 0} (o p : Option (Object Shape Signature)) (es : List (Tree ℕ expression)) → o ≡ p → signature_of p ≡ None → call_fits meaning (signature_of o) (map here es) ≡ true → A
-  unfolding call_fits
-  not-called o p es e unsigned h = absurd (true≢false (sym (sym (ap (λ s. call_fits meaning s (map here es)) (ap signature_of e ∙ unsigned)) ∙ h)))
+  not-called : {A : Type 0} (o p : Option (Object Shape Signature)) (es : List (Tree ℕ expression)) → o ≡ p → signature_of p ≡ None → call_is_well_typed meaning (signature_of o) (map here es) ≡ true → A
+  unfolding call_is_well_typed
+  not-called o p es e unsigned h = absurd (true≢false (sym (sym (ap (λ s. call_is_well_typed meaning s (map here es)) (ap signature_of e ∙ unsigned)) ∙ h)))
 
-  called-right : (x : ℕ) (m : Option (Meaning T)) (o : Option (Object Shape Signature)) (es : List (Tree ℕ expression)) → KnownMeaningAgrees shape m o → EachAgreed facts shape types label meaning es → call_fits meaning (signature_of o) (map here es) ≡ true → reported_call_by_meaning facts x m es ≡ []
-  unfolding call_fits
+  called-right : (x : ℕ) (m : Option (Meaning T)) (o : Option (Object Shape Signature)) (es : List (Tree ℕ expression)) → KnownMeaningAgrees shape m o → EachAgreed facts shape types label meaning es → call_is_well_typed meaning (signature_of o) (map here es) ≡ true → call_faults_by_meaning facts x m es ≡ []
+  unfolding call_is_well_typed
   called-right x None o es a k h = absurd a
   called-right x (Some (a_type t)) o es (s, reported, holds) k h = not-called o (Some (meant.a_type s)) es holds refl h
   called-right x (Some (a_constant c)) o es (v, reported, holds, scalar) k h = not-called o (Some (meant.a_constant v)) es holds refl h
   called-right x (Some (a_variable t)) o es (s, reported, holds) k h = not-called o (Some (meant.a_variable s)) es holds refl h
   called-right x (Some (a_procedure fs)) o es (signature, holds, formals) k h =
-      let parts = arguments-right fs signature es formals k (sym (ap (λ s. call_fits meaning s (map here es)) holds) ∙ h) in
-      ap (λ b. if b then reported_arguments facts fs es else fault_at_token facts code.ArgumentCount x) (eq-eqb (length fs) (length es) parts.0) ∙ parts.1
+      let parts = arguments-right fs signature es formals k (sym (ap (λ s. call_is_well_typed meaning s (map here es)) holds) ∙ h) in
+      ap (λ b. if b then argument_faults facts fs es else fault_at_token facts code.ArgumentCount x) (eq-eqb (length fs) (length es) parts.0) ∙ parts.1
 
-  call-right : (x : ℕ) (es : Tree ℕ (maybe arguments)) → Named (calls x es) → statement_fits meaning (here (calls x es)) ≡ true → reported_call facts x (arguments_listed es) ≡ []
-  unfolding statement_fits
+  call-right : (x : ℕ) (es : Tree ℕ (maybe arguments)) → Named (calls x es) → statement_is_well_typed meaning (here (calls x es)) ≡ true → call_faults facts x (arguments_listed es) ≡ []
+  unfolding statement_is_well_typed
   call-right x es k h =
       called-right x (facts.object_for x) (meaning.object_for (label x)) (arguments_listed es) k.0 (arguments-agreed facts shape types label meaning es k.1)
-      (sym (ap (call_fits meaning (signature_of (meaning.object_for (label x)))) (arguments-mapped facts shape types label meaning es)) ∙ h)
+      (sym (ap (call_is_well_typed meaning (signature_of (meaning.object_for (label x)))) (arguments-mapped_tree facts shape types label meaning es)) ∙ h)
 
   mutual
-    unfolding reported_statement statement_fits
+    unfolding statement_faults statement_is_well_typed
 
-    statement-right : (a : Tree ℕ statement) → Named a → statement_fits meaning (here a) ≡ true → reported_statement facts a ≡ []
+    statement-right : (a : Tree ℕ statement) → Named a → statement_is_well_typed meaning (here a) ≡ true → statement_faults facts a ≡ []
     statement-right empty k h = refl
     statement-right (assigns x path e) k h = assignment-right x path e k h
     statement-right (calls x es) k h = call-right x es k h
@@ -169,44 +169,44 @@ module _ {T N : Type 0} (facts : Facts T) (shape : T → Option Shape) (types : 
         let tokens = apart-in (ids e) _ k in
         let others = apart-in (ids statements) _ tokens.1 in
         let ends = apart-in (ids rest) (ids last) others.1 in
-        let first = and_parts (condition_fits meaning (here e)) _ h in
-        let second = and_parts (sequence_fits meaning (here statements)) _ first.1 in
-        let third = and_parts (elsifs_fit meaning (here rest)) _ second.1 in
-        none-of-both (reported_condition facts e) _ (condition-right e tokens.0 first.0)
-        (none-of-both (reported_sequence facts statements) _ (sequence-right statements others.0 second.0)
-        (none-of-both (reported_elsifs facts rest) _ (elsifs-right rest ends.0 third.0) (else-right last ends.1 third.1)))
+        let first = and_parts (condition_is_boolean meaning (here e)) _ h in
+        let second = and_parts (sequence_is_well_typed meaning (here statements)) _ first.1 in
+        let third = and_parts (elsifs_are_well_typed meaning (here rest)) _ second.1 in
+        none-of-both (condition_faults facts e) _ (condition-right e tokens.0 first.0)
+        (none-of-both (sequence_faults facts statements) _ (sequence-right statements others.0 second.0)
+        (none-of-both (elsif_faults facts rest) _ (elsifs-right rest ends.0 third.0) (else-right last ends.1 third.1)))
     statement-right (while_loop e statements) k h =
         let tokens = apart-in (ids e) (ids statements) k in
-        let parts = and_parts (condition_fits meaning (here e)) _ h in
-        none-of-both (reported_condition facts e) _ (condition-right e tokens.0 parts.0) (sequence-right statements tokens.1 parts.1)
+        let parts = and_parts (condition_is_boolean meaning (here e)) _ h in
+        none-of-both (condition_faults facts e) _ (condition-right e tokens.0 parts.0) (sequence-right statements tokens.1 parts.1)
     statement-right (repeat_loop statements e) k h =
         let tokens = apart-in (ids statements) (ids e) k in
-        let parts = and_parts (sequence_fits meaning (here statements)) _ h in
-        none-of-both (reported_sequence facts statements) _ (sequence-right statements tokens.0 parts.0) (condition-right e tokens.1 parts.1)
+        let parts = and_parts (sequence_is_well_typed meaning (here statements)) _ h in
+        none-of-both (sequence_faults facts statements) _ (sequence-right statements tokens.0 parts.0) (condition-right e tokens.1 parts.1)
 
-    pub sequence-right : (a : Tree ℕ sequence) → Named a → sequence_fits meaning (here a) ≡ true → reported_sequence facts a ≡ []
+    pub sequence-right : (a : Tree ℕ sequence) → Named a → sequence_is_well_typed meaning (here a) ≡ true → sequence_faults facts a ≡ []
     sequence-right (runs a rest) k h =
         let tokens = apart-in (ids a) (ids rest) k in
-        let parts = and_parts (statement_fits meaning (here a)) _ h in
-        none-of-both (reported_statement facts a) _ (statement-right a tokens.0 parts.0) (statements-right rest tokens.1 parts.1)
+        let parts = and_parts (statement_is_well_typed meaning (here a)) _ h in
+        none-of-both (statement_faults facts a) _ (statement-right a tokens.0 parts.0) (statements-right rest tokens.1 parts.1)
 
-    statements-right : (a : Tree ℕ (items further_statement)) → Named a → statements_fit meaning (here a) ≡ true → reported_statements facts a ≡ []
+    statements-right : (a : Tree ℕ (items further_statement)) → Named a → further_statements_are_well_typed meaning (here a) ≡ true → further_statement_faults facts a ≡ []
     statements-right end k h = refl
     statements-right (more (then_statement a) rest) k h =
         let tokens = apart-in (ids a) (ids rest) k in
-        let parts = and_parts (statement_fits meaning (here a)) _ h in
-        none-of-both (reported_statement facts a) _ (statement-right a tokens.0 parts.0) (statements-right rest tokens.1 parts.1)
+        let parts = and_parts (statement_is_well_typed meaning (here a)) _ h in
+        none-of-both (statement_faults facts a) _ (statement-right a tokens.0 parts.0) (statements-right rest tokens.1 parts.1)
 
-    elsifs-right : (a : Tree ℕ (items elsif_part)) → Named a → elsifs_fit meaning (here a) ≡ true → reported_elsifs facts a ≡ []
+    elsifs-right : (a : Tree ℕ (items elsif_part)) → Named a → elsifs_are_well_typed meaning (here a) ≡ true → elsif_faults facts a ≡ []
     elsifs-right end k h = refl
     elsifs-right (more (elsif_branch e statements) rest) k h =
         let tokens = apart-in (ids (elsif_branch e statements)) (ids rest) k in
         let inner = apart-in (ids e) (ids statements) tokens.0 in
-        let first = and_parts (condition_fits meaning (here e)) _ h in
-        let second = and_parts (sequence_fits meaning (here statements)) _ first.1 in
-        none-of-both (reported_condition facts e) _ (condition-right e inner.0 first.0) (none-of-both (reported_sequence facts statements) _ (sequence-right statements inner.1 second.0) (elsifs-right rest tokens.1 second.1))
+        let first = and_parts (condition_is_boolean meaning (here e)) _ h in
+        let second = and_parts (sequence_is_well_typed meaning (here statements)) _ first.1 in
+        none-of-both (condition_faults facts e) _ (condition-right e inner.0 first.0) (none-of-both (sequence_faults facts statements) _ (sequence-right statements inner.1 second.0) (elsifs-right rest tokens.1 second.1))
 
-    else-right : (a : Tree ℕ (maybe else_part)) → Named a → else_fits meaning (here a) ≡ true → reported_else facts a ≡ []
+    else-right : (a : Tree ℕ (maybe else_part)) → Named a → else_is_well_typed meaning (here a) ≡ true → else_faults facts a ≡ []
     else-right none k h = refl
     else-right (one (else_branch statements)) k h = sequence-right statements k h
 
@@ -241,31 +241,31 @@ array-at shapes i s h = found-at as_array shapes i s (λ r e. array-equal r s e)
 record-at : (shapes : List Shape) (i : ℕ) (s : Shape) → option_and_then as_record (slice_get shapes i) ≡ Some s → (slice_get shapes i ≡ Some s) × (as_record s ≡ Some s)
 record-at shapes i s h = found-at as_record shapes i s (λ r e. record-equal r s e) h
 
-array-number : (s : Shape) → as_array s ≡ Some s → (k : ℕ) × (constructor_ordinal s ≡ Some k)
+array-number : (s : Shape) → as_array s ≡ Some s → (k : ℕ) × (ordinal_of_shape s ≡ Some k)
 array-number (array_shape k n u) e = (k, refl)
 array-number integer_shape e = absurd (cc)
 array-number boolean_shape e = absurd (cc)
 array-number (record_shape k fs) e = absurd (cc)
 
-record-number : (s : Shape) → as_record s ≡ Some s → (k : ℕ) × (constructor_ordinal s ≡ Some k)
+record-number : (s : Shape) → as_record s ≡ Some s → (k : ℕ) × (ordinal_of_shape s ≡ Some k)
 record-number (record_shape k fs) e = (k, refl)
 record-number integer_shape e = absurd (cc)
 record-number boolean_shape e = absurd (cc)
 record-number (array_shape k n u) e = absurd (cc)
 
-arrays-once : (shapes : List Shape) → HaveDistinctConstructors shapes → (i j : ℕ) (s : Shape) → option_and_then as_array (slice_get shapes i) ≡ Some s → option_and_then as_array (slice_get shapes j) ≡ Some s → i ≡ j
+arrays-once : (shapes : List Shape) → HaveDistinctOrdinals shapes → (i j : ℕ) (s : Shape) → option_and_then as_array (slice_get shapes i) ≡ Some s → option_and_then as_array (slice_get shapes j) ≡ Some s → i ≡ j
 arrays-once shapes once i j s p q =
     let left = array-at shapes i s p in
     let (k, number) = array-number s left.1 in
     once i j k s s left.0 (array-at shapes j s q).0 number number
 
-records-once : (shapes : List Shape) → HaveDistinctConstructors shapes → (i j : ℕ) (s : Shape) → option_and_then as_record (slice_get shapes i) ≡ Some s → option_and_then as_record (slice_get shapes j) ≡ Some s → i ≡ j
+records-once : (shapes : List Shape) → HaveDistinctOrdinals shapes → (i j : ℕ) (s : Shape) → option_and_then as_record (slice_get shapes i) ≡ Some s → option_and_then as_record (slice_get shapes j) ≡ Some s → i ≡ j
 records-once shapes once i j s p q =
     let left = record-at shapes i s p in
     let (k, number) = record-number s left.1 in
     once i j k s s left.0 (record-at shapes j s q).0 number number
 
-pub once-alike : (made : List CompositeType) (shapes : List Shape) → HaveDistinctConstructors shapes → (t u : TypeId) (s : Shape) → shape_in shapes t ≡ Some s → shape_in shapes u ≡ Some s → (types_so_far made).same t u ≡ true
+pub once-alike : (made : List CompositeType) (shapes : List Shape) → HaveDistinctOrdinals shapes → (t u : TypeId) (s : Shape) → shape_in shapes t ≡ Some s → shape_in shapes u ≡ Some s → (types_so_far made).same t u ≡ true
 once-alike made shapes once type.Unknown u s p q = absurd (some-none s (sym p))
 once-alike made shapes once type.Integer type.Unknown s p q = absurd (some-none s (sym q))
 once-alike made shapes once type.Integer type.Integer s p q = refl
@@ -288,6 +288,6 @@ once-alike made shapes once (type.Record i) type.Boolean s p q = (types-apart ma
 once-alike made shapes once (type.Record i) (type.Array j) s p q = no-both s (array-at shapes j s q).1 (record-at shapes i s p).1
 once-alike made shapes once (type.Record i) (type.Record j) s p q = eq-eqb i j (records-once shapes once i j s p q)
 
-pub no_fault_in_statements-holds : {N : Type 0} → NoFaultInStatements N
-no_fault_in_statements-holds p shapes label meaning statements once agrees h =
+pub typed_statements_have_no_fault-holds : {N : Type 0} → TypedStatementsHaveNoFault N
+typed_statements_have_no_fault-holds p shapes label meaning statements once agrees h =
     sequence-right (facts_at p false) (shape_in shapes) agrees.types (types-apart p.made shapes) (once-alike p.made shapes once) refl label meaning statements agrees.tokens h

@@ -3,11 +3,11 @@
 use Rattle.std.proofs.Common.{◌≡◌, ℕ, false, List, [], Option, Some, None, refl, sym, ap, ◌∙◌}
 use Rattle.ob0_tree.specs.declared.tree.Role.{Role}
 use Rattle.ob0_tree.specs.declared.tree.Role.TheVariants as role
-use Rattle.ob0_tree.specs.Places.{value_at}
-use Rattle.ob0_tree.specs.Tree.{Sort, Tree, designator, expression, identifiers, items, mapped, selector}
+use Rattle.ob0_tree.specs.Places.{token_value_at}
+use Rattle.ob0_tree.specs.Tree.{Sort, Tree, designator, expression, identifiers, items, mapped_tree, selector}
 use Rattle.ob0_language_types.specs.Expressions as meant
 use Rattle.ob0_language_types.specs.Expressions.{Object}
-use Rattle.ob0_language_types.specs.Typing.{object_type, type_at, type_of}
+use Rattle.ob0_language_types.specs.Typing.{object_type, type_after_selectors, type_of}
 use Rattle.ob0_language_types.specs.WellTyped.{Signature, TypeMeanings, signature_of, variable_type}
 use Rattle.ob0_language_values.specs.Values.{Shape}
 use Rattle.ob0_types_check.specs.ExpressionFaults.{reported_expression, reported_selectors}
@@ -16,8 +16,8 @@ use Rattle.ob0_types_check.specs.Operations.{typed_name_operand}
 use Rattle.ob0_types_check.specs.KnownDeclarations.{facts_at}
 use Rattle.ob0_types_check.specs.StatementFaults.{target_name_type, target_type_by_meaning, reported_target}
 use Rattle.ob0_types_check.specs.Agreement.{KnownMeaningAgrees, TokensAgree, TypesAgree, shape_in}
-use Rattle.ob0_types_check.specs.ReportLaws.{OperandFits}
-use Rattle.ob0_types_check.specs.WellTypedLaws.{NoFaultInTargets}
+use Rattle.ob0_types_check.specs.ReportLaws.{OperandAgrees}
+use Rattle.ob0_types_check.specs.WellTypedLaws.{TypedTargetsHaveNoFault}
 use Rattle.ob0_types_check.proofs.FittingExpressions.{FitsSelectors, selectors-fit}
 use Rattle.ob0_types_check.proofs.FittingNames.{tokens-fit}
 use Rattle.ob0_types_check.proofs.FittingStatements.{known-operand}
@@ -38,7 +38,7 @@ variable-of (Some (meant.a_standard p)) f s h = absurd (some-none s (sym h))
 
 module _ {T N : Type 0} (facts : Facts T) (shape : T → Option Shape) (types : TypesAgree facts.types shape) (apart : TypesApart facts.types shape) (only : facts.only_constants ≡ false) (label : ℕ → N) (meaning : TypeMeanings N) where
   abbrev here : {s : Sort} → Tree ℕ s → Tree N s
-  here t = mapped label (value_at facts.source) t
+  here t = mapped_tree label (token_value_at facts.source) t
 
   abbrev ids : {s : Sort} → Tree ℕ s → List (Role × ℕ)
   ids t = identifiers role.Declaring t
@@ -54,7 +54,7 @@ module _ {T N : Type 0} (facts : Facts T) (shape : T → Option Shape) (types : 
 
   pub operand-typed : (e : Tree ℕ expression) → Named e → (s : Shape) → type_of meaning (here e) ≡ Some s → shape (reported_expression facts e).known.of ≡ Some s
   operand-typed e k s h =
-      let o : OperandFits shape meaning (reported_expression facts e).known (here e) = known-operand facts shape types label meaning e k (expression-typed e k s h) in
+      let o : OperandAgrees shape meaning (reported_expression facts e).known (here e) = known-operand facts shape types label meaning e k (expression-typed e k s h) in
       o.known ∙ (sym o.typed ∙ h)
 
   -- No fault is reported for the target of a well-typed assignment.
@@ -76,7 +76,7 @@ module _ {T N : Type 0} (facts : Facts T) (shape : T → Option Shape) (types : 
   pub target-typed : (x : ℕ) (path : Tree ℕ (items selector)) (s : Shape) → Named (designator x path) → variable_type meaning (Some (label x, here path)) ≡ Some s → TargetTyped x path s
   unfolding reported_target variable_type
   target-typed x path s k h =
-      let (v, holds, typed) = variable-of (meaning.object_for (label x)) (λ v. type_at meaning v (here path)) s h in
+      let (v, holds, typed) = variable-of (meaning.object_for (label x)) (λ v. type_after_selectors meaning v (here path)) s h in
       let a = assigned-right x (facts.object_for x) (meaning.object_for (label x)) v k.0 holds in
       let o : Operand T = typed_name_operand (target_name_type facts x).known x in
       let rest = selectors-right facts shape types apart label meaning o v path a.1 (all-typed path k.1) s typed in
@@ -86,7 +86,7 @@ module _ {T N : Type 0} (facts : Facts T) (shape : T → Option Shape) (types : 
         known = fs.known ∙ (sym fs.typed ∙ typed);
       }
 
-pub no_fault_in_targets-holds : {N : Type 0} → NoFaultInTargets N
-no_fault_in_targets-holds p shapes label meaning x path agrees h =
-    let (s, hs) = is-there (variable_type meaning (Some (label x, mapped label (value_at p.source) path))) h in
+pub typed_targets_have_no_fault-holds : {N : Type 0} → TypedTargetsHaveNoFault N
+typed_targets_have_no_fault-holds p shapes label meaning x path agrees h =
+    let (s, hs) = is-there (variable_type meaning (Some (label x, mapped_tree label (token_value_at p.source) path))) h in
     (target-typed (facts_at p false) (shape_in shapes) agrees.types (types-apart p.made shapes) refl label meaning x path s agrees.tokens hs).none

@@ -8,78 +8,78 @@ use Rattle.ob0_tree.specs.declared.tree.Relation.{Relation}
 use Rattle.ob0_tree.specs.declared.tree.Sign.{Sign}
 use Rattle.ob0_tree.specs.Tree.{Tree, addend, adds, compares, designator, end, factor, field, index, item, items, more, multiplier, multiplies, negation, one, product, relates, selector, simple, sum, term}
 use Rattle.ob0_types_table.specs.Operators.{product_value, sum_value}
-use Rattle.ob0_language_types.specs.Expressions.{Meanings, a_constant, element_step, evaluate, evaluate_addends, evaluate_factor, evaluate_multipliers, evaluate_simple, evaluate_term, follow, object_value}
+use Rattle.ob0_language_types.specs.Expressions.{Meanings, a_constant, element_step, evaluate, evaluate_addends, evaluate_factor, evaluate_multipliers, evaluate_simple, evaluate_term, evaluate_selectors, object_value}
 use Rattle.ob0_language_types.specs.Selected.{apply_to_both}
 use Rattle.ob0_language_types.specs.Typing.{outcome_value, value_type}
-use Rattle.ob0_language_values.specs.Values.{Outcome, Place, Value, add, add_short_circuits, value_at_path, elements, ends, gives, members, multiply, multiply_short_circuits, negate, number, or_stuck, part, relate, apply_sign, truth, ◌>>=◌}
+use Rattle.ob0_language_values.specs.Values.{Outcome, Place, Value, add, add_short_circuits, value_at_path, elements, ends_run_with, succeeds_with, members, multiply, multiply_short_circuits, negate, number, or_stuck, part, apply_relation, apply_sign, truth, ◌>>=◌}
 
 given_step : (o : Outcome Value) (next : Value → Outcome Value) → outcome_value (o >>= next) ≡ option_and_then (λ x. outcome_value (next x)) (outcome_value o)
-given_step (gives v) next = refl
-given_step (ends e) next = refl
+given_step (succeeds_with v) next = refl
+given_step (ends_run_with e) next = refl
 
-given_settled : (b : Bool) (x : Value) (o : Outcome Value) (operation : Value → Outcome Value) → outcome_value (elim b [ true ↦ gives x | false ↦ o >>= operation ]) ≡ cond b (Some x) (option_and_then (λ y. outcome_value (operation y)) (outcome_value o))
+given_settled : (b : Bool) (x : Value) (o : Outcome Value) (operation : Value → Outcome Value) → outcome_value (elim b [ true ↦ succeeds_with x | false ↦ o >>= operation ]) ≡ cond b (Some x) (option_and_then (λ y. outcome_value (operation y)) (outcome_value o))
 given_settled true x o operation = refl
 given_settled false x o operation = given_step o operation
 
 module _ {N : Type 0} (among : Meanings N Place (Unit {0})) where
-  pub related-valued : (r : Relation) (a b : Tree N simple)
-      → outcome_value (evaluate among [] (compares a (one (relates r b)))) ≡ apply_to_both (λ x y. outcome_value (relate r x y)) (outcome_value (evaluate_simple among [] a)) (outcome_value (evaluate_simple among [] b))
+  pub related-value_agrees : (r : Relation) (a b : Tree N simple)
+      → outcome_value (evaluate among [] (compares a (one (relates r b)))) ≡ apply_to_both (λ x y. outcome_value (apply_relation r x y)) (outcome_value (evaluate_simple among [] a)) (outcome_value (evaluate_simple among [] b))
   unfolding evaluate
-  related-valued r a b =
-      given_step (evaluate_simple among [] a) (λ x. evaluate_simple among [] b >>= relate r x)
-      ∙ ap (λ next. option_and_then next (outcome_value (evaluate_simple among [] a))) (λ i x. given_step (evaluate_simple among [] b) (relate r x) i)
+  related-value_agrees r a b =
+      given_step (evaluate_simple among [] a) (λ x. evaluate_simple among [] b >>= apply_relation r x)
+      ∙ ap (λ next. option_and_then next (outcome_value (evaluate_simple among [] a))) (λ i x. given_step (evaluate_simple among [] b) (apply_relation r x) i)
 
-  pub simple-valued : (s : Option Sign) (t : Tree N term) (rest : Tree N (items addend))
+  pub simple-value_agrees : (s : Option Sign) (t : Tree N term) (rest : Tree N (items addend))
       → outcome_value (evaluate_simple among [] (sum s t rest)) ≡ option_and_then (λ x. option_and_then (λ y. outcome_value (evaluate_addends among [] y rest)) (outcome_value (apply_sign s x))) (outcome_value (evaluate_term among [] t))
   unfolding evaluate
-  simple-valued s t rest =
+  simple-value_agrees s t rest =
       given_step (evaluate_term among [] t) (λ x. apply_sign s x >>= (λ y. evaluate_addends among [] y rest))
       ∙ ap (λ next. option_and_then next (outcome_value (evaluate_term among [] t))) (λ i x. given_step (apply_sign s x) (λ y. evaluate_addends among [] y rest) i)
 
-  pub term-valued : (f : Tree N factor) (rest : Tree N (items multiplier))
+  pub term-value_agrees : (f : Tree N factor) (rest : Tree N (items multiplier))
       → outcome_value (evaluate_term among [] (product f rest)) ≡ option_and_then (λ x. outcome_value (evaluate_multipliers among [] x rest)) (outcome_value (evaluate_factor among [] f))
   unfolding evaluate
-  term-valued f rest = given_step (evaluate_factor among [] f) (λ x. evaluate_multipliers among [] x rest)
+  term-value_agrees f rest = given_step (evaluate_factor among [] f) (λ x. evaluate_multipliers among [] x rest)
 
-  pub negation-valued : (f : Tree N factor) → outcome_value (evaluate_factor among [] (negation f)) ≡ option_and_then (λ x. outcome_value (negate x)) (outcome_value (evaluate_factor among [] f))
+  pub negation-value_agrees : (f : Tree N factor) → outcome_value (evaluate_factor among [] (negation f)) ≡ option_and_then (λ x. outcome_value (negate x)) (outcome_value (evaluate_factor among [] f))
   unfolding evaluate
-  negation-valued f = given_step (evaluate_factor among [] f) negate
+  negation-value_agrees f = given_step (evaluate_factor among [] f) negate
 
   -- The value of a list of terms or factors after an operand is the value after one more term or factor.
-  pub addend-valued : (o : AddOperator) (t : Tree N term) (ts : Tree N (items addend)) (x : Value)
+  pub addend-value_agrees : (o : AddOperator) (t : Tree N term) (ts : Tree N (items addend)) (x : Value)
       → outcome_value (evaluate_addends among [] x (more (adds o t) ts)) ≡ option_and_then (λ y. outcome_value (evaluate_addends among [] y ts)) (sum_value o (outcome_value (evaluate_term among [] t)) x)
   unfolding evaluate
-  addend-valued o t ts x =
-      given_step (elim (add_short_circuits o x) [ true ↦ gives x | false ↦ evaluate_term among [] t >>= add o x ]) (λ y. evaluate_addends among [] y ts)
+  addend-value_agrees o t ts x =
+      given_step (elim (add_short_circuits o x) [ true ↦ succeeds_with x | false ↦ evaluate_term among [] t >>= add o x ]) (λ y. evaluate_addends among [] y ts)
       ∙ ap (option_and_then (λ y. outcome_value (evaluate_addends among [] y ts))) (given_settled (add_short_circuits o x) x (evaluate_term among [] t) (add o x))
 
-  pub multiplier-valued : (o : MultiplyOperator) (f : Tree N factor) (fs : Tree N (items multiplier)) (x : Value)
+  pub multiplier-value_agrees : (o : MultiplyOperator) (f : Tree N factor) (fs : Tree N (items multiplier)) (x : Value)
       → outcome_value (evaluate_multipliers among [] x (more (multiplies o f) fs)) ≡ option_and_then (λ y. outcome_value (evaluate_multipliers among [] y fs)) (product_value o (outcome_value (evaluate_factor among [] f)) x)
   unfolding evaluate
-  multiplier-valued o f fs x =
-      given_step (elim (multiply_short_circuits o x) [ true ↦ gives x | false ↦ evaluate_factor among [] f >>= multiply o x ]) (λ y. evaluate_multipliers among [] y fs)
+  multiplier-value_agrees o f fs x =
+      given_step (elim (multiply_short_circuits o x) [ true ↦ succeeds_with x | false ↦ evaluate_factor among [] f >>= multiply o x ]) (λ y. evaluate_multipliers among [] y fs)
       ∙ ap (option_and_then (λ y. outcome_value (evaluate_multipliers among [] y fs))) (given_settled (multiply_short_circuits o x) x (evaluate_factor among [] f) (multiply o x))
 
   -- A name without selectors has the value of its constant.
-  whole-value : (v : Option Value) → outcome_value (object_value {P = Unit {0}} [] (option_map a_constant v) >>= (λ w. gives [] >>= (λ steps. or_stuck (value_at_path steps w)))) ≡ v
+  whole-value : (v : Option Value) → outcome_value (object_value {P = Unit {0}} [] (option_map a_constant v) >>= (λ w. succeeds_with [] >>= (λ steps. or_stuck (value_at_path steps w)))) ≡ v
   whole-value None = refl
   whole-value (Some v) = refl
 
-  pub name-valued : (x : N) (c : Option Value) → among.object_for x ≡ option_map a_constant c → outcome_value (evaluate_factor among [] (designator x end)) ≡ c
+  pub name-value_agrees : (x : N) (c : Option Value) → among.object_for x ≡ option_map a_constant c → outcome_value (evaluate_factor among [] (designator x end)) ≡ c
   unfolding evaluate
-  name-valued x c e = ap (λ o. outcome_value (object_value [] o >>= (λ w. gives [] >>= (λ steps. or_stuck (value_at_path steps w))))) e ∙ whole-value c
+  name-value_agrees x c e = ap (λ o. outcome_value (object_value [] o >>= (λ w. succeeds_with [] >>= (λ steps. or_stuck (value_at_path steps w))))) e ∙ whole-value c
 
   -- Selecting from a constant gives no value, because a constant has no parts.
   index-none : (v : Value) (o : Outcome Value) (ts : Tree N (items selector)) → is_some (value_type v) ≡ true
-      → outcome_value ((o >>= (λ i. element_step v i >>= (λ s. or_stuck (part v s) >>= (λ w. follow among [] w ts >>= (λ steps. gives (s ∷ steps)))))) >>= (λ steps. or_stuck (value_at_path steps v))) ≡ None
-  index-none v (ends e) ts h = refl
-  index-none (number n) (gives i) ts h = refl
-  index-none (truth b) (gives i) ts h = refl
-  index-none (elements vs) (gives i) ts h = absurd (cc)
-  index-none (members k ms) (gives i) ts h = absurd (cc)
+      → outcome_value ((o >>= (λ i. element_step v i >>= (λ s. or_stuck (part v s) >>= (λ w. evaluate_selectors among [] w ts >>= (λ steps. succeeds_with (s ∷ steps)))))) >>= (λ steps. or_stuck (value_at_path steps v))) ≡ None
+  index-none v (ends_run_with e) ts h = refl
+  index-none (number n) (succeeds_with i) ts h = refl
+  index-none (truth b) (succeeds_with i) ts h = refl
+  index-none (elements vs) (succeeds_with i) ts h = absurd (cc)
+  index-none (members k ms) (succeeds_with i) ts h = absurd (cc)
 
   part-value : (v : Value) (s : Tree N (item selector)) (ts : Tree N (items selector)) → is_some (value_type v) ≡ true
-      → outcome_value (follow among [] v (more s ts) >>= (λ steps. or_stuck (value_at_path steps v))) ≡ None
+      → outcome_value (evaluate_selectors among [] v (more s ts) >>= (λ steps. or_stuck (value_at_path steps v))) ≡ None
   unfolding evaluate
   part-value (number n) (field x) ts h = refl
   part-value (truth b) (field x) ts h = refl
@@ -88,12 +88,12 @@ module _ {N : Type 0} (among : Meanings N Place (Unit {0})) where
   part-value v (index e) ts h = index-none v (evaluate among [] e) ts h
 
   parts-value : (c : Option Value) → ((v : Value) → c ≡ Some v → is_some (value_type v) ≡ true) → (s : Tree N (item selector)) (ts : Tree N (items selector))
-      → outcome_value (object_value {P = Unit {0}} [] (option_map a_constant c) >>= (λ v. follow among [] v (more s ts) >>= (λ steps. or_stuck (value_at_path steps v)))) ≡ None
+      → outcome_value (object_value {P = Unit {0}} [] (option_map a_constant c) >>= (λ v. evaluate_selectors among [] v (more s ts) >>= (λ steps. or_stuck (value_at_path steps v)))) ≡ None
   parts-value None scalar s ts = refl
   parts-value (Some v) scalar s ts = part-value v s ts (scalar v refl)
 
-  pub parts-valued : (x : N) (c : Option Value) (s : Tree N (item selector)) (ts : Tree N (items selector)) → among.object_for x ≡ option_map a_constant c
+  pub parts-value_agrees : (x : N) (c : Option Value) (s : Tree N (item selector)) (ts : Tree N (items selector)) → among.object_for x ≡ option_map a_constant c
       → ((v : Value) → c ≡ Some v → is_some (value_type v) ≡ true) → outcome_value (evaluate_factor among [] (designator x (more s ts))) ≡ None
   unfolding evaluate
-  parts-valued x c s ts e scalar =
-      ap (λ o. outcome_value (object_value [] o >>= (λ v. follow among [] v (more s ts) >>= (λ steps. or_stuck (value_at_path steps v))))) e ∙ parts-value c scalar s ts
+  parts-value_agrees x c s ts e scalar =
+      ap (λ o. outcome_value (object_value [] o >>= (λ v. evaluate_selectors among [] v (more s ts) >>= (λ steps. or_stuck (value_at_path steps v))))) e ∙ parts-value c scalar s ts

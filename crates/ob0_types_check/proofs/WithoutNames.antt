@@ -3,17 +3,17 @@
 -- names is bound.
 use Rattle.std.proofs.Common.{◌≡◌, ℕ, zero, suc, false, true≢false, Option, Some, None, List, [], ◌∷◌, map, refl, sym, ap, ◌∙◌, subst, arith}
 use Rattle.ob0_tree.specs.ParsedModule.{tree_of}
-use Rattle.ob0_tree.specs.Places.{tree_with_names, text_at, value_at}
-use Rattle.ob0_tree.specs.Tree.{Tree, block, declares, declares_procedure, end, has_body, is_module, item, items, mapped, module_text, more, occurrences, procedure}
+use Rattle.ob0_tree.specs.Places.{tree_with_names, token_text_at, token_value_at}
+use Rattle.ob0_tree.specs.Tree.{Tree, block, declares, declares_procedure, end, forms_block, is_module, item, items, mapped_tree, module_text, more, occurrences, procedure}
 use Rattle.ob0_language_names.specs.Names.{Label, Name, Naming, naming_by_spelling}
 use Rattle.ob0_language_names.specs.Parts.{constant_names, formal_names, formal_sections, module_block, declared_type_names, procedure_name, section_constants, section_types, section_variables, variable_names}
 use Rattle.ob0_language_names.specs.Scopes.{Labelling, Scope, ordinal_after_block, ordinal_after_names, ordinal_after_procedure, ordinal_after_procedures, label_from_ordinal, declare_names, declare_procedure_names, first_procedure_ordinal, first_type_ordinal, first_variable_ordinal, numbered, predeclared_scope, procedures_scope, relabel_block, relabel_constant_section, relabel_formals, relabel_procedure, relabel_procedures, relabel_type_section, relabel_uses, relabel_variable_section, relabel_module, types_scope, variables_scope}
-use Rattle.ob0_language_names.proofs.OccurrencesMapped.{occurrences-mapped}
+use Rattle.ob0_language_names.proofs.OccurrencesMapped.{occurrences-mapped_tree}
 use Rattle.ob0_language_types.proofs.Proved.{numbering_keeps_type_check-holds}
 use Rattle.ob0_scope_table.specs.BodyReplaced.{PathToBody, block_without, procedure_without, procedures_without, module_without_body}
 use Rattle.ob0_scope_table.specs.Resolution.{IsResolution, Resolution, binding_at, is_unbound, label_at, ordinal_in, ordinal_and_spelling}
 use Rattle.ob0_scope_table.proofs.BodyReplaced.{without_mapped}
-use Rattle.ob0_types_check.specs.NewBody.{FitsWithout}
+use Rattle.ob0_types_check.specs.NewBody.{PassesTypeCheckWithoutBody}
 use Rattle.ob0_types_check.proofs.BoundModules.{labels-bound}
 use Rattle.ob0_types_check.proofs.DeclaredModules.{module_counted, numbering_of}
 use Rattle.ob0_types_check.proofs.DeclaredNames.{BlockPlaced, Each, IsBound, Numbering, block_placed}
@@ -21,54 +21,54 @@ use Rattle.ob0_types_check.proofs.DeclaredNames.{BlockPlaced, Each, IsBound, Num
 -- ---- ordinals are unchanged
 
 mutual
-  pub ordinal_after_block-module_without_body : {N : Type 0} (way : PathToBody) (k : ℕ) (b : Tree N block) → ordinal_after_block k (block_without way b) ≡ ordinal_after_block k b
-  ordinal_after_block-module_without_body [] k (has_body (declares cs ts vs ps) a) = refl
-  ordinal_after_block-module_without_body (j ∷ way) k (has_body (declares cs ts vs ps) a) =
-      ordinal_after_procedures-module_without_body j way (ordinal_after_names (ordinal_after_names (ordinal_after_names k (constant_names (section_constants cs))) (declared_type_names (section_types ts))) (variable_names (section_variables vs))) ps
+  pub ordinal_after_block-module_without_body : {N : Type 0} (path : PathToBody) (k : ℕ) (b : Tree N block) → ordinal_after_block k (block_without path b) ≡ ordinal_after_block k b
+  ordinal_after_block-module_without_body [] k (forms_block (declares cs ts vs ps) a) = refl
+  ordinal_after_block-module_without_body (j ∷ path) k (forms_block (declares cs ts vs ps) a) =
+      ordinal_after_procedures-module_without_body j path (ordinal_after_names (ordinal_after_names (ordinal_after_names k (constant_names (section_constants cs))) (declared_type_names (section_types ts))) (variable_names (section_variables vs))) ps
 
-  ordinal_after_procedures-module_without_body : {N : Type 0} (j : ℕ) (way : PathToBody) (k : ℕ) (ps : Tree N (items procedure)) → ordinal_after_procedures k (procedures_without j way ps) ≡ ordinal_after_procedures k ps
-  ordinal_after_procedures-module_without_body j way k end = refl
-  ordinal_after_procedures-module_without_body zero way k (more p rest) = ap (λ i. ordinal_after_procedures i rest) (ordinal_after_procedure-module_without_body way (suc k) p)
-  ordinal_after_procedures-module_without_body (suc j) way k (more p rest) = ordinal_after_procedures-module_without_body j way (ordinal_after_procedure (suc k) p) rest
+  ordinal_after_procedures-module_without_body : {N : Type 0} (j : ℕ) (path : PathToBody) (k : ℕ) (ps : Tree N (items procedure)) → ordinal_after_procedures k (procedures_without j path ps) ≡ ordinal_after_procedures k ps
+  ordinal_after_procedures-module_without_body j path k end = refl
+  ordinal_after_procedures-module_without_body zero path k (more p rest) = ap (λ i. ordinal_after_procedures i rest) (ordinal_after_procedure-module_without_body path (suc k) p)
+  ordinal_after_procedures-module_without_body (suc j) path k (more p rest) = ordinal_after_procedures-module_without_body j path (ordinal_after_procedure (suc k) p) rest
 
-  ordinal_after_procedure-module_without_body : {N : Type 0} (way : PathToBody) (k : ℕ) (p : Tree N (item procedure)) → ordinal_after_procedure k (procedure_without way p) ≡ ordinal_after_procedure k p
-  ordinal_after_procedure-module_without_body way k (declares_procedure x fs b closing) = ordinal_after_block-module_without_body way (ordinal_after_names k (formal_names (formal_sections fs))) b
+  ordinal_after_procedure-module_without_body : {N : Type 0} (path : PathToBody) (k : ℕ) (p : Tree N (item procedure)) → ordinal_after_procedure k (procedure_without path p) ≡ ordinal_after_procedure k p
+  ordinal_after_procedure-module_without_body path k (declares_procedure x fs b closing) = ordinal_after_block-module_without_body path (ordinal_after_names k (formal_names (formal_sections fs))) b
 
-pub procedure_name-module_without_body : {N : Type 0} (way : PathToBody) (p : Tree N (item procedure)) → procedure_name (procedure_without way p) ≡ procedure_name p
-procedure_name-module_without_body way (declares_procedure x fs b closing) = refl
+pub procedure_name-module_without_body : {N : Type 0} (path : PathToBody) (p : Tree N (item procedure)) → procedure_name (procedure_without path p) ≡ procedure_name p
+procedure_name-module_without_body path (declares_procedure x fs b closing) = refl
 
-declared-module_without_body : {N : Type 0} (j : ℕ) (way : PathToBody) (k : ℕ) (ps : Tree N (items procedure)) (scope : Scope N) → declare_procedure_names k (procedures_without j way ps) scope ≡ declare_procedure_names k ps scope
-declared-module_without_body j way k end scope = refl
-declared-module_without_body zero way k (more p rest) scope = λ i. declare_procedure_names (ordinal_after_procedure-module_without_body way (suc k) p i) rest ((procedure_name-module_without_body way p i, k) ∷ scope)
-declared-module_without_body (suc j) way k (more p rest) scope = declared-module_without_body j way (ordinal_after_procedure (suc k) p) rest ((procedure_name p, k) ∷ scope)
+declared-module_without_body : {N : Type 0} (j : ℕ) (path : PathToBody) (k : ℕ) (ps : Tree N (items procedure)) (scope : Scope N) → declare_procedure_names k (procedures_without j path ps) scope ≡ declare_procedure_names k ps scope
+declared-module_without_body j path k end scope = refl
+declared-module_without_body zero path k (more p rest) scope = λ i. declare_procedure_names (ordinal_after_procedure-module_without_body path (suc k) p i) rest ((procedure_name-module_without_body path p i, k) ∷ scope)
+declared-module_without_body (suc j) path k (more p rest) scope = declared-module_without_body j path (ordinal_after_procedure (suc k) p) rest ((procedure_name p, k) ∷ scope)
 
 -- ---- the bindings of names
 
 module _ {N M : Type 0} (naming : Naming N) (label : Labelling N M) where
   mutual
-    relabel_block-module_without_body : (way : PathToBody) (scope : Scope N) (k : ℕ) (b : Tree N block) → relabel_block naming label scope k (block_without way b) ≡ block_without way (relabel_block naming label scope k b)
-    relabel_block-module_without_body [] scope k (has_body (declares cs ts vs ps) a) = refl
-    relabel_block-module_without_body (j ∷ way) scope k (has_body (declares cs ts vs ps) a) =
-        let b : Tree N block = has_body (declares cs ts vs ps) a in
+    relabel_block-module_without_body : (path : PathToBody) (scope : Scope N) (k : ℕ) (b : Tree N block) → relabel_block naming label scope k (block_without path b) ≡ block_without path (relabel_block naming label scope k b)
+    relabel_block-module_without_body [] scope k (forms_block (declares cs ts vs ps) a) = refl
+    relabel_block-module_without_body (j ∷ path) scope k (forms_block (declares cs ts vs ps) a) =
+        let b : Tree N block = forms_block (declares cs ts vs ps) a in
         λ i.
-        has_body
+        forms_block
         (declares (relabel_constant_section naming label scope k cs) (relabel_type_section naming label (types_scope k b scope) (first_type_ordinal k b) ts) (relabel_variable_section naming label (variables_scope k b scope) (first_variable_ordinal k b) vs)
-        (relabel_procedures-module_without_body j way (procedures_scope k b scope) (first_procedure_ordinal k b) ps i))
-        (relabel_uses naming label (declared-module_without_body j way (first_procedure_ordinal k b) ps (procedures_scope k b scope) i) a)
+        (relabel_procedures-module_without_body j path (procedures_scope k b scope) (first_procedure_ordinal k b) ps i))
+        (relabel_uses naming label (declared-module_without_body j path (first_procedure_ordinal k b) ps (procedures_scope k b scope) i) a)
 
-    relabel_procedures-module_without_body : (j : ℕ) (way : PathToBody) (scope : Scope N) (k : ℕ) (ps : Tree N (items procedure)) → relabel_procedures naming label scope k (procedures_without j way ps) ≡ procedures_without j way (relabel_procedures naming label scope k ps)
-    relabel_procedures-module_without_body j way scope k end = refl
-    relabel_procedures-module_without_body zero way scope k (more p rest) =
-        λ i. more (relabel_procedure-module_without_body way scope k p i) (relabel_procedures naming label ((procedure_name-module_without_body way p i, k) ∷ scope) (ordinal_after_procedure-module_without_body way (suc k) p i) rest)
-    relabel_procedures-module_without_body (suc j) way scope k (more p rest) = ap (more (relabel_procedure naming label scope k p)) (relabel_procedures-module_without_body j way ((procedure_name p, k) ∷ scope) (ordinal_after_procedure (suc k) p) rest)
+    relabel_procedures-module_without_body : (j : ℕ) (path : PathToBody) (scope : Scope N) (k : ℕ) (ps : Tree N (items procedure)) → relabel_procedures naming label scope k (procedures_without j path ps) ≡ procedures_without j path (relabel_procedures naming label scope k ps)
+    relabel_procedures-module_without_body j path scope k end = refl
+    relabel_procedures-module_without_body zero path scope k (more p rest) =
+        λ i. more (relabel_procedure-module_without_body path scope k p i) (relabel_procedures naming label ((procedure_name-module_without_body path p i, k) ∷ scope) (ordinal_after_procedure-module_without_body path (suc k) p i) rest)
+    relabel_procedures-module_without_body (suc j) path scope k (more p rest) = ap (more (relabel_procedure naming label scope k p)) (relabel_procedures-module_without_body j path ((procedure_name p, k) ∷ scope) (ordinal_after_procedure (suc k) p) rest)
 
-    relabel_procedure-module_without_body : (way : PathToBody) (scope : Scope N) (k : ℕ) (p : Tree N (item procedure)) → relabel_procedure naming label scope k (procedure_without way p) ≡ procedure_without way (relabel_procedure naming label scope k p)
-    relabel_procedure-module_without_body way scope k (declares_procedure x fs b closing) =
+    relabel_procedure-module_without_body : (path : PathToBody) (scope : Scope N) (k : ℕ) (p : Tree N (item procedure)) → relabel_procedure naming label scope k (procedure_without path p) ≡ procedure_without path (relabel_procedure naming label scope k p)
+    relabel_procedure-module_without_body path scope k (declares_procedure x fs b closing) =
         ap (λ c. declares_procedure (label (Some k) x) (relabel_formals naming label scope (suc k) fs) c (label (Some k) closing))
-        (relabel_block-module_without_body way (declare_names (suc k) (formal_names (formal_sections fs)) ((x, k) ∷ scope)) (ordinal_after_names (suc k) (formal_names (formal_sections fs))) b)
+        (relabel_block-module_without_body path (declare_names (suc k) (formal_names (formal_sections fs)) ((x, k) ∷ scope)) (ordinal_after_names (suc k) (formal_names (formal_sections fs))) b)
 
-  relabel_module-module_without_body : (way : PathToBody) (t : Tree N module_text) → relabel_module naming label (module_without_body way t) ≡ module_without_body way (relabel_module naming label t)
-  relabel_module-module_without_body way (is_module x b closing) = ap (λ c. is_module (label None x) c (label None closing)) (relabel_block-module_without_body way (predeclared_scope naming) 7 b)
+  relabel_module-module_without_body : (path : PathToBody) (t : Tree N module_text) → relabel_module naming label (module_without_body path t) ≡ module_without_body path (relabel_module naming label t)
+  relabel_module-module_without_body path (is_module x b closing) = ap (λ c. is_module (label None x) c (label None closing)) (relabel_block-module_without_body path (predeclared_scope naming) 7 b)
 
 -- ---- each remaining name is bound
 
@@ -80,34 +80,34 @@ each_as : {A : Type 0} (P Q : A → Type 0) → ((x : A) → P x → Q x) → (x
 each_as P Q f [] h = tt
 each_as P Q f (x ∷ xs) h = (f x h.0, each_as P Q f xs h.1)
 
-module _ (r : Resolution) (closing : ℕ) (is : IsResolution r) (f : FitsWithout r closing) where
+module _ (r : Resolution) (closing : ℕ) (is : IsResolution r) (f : PassesTypeCheckWithoutBody r closing) where
   abbrev left : Tree ℕ module_text
-  left = module_without_body f.way (tree_of r.module_read)
+  left = module_without_body f.path (tree_of r.module_read)
 
   abbrev left_named : Tree Name module_text
   left_named = tree_with_names r.module_read.source left
 
   -- The labels of the remaining names are the same, token by token, as in the whole module.
-  left_by : {M : Type 0} (label : Labelling Name M) (at : ℕ → M) → relabel_module naming_by_spelling label (tree_with_names r.module_read.source (tree_of r.module_read)) ≡ mapped at (value_at r.module_read.source) (tree_of r.module_read)
-      → relabel_module naming_by_spelling label left_named ≡ mapped at (value_at r.module_read.source) left
+  left_by : {M : Type 0} (label : Labelling Name M) (at : ℕ → M) → relabel_module naming_by_spelling label (tree_with_names r.module_read.source (tree_of r.module_read)) ≡ mapped_tree at (token_value_at r.module_read.source) (tree_of r.module_read)
+      → relabel_module naming_by_spelling label left_named ≡ mapped_tree at (token_value_at r.module_read.source) left
   left_by label at e =
       let t = tree_of r.module_read in
-      let text : ℕ → Name = text_at r.module_read.source in
-      let value : ℕ → ℕ = value_at r.module_read.source in
-      ap (relabel_module naming_by_spelling label) (sym (without_mapped text value f.way t))
-      ∙ (relabel_module-module_without_body naming_by_spelling label f.way (mapped text value t) ∙ (ap (module_without_body f.way) e ∙ without_mapped at value f.way t))
+      let text : ℕ → Name = token_text_at r.module_read.source in
+      let value : ℕ → ℕ = token_value_at r.module_read.source in
+      ap (relabel_module naming_by_spelling label) (sym (without_mapped text value f.path t))
+      ∙ (relabel_module-module_without_body naming_by_spelling label f.path (mapped_tree text value t) ∙ (ap (module_without_body f.path) e ∙ without_mapped at value f.path t))
 
   has_ordinal : (x : ℕ) → is_unbound (label_at r.module_read.source r.ordinals x) ≡ false → IsBound (numbering_of r) x
   has_ordinal x h = found (ordinal_in r.ordinals x) refl h
     where
-      found : (o : Option ℕ) → ordinal_in r.ordinals x ≡ o → is_unbound (label_from_ordinal naming_by_spelling o (text_at r.module_read.source x)) ≡ false → IsBound (numbering_of r) x
+      found : (o : Option ℕ) → ordinal_in r.ordinals x ≡ o → is_unbound (label_from_ordinal naming_by_spelling o (token_text_at r.module_read.source x)) ≡ false → IsBound (numbering_of r) x
       found None e h = absurd (true≢false h)
       found (Some k) e h = (k, e)
 
   left_bound : Each (IsBound (numbering_of r)) (occurrences left)
   left_bound =
       let label : ℕ → Label = label_at r.module_read.source r.ordinals in
-      let same : occurrences (numbered left_named) ≡ map label (occurrences left) = ap occurrences (left_by (label_from_ordinal naming_by_spelling) label is.numbering) ∙ occurrences-mapped label (value_at r.module_read.source) left in
+      let same : occurrences (numbered left_named) ≡ map label (occurrences left) = ap occurrences (left_by (label_from_ordinal naming_by_spelling) label is.numbering) ∙ occurrences-mapped_tree label (token_value_at r.module_read.source) left in
       let all : Each (λ l. is_unbound l ≡ false) (occurrences (numbered left_named)) = labels-bound (numbered left_named) (sym (numbering_keeps_type_check-holds left_named) ∙ f.fits) in
       each_as (λ x. is_unbound (label x) ≡ false) (IsBound (numbering_of r)) has_ordinal (occurrences left)
       (each_mapped (λ l. is_unbound l ≡ false) label (occurrences left) (subst (Each (λ l. is_unbound l ≡ false)) same all))
@@ -116,5 +116,5 @@ module _ (r : Resolution) (closing : ℕ) (is : IsResolution r) (f : FitsWithout
   left_placed =
       let n : Numbering = numbering_of r in
       let b : Tree ℕ block = module_block (tree_of r.module_read) in
-      block_placed n (predeclared_scope naming_by_spelling) 7 (block_without f.way b) (ap module_block (left_by ordinal_and_spelling (binding_at r.module_read.source r.ordinals) is.binding)) left_bound
-      (omega (arith, module_counted r is, ordinal_after_block-module_without_body f.way 7 b))
+      block_placed n (predeclared_scope naming_by_spelling) 7 (block_without f.path b) (ap module_block (left_by ordinal_and_spelling (binding_at r.module_read.source r.ordinals) is.binding)) left_bound
+      (omega (arith, module_counted r is, ordinal_after_block-module_without_body f.path 7 b))

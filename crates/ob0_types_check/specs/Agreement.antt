@@ -8,7 +8,7 @@ use Rattle.ob0_types_table.specs.declared.types.TypeId.TheVariants as type
 use Rattle.ob0_types_table.specs.Tables.{mode_of}
 use Rattle.ob0_tree.specs.declared.tree.Role.{Role}
 use Rattle.ob0_tree.specs.declared.tree.Role.TheVariants as role
-use Rattle.ob0_tree.specs.Places.{text_at}
+use Rattle.ob0_tree.specs.Places.{token_text_at}
 use Rattle.ob0_tree.specs.Tree.{Sort, Tree, identifiers}
 use Rattle.ob0_language_types.specs.Expressions as meant
 use Rattle.ob0_language_types.specs.Typing as typing
@@ -37,9 +37,9 @@ pub record TypesAgree {T : Type 0} (types : Types T) (shape : T → Option Shape
   pub integer : shape types.integer ≡ Some integer_shape
   pub boolean : shape types.boolean ≡ Some boolean_shape
   pub unknown : shape types.unknown ≡ None
-  pub alone : types.same types.integer types.integer ≡ true
+  pub integer_same : types.same types.integer types.integer ≡ true
   pub same : (s t : T) → types.same s t ≡ true → shape s ≡ shape t
-  pub formed : (t : T) (s : Shape) → shape t ≡ Some s → FormAgrees shape (types.form t) s
+  pub form_agrees : (t : T) (s : Shape) → shape t ≡ Some s → FormAgrees shape (types.form t) s
 
 -- states that formal parameters agree one by one with the parameters of a signature, in mode and type
 abbrev pub FormalsAgree : {T : Type 0}
@@ -108,7 +108,7 @@ abbrev pub TokenAgrees : {T N : Type 0}
 TokenAgrees facts shape label meaning role.LookedUp x =
     KnownMeaningAgrees shape (facts.object_for x) (meaning.object_for (label x))
 TokenAgrees facts shape label meaning role.FieldName x =
-    meaning.written (label x) ≡ text_at facts.source x
+    meaning.written (label x) ≡ token_text_at facts.source x
 TokenAgrees facts shape label meaning role.Declaring x = Unit {0}
 TokenAgrees facts shape label meaning role.ClosingName x = Unit {0}
 TokenAgrees facts shape label meaning role.ModuleName x = Unit {0}
@@ -127,7 +127,7 @@ TokensAgree facts shape label meaning (x ∷ xs) =
 
 -- states that the types at a place agree with their shapes, and that the identifiers in the tree `t` agree with their
 -- labels
-pub record Agrees
+pub record FactsAgree
     {T N : Type 0} (facts : Facts T) (shape : T → Option Shape) (label : ℕ → N) (meaning : TypeMeanings N)
     {s : Sort} (t : Tree ℕ s) : Type 0 where
   pub types : TypesAgree facts.types shape

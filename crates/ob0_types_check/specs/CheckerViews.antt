@@ -64,11 +64,11 @@ abbrev pub formal_of : formal.FormalParameter → KnownFormal TypeId
 formal_of f = record { by_place = f.by_place; of = f.of }
 
 -- converts the meaning of a declaration from the code to the definitions
-abbrev pub known_meaning : meaning.Meaning → Meaning TypeId
-known_meaning (declared.Named t) = a_type t
-known_meaning (declared.Constant v) = a_constant (option_map scalar_value v)
-known_meaning (declared.Variable t) = a_variable t
-known_meaning (declared.Procedure fs) = a_procedure (map formal_of fs.items)
+abbrev pub meaning_view : meaning.Meaning → Meaning TypeId
+meaning_view (declared.Named t) = a_type t
+meaning_view (declared.Constant v) = a_constant (option_map scalar_value v)
+meaning_view (declared.Variable t) = a_variable t
+meaning_view (declared.Procedure fs) = a_procedure (map formal_of fs.items)
 
 -- returns the meaning of the name at a token; None if it is unbound or its declaration isn't known yet
 abbrev pub meaning_in_state : CheckerState → ℕ → Option meaning.Meaning
@@ -82,7 +82,7 @@ abbrev pub facts_in : CheckerState → Bool → Facts TypeId
 facts_in s only_constants = record {
   source = s.resolved.now.module_read.source;
   types = known_types s.composites.items;
-  object_for = λ token. option_map known_meaning (meaning_in_state s token);
+  object_for = λ token. option_map meaning_view (meaning_in_state s token);
   only_constants = only_constants;
 }
 
@@ -92,7 +92,7 @@ operand_of o =
     record {
       of = o.of;
       value = option_map scalar_value o.value;
-      is_place = o.is_place;
+      may_be_variable = o.may_be_variable;
       first = o.first;
       last = o.last;
     }
@@ -125,7 +125,7 @@ abbrev pub declarations_in_state : CheckerState → KnownDeclarations
 declarations_in_state s = record {
   source = s.resolved.now.module_read.source;
   ordinals = s.resolved.now.ordinals;
-  declared = map (option_map known_meaning) s.meanings.items;
+  declared = map (option_map meaning_view) s.meanings.items;
   made = map composite_type_of s.composites.items;
 }
 

@@ -8,63 +8,63 @@ use Rattle.ob0_language_names.specs.Parts.{formal_sections, module_block, names_
 use Rattle.ob0_scope_table.specs.Resolution.{Resolution, is_undeclared_fault}
 use Rattle.ob0_types_table.specs.declared.types.TypeId.{TypeId}
 use Rattle.ob0_tree.specs.ParsedModule.{tree_of}
-use Rattle.ob0_tree.specs.Tree.{Tree, begins, block, body, constant, declares, declares_constant, declares_procedure, declares_type, declares_variable, end, further_section, has_body, item, items, maybe, more, names, none, one, procedure, then_section, type_name, value_section, variable, variable_section, written_type}
+use Rattle.ob0_tree.specs.Tree.{Tree, begins, block, body, constant, declares, declares_constant, declares_procedure, declares_type, declares_variable, end, further_section, forms_block, item, items, maybe, more, names, none, one, procedure, then_section, type_definition, value_section, variable, variable_section, written_type}
 use Rattle.ob0_types_check.specs.Known.{KnownFormal, Reported, a_constant, a_procedure, a_type, a_variable}
 use Rattle.ob0_types_check.specs.Operations.{without_fault, ◌>>=◌}
 use Rattle.ob0_types_check.specs.KnownDeclarations.{KnownDeclarations, TypeWithState, state_at_start, define, define_all, facts_at}
-use Rattle.ob0_types_check.specs.StatementFaults.{reported_sequence}
+use Rattle.ob0_types_check.specs.StatementFaults.{sequence_faults}
 use Rattle.ob0_types_check.specs.TypeFaults.{reported_constant}
 use Rattle.ob0_types_check.specs.WrittenTypeFaults.{reported_type}
 
 -- returns the faults of a constant's declaration, and the state after it, in which the constant's
 -- name has a meaning
-unfoldable pub constant_declared : KnownDeclarations → Tree ℕ (item constant) → Reported KnownDeclarations
+unfoldable pub reported_constant_declaration : KnownDeclarations → Tree ℕ (item constant) → Reported KnownDeclarations
 unfolding reported_constant
-constant_declared p (declares_constant x e) = do
+reported_constant_declaration p (declares_constant x e) = do
   v ← reported_constant (facts_at p true) e
   without_fault (define p (a_constant v) x)
 
 -- returns the faults of constant declarations, with the state after them; a constant is known to the declarations after
 -- it
 unfoldable pub reported_constants : KnownDeclarations → Tree ℕ (items constant) → Reported KnownDeclarations
-unfolding constant_declared
+unfolding reported_constant_declaration
 reported_constants p end = without_fault p
 reported_constants p (more c rest) = do
-  q ← constant_declared p c
+  q ← reported_constant_declaration p c
   reported_constants q rest
 
 -- returns the faults of a type declaration, and the state after it, in which the type's name has a
 -- meaning
-unfoldable pub type_declared : KnownDeclarations → Tree ℕ (item type_name) → Reported KnownDeclarations
+unfoldable pub reported_type_declaration : KnownDeclarations → Tree ℕ (item type_definition) → Reported KnownDeclarations
 unfolding reported_type
-type_declared p (declares_type x t) = do
+reported_type_declaration p (declares_type x t) = do
   u ← reported_type 0 p t
   without_fault (define u.following (a_type u.of) x)
 
 -- returns the faults of type declarations, with the state after them; a type is known to the
 -- declarations after it
-unfoldable pub reported_types : KnownDeclarations → Tree ℕ (items type_name) → Reported KnownDeclarations
-unfolding type_declared
+unfoldable pub reported_types : KnownDeclarations → Tree ℕ (items type_definition) → Reported KnownDeclarations
+unfolding reported_type_declaration
 reported_types p end = without_fault p
 reported_types p (more d rest) = do
-  q ← type_declared p d
+  q ← reported_type_declaration p d
   reported_types q rest
 
 -- returns the faults of a group of variables with one type, and the state after it, in which the
 -- variables have a meaning
-unfoldable pub variables_declared : KnownDeclarations → Tree ℕ (item variable) → Reported KnownDeclarations
+unfoldable pub reported_variable_group : KnownDeclarations → Tree ℕ (item variable) → Reported KnownDeclarations
 unfolding reported_type
-variables_declared p (declares_variable ns t) = do
+reported_variable_group p (declares_variable ns t) = do
   u ← reported_type 0 p t
   without_fault (define_all u.following (a_variable u.of) (names_in_list ns))
 
 -- returns the faults of variable declarations, with the state after them; a variable is known to the declarations after
 -- it
 unfoldable pub reported_variables : KnownDeclarations → Tree ℕ (items variable) → Reported KnownDeclarations
-unfolding variables_declared
+unfolding reported_variable_group
 reported_variables p end = without_fault p
 reported_variables p (more g rest) = do
-  q ← variables_declared p g
+  q ← reported_variable_group p g
   reported_variables q rest
 
 -- the parameters of a heading found so far, and the state after them
@@ -118,10 +118,10 @@ state_after_heading x h = define h.following (a_procedure h.formals) x
 
 -- returns the faults of a body's statements, with the state unchanged; a missing body has no faults
 unfoldable pub reported_body : KnownDeclarations → Tree ℕ (maybe body) → Reported KnownDeclarations
-unfolding reported_sequence
+unfolding sequence_faults
 reported_body p none = without_fault p
 reported_body p (one (begins statements)) =
-    record { known = p; faults = reported_sequence (facts_at p false) statements }
+    record { known = p; faults = sequence_faults (facts_at p false) statements }
 
 unfoldable mutual
   unfolding reported_constants reported_types reported_variables reported_sections reported_body
@@ -129,7 +129,7 @@ unfoldable mutual
   -- returns the faults of a block, with the state after it; constants come first, then types,
   -- variables, procedures and statements
   pub reported_block : KnownDeclarations → Tree ℕ block → Reported KnownDeclarations
-  reported_block p (has_body (declares cs ts vs ps) statements) = do
+  reported_block p (forms_block (declares cs ts vs ps) statements) = do
     with_constants ← reported_constants p (section_constants cs)
     with_types ← reported_types with_constants (section_types ts)
     with_variables ← reported_variables with_types (section_variables vs)
@@ -151,8 +151,8 @@ unfoldable mutual
     reported_block (state_after_heading x h) b
 
 -- returns the faults at the undeclared names of a module, in text order, and then the module's faults of types
-unfoldable pub reported_module : Resolution → List Fault
+unfoldable pub module_faults : Resolution → List Fault
 unfolding reported_block
-reported_module r =
+module_faults r =
     filter is_undeclared_fault r.faults
     ++ (reported_block (state_at_start r) (module_block (tree_of r.module_read))).faults

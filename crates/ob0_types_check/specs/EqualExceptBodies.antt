@@ -3,8 +3,8 @@
 -- Rule: none; for contracts about a module in which the names and numbers of some bodies changed.
 use Rattle.std.specs.Prelude.{◌≡◌, ℕ, Bool, true, false, length}
 use Rattle.ob0_tree.specs.ParsedModule.{tree_of}
-use Rattle.ob0_tree.specs.Places.{text_at, value_at}
-use Rattle.ob0_tree.specs.Tree.{Tree, block, declares, declares_procedure, end, has_body, is_module, item, items, module_text, more, procedure}
+use Rattle.ob0_tree.specs.Places.{token_text_at, token_value_at}
+use Rattle.ob0_tree.specs.Tree.{Tree, block, declares, declares_procedure, end, forms_block, is_module, item, items, module_text, more, procedure}
 use Rattle.ob0_scope_table.specs.TokenProperty.{EachTokenHas}
 use Rattle.ob0_scope_table.specs.Resolution.{Resolution, ordinal_in}
 
@@ -14,41 +14,41 @@ Unless true A = Unit {0}
 Unless false A = A
 
 -- States that each token of a tree has the property `P`, except in the statements of some blocks. These are the blocks
--- whose closing names pass the test `left_out`. In `BlockExceptBodies`, the ℕ is the token of the block's own
+-- whose closing names pass the test `left_out`. In `BlockHasExceptInBodies`, the ℕ is the token of the block's own
 -- closing name.
 abbrev mutual
   -- states that each token of a block has the property `P`, except in statements of blocks whose closing names pass
   -- `left_out`
-  pub BlockExceptBodies : (ℕ → Type 0) → (ℕ → Bool) → ℕ → Tree ℕ block → Type 0
-  BlockExceptBodies P left_out own (has_body (declares cs ts vs ps) statements) =
+  pub BlockHasExceptInBodies : (ℕ → Type 0) → (ℕ → Bool) → ℕ → Tree ℕ block → Type 0
+  BlockHasExceptInBodies P left_out own (forms_block (declares cs ts vs ps) statements) =
       EachTokenHas P cs
       × EachTokenHas P ts
       × EachTokenHas P vs
-      × ProceduresExceptBodies P left_out ps
+      × ProceduresHaveExceptInBodies P left_out ps
       × Unless (left_out own) (EachTokenHas P statements)
 
   -- states that each token of these procedures has the property `P`, except in statements of blocks whose closing names
   -- pass `left_out`
-  pub ProceduresExceptBodies : (ℕ → Type 0) → (ℕ → Bool) → Tree ℕ (items procedure) → Type 0
-  ProceduresExceptBodies P left_out end = Unit {0}
-  ProceduresExceptBodies P left_out (more p rest) =
-      ProcedureExceptBodies P left_out p × ProceduresExceptBodies P left_out rest
+  pub ProceduresHaveExceptInBodies : (ℕ → Type 0) → (ℕ → Bool) → Tree ℕ (items procedure) → Type 0
+  ProceduresHaveExceptInBodies P left_out end = Unit {0}
+  ProceduresHaveExceptInBodies P left_out (more p rest) =
+      ProcedureHasExceptInBodies P left_out p × ProceduresHaveExceptInBodies P left_out rest
 
   -- states that each token of a procedure has the property `P`, except in statements of blocks whose closing names pass
   -- `left_out`
-  pub ProcedureExceptBodies : (ℕ → Type 0) → (ℕ → Bool) → Tree ℕ (item procedure) → Type 0
-  ProcedureExceptBodies P left_out (declares_procedure x fs b closing) =
-      P x × EachTokenHas P fs × BlockExceptBodies P left_out closing b × P closing
+  pub ProcedureHasExceptInBodies : (ℕ → Type 0) → (ℕ → Bool) → Tree ℕ (item procedure) → Type 0
+  ProcedureHasExceptInBodies P left_out (declares_procedure x fs b closing) =
+      P x × EachTokenHas P fs × BlockHasExceptInBodies P left_out closing b × P closing
 
 -- states that each token of a module has the property `P`, except in statements of blocks whose closing names pass
 -- `left_out`
-abbrev pub ModuleExceptBodies : (ℕ → Type 0) → (ℕ → Bool) → Tree ℕ module_text → Type 0
-ModuleExceptBodies P left_out (is_module x b closing) = P x × BlockExceptBodies P left_out closing b × P closing
+abbrev pub ModuleHasExceptInBodies : (ℕ → Type 0) → (ℕ → Bool) → Tree ℕ module_text → Type 0
+ModuleHasExceptInBodies P left_out (is_module x b closing) = P x × BlockHasExceptInBodies P left_out closing b × P closing
 
 -- states that a token has the same spelling and value in both modules, and is bound to the same declaration in both
 pub record IsSameTokenAt (old new : Resolution) (token : ℕ) : Type 0 where
-  pub written : text_at new.module_read.source token ≡ text_at old.module_read.source token
-  pub value : value_at new.module_read.source token ≡ value_at old.module_read.source token
+  pub written : token_text_at new.module_read.source token ≡ token_text_at old.module_read.source token
+  pub value : token_value_at new.module_read.source token ≡ token_value_at old.module_read.source token
   pub bound : ordinal_in new.ordinals token ≡ ordinal_in old.ordinals token
 
 -- States that two modules have the same tree and the same number of tokens, and that each token is the same in both
@@ -56,4 +56,4 @@ pub record IsSameTokenAt (old new : Resolution) (token : ℕ) : Type 0 where
 pub record AreEqualExceptBodies (left_out : ℕ → Bool) (old new : Resolution) : Type 0 where
   pub tree : tree_of new.module_read ≡ tree_of old.module_read
   pub count : length new.module_read.source.tokens ≡ length old.module_read.source.tokens
-  pub alike : ModuleExceptBodies (IsSameTokenAt old new) left_out (tree_of old.module_read)
+  pub alike : ModuleHasExceptInBodies (IsSameTokenAt old new) left_out (tree_of old.module_read)

@@ -47,12 +47,12 @@ pub record Facts (T : Type 0) : Type 0 where
   pub only_constants : Bool
 
 -- The result of checking an expression: its type (`of`), its value, and its first and last token. The value is None if
--- the expression isn't constant or has a fault. `is_place` is true if the expression is only a name with
+-- the expression isn't constant or has a fault. `may_be_variable` is true if the expression is only a name with
 -- selectors, and the name isn't a constant's.
 pub record Operand (T : Type 0) : Type 0 where
   pub of : T
   pub value : Option Value
-  pub is_place : Bool
+  pub may_be_variable : Bool
   pub first : ℕ
   pub last : ℕ
 

@@ -54,14 +54,14 @@ same_type (type.Record i) (type.Record j) = i == j
 same_type _ _ = false
 
 -- returns the type of an array's elements, given its parts; for a record's parts, the unknown type
-abbrev pub element_type_in : PartTypes → TypeId
-element_type_in (of_elements n t) = t
-element_type_in (of_fields fields) = type.Unknown
+abbrev pub element_type_of_parts : PartTypes → TypeId
+element_type_of_parts (of_elements n t) = t
+element_type_of_parts (of_fields fields) = type.Unknown
 
 -- returns the type of an array type's elements; the unknown type for a record type and for None
-abbrev pub made_element_type : Option CompositeType → TypeId
-made_element_type None = type.Unknown
-made_element_type (Some m) = element_type_in m.parts
+abbrev pub element_type_of_composite : Option CompositeType → TypeId
+element_type_of_composite None = type.Unknown
+element_type_of_composite (Some m) = element_type_of_parts m.parts
 
 -- returns the type of the first field with this name, or None if the list has no such field
 abbrev pub type_of_first_field : List KnownField → Name → Option TypeId
@@ -70,22 +70,22 @@ type_of_first_field (f ∷ fields) x = if same_name x f.name then Some f.of else
 
 -- returns the type of a field in a record's parts; None if the record has no such field, and for
 -- the parts of an array
-abbrev pub field_type_in : PartTypes → Name → Option TypeId
-field_type_in (of_elements n t) x = None
-field_type_in (of_fields fields) x = type_of_first_field fields x
+abbrev pub field_type_of_parts : PartTypes → Name → Option TypeId
+field_type_of_parts (of_elements n t) x = None
+field_type_of_parts (of_fields fields) x = type_of_first_field fields x
 
 -- returns the type of the first field with this name in a record type; None if the type has no such field, for an
 -- array type, and for None
-abbrev pub made_field_type : Option CompositeType → Name → Option TypeId
-made_field_type None x = None
-made_field_type (Some m) x = field_type_in m.parts x
+abbrev pub field_type_of_composite : Option CompositeType → Name → Option TypeId
+field_type_of_composite None x = None
+field_type_of_composite (Some m) x = field_type_of_parts m.parts x
 
 -- returns the form of a type, given the array and record types found so far
 abbrev pub form_at : List CompositeType → TypeId → Form TypeId
 form_at made type.Integer = a_scalar
 form_at made type.Boolean = a_scalar
-form_at made (type.Array i) = an_array (made_element_type (slice_get made i))
-form_at made (type.Record i) = a_record (made_field_type (slice_get made i))
+form_at made (type.Array i) = an_array (element_type_of_composite (slice_get made i))
+form_at made (type.Record i) = a_record (field_type_of_composite (slice_get made i))
 form_at made type.Unknown = unknown_form
 
 -- returns the representation of types (`Types`) by `TypeId`, given the array and record types found so far
@@ -172,8 +172,8 @@ type_at_index (of_fields fields) k = type.Record k
 
 -- Appends an array or record type with this ordinal, these parts and this size. Returns its `TypeId` with the resulting
 -- state.
-abbrev pub made : KnownDeclarations → ℕ → PartTypes → Size → TypeWithState
-made p ordinal parts size = record {
+abbrev pub append_composite : KnownDeclarations → ℕ → PartTypes → Size → TypeWithState
+append_composite p ordinal parts size = record {
   of = type_at_index parts (length p.made);
   following =
       record {
@@ -196,7 +196,7 @@ type_too_large p word =
 -- at `word`, its word ARRAY or RECORD, instead
 abbrev pub make_type : KnownDeclarations → ℕ → ℕ → PartTypes → Size → Reported TypeWithState
 make_type p word ordinal parts size =
-    if is_within_limits size then without_fault (made p ordinal parts size) else type_too_large p word
+    if is_within_limits size then without_fault (append_composite p ordinal parts size) else type_too_large p word
 
 -- returns the meanings of the predeclared names, by ordinal: INTEGER, BOOLEAN, TRUE, FALSE, Read,
 -- Write, WriteLn

@@ -9,21 +9,21 @@ use Rattle.ob0_scope_table.specs.Resolution.{IsResolution, Resolution}
 use Rattle.ob0_tree.specs.ParsedModule.{named_tree_of, tree_of}
 use Rattle.ob0_tree.specs.Tree.{Tree, module_text}
 use Rattle.ob0_language_types.specs.Bindings.{declared_object, object_of_ordinal}
-use Rattle.ob0_language_types.specs.Environments.{outermost}
+use Rattle.ob0_language_types.specs.Environments.{outermost_environment}
 use Rattle.ob0_language_types.specs.WellTyped.{passes_type_check}
 use Rattle.ob0_types_table.specs.KnownTables.{Tables, declared_object_in}
 use Rattle.ob0_language_values.specs.Values.{Shape}
 use Rattle.ob0_types_check.specs.Agreement.{DeclarationAgrees, TableAgrees, is_standard_procedure, shape_in}
-use Rattle.ob0_types_check.specs.DeclarationFaults.{reported_block, reported_module}
+use Rattle.ob0_types_check.specs.DeclarationFaults.{reported_block, module_faults}
 use Rattle.ob0_types_check.specs.KnownDeclarations.{KnownDeclarations, state_at_start}
 
 -- States that a module passes the type check if no fault of types and no undeclared name is reported for it. The type
 -- check ignores duplicate declarations and wrong closing names.
-abbrev pub ModulesFit : Type 0
-ModulesFit =
+abbrev pub ModulesWithoutFaultPassTypeCheck : Type 0
+ModulesWithoutFaultPassTypeCheck =
     (r : Resolution)
     → IsResolution r
-    → reported_module r ≡ []
+    → module_faults r ≡ []
     → passes_type_check naming_by_spelling (named_tree_of r.module_read) ≡ true
 
 -- States that the state after a module agrees with the module's declarations. The arrays and records of the state agree
@@ -35,7 +35,7 @@ pub record KnowsDeclarations (p : KnownDeclarations) (m : Tree Name module_text)
   pub declared : (k : ℕ)
       → DeclarationAgrees (shape_in shapes) (slice_index_or p.declared k None) (declared_object m k)
   pub standards : (k : ℕ) → predeclared_count ≤ k → is_standard_procedure (declared_object m k) ≡ false
-  pub predeclared : (k : ℕ) → k < predeclared_count → declared_object m k ≡ object_of_ordinal (outermost naming_by_label) k
+  pub predeclared : (k : ℕ) → k < predeclared_count → declared_object m k ≡ object_of_ordinal (outermost_environment naming_by_label) k
   pub room : predeclared_count ≤ length p.declared
 
 -- states that a table has the object of each declaration of a module
@@ -44,10 +44,10 @@ HasDeclarations m t = (k : ℕ) → declared_object_in t k ≡ declared_object m
 
 -- States that the state after a module has the meaning of each declaration if no fault of types and no undeclared name
 -- is reported.
-abbrev pub DeclarationsKnown : Type 0
-DeclarationsKnown =
+abbrev pub WalkWithoutFaultFindsMeanings : Type 0
+WalkWithoutFaultFindsMeanings =
     (r : Resolution)
     → IsResolution r
-    → reported_module r ≡ []
+    → module_faults r ≡ []
     → KnowsDeclarations (reported_block (state_at_start r) (module_block (tree_of r.module_read))).known
     (named_tree_of r.module_read)

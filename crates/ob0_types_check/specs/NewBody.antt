@@ -10,8 +10,8 @@ use Rattle.ob0_tree.specs.Places.{tree_with_names}
 
 -- States that the module passes the type check if the statements of the block with this closing name are left out.
 -- Nothing is required of these statements.
-pub record FitsWithout (r : Resolution) (closing : ℕ) : Type 0 where
-  pub way : PathToBody
-  pub at : closing_name_in_module way (tree_of r.module_read) ≡ closing
-  pub fits : passes_type_check naming_by_spelling (tree_with_names r.module_read.source (module_without_body way (tree_of r.module_read)))
+pub record PassesTypeCheckWithoutBody (r : Resolution) (closing : ℕ) : Type 0 where
+  pub path : PathToBody
+  pub at : closing_name_in_module path (tree_of r.module_read) ≡ closing
+  pub fits : passes_type_check naming_by_spelling (tree_with_names r.module_read.source (module_without_body path (tree_of r.module_read)))
       ≡ true

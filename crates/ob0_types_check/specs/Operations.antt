@@ -12,12 +12,12 @@ use Rattle.ob0_tree.specs.declared.tree.MultiplyOperator.TheVariants as multiply
 use Rattle.ob0_tree.specs.declared.tree.Relation.{Relation}
 use Rattle.ob0_tree.specs.declared.tree.Relation.TheVariants as relation
 use Rattle.ob0_tree.specs.declared.tree.Sign.{Sign}
-use Rattle.ob0_tree.specs.Places.{text_at, value_at}
+use Rattle.ob0_tree.specs.Places.{token_text_at, token_value_at}
 use Rattle.ob0_scope_table.specs.Resolution.{span_at}
 use Rattle.ob0_types_table.specs.Operators.{product_value, sum_value}
 use Rattle.ob0_language_types.specs.Selected.{apply_to_both}
 use Rattle.ob0_language_types.specs.Typing.{outcome_value}
-use Rattle.ob0_language_values.specs.Values.{Value, elements, members, negate, number, relate, truth}
+use Rattle.ob0_language_values.specs.Values.{Value, elements, members, negate, number, apply_relation, truth}
 use Rattle.ob0_language_values.specs.Values.{apply_sign as with_sign}
 use Rattle.ob0_types_check.specs.Known.{Facts, Form, Meaning, Operand, Reported, Types, a_constant, a_procedure, a_record, a_scalar, a_type, a_variable, an_array, unknown_form}
 
@@ -36,7 +36,7 @@ abbrev pub ◌>>=◌ : {A B : Type 0} → Reported A → (A → Reported B) → 
 t >>= next = with_earlier_faults t.faults (next t.known)
 
 -- states that `x` is the result of `t`, and that the list `after` is the list `before` followed by the faults of `t`
-pub record ReportsAfter
+pub record ReturnsAndReports
     {A : Type 0} (before after : List Fault) (x : A) (t : Reported A) : Type 0 where
   pub known : x ≡ t.known
   pub reported : after ≡ before ++ t.faults
@@ -70,22 +70,22 @@ abbrev pub fault_at_operand : {T : Type 0} → Facts T → FaultCode → Operand
 fault_at_operand facts c o = fault_at_tokens facts c o.first o.last
 
 -- returns whether two types are equal or one of them is unknown
-abbrev pub fits : {T : Type 0} → Types T → T → T → Bool
-fits types s t = types.same s t || (types.same s types.unknown || types.same t types.unknown)
+abbrev pub may_be_same_type : {T : Type 0} → Types T → T → T → Bool
+may_be_same_type types s t = types.same s t || (types.same s types.unknown || types.same t types.unknown)
 
 -- Requires the type `wanted` of an operand. A mismatch is reported if the operand's type is known and differs from a
 -- known `wanted`. The result is `wanted` if the operand has this type, otherwise the unknown type.
 abbrev pub required_type : {T : Type 0} → Facts T → T → Operand T → Reported T
 required_type facts wanted o = record {
   known = if facts.types.same o.of wanted then wanted else facts.types.unknown;
-  faults = if fits facts.types o.of wanted then [] else fault_at_operand facts code.TypeMismatch o;
+  faults = if may_be_same_type facts.types o.of wanted then [] else fault_at_operand facts code.TypeMismatch o;
 }
 
 -- Requires the type `wanted` of two operands. A mismatch is reported at the left operand, or at the right operand if
 -- the left operand has none. The result is `wanted` if both operands have this type, otherwise the unknown type.
 abbrev pub required_type_of_both : {T : Type 0} → Facts T → T → Operand T → Operand T → Reported T
 required_type_of_both facts wanted a b =
-    if fits facts.types a.of wanted
+    if may_be_same_type facts.types a.of wanted
     then record {
       known = if facts.types.same a.of wanted
           then (required_type facts wanted b).known
@@ -95,35 +95,35 @@ required_type_of_both facts wanted a b =
     else record { known = facts.types.unknown; faults = fault_at_operand facts code.TypeMismatch a }
 
 -- returns the type that an operator requires of both operands: INTEGER for `+` and `-`, BOOLEAN for OR
-abbrev pub add_operand_type : {T : Type 0} → Types T → AddOperator → T
-add_operand_type types add_operator.Add = types.integer
-add_operand_type types add_operator.Subtract = types.integer
-add_operand_type types add_operator.Or = types.boolean
+abbrev pub operand_type_of_addition : {T : Type 0} → Types T → AddOperator → T
+operand_type_of_addition types add_operator.Add = types.integer
+operand_type_of_addition types add_operator.Subtract = types.integer
+operand_type_of_addition types add_operator.Or = types.boolean
 
 -- returns the type that an operator requires of both operands: INTEGER for `*`, DIV and MOD, BOOLEAN for `&`
-abbrev pub multiply_operand_type : {T : Type 0} → Types T → MultiplyOperator → T
-multiply_operand_type types multiply_operator.Multiply = types.integer
-multiply_operand_type types multiply_operator.Divide = types.integer
-multiply_operand_type types multiply_operator.Modulo = types.integer
-multiply_operand_type types multiply_operator.And = types.boolean
+abbrev pub operand_type_of_multiplication : {T : Type 0} → Types T → MultiplyOperator → T
+operand_type_of_multiplication types multiply_operator.Multiply = types.integer
+operand_type_of_multiplication types multiply_operator.Divide = types.integer
+operand_type_of_multiplication types multiply_operator.Modulo = types.integer
+operand_type_of_multiplication types multiply_operator.And = types.boolean
 
 -- Returns the type that `=` and `#` require of both operands: INTEGER if the left operand is
 -- INTEGER, otherwise BOOLEAN. If the left operand's type is unknown, the result is unknown, so
 -- nothing is required.
-abbrev pub equality_operand_type : {T : Type 0} → Types T → T → T
-equality_operand_type types left =
+abbrev pub operand_type_of_equality : {T : Type 0} → Types T → T → T
+operand_type_of_equality types left =
     if types.same left types.integer then types.integer
     else if types.same left types.unknown then types.unknown else types.boolean
 
 -- Returns the type that a relation requires of both operands, given the left operand's type. For
 -- all relations except `=` and `#` the result is INTEGER.
-abbrev pub relation_operand_type : {T : Type 0} → Types T → Relation → T → T
-relation_operand_type types relation.Equal left = equality_operand_type types left
-relation_operand_type types relation.NotEqual left = equality_operand_type types left
-relation_operand_type types relation.Less left = types.integer
-relation_operand_type types relation.LessEqual left = types.integer
-relation_operand_type types relation.Greater left = types.integer
-relation_operand_type types relation.GreaterEqual left = types.integer
+abbrev pub operand_type_of_relation : {T : Type 0} → Types T → Relation → T → T
+operand_type_of_relation types relation.Equal left = operand_type_of_equality types left
+operand_type_of_relation types relation.NotEqual left = operand_type_of_equality types left
+operand_type_of_relation types relation.Less left = types.integer
+operand_type_of_relation types relation.LessEqual left = types.integer
+operand_type_of_relation types relation.Greater left = types.integer
+operand_type_of_relation types relation.GreaterEqual left = types.integer
 
 -- returns the type of a comparison, given the type that both operands have: BOOLEAN, or unknown if
 -- this type is unknown
@@ -133,12 +133,12 @@ comparison_type types t = if types.same t types.unknown then types.unknown else 
 -- returns the result, as an operand, of an operation on the operands `a` and `b`, with the type `of` and this value
 abbrev pub joint_operand : {T : Type 0} → T → Option Value → Operand T → Operand T → Operand T
 joint_operand of value a b =
-    record { of = of; value = value; is_place = false; first = a.first; last = b.last }
+    record { of = of; value = value; may_be_variable = false; first = a.first; last = b.last }
 
 -- returns the result, as an operand, of a sign or `~` before the operand `o`, with the type `of` and this value
-abbrev pub signed_operand : {T : Type 0} → T → Option Value → Operand T → Operand T
-signed_operand of value o =
-    record { of = of; value = value; is_place = false; first = token_before o.first; last = o.last }
+abbrev pub prefixed_operand : {T : Type 0} → T → Option Value → Operand T → Operand T
+prefixed_operand of value o =
+    record { of = of; value = value; may_be_variable = false; first = token_before o.first; last = o.last }
 
 -- returns the faults of `+`, `-` and OR, and the resulting operand
 abbrev pub add_operands : {T : Type 0}
@@ -148,7 +148,7 @@ abbrev pub add_operands : {T : Type 0}
     → Operand T
     → Reported (Operand T)
 add_operands facts o a b = do
-  t ← required_type_of_both facts (add_operand_type facts.types o) a b
+  t ← required_type_of_both facts (operand_type_of_addition facts.types o) a b
   without_fault (joint_operand t (option_and_then (sum_value o b.value) a.value) a b)
 
 -- returns the faults of `*`, DIV, MOD and `&`, and the resulting operand
@@ -159,7 +159,7 @@ abbrev pub multiply_operands : {T : Type 0}
     → Operand T
     → Reported (Operand T)
 multiply_operands facts o a b = do
-  t ← required_type_of_both facts (multiply_operand_type facts.types o) a b
+  t ← required_type_of_both facts (operand_type_of_multiplication facts.types o) a b
   without_fault (joint_operand t (option_and_then (product_value o b.value) a.value) a b)
 
 -- returns the faults of a relation, and the resulting operand
@@ -170,30 +170,30 @@ abbrev pub relate_operands : {T : Type 0}
     → Operand T
     → Reported (Operand T)
 relate_operands facts r a b = do
-  t ← required_type_of_both facts (relation_operand_type facts.types r a.of) a b
+  t ← required_type_of_both facts (operand_type_of_relation facts.types r a.of) a b
   without_fault (joint_operand (comparison_type facts.types t)
-      (apply_to_both (λ x y. outcome_value (relate r x y)) a.value b.value) a b)
+      (apply_to_both (λ x y. outcome_value (apply_relation r x y)) a.value b.value) a b)
 
 -- returns the faults of an operand with an optional sign before it, and the resulting operand; a sign requires INTEGER
 abbrev pub sign_operand : {T : Type 0} → Facts T → Option Sign → Operand T → Reported (Operand T)
 sign_operand facts None o = without_fault o
 sign_operand facts (Some s) o = do
   t ← required_type facts facts.types.integer o
-  without_fault (signed_operand t (option_and_then (λ x. outcome_value (with_sign (Some s) x)) o.value) o)
+  without_fault (prefixed_operand t (option_and_then (λ x. outcome_value (with_sign (Some s) x)) o.value) o)
 
 -- returns the faults of `~` before an operand, which must be BOOLEAN, and the resulting operand
 abbrev pub complement_operand : {T : Type 0} → Facts T → Operand T → Reported (Operand T)
 complement_operand facts o = do
   t ← required_type facts facts.types.boolean o
-  without_fault (signed_operand t (option_and_then (λ x. outcome_value (negate x)) o.value) o)
+  without_fault (prefixed_operand t (option_and_then (λ x. outcome_value (negate x)) o.value) o)
 
 -- returns the operand of a number at this token
 abbrev pub number_operand : {T : Type 0} → Facts T → ℕ → Operand T
 number_operand facts token =
     record {
       of = facts.types.integer;
-      value = Some (number (pos (value_at facts.source token)));
-      is_place = false;
+      value = Some (number (pos (token_value_at facts.source token)));
+      may_be_variable = false;
       first = token;
       last = token;
     }
@@ -204,15 +204,15 @@ operand_in_parentheses facts o =
     record {
       of = o.of;
       value = o.value;
-      is_place = false;
+      may_be_variable = false;
       first = token_before o.first;
       last = token_after facts.source o.last;
     }
 
 -- Returns the operand of a name with this type at a token. The name is a variable's or has no known meaning, so
--- `is_place` is true.
+-- `may_be_variable` is true.
 abbrev pub typed_name_operand : {T : Type 0} → T → ℕ → Operand T
-typed_name_operand of token = record { of = of; value = None; is_place = true; first = token; last = token }
+typed_name_operand of token = record { of = of; value = None; may_be_variable = true; first = token; last = token }
 
 -- returns the type of a constant with this value: INTEGER or BOOLEAN; the unknown type if the value is None or isn't a
 -- scalar
@@ -227,7 +227,7 @@ value_type types (Some (members k ms)) = types.unknown
 -- value
 abbrev pub constant_name_operand : {T : Type 0} → Types T → Option Value → ℕ → Operand T
 constant_name_operand types v token =
-    record { of = value_type types v; value = v; is_place = false; first = token; last = token }
+    record { of = value_type types v; value = v; may_be_variable = false; first = token; last = token }
 
 -- Returns the operand of a name that must refer to a value, given its token and its meaning. A type or a procedure is a
 -- fault. In a constant expression, a variable is also a fault. Undeclared names are reported elsewhere.
@@ -254,20 +254,20 @@ name_operand facts token = operand_by_meaning facts token (facts.object_for toke
 -- no constant value
 abbrev pub extended_operand : {T : Type 0} → Operand T → T → ℕ → Operand T
 extended_operand o of last =
-    record { of = of; value = None; is_place = o.is_place; first = o.first; last = last }
+    record { of = of; value = None; may_be_variable = o.may_be_variable; first = o.first; last = last }
 
 -- returns the type of a record's field; for None, reports `NoField` at the field's name and returns
 -- the unknown type
-abbrev pub found_field_type : {T : Type 0} → Facts T → ℕ → Option T → Reported T
-found_field_type facts token None =
+abbrev pub field_type_or_fault : {T : Type 0} → Facts T → ℕ → Option T → Reported T
+field_type_or_fault facts token None =
     record { known = facts.types.unknown; faults = fault_at_token facts code.NoField token }
-found_field_type facts token (Some t) = without_fault t
+field_type_or_fault facts token (Some t) = without_fault t
 
 -- Returns the type of the field with the name at a token, given the form of the type before the
 -- `.`. If that type is known and not a record, `NotRecord` is reported at the `.`.
 abbrev pub field_type_in_form : {T : Type 0} → Facts T → ℕ → Form T → Reported T
 field_type_in_form facts token (a_record fields) =
-    found_field_type facts token (fields (text_at facts.source token))
+    field_type_or_fault facts token (fields (token_text_at facts.source token))
 field_type_in_form facts token unknown_form = without_fault facts.types.unknown
 field_type_in_form facts token a_scalar =
     record

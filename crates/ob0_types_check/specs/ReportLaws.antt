@@ -2,19 +2,19 @@
 -- names.
 -- Rule: none; laws of reported faults.
 use Rattle.std.specs.Prelude.{◌≡◌, ℕ, Bool, true, false, List, [], Option, Some, is_some}
-use Rattle.ob0_tree.specs.Places.{value_at}
-use Rattle.ob0_tree.specs.Tree.{Tree, expression, mapped, sequence}
+use Rattle.ob0_tree.specs.Places.{token_value_at}
+use Rattle.ob0_tree.specs.Tree.{Tree, expression, mapped_tree, sequence}
 use Rattle.ob0_language_types.specs.Expressions.{Meanings, evaluate}
 use Rattle.ob0_language_types.specs.Typing.{array_length, constant_value, constant_meanings, lone_designator, outcome_value, type_of, value_type}
-use Rattle.ob0_language_types.specs.WellTyped.{TypeMeanings, sequence_fits, variable_type}
+use Rattle.ob0_language_types.specs.WellTyped.{TypeMeanings, sequence_is_well_typed, variable_type}
 use Rattle.ob0_language_values.specs.Values.{Shape, Value}
 use Rattle.ob0_types_check.specs.ExpressionFaults.{reported_expression}
 use Rattle.ob0_types_check.specs.Known.{Operand}
 use Rattle.ob0_types_check.specs.Operations.{◌>>=◌}
 use Rattle.ob0_types_check.specs.KnownDeclarations.{CompositeType, KnownDeclarations, facts_at, types_so_far}
-use Rattle.ob0_types_check.specs.StatementFaults.{reported_sequence}
+use Rattle.ob0_types_check.specs.StatementFaults.{sequence_faults}
 use Rattle.ob0_types_check.specs.TypeFaults.{length_of, reported_constant}
-use Rattle.ob0_types_check.specs.Agreement.{Agrees, TableAgrees, TypesAgree, shape_in}
+use Rattle.ob0_types_check.specs.Agreement.{FactsAgree, TableAgrees, TypesAgree, shape_in}
 
 -- returns the meanings of names at a place; if the Bool is true, only constants have a meaning
 abbrev pub allowed_meanings : {N : Type 0} → Bool → TypeMeanings N → TypeMeanings N
@@ -22,31 +22,31 @@ allowed_meanings true meaning = constant_meanings meaning
 allowed_meanings false meaning = meaning
 
 -- States that an operand has the type and the value of its expression. The value is None if the expression isn't
--- constant or its evaluation fails. Otherwise the value has the operand's type. If `is_place` is true, the
+-- constant or its evaluation fails. Otherwise the value has the operand's type. If `may_be_variable` is true, the
 -- expression is a variable or parameter with its selectors.
-pub record OperandFits
+pub record OperandAgrees
     {T N P : Type 0} (shape : T → Option Shape) (meaning : Meanings N Shape P) (o : Operand T)
     (e : Tree N expression) : Type 0 where
   pub of : Shape
   pub known : shape o.of ≡ Some of
   pub typed : type_of meaning e ≡ Some of
-  pub valued : o.value ≡ outcome_value (evaluate {P = Unit {0}} (constant_meanings meaning) [] e)
+  pub value_agrees : o.value ≡ outcome_value (evaluate {P = Unit {0}} (constant_meanings meaning) [] e)
   pub scalar : (v : Value) → o.value ≡ Some v → value_type v ≡ Some of
-  pub placed : o.is_place ≡ true → variable_type meaning (lone_designator e) ≡ Some of
+  pub placed : o.may_be_variable ≡ true → variable_type meaning (lone_designator e) ≡ Some of
 
 -- States that if no fault is reported for an expression, the operand found agrees with the expression. The facts known
--- at the expression must be right (`Agrees`).
-abbrev pub ExpressionsFit : Type 0 → Type 0
-ExpressionsFit N =
+-- at the expression must be right (`FactsAgree`).
+abbrev pub ExpressionsWithoutFaultAgree : Type 0 → Type 0
+ExpressionsWithoutFaultAgree N =
     (p : KnownDeclarations) (only_constants : Bool) (shapes : List Shape) (label : ℕ → N) (meaning : TypeMeanings N)
     (e : Tree ℕ expression)
-    → Agrees (facts_at p only_constants) (shape_in shapes) label meaning e
+    → FactsAgree (facts_at p only_constants) (shape_in shapes) label meaning e
     → (reported_expression (facts_at p only_constants) e).faults ≡ []
-    → OperandFits (shape_in shapes) (allowed_meanings only_constants meaning)
-    (reported_expression (facts_at p only_constants) e).known (mapped label (value_at p.source) e)
+    → OperandAgrees (shape_in shapes) (allowed_meanings only_constants meaning)
+    (reported_expression (facts_at p only_constants) e).known (mapped_tree label (token_value_at p.source) e)
 
 -- states that a constant's right side has a value, that this value is a scalar, and that it is the reported value
-pub record ConstantFits
+pub record ConstantAgrees
     {N : Type 0} (meaning : TypeMeanings N) (reported : Option Value) (e : Tree N expression)
     : Type 0 where
   pub value : Value
@@ -55,17 +55,17 @@ pub record ConstantFits
   pub scalar : is_some (value_type value) ≡ true
 
 -- States that the value found for a constant is the value of the constant's right side if no fault is reported there.
--- The facts known there must be right (`Agrees`).
-abbrev pub ConstantsFit : Type 0 → Type 0
-ConstantsFit N =
+-- The facts known there must be right (`FactsAgree`).
+abbrev pub ConstantsWithoutFaultAgree : Type 0 → Type 0
+ConstantsWithoutFaultAgree N =
     (p : KnownDeclarations) (shapes : List Shape) (label : ℕ → N) (meaning : TypeMeanings N) (e : Tree ℕ expression)
-    → Agrees (facts_at p true) (shape_in shapes) label meaning e
+    → FactsAgree (facts_at p true) (shape_in shapes) label meaning e
     → (reported_constant (facts_at p true) e).faults ≡ []
-    → ConstantFits meaning (reported_constant (facts_at p true) e).known
-    (mapped label (value_at p.source) e)
+    → ConstantAgrees meaning (reported_constant (facts_at p true) e).known
+    (mapped_tree label (token_value_at p.source) e)
 
 -- states that the reported length of an array is the value of the length's expression, and is a valid length
-pub record LengthFits
+pub record LengthAgrees
     {N : Type 0} (meaning : TypeMeanings N) (reported : Option ℕ) (e : Tree N expression) : Type 0 where
   pub value : Value
   pub length : ℕ
@@ -74,25 +74,25 @@ pub record LengthFits
   pub counted : array_length value ≡ Some length
 
 -- States that the length found for an array is the value of the length's expression if no fault is reported for the
--- length. The facts known there must be right (`Agrees`).
-abbrev pub ReportedLengthsAgree : Type 0 → Type 0
-ReportedLengthsAgree N =
+-- length. The facts known there must be right (`FactsAgree`).
+abbrev pub LengthsWithoutFaultAgree : Type 0 → Type 0
+LengthsWithoutFaultAgree N =
     (p : KnownDeclarations) (shapes : List Shape) (label : ℕ → N) (meaning : TypeMeanings N) (e : Tree ℕ expression)
-    → Agrees (facts_at p true) (shape_in shapes) label meaning e
+    → FactsAgree (facts_at p true) (shape_in shapes) label meaning e
     → (reported_expression (facts_at p true) e >>= length_of (facts_at p false)).faults ≡ []
-    → LengthFits meaning
+    → LengthAgrees meaning
     (reported_expression (facts_at p true) e >>= length_of (facts_at p false)).known
-    (mapped label (value_at p.source) e)
+    (mapped_tree label (token_value_at p.source) e)
 
 -- States that statements are well-typed if no fault is reported for them. The facts known at the statements must be
--- right (`Agrees`).
-abbrev pub StatementsFit : Type 0 → Type 0
-StatementsFit N =
+-- right (`FactsAgree`).
+abbrev pub StatementsWithoutFaultAreTyped : Type 0 → Type 0
+StatementsWithoutFaultAreTyped N =
     (p : KnownDeclarations) (shapes : List Shape) (label : ℕ → N) (meaning : TypeMeanings N)
     (statements : Tree ℕ sequence)
-    → Agrees (facts_at p false) (shape_in shapes) label meaning statements
-    → reported_sequence (facts_at p false) statements ≡ []
-    → sequence_fits meaning (mapped label (value_at p.source) statements) ≡ true
+    → FactsAgree (facts_at p false) (shape_in shapes) label meaning statements
+    → sequence_faults (facts_at p false) statements ≡ []
+    → sequence_is_well_typed meaning (mapped_tree label (token_value_at p.source) statements) ≡ true
 
 -- States that every type agrees with its shape if each array and record type of the list `made` does.
 abbrev pub TableTypesAgree : Type 0

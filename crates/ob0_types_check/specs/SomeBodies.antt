@@ -7,9 +7,9 @@ use Rattle.ob0_scan.specs.declared.fault.Fault.{Fault}
 use Rattle.ob0_language_names.specs.Parts.{formal_sections, module_block, section_constants, section_types, section_variables}
 use Rattle.ob0_scope_table.specs.Resolution.{IsResolution, Resolution}
 use Rattle.ob0_tree.specs.ParsedModule.{named_tree_of, tree_of}
-use Rattle.ob0_tree.specs.Tree.{Tree, block, body, declares, declares_procedure, end, has_body, item, items, maybe, more, procedure}
+use Rattle.ob0_tree.specs.Tree.{Tree, block, body, declares, declares_procedure, end, forms_block, item, items, maybe, more, procedure}
 use Rattle.ob0_types_check.specs.EqualExceptBodies.{AreEqualExceptBodies}
-use Rattle.ob0_types_check.specs.DeclarationFaults.{state_after_heading, reported_block, reported_body, reported_constants, reported_module, reported_sections, reported_types, reported_variables}
+use Rattle.ob0_types_check.specs.DeclarationFaults.{state_after_heading, reported_block, reported_body, reported_constants, module_faults, reported_sections, reported_types, reported_variables}
 use Rattle.ob0_types_check.specs.Known.{Reported}
 use Rattle.ob0_types_check.specs.ModuleLaws.{HasDeclarations}
 use Rattle.ob0_types_check.specs.Operations.{without_fault, ◌>>=◌}
@@ -22,24 +22,24 @@ use Rattle.ob0_types_check.specs.declared.reporting.checker_state.CheckerState.{
 -- the state of a walk: the declarations so far, and the closing names of the bodies with a reported fault
 pub record WalkProgress : Type 0 where
   pub so_far : KnownDeclarations
-  pub faulty : List ℕ
+  pub bodies_with_faults : List ℕ
 
 -- appends a body's closing name to the list if the body has faults
 abbrev pub with_faulty_body : List Fault → ℕ → List ℕ → List ℕ
-with_faulty_body [] own faulty = faulty
-with_faulty_body (fault ∷ faults) own faulty = faulty ++ own ∷ []
+with_faulty_body [] own bodies_with_faults = bodies_with_faults
+with_faulty_body (fault ∷ faults) own bodies_with_faults = bodies_with_faults ++ own ∷ []
 
 -- If the Bool is true, returns the faults of a body. If there are any, appends `own`, the closing
 -- name of the body's block, to the faulty bodies. If the Bool is false, returns no fault and
 -- changes nothing.
-abbrev pub report_body_if : Bool → ℕ → WalkProgress → Tree ℕ (maybe body) → Reported WalkProgress
-report_body_if false own w statements = without_fault w
-report_body_if true own w statements =
+abbrev pub report_body_if_wanted : Bool → ℕ → WalkProgress → Tree ℕ (maybe body) → Reported WalkProgress
+report_body_if_wanted false own w statements = without_fault w
+report_body_if_wanted true own w statements =
     record {
       known =
           record {
             so_far = w.so_far;
-            faulty = with_faulty_body (reported_body w.so_far statements).faults own w.faulty;
+            bodies_with_faults = with_faulty_body (reported_body w.so_far statements).faults own w.bodies_with_faults;
           };
       faults = (reported_body w.so_far statements).faults;
     }
@@ -49,35 +49,35 @@ unfoldable mutual
 
   -- Returns the faults of a block's declarations, and of its statements if the block's closing name `own` passes the
   -- test `wanted`. The procedures inside the block are tested one by one.
-  pub reported_block_with : (ℕ → Bool) → ℕ → WalkProgress → Tree ℕ block → Reported WalkProgress
-  reported_block_with wanted own w (has_body (declares cs ts vs ps) statements) = do
+  pub reported_block_with_bodies : (ℕ → Bool) → ℕ → WalkProgress → Tree ℕ block → Reported WalkProgress
+  reported_block_with_bodies wanted own w (forms_block (declares cs ts vs ps) statements) = do
     with_constants ← reported_constants w.so_far (section_constants cs)
     with_types ← reported_types with_constants (section_types ts)
     with_variables ← reported_variables with_types (section_variables vs)
     with_procedures ←
-        reported_procedures_with wanted (record { so_far = with_variables; faulty = w.faulty }) ps
-    report_body_if (wanted own) own with_procedures statements
+        reported_procedures_with_bodies wanted (record { so_far = with_variables; bodies_with_faults = w.bodies_with_faults }) ps
+    report_body_if_wanted (wanted own) own with_procedures statements
 
   -- returns the faults of procedures, one after another; a body is walked only if its closing name
   -- passes `wanted`
-  pub reported_procedures_with : (ℕ → Bool) → WalkProgress → Tree ℕ (items procedure) → Reported WalkProgress
-  reported_procedures_with wanted w end = without_fault w
-  reported_procedures_with wanted w (more d rest) = do
-    v ← reported_procedure_with wanted w d
-    reported_procedures_with wanted v rest
+  pub reported_procedures_with_bodies : (ℕ → Bool) → WalkProgress → Tree ℕ (items procedure) → Reported WalkProgress
+  reported_procedures_with_bodies wanted w end = without_fault w
+  reported_procedures_with_bodies wanted w (more d rest) = do
+    v ← reported_procedure_with_bodies wanted w d
+    reported_procedures_with_bodies wanted v rest
 
   -- returns the faults of a procedure's parameters, and then of its block; a body is walked only if
   -- its closing name passes `wanted`
-  pub reported_procedure_with : (ℕ → Bool) → WalkProgress → Tree ℕ (item procedure) → Reported WalkProgress
-  reported_procedure_with wanted w (declares_procedure x fs b closing) = do
+  pub reported_procedure_with_bodies : (ℕ → Bool) → WalkProgress → Tree ℕ (item procedure) → Reported WalkProgress
+  reported_procedure_with_bodies wanted w (declares_procedure x fs b closing) = do
     h ← reported_sections (record { formals = []; following = w.so_far }) (formal_sections fs)
-    reported_block_with wanted closing (record { so_far = state_after_heading x h; faulty = w.faulty }) b
+    reported_block_with_bodies wanted closing (record { so_far = state_after_heading x h; bodies_with_faults = w.bodies_with_faults }) b
 
 -- returns the faults of a module's declarations, and of the bodies whose closing names pass the
 -- test `wanted`
-abbrev pub reported_module_with : (ℕ → Bool) → Resolution → Reported WalkProgress
-reported_module_with wanted r =
-    reported_block_with wanted r.module_read.closing (record { so_far = state_at_start r; faulty = [] })
+abbrev pub reported_module_with_bodies : (ℕ → Bool) → Resolution → Reported WalkProgress
+reported_module_with_bodies wanted r =
+    reported_block_with_bodies wanted r.module_read.closing (record { so_far = state_at_start r; bodies_with_faults = [] })
     (module_block (tree_of r.module_read))
 
 -- returns true for every closing name, so that all bodies are walked
@@ -86,7 +86,7 @@ every_body closing = true
 
 -- returns the closing names of the bodies with a reported fault, in text order
 abbrev pub faulty_bodies : Resolution → List ℕ
-faulty_bodies r = (reported_module_with every_body r).known.faulty
+faulty_bodies r = (reported_module_with_bodies every_body r).known.bodies_with_faults
 
 -- returns whether the closing name is in the list
 abbrev pub is_among : List ℕ → ℕ → Bool
@@ -106,7 +106,7 @@ includes_body w closing = w.every_body || is_among w.these.now closing
 pub record IncludesFaultyBodies (wanted : ℕ → Bool) (r : Resolution) : Type 0 where
   pub old : Resolution
   pub resolved : IsResolution old
-  pub faulty : AllPass wanted (faulty_bodies old)
+  pub bodies_with_faults : AllPass wanted (faulty_bodies old)
   pub alike : AreEqualExceptBodies wanted old r
 
 -- States that walking only the wanted bodies gives the same report as walking all bodies. The wanted bodies must
@@ -116,24 +116,24 @@ SomeBodiesSuffice =
     (wanted : ℕ → Bool) (r : Resolution)
     → IsResolution r
     → IncludesFaultyBodies wanted r
-    → reported_module_with wanted r ≡ reported_module_with every_body r
+    → reported_module_with_bodies wanted r ≡ reported_module_with_bodies every_body r
 
 -- States that a report has the faults of the module `r` and the closing names of the bodies with faults. The report has
 -- a table with the objects of all declarations exactly if there are no faults.
 pub record IsReportOf (r : Resolution) (report : Report) : Type 0 where
-  pub faults : report.faults.items ≡ reported_module r
-  pub known : MatchOption report.known (reported_module r ≡ [] → ⊥)
-      (λ t. (reported_module r ≡ []) × HasDeclarations (named_tree_of r.module_read) t)
-  pub faulty : report.faulty.items ≡ faulty_bodies r
+  pub faults : report.faults.items ≡ module_faults r
+  pub known : MatchOption report.known (module_faults r ≡ [] → ⊥)
+      (λ t. (module_faults r ≡ []) × HasDeclarations (named_tree_of r.module_read) t)
+  pub bodies_with_faults : report.bodies_with_faults.items ≡ faulty_bodies r
 
 -- converts the state of the code's walk, with these faulty bodies, to a state of the definitions
-abbrev pub walked_in : CheckerState → List ℕ → WalkProgress
-walked_in s faulty = record { so_far = declarations_in_state s; faulty = faulty }
+abbrev pub walk_progress_of : CheckerState → List ℕ → WalkProgress
+walk_progress_of s bodies_with_faults = record { so_far = declarations_in_state s; bodies_with_faults = bodies_with_faults }
 
 -- states that a walk has ended with the faults of the module `r`, the state after the module, and the bodies with
 -- faults
 pub record IsFinishedWalk
-    (r : Resolution) (found : List Fault) (s : CheckerState) (faulty : List ℕ) : Type 0 where
-  pub faults : found ≡ reported_module r
+    (r : Resolution) (found : List Fault) (s : CheckerState) (bodies_with_faults : List ℕ) : Type 0 where
+  pub faults : found ≡ module_faults r
   pub known : declarations_in_state s ≡ (reported_block (state_at_start r) (module_block (tree_of r.module_read))).known
-  pub faulty_are : faulty ≡ faulty_bodies r
+  pub faulty_are : bodies_with_faults ≡ faulty_bodies r

@@ -11,13 +11,13 @@ use Rattle.ob0_types_check.specs.ExpressionFaults.{reported_expression, reported
 use Rattle.ob0_types_check.specs.Operations.{typed_name_operand, required_type, fault_at_operand, fault_at_token, without_fault, ◌>>=◌}
 
 -- returns the faults of an expression that must have the type `wanted`
-unfoldable pub reported_required : {T : Type 0} → Facts T → T → Tree ℕ expression → List Fault
+unfoldable pub typed_expression_faults : {T : Type 0} → Facts T → T → Tree ℕ expression → List Fault
 unfolding reported_expression
-reported_required facts wanted e = (reported_expression facts e >>= required_type facts wanted).faults
+typed_expression_faults facts wanted e = (reported_expression facts e >>= required_type facts wanted).faults
 
 -- returns the faults of a condition, which must be BOOLEAN
-abbrev pub reported_condition : {T : Type 0} → Facts T → Tree ℕ expression → List Fault
-reported_condition facts e = reported_required facts facts.types.boolean e
+abbrev pub condition_faults : {T : Type 0} → Facts T → Tree ℕ expression → List Fault
+condition_faults facts e = typed_expression_faults facts facts.types.boolean e
 
 -- Returns the type of the name that is assigned to, given its token and its meaning. The name must
 -- be a variable's or parameter's. For any other name the type is unknown, so its selectors and the
@@ -49,110 +49,110 @@ reported_target facts x path = do
 
 -- returns the faults of an assignment's target, and then of its right side, which must have the
 -- type of the target
-abbrev pub reported_assignment : {T : Type 0}
+abbrev pub assignment_faults : {T : Type 0}
     → Facts T
     → Reported (Operand T)
     → Tree ℕ expression
     → List Fault
-reported_assignment facts target e = target.faults ++ reported_required facts target.known.of e
+assignment_faults facts target e = target.faults ++ typed_expression_faults facts target.known.of e
 
 -- Requires that an argument has the type of its parameter. An argument for a VAR parameter must also be a variable with
 -- its selectors. Otherwise only `NotVariable` is reported, and the result is the unknown type.
-abbrev pub required_of_argument : {T : Type 0} → Facts T → KnownFormal T → Operand T → Reported T
-required_of_argument facts f o =
-    if f.by_place && not o.is_place
+abbrev pub required_type_of_argument : {T : Type 0} → Facts T → KnownFormal T → Operand T → Reported T
+required_type_of_argument facts f o =
+    if f.by_place && not o.may_be_variable
     then record { known = facts.types.unknown; faults = fault_at_operand facts code.NotVariable o }
     else required_type facts f.of o
 
 -- returns the faults of an argument, including a mismatch with its parameter
-unfoldable pub reported_argument : {T : Type 0}
+unfoldable pub faults_of_argument : {T : Type 0}
     → Facts T
     → KnownFormal T
     → Tree ℕ expression
     → List Fault
 unfolding reported_expression
-reported_argument facts f e = (reported_expression facts e >>= required_of_argument facts f).faults
+faults_of_argument facts f e = (reported_expression facts e >>= required_type_of_argument facts f).faults
 
 -- returns the faults of arguments, each checked against the parameter at the same index; surplus arguments or
 -- parameters are ignored
-abbrev pub reported_arguments : {T : Type 0}
+abbrev pub argument_faults : {T : Type 0}
     → Facts T
     → List (KnownFormal T)
     → List (Tree ℕ expression)
     → List Fault
-reported_arguments facts [] es = []
-reported_arguments facts (f ∷ fs) [] = []
-reported_arguments facts (f ∷ fs) (e ∷ es) =
-    reported_argument facts f e ++ reported_arguments facts fs es
+argument_faults facts [] es = []
+argument_faults facts (f ∷ fs) [] = []
+argument_faults facts (f ∷ fs) (e ∷ es) =
+    faults_of_argument facts f e ++ argument_faults facts fs es
 
 -- returns the faults of arguments that may have any type
-abbrev pub reported_untyped_arguments : {T : Type 0} → Facts T → List (Tree ℕ expression) → List Fault
-reported_untyped_arguments facts [] = []
-reported_untyped_arguments facts (e ∷ es) = (reported_expression facts e).faults ++ reported_untyped_arguments facts es
+abbrev pub untyped_argument_faults : {T : Type 0} → Facts T → List (Tree ℕ expression) → List Fault
+untyped_argument_faults facts [] = []
+untyped_argument_faults facts (e ∷ es) = (reported_expression facts e).faults ++ untyped_argument_faults facts es
 
 -- Returns the faults of a call of the name at token `p`, given the name's meaning. A procedure needs as many arguments
 -- as it has parameters. Otherwise only `ArgumentCount` is reported. If the name isn't a procedure's, the arguments may
 -- have any type. An undeclared name is reported elsewhere.
-abbrev pub reported_call_by_meaning : {T : Type 0}
+abbrev pub call_faults_by_meaning : {T : Type 0}
     → Facts T
     → ℕ
     → Option (Meaning T)
     → List (Tree ℕ expression)
     → List Fault
-reported_call_by_meaning facts p (Some (a_procedure fs)) es =
+call_faults_by_meaning facts p (Some (a_procedure fs)) es =
     if nat_eq (length fs) (length es)
-    then reported_arguments facts fs es
+    then argument_faults facts fs es
     else fault_at_token facts code.ArgumentCount p
-reported_call_by_meaning facts p (Some (a_type t)) es =
-    fault_at_token facts code.WrongKind p ++ reported_untyped_arguments facts es
-reported_call_by_meaning facts p (Some (a_constant v)) es =
-    fault_at_token facts code.WrongKind p ++ reported_untyped_arguments facts es
-reported_call_by_meaning facts p (Some (a_variable t)) es =
-    fault_at_token facts code.WrongKind p ++ reported_untyped_arguments facts es
-reported_call_by_meaning facts p None es = reported_untyped_arguments facts es
+call_faults_by_meaning facts p (Some (a_type t)) es =
+    fault_at_token facts code.WrongKind p ++ untyped_argument_faults facts es
+call_faults_by_meaning facts p (Some (a_constant v)) es =
+    fault_at_token facts code.WrongKind p ++ untyped_argument_faults facts es
+call_faults_by_meaning facts p (Some (a_variable t)) es =
+    fault_at_token facts code.WrongKind p ++ untyped_argument_faults facts es
+call_faults_by_meaning facts p None es = untyped_argument_faults facts es
 
 -- returns the faults of a call of the name at a token
-abbrev pub reported_call : {T : Type 0} → Facts T → ℕ → List (Tree ℕ expression) → List Fault
-reported_call facts p es = reported_call_by_meaning facts p (facts.object_for p) es
+abbrev pub call_faults : {T : Type 0} → Facts T → ℕ → List (Tree ℕ expression) → List Fault
+call_faults facts p es = call_faults_by_meaning facts p (facts.object_for p) es
 
 unfoldable mutual
-  unfolding reported_required reported_target reported_argument
+  unfolding typed_expression_faults reported_target faults_of_argument
 
   -- returns the faults of a statement, including the faults of the statements in it
-  pub reported_statement : {T : Type 0} → Facts T → Tree ℕ statement → List Fault
-  reported_statement facts empty = []
-  reported_statement facts (assigns x path e) =
-      reported_assignment facts (reported_target facts x path) e
-  reported_statement facts (calls p es) = reported_call facts p (arguments_listed es)
-  reported_statement facts (branches e statements rest last) =
-      reported_condition facts e
-      ++ (reported_sequence facts statements
-      ++ (reported_elsifs facts rest ++ reported_else facts last))
-  reported_statement facts (while_loop e statements) =
-      reported_condition facts e ++ reported_sequence facts statements
-  reported_statement facts (repeat_loop statements e) =
-      reported_sequence facts statements ++ reported_condition facts e
+  pub statement_faults : {T : Type 0} → Facts T → Tree ℕ statement → List Fault
+  statement_faults facts empty = []
+  statement_faults facts (assigns x path e) =
+      assignment_faults facts (reported_target facts x path) e
+  statement_faults facts (calls p es) = call_faults facts p (arguments_listed es)
+  statement_faults facts (branches e statements rest last) =
+      condition_faults facts e
+      ++ (sequence_faults facts statements
+      ++ (elsif_faults facts rest ++ else_faults facts last))
+  statement_faults facts (while_loop e statements) =
+      condition_faults facts e ++ sequence_faults facts statements
+  statement_faults facts (repeat_loop statements e) =
+      sequence_faults facts statements ++ condition_faults facts e
 
   -- returns the faults of a sequence, statement by statement
-  pub reported_sequence : {T : Type 0} → Facts T → Tree ℕ sequence → List Fault
-  reported_sequence facts (runs a rest) =
-      reported_statement facts a ++ reported_statements facts rest
+  pub sequence_faults : {T : Type 0} → Facts T → Tree ℕ sequence → List Fault
+  sequence_faults facts (runs a rest) =
+      statement_faults facts a ++ further_statement_faults facts rest
 
   -- returns the faults of the statements of a sequence after the first
-  pub reported_statements : {T : Type 0} → Facts T → Tree ℕ (items further_statement) → List Fault
-  reported_statements facts end = []
-  reported_statements facts (more (then_statement a) rest) =
-      reported_statement facts a ++ reported_statements facts rest
+  pub further_statement_faults : {T : Type 0} → Facts T → Tree ℕ (items further_statement) → List Fault
+  further_statement_faults facts end = []
+  further_statement_faults facts (more (then_statement a) rest) =
+      statement_faults facts a ++ further_statement_faults facts rest
 
   -- returns the faults of the ELSIF parts, one after another: first the faults of a part's
   -- condition, and then of its statements
-  pub reported_elsifs : {T : Type 0} → Facts T → Tree ℕ (items elsif_part) → List Fault
-  reported_elsifs facts end = []
-  reported_elsifs facts (more (elsif_branch e statements) rest) =
-      reported_condition facts e
-      ++ (reported_sequence facts statements ++ reported_elsifs facts rest)
+  pub elsif_faults : {T : Type 0} → Facts T → Tree ℕ (items elsif_part) → List Fault
+  elsif_faults facts end = []
+  elsif_faults facts (more (elsif_branch e statements) rest) =
+      condition_faults facts e
+      ++ (sequence_faults facts statements ++ elsif_faults facts rest)
 
   -- returns the faults of the ELSE part; an empty list if there is no such part
-  pub reported_else : {T : Type 0} → Facts T → Tree ℕ (maybe else_part) → List Fault
-  reported_else facts none = []
-  reported_else facts (one (else_branch statements)) = reported_sequence facts statements
+  pub else_faults : {T : Type 0} → Facts T → Tree ℕ (maybe else_part) → List Fault
+  else_faults facts none = []
+  else_faults facts (one (else_branch statements)) = sequence_faults facts statements

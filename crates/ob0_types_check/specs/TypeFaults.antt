@@ -27,15 +27,15 @@ type_named_at facts token = type_by_meaning facts token (facts.object_for token)
 
 -- returns the value of a constant expression if there is one; for None, reports `ConstFault` at the
 -- operand `o`
-abbrev pub valued : {T : Type 0} → Facts T → Operand T → Option Value → Reported (Option Value)
-valued facts o None = record { known = None; faults = fault_at_operand facts code.ConstFault o }
-valued facts o (Some v) = without_fault (Some v)
+abbrev pub value_or_fault : {T : Type 0} → Facts T → Operand T → Option Value → Reported (Option Value)
+value_or_fault facts o None = record { known = None; faults = fault_at_operand facts code.ConstFault o }
+value_or_fault facts o (Some v) = without_fault (Some v)
 
 -- Returns the value of a constant expression, or reports `ConstFault`. If the expression's type is
 -- unknown, it isn't evaluated. The result is None in both cases.
 abbrev pub operand_value : {T : Type 0} → Facts T → Operand T → Reported (Option Value)
 operand_value facts o =
-    if facts.types.same o.of facts.types.unknown then without_fault None else valued facts o o.value
+    if facts.types.same o.of facts.types.unknown then without_fault None else value_or_fault facts o o.value
 
 -- returns the faults and the value of a constant's right side, in which names may only refer to constants
 unfoldable pub reported_constant : {T : Type 0}

@@ -6,96 +6,96 @@ use Rattle.std.specs.List.{filter}
 use Rattle.ob0_language_names.specs.Names.{naming_by_spelling}
 use Rattle.ob0_scope_table.specs.Resolution.{IsResolution, Resolution, is_undeclared_fault}
 use Rattle.ob0_tree.specs.ParsedModule.{named_tree_of}
-use Rattle.ob0_tree.specs.Places.{value_at}
-use Rattle.ob0_tree.specs.Tree.{Tree, designator, expression, items, mapped, selector, sequence}
+use Rattle.ob0_tree.specs.Places.{token_value_at}
+use Rattle.ob0_tree.specs.Tree.{Tree, designator, expression, items, mapped_tree, selector, sequence}
 use Rattle.ob0_language_types.specs.Typing.{array_length, constant_value, type_of}
-use Rattle.ob0_language_types.specs.WellTyped.{TypeMeanings, passes_type_check, sequence_fits, variable_type}
+use Rattle.ob0_language_types.specs.WellTyped.{TypeMeanings, passes_type_check, sequence_is_well_typed, variable_type}
 use Rattle.ob0_language_values.specs.Values.{Shape, array_shape, boolean_shape, integer_shape, record_shape}
-use Rattle.ob0_types_check.specs.DeclarationFaults.{reported_module}
+use Rattle.ob0_types_check.specs.DeclarationFaults.{module_faults}
 use Rattle.ob0_types_check.specs.ExpressionFaults.{reported_expression}
 use Rattle.ob0_types_check.specs.Operations.{◌>>=◌}
 use Rattle.ob0_types_check.specs.ReportLaws.{allowed_meanings}
 use Rattle.ob0_types_check.specs.KnownDeclarations.{KnownDeclarations, facts_at}
-use Rattle.ob0_types_check.specs.StatementFaults.{reported_sequence, reported_target}
+use Rattle.ob0_types_check.specs.StatementFaults.{sequence_faults, reported_target}
 use Rattle.ob0_types_check.specs.TypeFaults.{length_of, reported_constant}
-use Rattle.ob0_types_check.specs.Agreement.{Agrees, shape_in}
+use Rattle.ob0_types_check.specs.Agreement.{FactsAgree, shape_in}
 
 -- States that no fault is reported for an expression that has a type. The facts known at the expression must be right
--- (`Agrees`).
-abbrev pub NoFaultInExpressions : Type 0 → Type 0
-NoFaultInExpressions N =
+-- (`FactsAgree`).
+abbrev pub TypedExpressionsHaveNoFault : Type 0 → Type 0
+TypedExpressionsHaveNoFault N =
     (p : KnownDeclarations) (only_constants : Bool) (shapes : List Shape) (label : ℕ → N) (meaning : TypeMeanings N)
     (e : Tree ℕ expression)
-    → Agrees (facts_at p only_constants) (shape_in shapes) label meaning e
-    → is_some (type_of (allowed_meanings only_constants meaning) (mapped label (value_at p.source) e))
+    → FactsAgree (facts_at p only_constants) (shape_in shapes) label meaning e
+    → is_some (type_of (allowed_meanings only_constants meaning) (mapped_tree label (token_value_at p.source) e))
     ≡ true
     → (reported_expression (facts_at p only_constants) e).faults ≡ []
 
 -- States that no fault is reported for a constant expression that has a value. The facts known there must be right
--- (`Agrees`).
-abbrev pub NoFaultInConstants : Type 0 → Type 0
-NoFaultInConstants N =
+-- (`FactsAgree`).
+abbrev pub ValuedConstantsHaveNoFault : Type 0 → Type 0
+ValuedConstantsHaveNoFault N =
     (p : KnownDeclarations) (shapes : List Shape) (label : ℕ → N) (meaning : TypeMeanings N) (e : Tree ℕ expression)
-    → Agrees (facts_at p true) (shape_in shapes) label meaning e
-    → is_some (constant_value meaning (mapped label (value_at p.source) e)) ≡ true
+    → FactsAgree (facts_at p true) (shape_in shapes) label meaning e
+    → is_some (constant_value meaning (mapped_tree label (token_value_at p.source) e)) ≡ true
     → (reported_constant (facts_at p true) e).faults ≡ []
 
--- States that no fault is reported for a valid array length. The facts known there must be right (`Agrees`).
-abbrev pub NoFaultInLengths : Type 0 → Type 0
-NoFaultInLengths N =
+-- States that no fault is reported for a valid array length. The facts known there must be right (`FactsAgree`).
+abbrev pub ValidLengthsHaveNoFault : Type 0 → Type 0
+ValidLengthsHaveNoFault N =
     (p : KnownDeclarations) (shapes : List Shape) (label : ℕ → N) (meaning : TypeMeanings N) (e : Tree ℕ expression)
-    → Agrees (facts_at p true) (shape_in shapes) label meaning e
+    → FactsAgree (facts_at p true) (shape_in shapes) label meaning e
     → is_some
-    (option_and_then array_length (constant_value meaning (mapped label (value_at p.source) e)))
+    (option_and_then array_length (constant_value meaning (mapped_tree label (token_value_at p.source) e)))
     ≡ true
     → (reported_expression (facts_at p true) e >>= length_of (facts_at p false)).faults ≡ []
 
 -- States that no fault is reported for an assignment's target that is a variable or parameter with well-typed
--- selectors. The facts known there must be right (`Agrees`).
-abbrev pub NoFaultInTargets : Type 0 → Type 0
-NoFaultInTargets N =
+-- selectors. The facts known there must be right (`FactsAgree`).
+abbrev pub TypedTargetsHaveNoFault : Type 0 → Type 0
+TypedTargetsHaveNoFault N =
     (p : KnownDeclarations) (shapes : List Shape) (label : ℕ → N) (meaning : TypeMeanings N) (x : ℕ)
     (path : Tree ℕ (items selector))
-    → Agrees (facts_at p false) (shape_in shapes) label meaning (designator x path)
-    → is_some (variable_type meaning (Some (label x, mapped label (value_at p.source) path))) ≡ true
+    → FactsAgree (facts_at p false) (shape_in shapes) label meaning (designator x path)
+    → is_some (variable_type meaning (Some (label x, mapped_tree label (token_value_at p.source) path))) ≡ true
     → (reported_target (facts_at p false) x path).faults ≡ []
 
 -- returns the ordinal of the word ARRAY or RECORD that makes a type; None for INTEGER and BOOLEAN
-abbrev pub constructor_ordinal : Shape → Option ℕ
-constructor_ordinal integer_shape = None
-constructor_ordinal boolean_shape = None
-constructor_ordinal (array_shape k n s) = Some k
-constructor_ordinal (record_shape k fs) = Some k
+abbrev pub ordinal_of_shape : Shape → Option ℕ
+ordinal_of_shape integer_shape = None
+ordinal_of_shape boolean_shape = None
+ordinal_of_shape (array_shape k n s) = Some k
+ordinal_of_shape (record_shape k fs) = Some k
 
 -- states that no two shapes in the list are made by the same word ARRAY or RECORD
-abbrev pub HaveDistinctConstructors : List Shape → Type 0
-HaveDistinctConstructors shapes =
+abbrev pub HaveDistinctOrdinals : List Shape → Type 0
+HaveDistinctOrdinals shapes =
     (i j k : ℕ) (s t : Shape) → slice_get shapes i ≡ Some s → slice_get shapes j ≡ Some t
-    → constructor_ordinal s ≡ Some k → constructor_ordinal t ≡ Some k → i ≡ j
+    → ordinal_of_shape s ≡ Some k → ordinal_of_shape t ≡ Some k → i ≡ j
 
 -- States that no fault is reported for well-typed statements. The facts known at the statements must be right
--- (`Agrees`), and no two types may be made by the same word ARRAY or RECORD.
-abbrev pub NoFaultInStatements : Type 0 → Type 0
-NoFaultInStatements N =
+-- (`FactsAgree`), and no two types may be made by the same word ARRAY or RECORD.
+abbrev pub TypedStatementsHaveNoFault : Type 0 → Type 0
+TypedStatementsHaveNoFault N =
     (p : KnownDeclarations) (shapes : List Shape) (label : ℕ → N) (meaning : TypeMeanings N)
     (statements : Tree ℕ sequence)
-    → HaveDistinctConstructors shapes
-    → Agrees (facts_at p false) (shape_in shapes) label meaning statements
-    → sequence_fits meaning (mapped label (value_at p.source) statements) ≡ true
-    → reported_sequence (facts_at p false) statements ≡ []
+    → HaveDistinctOrdinals shapes
+    → FactsAgree (facts_at p false) (shape_in shapes) label meaning statements
+    → sequence_is_well_typed meaning (mapped_tree label (token_value_at p.source) statements) ≡ true
+    → sequence_faults (facts_at p false) statements ≡ []
 
 -- States that every name of a module that passes the type check is bound.
-abbrev pub NamesBound : Type 0
-NamesBound =
+abbrev pub TypedModulesHaveBoundNames : Type 0
+TypedModulesHaveBoundNames =
     (r : Resolution)
     → IsResolution r
     → passes_type_check naming_by_spelling (named_tree_of r.module_read) ≡ true
     → filter is_undeclared_fault r.faults ≡ []
 
 -- States that no undeclared name and no fault of types is reported for a module that passes the type check.
-abbrev pub NoFaultInModules : Type 0
-NoFaultInModules =
+abbrev pub TypedModulesHaveNoFault : Type 0
+TypedModulesHaveNoFault =
     (r : Resolution)
     → IsResolution r
     → passes_type_check naming_by_spelling (named_tree_of r.module_read) ≡ true
-    → reported_module r ≡ []
+    → module_faults r ≡ []

@@ -5,7 +5,7 @@ use Rattle.std.specs.Prelude.{ℕ, suc, ◌+◌, ◌*◌, max, true, false, List
 use Rattle.ob0_language_names.specs.Parts.{names_in_list}
 use Rattle.ob0_types_table.specs.declared.types.TypeId.{TypeId}
 use Rattle.ob0_types_table.specs.declared.types.TypeId.TheVariants as type
-use Rattle.ob0_tree.specs.Places.{text_at}
+use Rattle.ob0_tree.specs.Places.{token_text_at}
 use Rattle.ob0_tree.specs.Tree.{Tree, array_type, end, fields, further_fields, item, items, listed, more, named_type, names, no_fields, record_type, some_fields, then_fields, written_type}
 use Rattle.ob0_types_check.specs.ExpressionFaults.{reported_expression}
 use Rattle.ob0_types_check.specs.Known.{Operand, Reported}
@@ -52,7 +52,7 @@ sum_of_sizes z w = record { scalars = z.scalars + w.scalars; depth = max z.depth
 abbrev pub with_known_field : TypeId → KnownFields → ℕ → KnownFields
 with_known_field t g token =
     record {
-      fields = g.fields ++ record { name = text_at g.following.source token; of = t } ∷ [];
+      fields = g.fields ++ record { name = token_text_at g.following.source token; of = t } ∷ [];
       size = sum_of_sizes g.size (size_at g.following.made t);
       following = g.following;
     }

@@ -1,34 +1,34 @@
 //! States laws about the report of a module. Each function does nothing. The function's contract is
 //! the law.
 
-ghost use Rattle.ob0_types_check.specs.ModuleLaws.{DeclarationsKnown, ModulesFit};
-ghost use Rattle.ob0_types_check.specs.ReportLaws.{ConstantsFit, ExpressionsFit, ReportedLengthsAgree, StatementsFit, TableTypesAgree};
+ghost use Rattle.ob0_types_check.specs.ModuleLaws.{WalkWithoutFaultFindsMeanings, ModulesWithoutFaultPassTypeCheck};
+ghost use Rattle.ob0_types_check.specs.ReportLaws.{ConstantsWithoutFaultAgree, ExpressionsWithoutFaultAgree, LengthsWithoutFaultAgree, StatementsWithoutFaultAreTyped, TableTypesAgree};
 ghost use Rattle.ob0_types_check.specs.SomeBodies.{SomeBodiesSuffice};
-ghost use Rattle.ob0_types_check.specs.WellTypedLaws.{NamesBound, NoFaultInConstants, NoFaultInExpressions, NoFaultInLengths, NoFaultInModules, NoFaultInStatements, NoFaultInTargets};
+ghost use Rattle.ob0_types_check.specs.WellTypedLaws.{TypedModulesHaveBoundNames, ValuedConstantsHaveNoFault, TypedExpressionsHaveNoFault, ValidLengthsHaveNoFault, TypedModulesHaveNoFault, TypedStatementsHaveNoFault, TypedTargetsHaveNoFault};
 ghost use Rattle.ob0_language_names.specs.Names.{Name};
 
 /// Proves that if no fault is reported for an expression, the type and value found for it are
-/// right. The law assumes that the facts known at the expression are right (`Agrees`).
-pub fn expressions_fit()
-    ensures { ExpressionsFit Name }
+/// right. The law assumes that the facts known at the expression are right (`FactsAgree`).
+pub fn expressions_without_fault_agree()
+    ensures { ExpressionsWithoutFaultAgree Name }
 {}
 
 /// Proves that if no fault is reported for a constant's right side, the value found is the value of
-/// that expression. The law assumes that the facts known there are right (`Agrees`).
-pub fn constants_fit()
-    ensures { ConstantsFit Name }
+/// that expression. The law assumes that the facts known there are right (`FactsAgree`).
+pub fn constants_without_fault_agree()
+    ensures { ConstantsWithoutFaultAgree Name }
 {}
 
 /// Proves that if no fault is reported for an array's length, the length found is the value of the
-/// length's expression. The law assumes that the facts known there are right (`Agrees`).
-pub fn lengths_fit()
-    ensures { ReportedLengthsAgree Name }
+/// length's expression. The law assumes that the facts known there are right (`FactsAgree`).
+pub fn lengths_without_fault_agree()
+    ensures { LengthsWithoutFaultAgree Name }
 {}
 
 /// Proves that statements are well-typed if no fault is reported for them. The law assumes that the
-/// facts known at the statements are right (`Agrees`).
-pub fn statements_fit()
-    ensures { StatementsFit Name }
+/// facts known at the statements are right (`FactsAgree`).
+pub fn statements_without_fault_are_typed()
+    ensures { StatementsWithoutFaultAreTyped Name }
 {}
 
 /// Proves that every type agrees with its shape if each array and record type in the checker's
@@ -39,57 +39,57 @@ pub fn table_types_agree()
 
 /// Proves that a module passes the type check if no fault of types and no undeclared name is
 /// reported for it. The type check ignores duplicate declarations and wrong closing names.
-pub fn modules_fit()
-    ensures { ModulesFit }
+pub fn modules_without_fault_pass_type_check()
+    ensures { ModulesWithoutFaultPassTypeCheck }
 {}
 
 /// Proves that if no fault of types and no undeclared name is reported for a module, the walk over
 /// the module has found the meaning of each declaration.
-pub fn declarations_known()
-    ensures { DeclarationsKnown }
+pub fn walk_without_fault_finds_meanings()
+    ensures { WalkWithoutFaultFindsMeanings }
 {}
 
 /// Proves that no fault is reported for an expression that has a type. The law assumes that the
-/// facts known at the expression are right (`Agrees`).
-pub fn no_fault_in_expressions()
-    ensures { NoFaultInExpressions Name }
+/// facts known at the expression are right (`FactsAgree`).
+pub fn typed_expressions_have_no_fault()
+    ensures { TypedExpressionsHaveNoFault Name }
 {}
 
 /// Proves that no fault is reported for a constant expression that has a value. The law assumes
-/// that the facts known at the expression are right (`Agrees`).
-pub fn no_fault_in_constants()
-    ensures { NoFaultInConstants Name }
+/// that the facts known at the expression are right (`FactsAgree`).
+pub fn valued_constants_have_no_fault()
+    ensures { ValuedConstantsHaveNoFault Name }
 {}
 
 /// Proves that no fault is reported for a valid array length. The law assumes that the facts known
-/// at the length are right (`Agrees`).
-pub fn no_fault_in_lengths()
-    ensures { NoFaultInLengths Name }
+/// at the length are right (`FactsAgree`).
+pub fn valid_lengths_have_no_fault()
+    ensures { ValidLengthsHaveNoFault Name }
 {}
 
 /// Proves that no fault is reported for an assignment's target if the target is a variable or
 /// parameter with well-typed selectors. The law assumes that the facts known at the target are
-/// right (`Agrees`).
-pub fn no_fault_in_targets()
-    ensures { NoFaultInTargets Name }
+/// right (`FactsAgree`).
+pub fn typed_targets_have_no_fault()
+    ensures { TypedTargetsHaveNoFault Name }
 {}
 
 /// Proves that no fault is reported for well-typed statements. The law assumes that the facts known
-/// at the statements are right (`Agrees`), and that no two types are made by the same word
+/// at the statements are right (`FactsAgree`), and that no two types are made by the same word
 /// ARRAY or RECORD.
-pub fn no_fault_in_statements()
-    ensures { NoFaultInStatements Name }
+pub fn typed_statements_have_no_fault()
+    ensures { TypedStatementsHaveNoFault Name }
 {}
 
 /// Proves that every name of a module that passes the type check is bound.
-pub fn names_bound()
-    ensures { NamesBound }
+pub fn typed_modules_have_bound_names()
+    ensures { TypedModulesHaveBoundNames }
 {}
 
 /// Proves that no fault of types and no undeclared name is reported for a module that passes the
 /// type check.
-pub fn no_fault_in_modules()
-    ensures { NoFaultInModules }
+pub fn typed_modules_have_no_fault()
+    ensures { TypedModulesHaveNoFault }
 {}
 
 /// Proves that walking only certain bodies gives the same report as walking all of them. The walked

@@ -6,15 +6,15 @@
 //!
 //! No other code decides whether a module passes the type check (`passes_type_check`). The laws
 //! connect this walk with the definition of the check. If no fault is reported, the module passes
-//! (`modules_fit`). If the module passes, no fault is reported
-//! (`no_fault_in_modules`). If no fault is reported, the walk has found the meaning of
-//! every declaration (`declarations_known`).
+//! (`modules_without_fault_pass_type_check`). If the module passes, no fault is reported
+//! (`typed_modules_have_no_fault`). If no fault is reported, the walk has found the meaning of
+//! every declaration (`walk_without_fault_finds_meanings`).
 //!
 //! The definitions give the faults of each production of the grammar, in order, with codes and
 //! spans. They also give the result of the production, for example the type of an expression. A
 //! `Reported` is such a result with its faults. The operator `>>=` puts the faults of one step
 //! before the faults of the next step. Statements have faults but no result. The contract of a
-//! function that returns a value has one clause, `ReportsAfter before after x t`. The
+//! function that returns a value has one clause, `ReturnsAndReports before after x t`. The
 //! clause states that the function returns the result `x` of `t` and appends the faults of `t` to
 //! the list `before`. An operand has a value if its expression is constant. So one walk over an
 //! expression finds its type, its value, whether it may be a variable, and its first and last
@@ -70,12 +70,12 @@ ghost use Rattle.std.specs.Prelude.{◌≡◌, ◌++◌, [], IfOk, OnOk, map, op
 ghost use Rattle.std.specs.List.{filter};
 ghost use Rattle.ob0_scope_table.specs.Resolution.{is_undeclared_fault};
 ghost use Rattle.ob0_types_table.specs.Tables.{AreEntriesInOrder};
-ghost use Rattle.ob0_types_check.specs.NewBody.{FitsWithout};
+ghost use Rattle.ob0_types_check.specs.NewBody.{PassesTypeCheckWithoutBody};
 ghost use Rattle.ob0_types_check.specs.KnownDeclarations.{state_at_start};
-ghost use Rattle.ob0_types_check.specs.SomeBodies.{IsFinishedWalk, IsReportOf, IncludesFaultyBodies, every_body, is_among, reported_module_with, includes_body};
-ghost use Rattle.ob0_types_check.specs.CheckerViews.{known_meaning, declarations_in_state, table_in};
+ghost use Rattle.ob0_types_check.specs.SomeBodies.{IsFinishedWalk, IsReportOf, IncludesFaultyBodies, every_body, is_among, reported_module_with_bodies, includes_body};
+ghost use Rattle.ob0_types_check.specs.CheckerViews.{meaning_view, declarations_in_state, table_in};
 
-use crate::laws::{declarations_known, some_bodies_suffice};
+use crate::laws::{some_bodies_suffice, walk_without_fault_finds_meanings};
 use crate::reporting::checker_state::{CheckerState, Meaning, predeclared_meanings};
 use crate::reporting::objects::{define_standard_procedures, objects_of};
 use ob0_scan::{Fault, FaultCode};
@@ -93,7 +93,7 @@ pub struct Report {
     pub known: Option<DeclarationTable>,
     /// The bodies in which a fault of types is reported, in text order. Each body is given by the
     /// token index of its block's closing name.
-    pub faulty: Vec<usize>,
+    pub bodies_with_faults: Vec<usize>,
 }
 
 /// The bodies to walk: all bodies, or only those in `these`. A body is given by the token index of
@@ -156,7 +156,7 @@ pub fn report_one_body<'t>(
     resolved: &'t Resolved<'t>,
     closing: usize,
 ) -> Result<Report, AllocError>
-    requires { FitsWithout resolved.now closing }
+    requires { PassesTypeCheckWithoutBody resolved.now closing }
     ensures { IfOk result (IsReportOf resolved.now) }
 {
     // The proof needs this call: its contract states the module's invariant.
@@ -176,14 +176,19 @@ fn report_wanted_bodies<'t>(
     resolved: &'t Resolved<'t>,
     wanted: &BodiesToWalk<'_>,
 ) -> Result<Report, AllocError>
-    requires { reported_module_with (includes_body wanted.now) resolved.now ≡ reported_module_with every_body resolved.now }
+    requires { reported_module_with_bodies (includes_body wanted.now) resolved.now ≡ reported_module_with_bodies every_body resolved.now }
     ensures { IfOk result (IsReportOf resolved.now) }
 {
     let read = resolved.module();
     let mut reporter = Reporter::new(alloc, resolved)?;
-    let mut faulty = Vec::new(alloc);
-    reporter.report_block(&mut faulty, wanted, read.block(), read.closing_name())?;
-    reporter.into_report(resolved, faulty)
+    let mut bodies_with_faults = Vec::new(alloc);
+    reporter.report_block(
+        &mut bodies_with_faults,
+        wanted,
+        read.block(),
+        read.closing_name(),
+    )?;
+    reporter.into_report(resolved, bodies_with_faults)
 }
 
 /// Makes the table of declarations and types from the final state of the walk.
@@ -230,7 +235,7 @@ impl<'t> Reporter<'t> {
         Ok(Reporter {
             alloc,
             checker_state,
-            faults: unbound_names(alloc, resolved)?,
+            faults: undeclared_name_faults(alloc, resolved)?,
         })
     }
 
@@ -239,12 +244,12 @@ impl<'t> Reporter<'t> {
     fn into_report(
         self,
         resolved: &'t Resolved<'t>,
-        faulty: Vec<usize>,
+        bodies_with_faults: Vec<usize>,
     ) -> Result<Report, AllocError>
-        requires { IsFinishedWalk resolved.now self.faults.items self.checker_state faulty.items }
+        requires { IsFinishedWalk resolved.now self.faults.items self.checker_state bodies_with_faults.items }
         ensures { IfOk result (IsReportOf resolved.now) }
     {
-        declarations_known();
+        walk_without_fault_finds_meanings();
         // The proof needs this call: its contract states the module's invariant.
         let _module = resolved.module();
         let Reporter {
@@ -257,20 +262,20 @@ impl<'t> Reporter<'t> {
             Ok(Report {
                 faults,
                 known: Some(known),
-                faulty,
+                bodies_with_faults,
             })
         } else {
             Ok(Report {
                 faults,
                 known: None,
-                faulty,
+                bodies_with_faults,
             })
         }
     }
 }
 
 /// Returns the faults `Undeclared` from the module's faults of scopes, in the same order.
-fn unbound_names(alloc: Global, resolved: &Resolved) -> Result<Vec<Fault>, AllocError>
+fn undeclared_name_faults(alloc: Global, resolved: &Resolved) -> Result<Vec<Fault>, AllocError>
     ensures { IfOk result (λ faults. faults.items ≡ filter is_undeclared_fault resolved.now.faults) }
 {
     let mut faults = Vec::new(alloc);
@@ -287,8 +292,8 @@ fn add_unknown_meanings(
     meanings: &mut Vec<Option<Meaning>>,
     declarations: &[usize],
 ) -> Result<(), AllocError>
-    ensures { OnOk result (map (option_map known_meaning) meanings.new.items
-        ≡ map (option_map known_meaning) meanings.old.items
+    ensures { OnOk result (map (option_map meaning_view) meanings.new.items
+        ≡ map (option_map meaning_view) meanings.old.items
         ++ map (λ token. None) declarations.now) }
 {
     for _declaration in declarations {

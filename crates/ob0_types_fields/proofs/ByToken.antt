@@ -1,8 +1,8 @@
 -- Renaming a field gives the tree with the new name at the field's tokens.
 use Rattle.std.proofs.Common.{◌≡◌, ℕ, ◌&&◌, if◌then◌else◌, ◌==◌, Some, None, Option, refl, ◌∙◌, sym}
-use Rattle.ob0_tree.specs.Tree.{mapped}
+use Rattle.ob0_tree.specs.Tree.{mapped_tree}
 use Rattle.ob0_tree.specs.ParsedModule.{named_tree_of, tree_of}
-use Rattle.ob0_tree.specs.Places.{text_at, value_at}
+use Rattle.ob0_tree.specs.Places.{token_text_at, token_value_at}
 use Rattle.ob0_language_names.specs.Names.{Name, same_name}
 use Rattle.ob0_scope_table.specs.Resolution.{ordinal_in}
 use Rattle.ob0_language_fields.specs.Fields.{rename_fields_in_module}
@@ -20,4 +20,4 @@ of_one r f new (Some k) x = refl
 pub renaming_follows_owners-holds : RenamingFollowsOwners
 renaming_follows_owners-holds m owners r f new owns =
     (λ i. rename_fields_in_module (λ o x. of_one r f new o x i) (named_tree_of m))
-    ∙ (owns (in_record r f new) ∙ (λ i. mapped (λ j. sym (of_one r f new (ordinal_in owners j) (text_at m.source j)) i) (value_at m.source) (tree_of m)))
+    ∙ (owns (in_record r f new) ∙ (λ i. mapped_tree (λ j. sym (of_one r f new (ordinal_in owners j) (token_text_at m.source j)) i) (token_value_at m.source) (tree_of m)))

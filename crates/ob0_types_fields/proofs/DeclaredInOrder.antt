@@ -1,7 +1,7 @@
 -- The declarations of a numbered tree bind each ordinal once, the latest first.
 use Rattle.std.proofs.Common.{◌≡◌, ℕ, suc, ◌+◌, ◌<◌, ◌≤◌, cond, List, [], ◌∷◌, ◌++◌, Some, None, Option, refl, sym, ap, ◌∙◌, subst, append_assoc, arith, le_refl, eq-eqb}
 use Rattle.std.proofs.lemmas.Bool.{ne_eqb}
-use Rattle.ob0_tree.specs.Tree.{Tree, block, constant, declares, declares_constant, declares_type, declares_variable, end, has_body, items, more, type_name, variable}
+use Rattle.ob0_tree.specs.Tree.{Tree, block, constant, declares, declares_constant, declares_type, declares_variable, end, forms_block, items, more, type_definition, variable}
 use Rattle.ob0_language_names.specs.Names.{Label, Name, naming_by_label, naming_by_spelling, as_written, declared, same_label}
 use Rattle.ob0_language_names.specs.Parts.{block_constants, block_types, block_variables, constant_names, declared_type_names, names_in_list, section_constants, section_types, section_variables, variable_names}
 use Rattle.ob0_language_names.specs.Scopes.{Scope, ordinal_after_names, label_from_ordinal, declare_names, first_procedure_ordinal, first_type_ordinal, first_variable_ordinal, label_names, relabel_block, relabel_constants, relabel_names, relabel_types, relabel_uses, relabel_variables, types_scope, variables_scope}
@@ -9,11 +9,11 @@ use Rattle.ob0_language_names.proofs.Ordinals.{ordinal_after_names-append}
 use Rattle.ob0_language_names.proofs.Relabelled.{constants-section, names-relabel, types-section, variables-section}
 use Rattle.ob0_language_types.specs.Bindings.{object_of_ordinal}
 use Rattle.ob0_language_types.specs.Declaring.{declare_block}
-use Rattle.ob0_language_types.specs.Declarations.{constructors_before_variables, declare_constants, declare_first, declare_types}
+use Rattle.ob0_language_types.specs.Declarations.{constructors_before_variables, declare_constants, declare_constants_and_types, declare_types}
 use Rattle.ob0_language_types.specs.Environments.{environment_from_binding, meanings}
 use Rattle.ob0_language_types.specs.Expressions.{Object, a_constant, a_type, a_variable}
-use Rattle.ob0_language_types.specs.Typing.{constant_value, constructor_count, denoted}
-use Rattle.ob0_language_types.specs.WellTyped.{Signature, TypeEnvironment, TypedParameter, bind_names, bind_typed_parameters, declare_typed, bind_procedure}
+use Rattle.ob0_language_types.specs.Typing.{constant_value, constructor_count, denoted_type}
+use Rattle.ob0_language_types.specs.WellTyped.{Signature, TypeEnvironment, TypedParameter, bind_names, bind_typed_parameters, declare_typed_variables, bind_procedure}
 use Rattle.ob0_language_values.specs.Values.{Shape}
 use Rattle.ob0_language_types.proofs.Bound.{newest_object-if}
 use Rattle.ob0_language_types.proofs.Literals.{some_inverse}
@@ -69,28 +69,28 @@ constants_grow scope k (more (declares_constant x e) cs) env after h =
     grown_then k (suc k) (ordinal_after_names (suc k) (constant_names cs)) env ((declared k, a_constant found.0) ∷ env) after (grown_one k (a_constant found.0) env)
     (constants_grow ((x, k) ∷ scope) (suc k) cs ((declared k, a_constant found.0) ∷ env) after found.2)
 
-types_grow : (scope : Scope Name) (j k : ℕ) (ds : Tree Name (items type_name)) (env after : TypeEnvironment Label)
+types_grow : (scope : Scope Name) (j k : ℕ) (ds : Tree Name (items type_definition)) (env after : TypeEnvironment Label)
     → declare_types naming_by_label env j (relabel_types naming_by_spelling (label_from_ordinal naming_by_spelling) scope k ds) ≡ Some after → Grown k (ordinal_after_names k (declared_type_names ds)) env after
 unfolding declare_types
 types_grow scope j k end env after h = subst (Grown k k env) (some_inverse h) (grown_nothing k env)
 types_grow scope j k (more (declares_type x u) ds) env after h =
     let v = relabel_uses naming_by_spelling (label_from_ordinal naming_by_spelling) scope u in
-    let found = then_some (denoted (meanings naming_by_label env) j v)
+    let found = then_some (denoted_type (meanings naming_by_label env) j v)
     (λ s. declare_types naming_by_label ((declared k, a_type s) ∷ env) (j + constructor_count v) (relabel_types naming_by_spelling (label_from_ordinal naming_by_spelling) ((x, k) ∷ scope) (suc k) ds)) after h in
     grown_then k (suc k) (ordinal_after_names (suc k) (declared_type_names ds)) env ((declared k, a_type found.0) ∷ env) after (grown_one k (a_type found.0) env)
     (types_grow ((x, k) ∷ scope) (j + constructor_count v) (suc k) ds ((declared k, a_type found.0) ∷ env) after found.2)
 
 variables_grow : (scope : Scope Name) (j k : ℕ) (gs : Tree Name (items variable)) (env after : TypeEnvironment Label)
-    → declare_typed naming_by_label j (relabel_variables naming_by_spelling (label_from_ordinal naming_by_spelling) scope k gs) env ≡ Some after → Grown k (ordinal_after_names k (variable_names gs)) env after
-unfolding declare_typed
+    → declare_typed_variables naming_by_label j (relabel_variables naming_by_spelling (label_from_ordinal naming_by_spelling) scope k gs) env ≡ Some after → Grown k (ordinal_after_names k (variable_names gs)) env after
+unfolding declare_typed_variables
 variables_grow scope j k end env after h = subst (Grown k k env) (some_inverse h) (grown_nothing k env)
 variables_grow scope j k (more (declares_variable ns u) gs) env after h =
     let v = relabel_uses naming_by_spelling (label_from_ordinal naming_by_spelling) scope u in
     let xs : List Name = names_in_list ns in
     let m : ℕ = ordinal_after_names k xs in
     let labels : List Label = names_in_list (relabel_names (label_from_ordinal naming_by_spelling) k ns) in
-    let found = then_some (denoted (meanings naming_by_label env) j v)
-    (λ s. declare_typed naming_by_label (j + constructor_count v) (relabel_variables naming_by_spelling (label_from_ordinal naming_by_spelling) (declare_names k xs scope) m gs) (bind_names labels (a_variable s) env)) after h in
+    let found = then_some (denoted_type (meanings naming_by_label env) j v)
+    (λ s. declare_typed_variables naming_by_label (j + constructor_count v) (relabel_variables naming_by_spelling (label_from_ordinal naming_by_spelling) (declare_names k xs scope) m gs) (bind_names labels (a_variable s) env)) after h in
     let first : Grown k m env (bind_names labels (a_variable found.0) env) =
     subst (λ ys. Grown k m env (bind_names ys (a_variable found.0) env)) (sym (names-relabel (label_from_ordinal naming_by_spelling) k ns)) (names_grow k xs (a_variable found.0) env) in
     subst (λ n. Grown k n env after) (sym (ordinal_after_names-append k xs (variable_names gs)))
@@ -113,24 +113,24 @@ heading_grows k ps qs env =
     grown_then k (suc k) (ordinal_after_names (suc k) (typed_names ps)) env mid (bind_typed_parameters (label_typed (suc k) ps) mid) (grown_one k _ env) (parameters_grow (suc k) ps mid)
 
 -- Declaring a block's constants and types together is declaring its constants and then its types.
-firsts : (env : TypeEnvironment Label) (j : ℕ) (b : Tree Label block) (after : TypeEnvironment Label) → declare_first naming_by_label env j b ≡ Some after
+firsts : (env : TypeEnvironment Label) (j : ℕ) (b : Tree Label block) (after : TypeEnvironment Label) → declare_constants_and_types naming_by_label env j b ≡ Some after
     → (mid : TypeEnvironment Label) × (declare_constants naming_by_label env (block_constants b) ≡ Some mid) × (declare_types naming_by_label mid j (block_types b) ≡ Some after)
-unfolding declare_first
+unfolding declare_constants_and_types
 firsts env j b after h = then_some (declare_constants naming_by_label env (block_constants b)) (λ e. declare_types naming_by_label e j (block_types b)) after h
 
 pub block_grows : (scope : Scope Name) (j k : ℕ) (b : Tree Name block) (env inner : TypeEnvironment Label)
     → declare_block naming_by_label env j (relabel_block naming_by_spelling (label_from_ordinal naming_by_spelling) scope k b) ≡ Some inner → Grown k (first_procedure_ordinal k b) env inner
-block_grows scope j k (has_body (declares cs ts vs ps) statements) env inner h =
-    let b : Tree Name block = has_body (declares cs ts vs ps) statements in
+block_grows scope j k (forms_block (declares cs ts vs ps) statements) env inner h =
+    let b : Tree Name block = forms_block (declares cs ts vs ps) statements in
     let b' : Tree Label block = relabel_block naming_by_spelling (label_from_ordinal naming_by_spelling) scope k b in
     let kt : ℕ = first_type_ordinal k b in
     let kv : ℕ = first_variable_ordinal k b in
-    let two = then_some (declare_first naming_by_label env j b') (declare_typed naming_by_label (constructors_before_variables j b') (block_variables b')) inner h in
+    let two = then_some (declare_constants_and_types naming_by_label env j b') (declare_typed_variables naming_by_label (constructors_before_variables j b') (block_variables b')) inner h in
     let one = firsts env j b' two.0 two.1 in
     let c = constants_grow scope k (section_constants cs) env one.0 (ap (declare_constants naming_by_label env) (sym (constants-section naming_by_spelling (label_from_ordinal naming_by_spelling) scope k cs)) ∙ one.1) in
     let t = types_grow (types_scope k b scope) j kt (section_types ts) one.0 two.0 (ap (declare_types naming_by_label one.0 j) (sym (types-section naming_by_spelling (label_from_ordinal naming_by_spelling) (types_scope k b scope) kt ts)) ∙ one.2) in
     let v = variables_grow (variables_scope k b scope) (constructors_before_variables j b') kv (section_variables vs) two.0 inner
-    (ap (λ gs. declare_typed naming_by_label (constructors_before_variables j b') gs two.0) (sym (variables-section naming_by_spelling (label_from_ordinal naming_by_spelling) (variables_scope k b scope) kv vs)) ∙ two.2) in
+    (ap (λ gs. declare_typed_variables naming_by_label (constructors_before_variables j b') gs two.0) (sym (variables-section naming_by_spelling (label_from_ordinal naming_by_spelling) (variables_scope k b scope) kv vs)) ∙ two.2) in
     grown_then k kt (first_procedure_ordinal k b) env one.0 inner c (grown_then kt kv (first_procedure_ordinal k b) one.0 two.0 inner t v)
 
 -- returns the object of a label, given the objects of ordinals

@@ -2,15 +2,15 @@
 -- them.
 use Rattle.std.proofs.Common.{◌≡◌, ℕ, zero, suc, ◌+◌, List, [], ◌∷◌, ◌++◌, map, Some, None, Option, refl, ap, ◌∙◌}
 use Rattle.std.specs.List.{AllByRecursion}
-use Rattle.ob0_tree.specs.Tree.{Tree, array_type, block, declares, declares_procedure, declares_type, declares_variable, end, fields, further_fields, further_name, further_section, has_body, is_module, item, items, listed, mapped, module_text, more, named_type, names, no_fields, procedure, record_type, section, some_fields, then_fields, then_name, then_section, type_name, value_section, variable, variable_section, written_type}
+use Rattle.ob0_tree.specs.Tree.{Tree, array_type, block, declares, declares_procedure, declares_type, declares_variable, end, fields, further_fields, further_name, further_section, forms_block, is_module, item, items, listed, mapped_tree, module_text, more, named_type, names, no_fields, procedure, record_type, section, some_fields, then_fields, then_name, then_section, type_definition, value_section, variable, variable_section, written_type}
 use Rattle.ob0_language_names.specs.Parts.{formal_sections, further_names, module_block, names_in_list, section_type, section_types, section_variables}
-use Rattle.ob0_language_types.specs.Declarations.{constructor_after_formals, constructors_before_variables, constructor_after_variables, procedure_constructor_count}
+use Rattle.ob0_language_types.specs.Declarations.{constructors_before_procedure_block, constructors_before_variables, constructors_before_procedures, procedure_constructor_count}
 use Rattle.ob0_language_types.specs.Expressions.{Meanings}
 use Rattle.ob0_language_types.specs.Typing.{constructor_count, group_constructor_count}
 use Rattle.ob0_language_values.specs.Values.{Shape}
 use Rattle.ob0_scope_table.specs.BodyReplaced.{PathToBody, block_without, procedure_without, procedures_without, module_without_body}
 use Rattle.ob0_types_fields.specs.declared.field_name.FieldName.{FieldName}
-use Rattle.ob0_types_fields.specs.Identifiers.{declared_in_block, declared_in_procedure, declared_in_procedures}
+use Rattle.ob0_types_fields.specs.Identifiers.{fields_declared_in_block, fields_declared_in_procedure, fields_declared_in_procedures}
 use Rattle.ob0_types_fields.specs.Owned.{fields_with_owners, fields_in_block, fields_in_group, fields_in_groups, fields_in_module, fields_at_tokens, fields_in_procedure, fields_in_procedures, fields_in_sections, fields_in_tree, fields_in_type, fields_in_types, fields_in_variables}
 use Rattle.ob0_tree.proofs.MappedIdentifiers.{both}
 use Rattle.ob0_types_fields.proofs.OwnedAround.{procedure_counted}
@@ -19,24 +19,24 @@ use Rattle.ob0_types_fields.proofs.OwnedTypes.{counted_formals_section, counted_
 -- ---- without some statements
 
 mutual
-  block_declares : (way : PathToBody) (k : ℕ) (b : Tree ℕ block) → declared_in_block k (block_without way b) ≡ declared_in_block k b
-  block_declares [] k (has_body (declares cs ts vs ps) statements) = refl
-  block_declares (j ∷ way) k (has_body (declares cs ts vs ps) statements) =
-      ap (λ l. fields_in_types k (section_types ts) ++ (fields_in_variables (constructors_before_variables k (has_body (declares cs ts vs ps) statements)) (section_variables vs) ++ l))
-      (procedures_declare j way (constructor_after_variables k (has_body (declares cs ts vs ps) statements)) ps)
+  block_declares : (path : PathToBody) (k : ℕ) (b : Tree ℕ block) → fields_declared_in_block k (block_without path b) ≡ fields_declared_in_block k b
+  block_declares [] k (forms_block (declares cs ts vs ps) statements) = refl
+  block_declares (j ∷ path) k (forms_block (declares cs ts vs ps) statements) =
+      ap (λ l. fields_in_types k (section_types ts) ++ (fields_in_variables (constructors_before_variables k (forms_block (declares cs ts vs ps) statements)) (section_variables vs) ++ l))
+      (procedures_declare j path (constructors_before_procedures k (forms_block (declares cs ts vs ps) statements)) ps)
 
-  procedures_declare : (j : ℕ) (way : PathToBody) (k : ℕ) (ps : Tree ℕ (items procedure)) → declared_in_procedures k (procedures_without j way ps) ≡ declared_in_procedures k ps
-  procedures_declare zero way k end = refl
-  procedures_declare (suc j) way k end = refl
-  procedures_declare zero way k (more p rest) = λ i. procedure_declares way k p i ++ declared_in_procedures (k + procedure_counted way p i) rest
-  procedures_declare (suc j) way k (more p rest) = ap (λ l. declared_in_procedure k p ++ l) (procedures_declare j way (k + procedure_constructor_count p) rest)
+  procedures_declare : (j : ℕ) (path : PathToBody) (k : ℕ) (ps : Tree ℕ (items procedure)) → fields_declared_in_procedures k (procedures_without j path ps) ≡ fields_declared_in_procedures k ps
+  procedures_declare zero path k end = refl
+  procedures_declare (suc j) path k end = refl
+  procedures_declare zero path k (more p rest) = λ i. procedure_declares path k p i ++ fields_declared_in_procedures (k + procedure_counted path p i) rest
+  procedures_declare (suc j) path k (more p rest) = ap (λ l. fields_declared_in_procedure k p ++ l) (procedures_declare j path (k + procedure_constructor_count p) rest)
 
-  procedure_declares : (way : PathToBody) (k : ℕ) (p : Tree ℕ (item procedure)) → declared_in_procedure k (procedure_without way p) ≡ declared_in_procedure k p
-  procedure_declares way k (declares_procedure x fs b closing) =
-      ap (λ l. fields_in_sections k (formal_sections fs) ++ l) (block_declares way (constructor_after_formals k (declares_procedure x fs b closing)) b)
+  procedure_declares : (path : PathToBody) (k : ℕ) (p : Tree ℕ (item procedure)) → fields_declared_in_procedure k (procedure_without path p) ≡ fields_declared_in_procedure k p
+  procedure_declares path k (declares_procedure x fs b closing) =
+      ap (λ l. fields_in_sections k (formal_sections fs) ++ l) (block_declares path (constructors_before_procedure_block k (declares_procedure x fs b closing)) b)
 
-pub declared_without : (way : PathToBody) (t : Tree ℕ module_text) → declared_in_block 0 (module_block (module_without_body way t)) ≡ declared_in_block 0 (module_block t)
-declared_without way (is_module x b closing) = block_declares way 0 b
+pub declared_without : (path : PathToBody) (t : Tree ℕ module_text) → fields_declared_in_block 0 (module_block (module_without_body path t)) ≡ fields_declared_in_block 0 (module_block t)
+declared_without path (is_module x b closing) = block_declares path 0 b
 
 -- ---- at other places
 
@@ -54,78 +54,78 @@ module _ (at : ℕ → ℕ) where
   among_placed ((x, None) ∷ xs) = among_placed xs
   among_placed ((x, Some k) ∷ xs) = ap (λ (l : List FieldName). record { token = at x; owner = k } ∷ l) (among_placed xs)
 
-  further_placed : (r : ℕ) (ns : Tree ℕ (items further_name)) → fields_at_tokens r (further_names (mapped at at ns)) ≡ map (field_placed at) (fields_at_tokens r (further_names ns))
+  further_placed : (r : ℕ) (ns : Tree ℕ (items further_name)) → fields_at_tokens r (further_names (mapped_tree at at ns)) ≡ map (field_placed at) (fields_at_tokens r (further_names ns))
   further_placed r end = refl
   further_placed r (more (then_name x) rest) = ap (λ (l : List FieldName). record { token = at x; owner = r } ∷ l) (further_placed r rest)
 
-  names_placed : (r : ℕ) (ns : Tree ℕ names) → fields_at_tokens r (names_in_list (mapped at at ns)) ≡ map (field_placed at) (fields_at_tokens r (names_in_list ns))
+  names_placed : (r : ℕ) (ns : Tree ℕ names) → fields_at_tokens r (names_in_list (mapped_tree at at ns)) ≡ map (field_placed at) (fields_at_tokens r (names_in_list ns))
   names_placed r (listed x rest) = ap (λ (l : List FieldName). record { token = at x; owner = r } ∷ l) (further_placed r rest)
 
   mutual
-    type_placed : (k : ℕ) (t : Tree ℕ written_type) → fields_in_type k (mapped at at t) ≡ map (field_placed at) (fields_in_type k t)
+    type_placed : (k : ℕ) (t : Tree ℕ written_type) → fields_in_type k (mapped_tree at at t) ≡ map (field_placed at) (fields_in_type k t)
     type_placed k (named_type x) = refl
     type_placed k (array_type e t) = type_placed (suc k) t
     type_placed k (record_type g rest) =
         both (field_placed at) (fields_in_group k (suc k) g) (fields_in_groups k (suc k + group_constructor_count g) rest) (group_placed k (suc k) g)
-        ((λ i. fields_in_groups k (suc k + counted_group at at g i) (mapped at at rest)) ∙ groups_placed k (suc k + group_constructor_count g) rest)
+        ((λ i. fields_in_groups k (suc k + counted_group at at g i) (mapped_tree at at rest)) ∙ groups_placed k (suc k + group_constructor_count g) rest)
 
-    group_placed : (r k : ℕ) (g : Tree ℕ fields) → fields_in_group r k (mapped at at g) ≡ map (field_placed at) (fields_in_group r k g)
+    group_placed : (r k : ℕ) (g : Tree ℕ fields) → fields_in_group r k (mapped_tree at at g) ≡ map (field_placed at) (fields_in_group r k g)
     group_placed r k no_fields = refl
     group_placed r k (some_fields ns t) = both (field_placed at) (fields_at_tokens r (names_in_list ns)) (fields_in_type k t) (names_placed r ns) (type_placed k t)
 
-    groups_placed : (r k : ℕ) (gs : Tree ℕ (items further_fields)) → fields_in_groups r k (mapped at at gs) ≡ map (field_placed at) (fields_in_groups r k gs)
+    groups_placed : (r k : ℕ) (gs : Tree ℕ (items further_fields)) → fields_in_groups r k (mapped_tree at at gs) ≡ map (field_placed at) (fields_in_groups r k gs)
     groups_placed r k end = refl
     groups_placed r k (more (then_fields g) rest) =
         both (field_placed at) (fields_in_group r k g) (fields_in_groups r (k + group_constructor_count g) rest) (group_placed r k g)
-        ((λ i. fields_in_groups r (k + counted_group at at g i) (mapped at at rest)) ∙ groups_placed r (k + group_constructor_count g) rest)
+        ((λ i. fields_in_groups r (k + counted_group at at g i) (mapped_tree at at rest)) ∙ groups_placed r (k + group_constructor_count g) rest)
 
-  types_placed : (k : ℕ) (ds : Tree ℕ (items type_name)) → fields_in_types k (mapped at at ds) ≡ map (field_placed at) (fields_in_types k ds)
+  types_placed : (k : ℕ) (ds : Tree ℕ (items type_definition)) → fields_in_types k (mapped_tree at at ds) ≡ map (field_placed at) (fields_in_types k ds)
   types_placed k end = refl
   types_placed k (more (declares_type x u) ds) =
       both (field_placed at) (fields_in_type k u) (fields_in_types (k + constructor_count u) ds) (type_placed k u)
-      ((λ i. fields_in_types (k + counted_type at at u i) (mapped at at ds)) ∙ types_placed (k + constructor_count u) ds)
+      ((λ i. fields_in_types (k + counted_type at at u i) (mapped_tree at at ds)) ∙ types_placed (k + constructor_count u) ds)
 
-  variables_placed : (k : ℕ) (gs : Tree ℕ (items variable)) → fields_in_variables k (mapped at at gs) ≡ map (field_placed at) (fields_in_variables k gs)
+  variables_placed : (k : ℕ) (gs : Tree ℕ (items variable)) → fields_in_variables k (mapped_tree at at gs) ≡ map (field_placed at) (fields_in_variables k gs)
   variables_placed k end = refl
   variables_placed k (more (declares_variable ns u) gs) =
       both (field_placed at) (fields_in_type k u) (fields_in_variables (k + constructor_count u) gs) (type_placed k u)
-      ((λ i. fields_in_variables (k + counted_type at at u i) (mapped at at gs)) ∙ variables_placed (k + constructor_count u) gs)
+      ((λ i. fields_in_variables (k + counted_type at at u i) (mapped_tree at at gs)) ∙ variables_placed (k + constructor_count u) gs)
 
-  section_placed : (k : ℕ) (f : Tree ℕ section) → fields_in_type k (section_type (mapped at at f)) ≡ map (field_placed at) (fields_in_type k (section_type f))
+  section_placed : (k : ℕ) (f : Tree ℕ section) → fields_in_type k (section_type (mapped_tree at at f)) ≡ map (field_placed at) (fields_in_type k (section_type f))
   section_placed k (value_section ns u) = type_placed k u
   section_placed k (variable_section ns u) = type_placed k u
 
-  sections_placed : (k : ℕ) (fs : Tree ℕ (items further_section)) → fields_in_sections k (mapped at at fs) ≡ map (field_placed at) (fields_in_sections k fs)
+  sections_placed : (k : ℕ) (fs : Tree ℕ (items further_section)) → fields_in_sections k (mapped_tree at at fs) ≡ map (field_placed at) (fields_in_sections k fs)
   sections_placed k end = refl
   sections_placed k (more (then_section f) fs) =
       both (field_placed at) (fields_in_type k (section_type f)) (fields_in_sections (k + constructor_count (section_type f)) fs) (section_placed k f)
-      ((λ i. fields_in_sections (k + counted_section at at f i) (mapped at at fs)) ∙ sections_placed (k + constructor_count (section_type f)) fs)
+      ((λ i. fields_in_sections (k + counted_section at at f i) (mapped_tree at at fs)) ∙ sections_placed (k + constructor_count (section_type f)) fs)
 
   mutual
-    block_fields_placed : (k : ℕ) (b : Tree ℕ block) → declared_in_block k (mapped at at b) ≡ map (field_placed at) (declared_in_block k b)
-    block_fields_placed k (has_body (declares cs ts vs ps) statements) =
-        let b : Tree ℕ block = has_body (declares cs ts vs ps) statements in
+    block_fields_placed : (k : ℕ) (b : Tree ℕ block) → fields_declared_in_block k (mapped_tree at at b) ≡ map (field_placed at) (fields_declared_in_block k b)
+    block_fields_placed k (forms_block (declares cs ts vs ps) statements) =
+        let b : Tree ℕ block = forms_block (declares cs ts vs ps) statements in
         let T : List FieldName = fields_in_types k (section_types ts) in
         let V : List FieldName = fields_in_variables (constructors_before_variables k b) (section_variables vs) in
-        let Q : List FieldName = declared_in_procedures (constructor_after_variables k b) ps in
+        let Q : List FieldName = fields_declared_in_procedures (constructors_before_procedures k b) ps in
         both (field_placed at) T (V ++ Q) (ap (fields_in_types k) (types_mapped at at ts) ∙ types_placed k (section_types ts))
         (both (field_placed at) V Q
         ((λ i. fields_in_variables (k + counted_type_section at at ts i) (variables_mapped at at vs i)) ∙ variables_placed (constructors_before_variables k b) (section_variables vs))
-        ((λ i. declared_in_procedures (k + counted_type_section at at ts i + counted_variable_section at at vs i) (mapped at at ps)) ∙ procedures_fields_placed (constructor_after_variables k b) ps))
+        ((λ i. fields_declared_in_procedures (k + counted_type_section at at ts i + counted_variable_section at at vs i) (mapped_tree at at ps)) ∙ procedures_fields_placed (constructors_before_procedures k b) ps))
 
-    procedures_fields_placed : (k : ℕ) (ps : Tree ℕ (items procedure)) → declared_in_procedures k (mapped at at ps) ≡ map (field_placed at) (declared_in_procedures k ps)
+    procedures_fields_placed : (k : ℕ) (ps : Tree ℕ (items procedure)) → fields_declared_in_procedures k (mapped_tree at at ps) ≡ map (field_placed at) (fields_declared_in_procedures k ps)
     procedures_fields_placed k end = refl
     procedures_fields_placed k (more p rest) =
-        both (field_placed at) (declared_in_procedure k p) (declared_in_procedures (k + procedure_constructor_count p) rest) (procedure_fields_placed k p)
-        ((λ i. declared_in_procedures (k + counted_procedure at at p i) (mapped at at rest)) ∙ procedures_fields_placed (k + procedure_constructor_count p) rest)
+        both (field_placed at) (fields_declared_in_procedure k p) (fields_declared_in_procedures (k + procedure_constructor_count p) rest) (procedure_fields_placed k p)
+        ((λ i. fields_declared_in_procedures (k + counted_procedure at at p i) (mapped_tree at at rest)) ∙ procedures_fields_placed (k + procedure_constructor_count p) rest)
 
-    procedure_fields_placed : (k : ℕ) (p : Tree ℕ (item procedure)) → declared_in_procedure k (mapped at at p) ≡ map (field_placed at) (declared_in_procedure k p)
+    procedure_fields_placed : (k : ℕ) (p : Tree ℕ (item procedure)) → fields_declared_in_procedure k (mapped_tree at at p) ≡ map (field_placed at) (fields_declared_in_procedure k p)
     procedure_fields_placed k (declares_procedure x fs b closing) =
-        let j : ℕ = constructor_after_formals k (declares_procedure x fs b closing) in
-        both (field_placed at) (fields_in_sections k (formal_sections fs)) (declared_in_block j b) (ap (fields_in_sections k) (sections_mapped at at fs) ∙ sections_placed k (formal_sections fs))
-        ((λ i. declared_in_block (k + counted_formals_section at at fs i) (mapped at at b)) ∙ block_fields_placed j b)
+        let j : ℕ = constructors_before_procedure_block k (declares_procedure x fs b closing) in
+        both (field_placed at) (fields_in_sections k (formal_sections fs)) (fields_declared_in_block j b) (ap (fields_in_sections k) (sections_mapped at at fs) ∙ sections_placed k (formal_sections fs))
+        ((λ i. fields_declared_in_block (k + counted_formals_section at at fs i) (mapped_tree at at b)) ∙ block_fields_placed j b)
 
-  pub declared_placed : (t : Tree ℕ module_text) → declared_in_block 0 (module_block (mapped at at t)) ≡ map (field_placed at) (declared_in_block 0 (module_block t))
+  pub declared_placed : (t : Tree ℕ module_text) → fields_declared_in_block 0 (module_block (mapped_tree at at t)) ≡ map (field_placed at) (fields_declared_in_block 0 (module_block t))
   declared_placed (is_module x b closing) = block_fields_placed 0 b
 
 -- ---- among all fields
@@ -141,32 +141,32 @@ module _ (P : FieldName → Type 0) where
 
 module _ {Q : Type 0} (m : Meanings ℕ Shape Q) (P : FieldName → Type 0) where
   mutual
-    block_among : (k : ℕ) (b : Tree ℕ block) → AllByRecursion P (fields_in_block m k b) → AllByRecursion P (declared_in_block k b)
-    block_among k (has_body (declares cs ts vs ps) statements) h =
-        let b : Tree ℕ block = has_body (declares cs ts vs ps) statements in
+    block_among : (k : ℕ) (b : Tree ℕ block) → AllByRecursion P (fields_in_block m k b) → AllByRecursion P (fields_declared_in_block k b)
+    block_among k (forms_block (declares cs ts vs ps) statements) h =
+        let b : Tree ℕ block = forms_block (declares cs ts vs ps) statements in
         let T : List FieldName = fields_in_types k (section_types ts) in
         let V : List FieldName = fields_in_variables (constructors_before_variables k b) (section_variables vs) in
-        let all : List FieldName = fields_in_procedures m (constructor_after_variables k b) ps in
-        let some : List FieldName = declared_in_procedures (constructor_after_variables k b) ps in
+        let all : List FieldName = fields_in_procedures m (constructors_before_procedures k b) ps in
+        let some : List FieldName = fields_declared_in_procedures (constructors_before_procedures k b) ps in
         let p = parts P (T ++ (V ++ all)) (fields_in_tree m statements) h in
         let q = parts P T (V ++ all) p.0 in
         let r = parts P V all q.1 in
-        joined P T (V ++ some) q.0 (joined P V some r.0 (procedures_among (constructor_after_variables k b) ps r.1))
+        joined P T (V ++ some) q.0 (joined P V some r.0 (procedures_among (constructors_before_procedures k b) ps r.1))
 
-    procedures_among : (k : ℕ) (ps : Tree ℕ (items procedure)) → AllByRecursion P (fields_in_procedures m k ps) → AllByRecursion P (declared_in_procedures k ps)
+    procedures_among : (k : ℕ) (ps : Tree ℕ (items procedure)) → AllByRecursion P (fields_in_procedures m k ps) → AllByRecursion P (fields_declared_in_procedures k ps)
     procedures_among k end h = tt
     procedures_among k (more p rest) h =
         let j : ℕ = k + procedure_constructor_count p in
         let q = parts P (fields_in_procedure m k p) (fields_in_procedures m j rest) h in
-        joined P (declared_in_procedure k p) (declared_in_procedures j rest) (procedure_among k p q.0) (procedures_among j rest q.1)
+        joined P (fields_declared_in_procedure k p) (fields_declared_in_procedures j rest) (procedure_among k p q.0) (procedures_among j rest q.1)
 
-    procedure_among : (k : ℕ) (p : Tree ℕ (item procedure)) → AllByRecursion P (fields_in_procedure m k p) → AllByRecursion P (declared_in_procedure k p)
+    procedure_among : (k : ℕ) (p : Tree ℕ (item procedure)) → AllByRecursion P (fields_in_procedure m k p) → AllByRecursion P (fields_declared_in_procedure k p)
     procedure_among k (declares_procedure x fs b closing) h =
-        let j : ℕ = constructor_after_formals k (declares_procedure x fs b closing) in
+        let j : ℕ = constructors_before_procedure_block k (declares_procedure x fs b closing) in
         let own : List FieldName = fields_in_sections k (formal_sections fs) in
         let q = parts P own (fields_in_block m j b) h in
-        joined P own (declared_in_block j b) q.0 (block_among j b q.1)
+        joined P own (fields_declared_in_block j b) q.0 (block_among j b q.1)
 
   -- A property of all fields of a module holds for its declared fields.
-  pub declared_among : (t : Tree ℕ module_text) → AllByRecursion P (fields_in_module m t) → AllByRecursion P (declared_in_block 0 (module_block t))
+  pub declared_among : (t : Tree ℕ module_text) → AllByRecursion P (fields_in_module m t) → AllByRecursion P (fields_declared_in_block 0 (module_block t))
   declared_among (is_module x b closing) h = block_among 0 b h

@@ -2,8 +2,8 @@
 -- its written type denotes there. A procedure has the parameters of its heading.
 use Rattle.std.proofs.Common.{◌≡◌, ℕ, ◌+◌, true, List, [], ◌∷◌, ◌++◌, map, Some, None, Option, option_and_then, refl, sym, ap, ◌∙◌, subst, append_assoc}
 use Rattle.ob0_tree.specs.ParsedModule.{named_tree_of, tree_of}
-use Rattle.ob0_tree.specs.Places.{text_at}
-use Rattle.ob0_tree.specs.Tree.{Tree, block, body, constant, declares, declares_constant, declares_procedure, declares_type, declares_types, declares_variable, declares_variables, end, formals, further_section, has_body, item, items, listed, maybe, module_text, more, no_formals, none, one, procedure, section, some_formals, then_section, type_name, type_names, value_section, variable, variable_section, variables, written_type}
+use Rattle.ob0_tree.specs.Places.{token_text_at}
+use Rattle.ob0_tree.specs.Tree.{Tree, block, body, constant, declares, declares_constant, declares_procedure, declares_type, declares_types, declares_variable, declares_variables, end, formals, further_section, forms_block, item, items, listed, maybe, module_text, more, no_formals, none, one, procedure, section, some_formals, then_section, type_definition, type_definitions, value_section, variable, variable_section, variables, written_type}
 use Rattle.ob0_language_names.specs.Names.{Label, naming_by_label, naming_by_spelling}
 use Rattle.ob0_language_names.specs.Parts.{block_constants, block_statements, block_types, block_variables, formal_sections, further_names, module_block, section_type, section_types, section_variables}
 use Rattle.ob0_scope_table.specs.Resolution.{IsResolution, Resolution, ordinal_in}
@@ -12,11 +12,11 @@ use Rattle.ob0_language_types.specs.Bindings.{block_bindings, declared_object, m
 use Rattle.ob0_language_types.specs.Declaring.{declare_block}
 use Rattle.ob0_scope_table.specs.LabelledTrees.{tree_with_labels, label_at_token}
 use Rattle.ob0_language_types.proofs.Bound.{bindings_since-append, bind_typed_parameters-append}
-use Rattle.ob0_language_types.specs.Declarations.{constructors_before_variables, constructor_after_variables, declare_constants, declare_first, declare_types, formals_constructor_count, procedure_constructor_count}
-use Rattle.ob0_language_types.specs.Environments.{meanings, outermost}
+use Rattle.ob0_language_types.specs.Declarations.{constructors_before_variables, constructors_before_procedures, declare_constants, declare_constants_and_types, declare_types, formals_constructor_count, procedure_constructor_count}
+use Rattle.ob0_language_types.specs.Environments.{meanings, outermost_environment}
 use Rattle.ob0_language_types.specs.Expressions.{Meanings, Object, a_constant, a_type, a_variable}
-use Rattle.ob0_language_types.specs.Typing.{constant_value, constructor_count, denoted}
-use Rattle.ob0_language_types.specs.WellTyped.{FormalParameter, Mode, Signature, TypeEnvironment, TypedParameter, WellTyped, bind_names, bind_typed_parameters, block_fits, by_place, by_value, declare_typed, passes_type_check, bind_procedure, procedures_fit, typed_parameters}
+use Rattle.ob0_language_types.specs.Typing.{constant_value, constructor_count, denoted_type}
+use Rattle.ob0_language_types.specs.WellTyped.{FormalParameter, Mode, Signature, TypeEnvironment, TypedParameter, WellTyped, bind_names, bind_typed_parameters, block_is_well_typed, by_place, by_value, declare_typed_variables, passes_type_check, bind_procedure, procedures_are_well_typed, typed_parameters}
 use Rattle.ob0_language_types.proofs.Literals.{some_inverse}
 use Rattle.ob0_language_types.proofs.Proved.{numbering_keeps_type_check-holds}
 use Rattle.ob0_language_types.proofs.TypedElsewhere.{then_some}
@@ -41,11 +41,11 @@ module _ (r : Resolution) where
   pub record Denotes (u : Tree ℕ written_type) (s : Shape) : Type 0 where
     pub env : TypeEnvironment Label
     pub ordinal : ℕ
-    pub denotes : denoted (meanings naming_by_label env) ordinal (tree_with_labels r u) ≡ Some s
+    pub denotes : denoted_type (meanings naming_by_label env) ordinal (tree_with_labels r u) ≡ Some s
 
   -- ---- properties of each declaration
 
-  abbrev pub TypesAreTyped : Tree ℕ (items type_name) → Type 0
+  abbrev pub TypesAreTyped : Tree ℕ (items type_definition) → Type 0
   TypesAreTyped end = Unit {0}
   TypesAreTyped (more (declares_type x u) ds) = ((s : Shape) × (meaning.object_for x ≡ Some (a_type s)) × Denotes u s) × TypesAreTyped ds
 
@@ -64,7 +64,7 @@ module _ (r : Resolution) where
 
   abbrev mutual
     pub BlockIsTyped : Tree ℕ block → Type 0
-    BlockIsTyped (has_body (declares cs ts vs ps) statements) = (TypesAreTyped (section_types ts) × VariablesAreTyped (section_variables vs)) × ProceduresAreTyped ps
+    BlockIsTyped (forms_block (declares cs ts vs ps) statements) = (TypesAreTyped (section_types ts) × VariablesAreTyped (section_variables vs)) × ProceduresAreTyped ps
 
     pub ProceduresAreTyped : Tree ℕ (items procedure) → Type 0
     ProceduresAreTyped end = Unit {0}
@@ -102,7 +102,7 @@ module _ (r : Resolution) where
   has_object : (x : ℕ) (o : Object Shape Signature) → at_label objects (label_at_token r x) ≡ Some o → meaning.object_for x ≡ Some o
   has_object x o h = go (ordinal_in r.ordinals x) h
     where
-      go : (k : Option ℕ) → at_label objects (label_from_ordinal naming_by_spelling k (text_at r.module_read.source x)) ≡ Some o → option_and_then objects k ≡ Some o
+      go : (k : Option ℕ) → at_label objects (label_from_ordinal naming_by_spelling k (token_text_at r.module_read.source x)) ≡ Some o → option_and_then objects k ≡ Some o
       go None e = e
       go (Some k) e = e
 
@@ -116,12 +116,12 @@ module _ (r : Resolution) where
       let mid : TypeEnvironment Label = (x, a_constant found.0) ∷ env in
       put_weaker env after _ (Unit {0}) (λ p. tt) (put_more env mid after _ _ (put_one env x (a_constant found.0)) (constants-put mid cs after found.2))
 
-  types-put : (env : TypeEnvironment Label) (k : ℕ) (ds : Tree ℕ (items type_name)) (after : TypeEnvironment Label) → declare_types naming_by_label env k (tree_with_labels r ds) ≡ Some after → Put env after (TypesAreTyped ds)
+  types-put : (env : TypeEnvironment Label) (k : ℕ) (ds : Tree ℕ (items type_definition)) (after : TypeEnvironment Label) → declare_types naming_by_label env k (tree_with_labels r ds) ≡ Some after → Put env after (TypesAreTyped ds)
   unfolding declare_types
   types-put env k end after h = subst (λ e. Put env e (Unit {0})) (some_inverse h) (put_nothing env (Unit {0}) tt)
   types-put env k (more (declares_type x u) ds) after h =
       let n : ℕ = k + constructor_count (tree_with_labels r u) in
-      let found = then_some (denoted (meanings naming_by_label env) k (tree_with_labels r u)) (λ s. declare_types naming_by_label ((label_at_token r x, a_type s) ∷ env) n (tree_with_labels r ds)) after h in
+      let found = then_some (denoted_type (meanings naming_by_label env) k (tree_with_labels r u)) (λ s. declare_types naming_by_label ((label_at_token r x, a_type s) ∷ env) n (tree_with_labels r ds)) after h in
       let mid : TypeEnvironment Label = (label_at_token r x, a_type found.0) ∷ env in
       put_weaker env after _ (TypesAreTyped (more (declares_type x u) ds))
       (λ p. ((found.0, has_object x (a_type found.0) p.0, record { env = env; ordinal = k; denotes = found.1 }), p.1))
@@ -133,13 +133,13 @@ module _ (r : Resolution) where
       let mid : TypeEnvironment Label = (x, o) ∷ env in
       put_weaker env (bind_names xs o mid) _ (Unit {0}) (λ p. tt) (put_more env mid (bind_names xs o mid) _ _ (put_one env x o) (names-put mid xs o))
 
-  variables-put : (env : TypeEnvironment Label) (k : ℕ) (gs : Tree ℕ (items variable)) (after : TypeEnvironment Label) → declare_typed naming_by_label k (tree_with_labels r gs) env ≡ Some after → Put env after (VariablesAreTyped gs)
-  unfolding declare_typed
+  variables-put : (env : TypeEnvironment Label) (k : ℕ) (gs : Tree ℕ (items variable)) (after : TypeEnvironment Label) → declare_typed_variables naming_by_label k (tree_with_labels r gs) env ≡ Some after → Put env after (VariablesAreTyped gs)
+  unfolding declare_typed_variables
   variables-put env k end after h = subst (λ e. Put env e (Unit {0})) (some_inverse h) (put_nothing env (Unit {0}) tt)
   variables-put env k (more (declares_variable (listed x rest) u) gs) after h =
       let n : ℕ = k + constructor_count (tree_with_labels r u) in
       let others : List Label = further_names (tree_with_labels r rest) in
-      let found = then_some (denoted (meanings naming_by_label env) k (tree_with_labels r u)) (λ s. declare_typed naming_by_label n (tree_with_labels r gs) (bind_names others (a_variable s) ((label_at_token r x, a_variable s) ∷ env))) after h in
+      let found = then_some (denoted_type (meanings naming_by_label env) k (tree_with_labels r u)) (λ s. declare_typed_variables naming_by_label n (tree_with_labels r gs) (bind_names others (a_variable s) ((label_at_token r x, a_variable s) ∷ env))) after h in
       let o : Object Shape Signature = a_variable found.0 in
       let first : TypeEnvironment Label = (label_at_token r x, o) ∷ env in
       let mid : TypeEnvironment Label = bind_names others o first in
@@ -147,23 +147,23 @@ module _ (r : Resolution) where
       (λ p. ((found.0, has_object x o p.0.0, record { env = env; ordinal = k; denotes = found.1 }), p.1))
       (put_more env mid after _ _ (put_more env first mid _ _ (put_one env (label_at_token r x) o) (names-put first others o)) (variables-put mid n gs after found.2))
 
-  type_section-put : (env : TypeEnvironment Label) (k : ℕ) (ts : Tree ℕ (maybe type_names)) (after : TypeEnvironment Label) → declare_types naming_by_label env k (section_types (tree_with_labels r ts)) ≡ Some after → Put env after (TypesAreTyped (section_types ts))
+  type_section-put : (env : TypeEnvironment Label) (k : ℕ) (ts : Tree ℕ (maybe type_definitions)) (after : TypeEnvironment Label) → declare_types naming_by_label env k (section_types (tree_with_labels r ts)) ≡ Some after → Put env after (TypesAreTyped (section_types ts))
   type_section-put env k none after h = types-put env k end after h
   type_section-put env k (one (declares_types ts)) after h = types-put env k ts after h
 
-  variable_section-put : (env : TypeEnvironment Label) (k : ℕ) (vs : Tree ℕ (maybe variables)) (after : TypeEnvironment Label) → declare_typed naming_by_label k (section_variables (tree_with_labels r vs)) env ≡ Some after → Put env after (VariablesAreTyped (section_variables vs))
+  variable_section-put : (env : TypeEnvironment Label) (k : ℕ) (vs : Tree ℕ (maybe variables)) (after : TypeEnvironment Label) → declare_typed_variables naming_by_label k (section_variables (tree_with_labels r vs)) env ≡ Some after → Put env after (VariablesAreTyped (section_variables vs))
   variable_section-put env k none after h = variables-put env k end after h
   variable_section-put env k (one (declares_variables vs)) after h = variables-put env k vs after h
 
-  firsts : (env : TypeEnvironment Label) (k : ℕ) (b : Tree Label block) (after : TypeEnvironment Label) → declare_first naming_by_label env k b ≡ Some after
+  firsts : (env : TypeEnvironment Label) (k : ℕ) (b : Tree Label block) (after : TypeEnvironment Label) → declare_constants_and_types naming_by_label env k b ≡ Some after
       → (mid : TypeEnvironment Label) × (declare_constants naming_by_label env (block_constants b) ≡ Some mid) × (declare_types naming_by_label mid k (block_types b) ≡ Some after)
-  unfolding declare_first
+  unfolding declare_constants_and_types
   firsts env k b after h = then_some (declare_constants naming_by_label env (block_constants b)) (λ e. declare_types naming_by_label e k (block_types b)) after h
 
   block-put : (env : TypeEnvironment Label) (k : ℕ) (b : Tree ℕ block) (inner : TypeEnvironment Label) → declare_block naming_by_label env k (tree_with_labels r b) ≡ Some inner → Put env inner (TypesAreTyped (block_types b) × VariablesAreTyped (block_variables b))
-  block-put env k (has_body (declares cs ts vs ps) statements) inner h =
-      let b : Tree Label block = tree_with_labels r (has_body (declares cs ts vs ps) statements) in
-      let two = then_some (declare_first naming_by_label env k b) (declare_typed naming_by_label (constructors_before_variables k b) (block_variables b)) inner h in
+  block-put env k (forms_block (declares cs ts vs ps) statements) inner h =
+      let b : Tree Label block = tree_with_labels r (forms_block (declares cs ts vs ps) statements) in
+      let two = then_some (declare_constants_and_types naming_by_label env k b) (declare_typed_variables naming_by_label (constructors_before_variables k b) (block_variables b)) inner h in
       let one = firsts env k b two.0 two.1 in
       let c = constants-put env (block_constants b) one.0 one.1 in
       let t = type_section-put one.0 k ts two.0 one.2 in
@@ -187,14 +187,14 @@ module _ (r : Resolution) where
       → option_and_then
       (λ s. option_and_then (λ rest. Some (map (parameter_of mode s) (label_at_token r x ∷ others) ++ rest))
       (typed_parameters naming_by_label (bind_names (label_at_token r x ∷ others) (a_variable s) env) (k + constructor_count (tree_with_labels r u)) (tree_with_labels r fs)))
-      (denoted (meanings naming_by_label env) k (tree_with_labels r u))
+      (denoted_type (meanings naming_by_label env) k (tree_with_labels r u))
       ≡ Some qs
       → ((e : TypeEnvironment Label) (ps : List (TypedParameter Label)) → typed_parameters naming_by_label e (k + constructor_count (tree_with_labels r u)) (tree_with_labels r fs) ≡ Some ps → Right objects (bind_typed_parameters ps []) → FormalsAreTyped fs)
       → Right objects (bind_typed_parameters qs []) → ((s : Shape) × (meaning.object_for x ≡ Some (a_variable s)) × Denotes u s) × FormalsAreTyped fs
   section-typed env k mode x others u fs qs h later right =
       let n : ℕ = k + constructor_count (tree_with_labels r u) in
       let xs : List Label = label_at_token r x ∷ others in
-      let one = then_some (denoted (meanings naming_by_label env) k (tree_with_labels r u)) (λ s. option_and_then (λ rest. Some (map (parameter_of mode s) xs ++ rest)) (typed_parameters naming_by_label (bind_names xs (a_variable s) env) n (tree_with_labels r fs))) qs h in
+      let one = then_some (denoted_type (meanings naming_by_label env) k (tree_with_labels r u)) (λ s. option_and_then (λ rest. Some (map (parameter_of mode s) xs ++ rest)) (typed_parameters naming_by_label (bind_names xs (a_variable s) env) n (tree_with_labels r fs))) qs h in
       let s : Shape = one.0 in
       let two = then_some (typed_parameters naming_by_label (bind_names xs (a_variable s) env) n (tree_with_labels r fs)) (λ rest. Some (map (parameter_of mode s) xs ++ rest)) qs one.2 in
       let here : List (TypedParameter Label) = map (parameter_of mode s) xs in
@@ -223,20 +223,20 @@ module _ (r : Resolution) where
   -- ---- blocks and procedures
 
   mutual
-    block-typed : (env : TypeEnvironment Label) (k : ℕ) (b : Tree ℕ block) → block_fits naming_by_label env k (tree_with_labels r b) ≡ true → Right objects (block_bindings naming_by_label env k (tree_with_labels r b)) → BlockIsTyped b
-    block-typed env k (has_body (declares cs ts vs ps) statements) h right =
-        let b : Tree ℕ block = has_body (declares cs ts vs ps) statements in
+    block-typed : (env : TypeEnvironment Label) (k : ℕ) (b : Tree ℕ block) → block_is_well_typed naming_by_label env k (tree_with_labels r b) ≡ true → Right objects (block_bindings naming_by_label env k (tree_with_labels r b)) → BlockIsTyped b
+    block-typed env k (forms_block (declares cs ts vs ps) statements) h right =
+        let b : Tree ℕ block = forms_block (declares cs ts vs ps) statements in
         let b' : Tree Label block = tree_with_labels r b in
         let parts = block-parts env k b' h in
         let inner : TypeEnvironment Label = parts.0 in
         let put = block-put env k b inner parts.1 in
-        let listed : block_bindings naming_by_label env k b' ≡ procedures_bindings naming_by_label inner (constructor_after_variables k b') (tree_with_labels r ps) ++ put.bound =
+        let listed : block_bindings naming_by_label env k b' ≡ procedures_bindings naming_by_label inner (constructors_before_procedures k b') (tree_with_labels r ps) ++ put.bound =
         block-listed env k b' inner parts.1
-        ∙ ap (λ e. procedures_bindings naming_by_label inner (constructor_after_variables k b') (tree_with_labels r ps) ++ e) (ap (bindings_since env) put.is ∙ bindings_since-append put.bound env) in
-        let two = right_split objects (procedures_bindings naming_by_label inner (constructor_after_variables k b') (tree_with_labels r ps)) put.bound (subst (Right objects) listed right) in
-        (put.says two.1, procedures-typed inner (constructor_after_variables k b') (block_statements b') ps parts.2 two.0)
+        ∙ ap (λ e. procedures_bindings naming_by_label inner (constructors_before_procedures k b') (tree_with_labels r ps) ++ e) (ap (bindings_since env) put.is ∙ bindings_since-append put.bound env) in
+        let two = right_split objects (procedures_bindings naming_by_label inner (constructors_before_procedures k b') (tree_with_labels r ps)) put.bound (subst (Right objects) listed right) in
+        (put.says two.1, procedures-typed inner (constructors_before_procedures k b') (block_statements b') ps parts.2 two.0)
 
-    procedures-typed : (env : TypeEnvironment Label) (k : ℕ) (statements : Tree Label (maybe body)) (ps : Tree ℕ (items procedure)) → procedures_fit naming_by_label env k statements (tree_with_labels r ps) ≡ true
+    procedures-typed : (env : TypeEnvironment Label) (k : ℕ) (statements : Tree Label (maybe body)) (ps : Tree ℕ (items procedure)) → procedures_are_well_typed naming_by_label env k statements (tree_with_labels r ps) ≡ true
         → Right objects (procedures_bindings naming_by_label env k (tree_with_labels r ps)) → ProceduresAreTyped ps
     procedures-typed env k statements end h right = tt
     procedures-typed env k statements (more (declares_procedure x fs b closing) rest) h right =
@@ -264,4 +264,4 @@ module _ (r : Resolution) where
       let t : Tree Label module_text = tree_with_labels r (tree_of r.module_read) in
       let fits : passes_type_check naming_by_label t ≡ true = ap (passes_type_check naming_by_label) (sym is.numbering) ∙ (sym (numbering_keeps_type_check-holds m) ∙ well.1) in
       let right : Right objects (module_bindings naming_by_label t) = subst (λ z. Right objects (module_bindings naming_by_label z)) is.numbering (bindings_right r well) in
-      block-typed (outermost naming_by_label) 0 (module_block (tree_of r.module_read)) fits (right_split objects (block_bindings naming_by_label (outermost naming_by_label) 0 (module_block t)) (outermost naming_by_label) right).0
+      block-typed (outermost_environment naming_by_label) 0 (module_block (tree_of r.module_read)) fits (right_split objects (block_bindings naming_by_label (outermost_environment naming_by_label) 0 (module_block t)) (outermost_environment naming_by_label) right).0

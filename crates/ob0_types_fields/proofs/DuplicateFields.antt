@@ -6,15 +6,15 @@ use Rattle.std.proofs.lemmas.Slice.Eq.{bytes_eq-Decides}
 use Rattle.std.proofs.Math.Bool.{and-false}
 use Rattle.ob0_scan.specs.TextWithTokens.{TextWithTokens}
 use Rattle.ob0_tree.specs.ParsedModule.{tree_of}
-use Rattle.ob0_tree.specs.Places.{text_at, value_at}
-use Rattle.ob0_tree.specs.Tree.{Tree, item, items, maybe, array_type, block, declares, declares_procedure, declares_type, declares_variable, end, fields, formals, further_fields, further_name, further_section, has_body, listed, mapped, more, named_type, names, no_fields, procedure, record_type, section, some_fields, then_fields, then_name, then_section, type_name, value_section, variable, variable_section, written_type}
-use Rattle.ob0_language_names.specs.DeclaredOnce.{group_fields, further_group_fields}
+use Rattle.ob0_tree.specs.Places.{token_text_at, token_value_at}
+use Rattle.ob0_tree.specs.Tree.{Tree, item, items, maybe, array_type, block, declares, declares_procedure, declares_type, declares_variable, end, fields, formals, further_fields, further_name, further_section, forms_block, listed, mapped_tree, more, named_type, names, no_fields, procedure, record_type, section, some_fields, then_fields, then_name, then_section, type_definition, value_section, variable, variable_section, written_type}
+use Rattle.ob0_language_names.specs.ConsistentNames.{group_field_names, further_field_names}
 use Rattle.ob0_language_names.specs.Names.{Name, same_name}
 use Rattle.ob0_language_names.specs.Parts.{formal_sections, further_names, module_block, names_in_list, section_type, section_types, section_variables}
-use Rattle.ob0_language_types.specs.Declarations.{constructor_after_formals, constructors_before_variables, constructor_after_variables, procedure_constructor_count}
+use Rattle.ob0_language_types.specs.Declarations.{constructors_before_procedure_block, constructors_before_variables, constructors_before_procedures, procedure_constructor_count}
 use Rattle.ob0_language_types.specs.Typing.{constructor_count, group_constructor_count}
 use Rattle.ob0_types_fields.specs.declared.field_name.FieldName.{FieldName}
-use Rattle.ob0_types_fields.specs.Identifiers.{DuplicateHasDeclaringToken, declared_fields, declared_in_block, declared_in_procedure, declared_in_procedures, first, belongs_to_field, tokens_of_field}
+use Rattle.ob0_types_fields.specs.Identifiers.{DuplicateHasDeclaringToken, declared_fields, fields_declared_in_block, fields_declared_in_procedure, fields_declared_in_procedures, first_token, belongs_to_field, tokens_of_field}
 use Rattle.ob0_types_fields.specs.Owned.{fields_in_group, fields_in_groups, fields_at_tokens, fields_in_sections, fields_in_type, fields_in_types, fields_in_variables}
 use Rattle.ob0_language_fields.specs.Renaming.{RecordFields, another_field_has_name, records_in_block, records_in_group, records_in_groups, records_in_procedure, records_in_procedures, records_in_sections, records_in_type, records_in_types, records_in_variables}
 use Rattle.ob0_types_fields.proofs.OwnedTypes.{counted_formals_section, counted_group, counted_procedure, counted_section, counted_type, counted_type_section, counted_variable_section, sections_mapped, types_mapped, variables_mapped}
@@ -45,11 +45,11 @@ shuffled true false false true w = refl
 shuffled true false false false w = refl
 
 module _ (text : ℕ → Name) (value : ℕ → ℕ) where
-  further-written : (ns : Tree ℕ (items further_name)) → further_names (mapped text value ns) ≡ map text (further_names ns)
+  further-written : (ns : Tree ℕ (items further_name)) → further_names (mapped_tree text value ns) ≡ map text (further_names ns)
   further-written end = refl
   further-written (more (then_name x) rest) = ap (λ z. text x ∷ z) (further-written rest)
 
-  names-written : (ns : Tree ℕ names) → names_in_list (mapped text value ns) ≡ map text (names_in_list ns)
+  names-written : (ns : Tree ℕ names) → names_in_list (mapped_tree text value ns) ≡ map text (names_in_list ns)
   names-written (listed x rest) = ap (λ z. text x ∷ z) (further-written rest)
 
   module _ (r : ℕ) (f new : Name) where
@@ -70,28 +70,28 @@ module _ (text : ℕ → Name) (value : ℕ → ℕ) where
     names-hit o (x ∷ xs) = ap (λ b. hit (record { token = x; owner = o }) || b) (names-hit o xs) ∙ and-or (o == r) (another (text x)) (list_any another (map text xs))
 
     abbrev GroupHit : ℕ → ℕ → Tree ℕ fields → Type 0
-    GroupHit o k g = list_any hit (fields_in_group o k g) ≡ (((o == r) && list_any another (group_fields (mapped text value g))) || list_any in_record (records_in_group k (mapped text value g)))
+    GroupHit o k g = list_any hit (fields_in_group o k g) ≡ (((o == r) && list_any another (group_field_names (mapped_tree text value g))) || list_any in_record (records_in_group k (mapped_tree text value g)))
 
     abbrev GroupsHit : ℕ → ℕ → Tree ℕ (items further_fields) → Type 0
-    GroupsHit o k gs = list_any hit (fields_in_groups o k gs) ≡ (((o == r) && list_any another (further_group_fields (mapped text value gs))) || list_any in_record (records_in_groups k (mapped text value gs)))
+    GroupsHit o k gs = list_any hit (fields_in_groups o k gs) ≡ (((o == r) && list_any another (further_field_names (mapped_tree text value gs))) || list_any in_record (records_in_groups k (mapped_tree text value gs)))
 
     -- The tests for a first group and its inner records can be joined with the tests for the later groups.
     two-hit : (o k : ℕ) (g : Tree ℕ fields) (rest : Tree ℕ (items further_fields)) → GroupHit o k g → GroupsHit o (k + group_constructor_count g) rest
         → list_any hit (fields_in_group o k g ++ fields_in_groups o (k + group_constructor_count g) rest)
-        ≡ (((o == r) && list_any another (group_fields (mapped text value g) ++ further_group_fields (mapped text value rest)))
-        || list_any in_record (records_in_group k (mapped text value g) ++ records_in_groups (k + group_constructor_count (mapped text value g)) (mapped text value rest)))
+        ≡ (((o == r) && list_any another (group_field_names (mapped_tree text value g) ++ further_field_names (mapped_tree text value rest)))
+        || list_any in_record (records_in_group k (mapped_tree text value g) ++ records_in_groups (k + group_constructor_count (mapped_tree text value g)) (mapped_tree text value rest)))
     two-hit o k g rest e h =
-        let g' = mapped text value g in
-        let rest' = mapped text value rest in
+        let g' = mapped_tree text value g in
+        let rest' = mapped_tree text value rest in
         let n : ℕ = k + group_constructor_count g in
         any-append hit (fields_in_group o k g) (fields_in_groups o n rest)
         ∙ ((λ i. e i || h i)
-        ∙ (shuffled (o == r) (list_any another (group_fields g')) (list_any in_record (records_in_group k g')) (list_any another (further_group_fields rest')) (list_any in_record (records_in_groups n rest'))
-        ∙ ((λ i. ((o == r) && sym (any-append another (group_fields g') (further_group_fields rest')) i) || sym (any-append in_record (records_in_group k g') (records_in_groups n rest')) i)
-        ∙ ap (λ c. ((o == r) && list_any another (group_fields g' ++ further_group_fields rest')) || list_any in_record (records_in_group k g' ++ records_in_groups (k + c) rest')) (sym (counted_group text value g)))))
+        ∙ (shuffled (o == r) (list_any another (group_field_names g')) (list_any in_record (records_in_group k g')) (list_any another (further_field_names rest')) (list_any in_record (records_in_groups n rest'))
+        ∙ ((λ i. ((o == r) && sym (any-append another (group_field_names g') (further_field_names rest')) i) || sym (any-append in_record (records_in_group k g') (records_in_groups n rest')) i)
+        ∙ ap (λ c. ((o == r) && list_any another (group_field_names g' ++ further_field_names rest')) || list_any in_record (records_in_group k g' ++ records_in_groups (k + c) rest')) (sym (counted_group text value g)))))
 
     mutual
-      type-hit : (k : ℕ) (t : Tree ℕ written_type) → list_any hit (fields_in_type k t) ≡ list_any in_record (records_in_type k (mapped text value t))
+      type-hit : (k : ℕ) (t : Tree ℕ written_type) → list_any hit (fields_in_type k t) ≡ list_any in_record (records_in_type k (mapped_tree text value t))
       type-hit k (named_type x) = refl
       type-hit k (array_type e t) = type-hit (suc k) t
       type-hit k (record_type g rest) = two-hit k (suc k) g rest (group-hit k (suc k) g) (groups-hit k (suc k + group_constructor_count g) rest)
@@ -106,68 +106,68 @@ module _ (text : ℕ → Name) (value : ℕ → ℕ) where
       groups-hit o k end = nothing-here (o == r)
       groups-hit o k (more (then_fields g) rest) = two-hit o k g rest (group-hit o k g) (groups-hit o (k + group_constructor_count g) rest)
 
-    types-hit : (k : ℕ) (ds : Tree ℕ (items type_name)) → list_any hit (fields_in_types k ds) ≡ list_any in_record (records_in_types k (mapped text value ds))
+    types-hit : (k : ℕ) (ds : Tree ℕ (items type_definition)) → list_any hit (fields_in_types k ds) ≡ list_any in_record (records_in_types k (mapped_tree text value ds))
     types-hit k end = refl
     types-hit k (more (declares_type x u) ds) =
         let n : ℕ = k + constructor_count u in
-        both (fields_in_type k u) (fields_in_types n ds) (records_in_type k (mapped text value u)) (records_in_types n (mapped text value ds)) (type-hit k u) (types-hit n ds)
-        ∙ ap (λ c. list_any in_record (records_in_type k (mapped text value u) ++ records_in_types (k + c) (mapped text value ds))) (sym (counted_type text value u))
+        both (fields_in_type k u) (fields_in_types n ds) (records_in_type k (mapped_tree text value u)) (records_in_types n (mapped_tree text value ds)) (type-hit k u) (types-hit n ds)
+        ∙ ap (λ c. list_any in_record (records_in_type k (mapped_tree text value u) ++ records_in_types (k + c) (mapped_tree text value ds))) (sym (counted_type text value u))
 
-    variables-hit : (k : ℕ) (gs : Tree ℕ (items variable)) → list_any hit (fields_in_variables k gs) ≡ list_any in_record (records_in_variables k (mapped text value gs))
+    variables-hit : (k : ℕ) (gs : Tree ℕ (items variable)) → list_any hit (fields_in_variables k gs) ≡ list_any in_record (records_in_variables k (mapped_tree text value gs))
     variables-hit k end = refl
     variables-hit k (more (declares_variable ns u) gs) =
         let n : ℕ = k + constructor_count u in
-        both (fields_in_type k u) (fields_in_variables n gs) (records_in_type k (mapped text value u)) (records_in_variables n (mapped text value gs)) (type-hit k u) (variables-hit n gs)
-        ∙ ap (λ c. list_any in_record (records_in_type k (mapped text value u) ++ records_in_variables (k + c) (mapped text value gs))) (sym (counted_type text value u))
+        both (fields_in_type k u) (fields_in_variables n gs) (records_in_type k (mapped_tree text value u)) (records_in_variables n (mapped_tree text value gs)) (type-hit k u) (variables-hit n gs)
+        ∙ ap (λ c. list_any in_record (records_in_type k (mapped_tree text value u) ++ records_in_variables (k + c) (mapped_tree text value gs))) (sym (counted_type text value u))
 
-    section-hit : (k : ℕ) (s : Tree ℕ section) → list_any hit (fields_in_type k (section_type s)) ≡ list_any in_record (records_in_type k (section_type (mapped text value s)))
+    section-hit : (k : ℕ) (s : Tree ℕ section) → list_any hit (fields_in_type k (section_type s)) ≡ list_any in_record (records_in_type k (section_type (mapped_tree text value s)))
     section-hit k (value_section ns u) = type-hit k u
     section-hit k (variable_section ns u) = type-hit k u
 
-    sections-hit : (k : ℕ) (fs : Tree ℕ (items further_section)) → list_any hit (fields_in_sections k fs) ≡ list_any in_record (records_in_sections k (mapped text value fs))
+    sections-hit : (k : ℕ) (fs : Tree ℕ (items further_section)) → list_any hit (fields_in_sections k fs) ≡ list_any in_record (records_in_sections k (mapped_tree text value fs))
     sections-hit k end = refl
     sections-hit k (more (then_section s) fs) =
         let n : ℕ = k + constructor_count (section_type s) in
-        let s' = section_type (mapped text value s) in
-        both (fields_in_type k (section_type s)) (fields_in_sections n fs) (records_in_type k s') (records_in_sections n (mapped text value fs)) (section-hit k s) (sections-hit n fs)
-        ∙ ap (λ c. list_any in_record (records_in_type k s' ++ records_in_sections (k + c) (mapped text value fs))) (sym (counted_section text value s))
+        let s' = section_type (mapped_tree text value s) in
+        both (fields_in_type k (section_type s)) (fields_in_sections n fs) (records_in_type k s') (records_in_sections n (mapped_tree text value fs)) (section-hit k s) (sections-hit n fs)
+        ∙ ap (λ c. list_any in_record (records_in_type k s' ++ records_in_sections (k + c) (mapped_tree text value fs))) (sym (counted_section text value s))
 
-    formals-hit : (k : ℕ) (fs : Tree ℕ (maybe formals)) → list_any hit (fields_in_sections k (formal_sections fs)) ≡ list_any in_record (records_in_sections k (formal_sections (mapped text value fs)))
+    formals-hit : (k : ℕ) (fs : Tree ℕ (maybe formals)) → list_any hit (fields_in_sections k (formal_sections fs)) ≡ list_any in_record (records_in_sections k (formal_sections (mapped_tree text value fs)))
     formals-hit k fs = sections-hit k (formal_sections fs) ∙ ap (λ t. list_any in_record (records_in_sections k t)) (sym (sections_mapped text value fs))
 
     mutual
-      block-hit : (k : ℕ) (b : Tree ℕ block) → list_any hit (declared_in_block k b) ≡ list_any in_record (records_in_block k (mapped text value b))
-      block-hit k (has_body (declares cs ts vs ps) statements) =
-          let b : Tree ℕ block = has_body (declares cs ts vs ps) statements in
-          let b' = mapped text value b in
+      block-hit : (k : ℕ) (b : Tree ℕ block) → list_any hit (fields_declared_in_block k b) ≡ list_any in_record (records_in_block k (mapped_tree text value b))
+      block-hit k (forms_block (declares cs ts vs ps) statements) =
+          let b : Tree ℕ block = forms_block (declares cs ts vs ps) statements in
+          let b' = mapped_tree text value b in
           let n : ℕ = constructors_before_variables k b in
-          let l : ℕ = constructor_after_variables k b in
+          let l : ℕ = constructors_before_procedures k b in
           let types : constructors_before_variables k b' ≡ n = ap (λ c. k + c) (counted_type_section text value ts) in
-          let variables : constructor_after_variables k b' ≡ l = λ i. types i + counted_variable_section text value vs i in
-          let ts' = section_types (mapped text value ts) in
-          let vs' = section_variables (mapped text value vs) in
-          let ps' = mapped text value ps in
-          both (fields_in_types k (section_types ts)) (fields_in_variables n (section_variables vs) ++ declared_in_procedures l ps) (records_in_types k ts') (records_in_variables (constructors_before_variables k b') vs' ++ records_in_procedures (constructor_after_variables k b') ps')
+          let variables : constructors_before_procedures k b' ≡ l = λ i. types i + counted_variable_section text value vs i in
+          let ts' = section_types (mapped_tree text value ts) in
+          let vs' = section_variables (mapped_tree text value vs) in
+          let ps' = mapped_tree text value ps in
+          both (fields_in_types k (section_types ts)) (fields_in_variables n (section_variables vs) ++ fields_declared_in_procedures l ps) (records_in_types k ts') (records_in_variables (constructors_before_variables k b') vs' ++ records_in_procedures (constructors_before_procedures k b') ps')
           (types-hit k (section_types ts) ∙ ap (λ t. list_any in_record (records_in_types k t)) (sym (types_mapped text value ts)))
-          (both (fields_in_variables n (section_variables vs)) (declared_in_procedures l ps) (records_in_variables (constructors_before_variables k b') vs') (records_in_procedures (constructor_after_variables k b') ps')
+          (both (fields_in_variables n (section_variables vs)) (fields_declared_in_procedures l ps) (records_in_variables (constructors_before_variables k b') vs') (records_in_procedures (constructors_before_procedures k b') ps')
           (variables-hit n (section_variables vs) ∙ (λ i. list_any in_record (records_in_variables (sym types i) (sym (variables_mapped text value vs) i))))
           (procedures-hit l ps ∙ ap (λ c. list_any in_record (records_in_procedures c ps')) (sym variables)))
 
-      procedures-hit : (k : ℕ) (ps : Tree ℕ (items procedure)) → list_any hit (declared_in_procedures k ps) ≡ list_any in_record (records_in_procedures k (mapped text value ps))
+      procedures-hit : (k : ℕ) (ps : Tree ℕ (items procedure)) → list_any hit (fields_declared_in_procedures k ps) ≡ list_any in_record (records_in_procedures k (mapped_tree text value ps))
       procedures-hit k end = refl
       procedures-hit k (more p rest) =
           let n : ℕ = k + procedure_constructor_count p in
-          both (declared_in_procedure k p) (declared_in_procedures n rest) (records_in_procedure k (mapped text value p)) (records_in_procedures n (mapped text value rest)) (procedure-hit k p) (procedures-hit n rest)
-          ∙ ap (λ c. list_any in_record (records_in_procedure k (mapped text value p) ++ records_in_procedures (k + c) (mapped text value rest))) (sym (counted_procedure text value p))
+          both (fields_declared_in_procedure k p) (fields_declared_in_procedures n rest) (records_in_procedure k (mapped_tree text value p)) (records_in_procedures n (mapped_tree text value rest)) (procedure-hit k p) (procedures-hit n rest)
+          ∙ ap (λ c. list_any in_record (records_in_procedure k (mapped_tree text value p) ++ records_in_procedures (k + c) (mapped_tree text value rest))) (sym (counted_procedure text value p))
 
-      procedure-hit : (k : ℕ) (p : Tree ℕ (item procedure)) → list_any hit (declared_in_procedure k p) ≡ list_any in_record (records_in_procedure k (mapped text value p))
+      procedure-hit : (k : ℕ) (p : Tree ℕ (item procedure)) → list_any hit (fields_declared_in_procedure k p) ≡ list_any in_record (records_in_procedure k (mapped_tree text value p))
       procedure-hit k (declares_procedure x fs b closing) =
           let p : Tree ℕ (item procedure) = declares_procedure x fs b closing in
-          let p' = mapped text value p in
-          let n : ℕ = constructor_after_formals k p in
-          let counted : constructor_after_formals k p' ≡ n = ap (λ c. k + c) (counted_formals_section text value fs) in
-          both (fields_in_sections k (formal_sections fs)) (declared_in_block n b) (records_in_sections k (formal_sections (mapped text value fs))) (records_in_block (constructor_after_formals k p') (mapped text value b)) (formals-hit k fs)
-          (block-hit n b ∙ ap (λ c. list_any in_record (records_in_block c (mapped text value b))) (sym counted))
+          let p' = mapped_tree text value p in
+          let n : ℕ = constructors_before_procedure_block k p in
+          let counted : constructors_before_procedure_block k p' ≡ n = ap (λ c. k + c) (counted_formals_section text value fs) in
+          both (fields_in_sections k (formal_sections fs)) (fields_declared_in_block n b) (records_in_sections k (formal_sections (mapped_tree text value fs))) (records_in_block (constructors_before_procedure_block k p') (mapped_tree text value b)) (formals-hit k fs)
+          (block-hit n b ∙ ap (λ c. list_any in_record (records_in_block c (mapped_tree text value b))) (sym counted))
 
 -- A name is the new name but not the old one exactly if the name is the new one and the two differ.
 another-name : (x f new : Name) → (same_name x new && not (same_name x f)) ≡ (not (same_name new f) && same_name x new)
@@ -191,18 +191,18 @@ module _ (source : TextWithTokens) (k : ℕ) (f new : Name) where
   turned false true d = refl
   turned false false d = refl
 
-  hit-is : (x : FieldName) → hit (text_at source) (value_at source) k f new x ≡ (not (same_name new f) && belongs_to_field source k new x)
-  hit-is x = ap (λ b. (x.owner == k) && b) (another-name (text_at source x.token) f new) ∙ turned (x.owner == k) (not (same_name new f)) (same_name (text_at source x.token) new)
+  hit-is : (x : FieldName) → hit (token_text_at source) (token_value_at source) k f new x ≡ (not (same_name new f) && belongs_to_field source k new x)
+  hit-is x = ap (λ b. (x.owner == k) && b) (another-name (token_text_at source x.token) f new) ∙ turned (x.owner == k) (not (same_name new f)) (same_name (token_text_at source x.token) new)
 
-  any-first : (xs : List FieldName) → list_any (hit (text_at source) (value_at source) k f new) xs ≡ (not (same_name new f) && is_some (first (tokens_of_field source k new xs)))
+  any-first : (xs : List FieldName) → list_any (hit (token_text_at source) (token_value_at source) k f new) xs ≡ (not (same_name new f) && is_some (first_token (tokens_of_field source k new xs)))
   any-first [] = sym (and-false (not (same_name new f)))
   any-first (x ∷ xs) = (λ i. hit-is x i || any-first xs i) ∙ one (not (same_name new f)) (belongs_to_field source k new x)
     where
-      one : (n c : Bool) → ((n && c) || (n && is_some (first (tokens_of_field source k new xs)))) ≡ (n && is_some (first (if c then x.token ∷ tokens_of_field source k new xs else tokens_of_field source k new xs)))
+      one : (n c : Bool) → ((n && c) || (n && is_some (first_token (tokens_of_field source k new xs)))) ≡ (n && is_some (first_token (if c then x.token ∷ tokens_of_field source k new xs else tokens_of_field source k new xs)))
       one true true = refl
       one true false = refl
       one false c = refl
 
 pub duplicate_has_declaring_token-holds : DuplicateHasDeclaringToken
 duplicate_has_declaring_token-holds m k f new =
-    sym (block-hit (text_at m.source) (value_at m.source) k f new 0 (module_block (tree_of m))) ∙ any-first m.source k f new (declared_fields m)
+    sym (block-hit (token_text_at m.source) (token_value_at m.source) k f new 0 (module_block (tree_of m))) ∙ any-first m.source k f new (declared_fields m)

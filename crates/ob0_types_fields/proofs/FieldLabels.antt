@@ -1,6 +1,6 @@
 -- The names of fields are labels with only a spelling in a numbered tree, so they are unbound.
 use Rattle.std.proofs.Common.{ℕ, suc, None, List, [], ◌∷◌}
-use Rattle.ob0_tree.specs.Tree.{Tree, array_type, block, declares, declares_procedure, declares_type, declares_types, declares_variable, declares_variables, end, fields, formals, further_fields, further_name, further_section, has_body, is_module, item, items, listed, maybe, module_text, more, named_type, names, no_fields, no_formals, none, one, procedure, record_type, section, some_fields, some_formals, then_fields, then_name, then_section, type_name, type_names, value_section, variable, variable_section, variables, written_type}
+use Rattle.ob0_tree.specs.Tree.{Tree, array_type, block, declares, declares_procedure, declares_type, declares_types, declares_variable, declares_variables, end, fields, formals, further_fields, further_name, further_section, forms_block, is_module, item, items, listed, maybe, module_text, more, named_type, names, no_fields, no_formals, none, one, procedure, record_type, section, some_fields, some_formals, then_fields, then_name, then_section, type_definition, type_definitions, value_section, variable, variable_section, variables, written_type}
 use Rattle.ob0_language_names.specs.Mapping.{map_names}
 use Rattle.ob0_language_names.specs.Names.{Label, Name, naming_by_spelling, as_written, declared}
 use Rattle.ob0_language_names.specs.Parts.{formal_names, formal_sections, further_names, module_block, names_in_list, procedure_name, section_names, section_type, section_types, section_variables}
@@ -28,7 +28,7 @@ abbrev mutual
   GroupsPlain end = Unit {0}
   GroupsPlain (more (then_fields g) rest) = GroupPlain g × GroupsPlain rest
 
-abbrev pub TypesPlain : Tree Label (items type_name) → Type 0
+abbrev pub TypesPlain : Tree Label (items type_definition) → Type 0
 TypesPlain end = Unit {0}
 TypesPlain (more (declares_type x u) ds) = TypePlain u × TypesPlain ds
 
@@ -42,7 +42,7 @@ SectionsPlain (more (then_section f) fs) = TypePlain (section_type f) × Section
 
 abbrev mutual
   pub BlockPlain : Tree Label block → Type 0
-  BlockPlain (has_body (declares cs ts vs ps) statements) = (TypesPlain (section_types ts) × VariablesPlain (section_variables vs)) × ProceduresPlain ps
+  BlockPlain (forms_block (declares cs ts vs ps) statements) = (TypesPlain (section_types ts) × VariablesPlain (section_variables vs)) × ProceduresPlain ps
 
   pub ProceduresPlain : Tree Label (items procedure) → Type 0
   ProceduresPlain end = Unit {0}
@@ -81,11 +81,11 @@ module _ (look : Name → Label) where
 uses-plain : (scope : Scope Name) (u : Tree Name written_type) → TypePlain (relabel_uses naming_by_spelling (label_from_ordinal naming_by_spelling) scope u)
 uses-plain scope u = type-plain (label_of naming_by_spelling (label_from_ordinal naming_by_spelling) scope) u
 
-types-plain : (scope : Scope Name) (k : ℕ) (ds : Tree Name (items type_name)) → TypesPlain (relabel_types naming_by_spelling (label_from_ordinal naming_by_spelling) scope k ds)
+types-plain : (scope : Scope Name) (k : ℕ) (ds : Tree Name (items type_definition)) → TypesPlain (relabel_types naming_by_spelling (label_from_ordinal naming_by_spelling) scope k ds)
 types-plain scope k end = tt
 types-plain scope k (more (declares_type x u) ds) = (uses-plain scope u, types-plain ((x, k) ∷ scope) (suc k) ds)
 
-type_section-plain : (scope : Scope Name) (k : ℕ) (ts : Tree Name (maybe type_names)) → TypesPlain (section_types (relabel_type_section naming_by_spelling (label_from_ordinal naming_by_spelling) scope k ts))
+type_section-plain : (scope : Scope Name) (k : ℕ) (ts : Tree Name (maybe type_definitions)) → TypesPlain (section_types (relabel_type_section naming_by_spelling (label_from_ordinal naming_by_spelling) scope k ts))
 type_section-plain scope k none = tt
 type_section-plain scope k (one (declares_types ts)) = types-plain scope k ts
 
@@ -112,8 +112,8 @@ formals-plain scope k (one (some_formals f fs)) = (section-plain scope k f, sect
 
 mutual
   block-plain : (scope : Scope Name) (k : ℕ) (b : Tree Name block) → BlockPlain (relabel_block naming_by_spelling (label_from_ordinal naming_by_spelling) scope k b)
-  block-plain scope k (has_body (declares cs ts vs ps) statements) =
-      let b : Tree Name block = has_body (declares cs ts vs ps) statements in
+  block-plain scope k (forms_block (declares cs ts vs ps) statements) =
+      let b : Tree Name block = forms_block (declares cs ts vs ps) statements in
       ((type_section-plain (types_scope k b scope) (first_type_ordinal k b) ts, variable_section-plain (variables_scope k b scope) (first_variable_ordinal k b) vs), procedures-plain (procedures_scope k b scope) (first_procedure_ordinal k b) ps)
 
   procedures-plain : (scope : Scope Name) (k : ℕ) (ps : Tree Name (items procedure)) → ProceduresPlain (relabel_procedures naming_by_spelling (label_from_ordinal naming_by_spelling) scope k ps)

@@ -8,28 +8,28 @@ use Rattle.ob0_scan.specs.TextWithTokens.{TextWithTokens}
 use Rattle.ob0_scan.specs.declared.lexeme.Token.{Token}
 use Rattle.ob0_tree.specs.Order.{AreIdentifierTokens, AreAscending, IsIdentifierToken}
 use Rattle.ob0_tree.specs.ParsedModule.{IsParsed, tree_of}
-use Rattle.ob0_tree.specs.Places.{text_at, value_at}
-use Rattle.ob0_tree.specs.Tree.{mapped}
+use Rattle.ob0_tree.specs.Places.{token_text_at, token_value_at}
+use Rattle.ob0_tree.specs.Tree.{mapped_tree}
 use Rattle.ob0_tree.proofs.Leaves.{ascending_lower, leaves_are_identifiers, leaves_ascend}
 use Rattle.ob0_language_names.specs.Names.{Name, same_name}
 use Rattle.ob0_scope_table.specs.Resolution.{Resolution, ordinal_in, span_at}
-use Rattle.ob0_scope_table.specs.Spans.{is_on}
+use Rattle.ob0_scope_table.specs.Spans.{is_on_span}
 use Rattle.ob0_language_names.specs.Scopes.{same_ordinal}
 use Rattle.ob0_types_fields.specs.declared.field_name.FieldName.{FieldName}
-use Rattle.ob0_types_fields.specs.Identifiers.{AreInTextOrder, RenamingChangesFieldTokens, field_identifiers, field_at_offset, field_tokens, belongs_to_field, tokens_of_field, tokens_of}
+use Rattle.ob0_types_fields.specs.Identifiers.{AreInTextOrder, RenamingChangesFieldTokens, field_identifiers, field_at_offset, field_tokens, belongs_to_field, tokens_of_field, token_indexes}
 use Rattle.ob0_types_fields.specs.Owned.{fields_with_owners, owners_in_resolution, table_with_owners}
 use Rattle.ob0_types_fields.specs.Owners.{is_token_of_field}
 use Rattle.ob0_types_fields.proofs.ByToken.{renaming_follows_owners-holds}
-use Rattle.ob0_types_fields.proofs.OwnedTokens.{module-tokens, fields_give_all_owners-holds, tokens}
+use Rattle.ob0_types_fields.proofs.OwnedTokens.{module-tokens, entered_fields_complete_owner_table-holds, tokens}
 
 -- ---- fields among identifiers
 
-among_ascend : (xs : List (ℕ × Option ℕ)) (low high : ℕ) → AreAscending low (tokens xs) high → AreAscending low (tokens_of (fields_with_owners xs)) high
+among_ascend : (xs : List (ℕ × Option ℕ)) (low high : ℕ) → AreAscending low (tokens xs) high → AreAscending low (token_indexes (fields_with_owners xs)) high
 among_ascend [] low high h = h
-among_ascend ((x, None) ∷ xs) low high h = ascending_lower low (x + 1) (tokens_of (fields_with_owners xs)) high (omega (arith, h.0)) (among_ascend xs (x + 1) high h.1)
+among_ascend ((x, None) ∷ xs) low high h = ascending_lower low (x + 1) (token_indexes (fields_with_owners xs)) high (omega (arith, h.0)) (among_ascend xs (x + 1) high h.1)
 among_ascend ((x, Some k) ∷ xs) low high h = (h.0, among_ascend xs (x + 1) high h.1)
 
-among_are_identifiers : (ts : List Token) (xs : List (ℕ × Option ℕ)) → AreIdentifierTokens ts (tokens xs) → AreIdentifierTokens ts (tokens_of (fields_with_owners xs))
+among_are_identifiers : (ts : List Token) (xs : List (ℕ × Option ℕ)) → AreIdentifierTokens ts (tokens xs) → AreIdentifierTokens ts (token_indexes (fields_with_owners xs))
 among_are_identifiers ts [] h = tt
 among_are_identifiers ts ((x, None) ∷ xs) h = among_are_identifiers ts xs h.1
 among_are_identifiers ts ((x, Some k) ∷ xs) h = (h.0, among_are_identifiers ts xs h.1)
@@ -39,14 +39,14 @@ fields_ascend r parsed =
     let n : ℕ = length r.module_read.source.tokens in
     among_ascend (owners_in_resolution r) 0 n (subst (λ ts. AreAscending 0 ts n) (sym (module-tokens _ (tree_of r.module_read))) (leaves_ascend r.module_read parsed))
 
-pub fields_are_identifiers : (r : Resolution) → IsParsed r.module_read → AreIdentifierTokens r.module_read.source.tokens (tokens_of (field_identifiers r))
+pub fields_are_identifiers : (r : Resolution) → IsParsed r.module_read → AreIdentifierTokens r.module_read.source.tokens (token_indexes (field_identifiers r))
 fields_are_identifiers r parsed =
     among_are_identifiers r.module_read.source.tokens (owners_in_resolution r)
     (subst (AreIdentifierTokens r.module_read.source.tokens) (sym (module-tokens _ (tree_of r.module_read))) (leaves_are_identifiers r.module_read parsed))
 
 -- ---- one field among fields
 
-pub kept_ascend : (source : TextWithTokens) (k : ℕ) (x : Name) (xs : List FieldName) (low high : ℕ) → AreAscending low (tokens_of xs) high → AreAscending low (tokens_of_field source k x xs) high
+pub kept_ascend : (source : TextWithTokens) (k : ℕ) (x : Name) (xs : List FieldName) (low high : ℕ) → AreAscending low (token_indexes xs) high → AreAscending low (tokens_of_field source k x xs) high
 kept_ascend source k x [] low high h = h
 kept_ascend source k x (y ∷ ys) low high h = one (belongs_to_field source k x y) (kept_ascend source k x ys (y.token + 1) high h.1)
   where
@@ -54,7 +54,7 @@ kept_ascend source k x (y ∷ ys) low high h = one (belongs_to_field source k x 
     one true e = (h.0, e)
     one false e = ascending_lower low (y.token + 1) (tokens_of_field source k x ys) high (omega (arith, h.0)) e
 
-pub kept_are_identifiers : (source : TextWithTokens) (k : ℕ) (x : Name) (ts : List Token) (xs : List FieldName) → AreIdentifierTokens ts (tokens_of xs) → AreIdentifierTokens ts (tokens_of_field source k x xs)
+pub kept_are_identifiers : (source : TextWithTokens) (k : ℕ) (x : Name) (ts : List Token) (xs : List FieldName) → AreIdentifierTokens ts (token_indexes xs) → AreIdentifierTokens ts (tokens_of_field source k x xs)
 kept_are_identifiers source k x ts [] h = tt
 kept_are_identifiers source k x ts (y ∷ ys) h = one (belongs_to_field source k x y) (kept_are_identifiers source k x ts ys h.1)
   where
@@ -87,9 +87,9 @@ looked (x ∷ xs) table i h =
     let next : List (Option ℕ) = set table x.token (Some x.owner) in
     looked xs next i (subst (AllBelow xs) (sym (length-set table x.token (Some x.owner))) h.1) ∙ ap (owner_in i xs) (set_at table x.token x.owner i h.0)
 
-below : (xs : List FieldName) (low high : ℕ) → AreAscending low (tokens_of xs) high → AllBelow xs high
+below : (xs : List FieldName) (low high : ℕ) → AreAscending low (token_indexes xs) high → AllBelow xs high
 below [] low high h = tt
-below (x ∷ xs) low high h = (omega (arith, high_enough (tokens_of xs) (x.token + 1) high h.1), below xs (x.token + 1) high h.1)
+below (x ∷ xs) low high h = (omega (arith, high_enough (token_indexes xs) (x.token + 1) high h.1), below xs (x.token + 1) high h.1)
   where
     high_enough : (ys : List ℕ) (at high : ℕ) → AreAscending at ys high → at ≤ high
     high_enough [] at high h = h
@@ -100,7 +100,7 @@ vacant zero i = refl
 vacant (suc n) zero = refl
 vacant (suc n) (suc i) = vacant n i
 
-owner_kept : (xs : List FieldName) (low high i : ℕ) (o : Option ℕ) → AreAscending low (tokens_of xs) high → i < low → owner_in i xs o ≡ o
+owner_kept : (xs : List FieldName) (low high i : ℕ) (o : Option ℕ) → AreAscending low (token_indexes xs) high → i < low → owner_in i xs o ≡ o
 owner_kept [] low high i o h less = refl
 owner_kept (x ∷ xs) low high i o h less =
     let other : (i == x.token) ≡ false = differs (i == x.token) refl in
@@ -112,12 +112,12 @@ owner_kept (x ∷ xs) low high i o h less =
 
 module _ (source : TextWithTokens) (k : ℕ) (f : Name) (i : ℕ) where
   abbrev owned_here : Option ℕ → Bool
-  owned_here o = same_ordinal o k && same_name (text_at source i) f
+  owned_here o = same_ordinal o k && same_name (token_text_at source i) f
 
   abbrev among_here : List FieldName → Bool
   among_here xs = list_any (λ token. i == token) (tokens_of_field source k f xs)
 
-  here_among : (xs : List FieldName) (low high : ℕ) → AreAscending low (tokens_of xs) high → owned_here (owner_in i xs None) ≡ among_here xs
+  here_among : (xs : List FieldName) (low high : ℕ) → AreAscending low (token_indexes xs) high → owned_here (owner_in i xs None) ≡ among_here xs
   here_among [] low high h = refl
   here_among (x ∷ xs) low high h = one (i == x.token) refl (belongs_to_field source k f x) refl (here_among xs (x.token + 1) high h.1)
     where
@@ -129,7 +129,7 @@ module _ (source : TextWithTokens) (k : ℕ) (f : Name) (i : ℕ) where
           let kept = owner_kept xs (x.token + 1) high i (Some x.owner) h.1 low_enough in
           let none = owner_kept xs (x.token + 1) high i None h.1 low_enough in
           let rest : false ≡ among_here xs = sym (ap owned_here none) ∙ later in
-          ap owned_here kept ∙ (ap (λ j. (x.owner == k) && same_name (text_at source j) f) same ∙ (is ∙ shown c at rest))
+          ap owned_here kept ∙ (ap (λ j. (x.owner == k) && same_name (token_text_at source j) f) same ∙ (is ∙ shown c at rest))
         where
           shown : (c : Bool) → (i == x.token) ≡ true → false ≡ among_here xs → c ≡ list_any (λ token. i == token) (if c then x.token ∷ tokens_of_field source k f xs else tokens_of_field source k f xs)
           shown true at rest = sym (ap (λ b. b || among_here xs) at)
@@ -148,13 +148,13 @@ renaming_changes_field_tokens-holds r k f new named fits =
     let table : List (Option ℕ) = table_with_owners empty_table (field_identifiers r) in
     let at = λ (i : ℕ). looked (field_identifiers r) empty_table i within ∙ ap (owner_in i (field_identifiers r)) (vacant n i) in
     let among : (i : ℕ) → is_token_of_field m.source table k f i ≡ list_any (λ token. i == token) (field_tokens r k f) = λ i. ap (owned_here m.source k f i) (at i) ∙ here_among m.source k f i (field_identifiers r) 0 n ascend in
-    renaming_follows_owners-holds m table k f new (fields_give_all_owners-holds r named fits)
-    ∙ (λ j. mapped (λ i. if among i j then new else text_at m.source i) (value_at m.source) (tree_of m))
+    renaming_follows_owners-holds m table k f new (entered_fields_complete_owner_table-holds r named fits)
+    ∙ (λ j. mapped_tree (λ i. if among i j then new else token_text_at m.source i) (token_value_at m.source) (tree_of m))
 
 -- The field identifier at a place is one of the text's identifiers.
-pub field_is_identifier : (source : TextWithTokens) (ts : List Token) (offset : ℕ) (xs : List FieldName) → AreIdentifierTokens ts (tokens_of xs) → IfSome (field_at_offset source offset xs) (λ x. IsIdentifierToken ts x.token)
+pub field_is_identifier : (source : TextWithTokens) (ts : List Token) (offset : ℕ) (xs : List FieldName) → AreIdentifierTokens ts (token_indexes xs) → IfSome (field_at_offset source offset xs) (λ x. IsIdentifierToken ts x.token)
 field_is_identifier source ts offset [] identified = tt
-field_is_identifier source ts offset (x ∷ xs) identified = one (is_on offset (span_at source x.token)) identified.0 (field_is_identifier source ts offset xs identified.1)
+field_is_identifier source ts offset (x ∷ xs) identified = one (is_on_span offset (span_at source x.token)) identified.0 (field_is_identifier source ts offset xs identified.1)
   where
     one : (b : Bool) → IsIdentifierToken ts x.token → IfSome (field_at_offset source offset xs) (λ y. IsIdentifierToken ts y.token)
         → IfSome (if b then Some x else field_at_offset source offset xs) (λ y. IsIdentifierToken ts y.token)

@@ -16,9 +16,9 @@ use Rattle.ob0_scan.specs.TextWithTokens.{IsScan, TextWithTokens, span_from, tok
 use Rattle.ob0_tree.specs.Order.{AreAscending}
 use Rattle.ob0_scope_table.specs.Resolution.{span_at}
 use Rattle.ob0_scope_table.specs.Spans.{span_or_empty}
-use Rattle.ob0_scope_table.specs.Spans.{is_on}
+use Rattle.ob0_scope_table.specs.Spans.{is_on_span}
 use Rattle.ob0_types_fields.specs.declared.field_name.FieldName.{FieldName}
-use Rattle.ob0_types_fields.specs.Identifiers.{AreInTextOrder, field_at_offset, tokens_of}
+use Rattle.ob0_types_fields.specs.Identifiers.{AreInTextOrder, field_at_offset, token_indexes}
 
 -- ---- the tokens of a text
 
@@ -64,9 +64,9 @@ abbrev end_of : TextWithTokens → FieldName → ℕ
 end_of source x = (span_at source x.token).end
 
 module _ (f : ℕ → ℕ) (n : ℕ) (each : (i j : ℕ) → i ≤ j → j < n → f i ≤ f j) where
-  among : (xs : List FieldName) (low i : ℕ) (d : FieldName) → AreAscending low (tokens_of xs) n → i < length xs → (low ≤ (get_or xs i d).token) × ((get_or xs i d).token < n)
+  among : (xs : List FieldName) (low i : ℕ) (d : FieldName) → AreAscending low (token_indexes xs) n → i < length xs → (low ≤ (get_or xs i d).token) × ((get_or xs i d).token < n)
   among [] low i d h less = absurd (omega (arith, less))
-  among (x ∷ xs) low zero d h less = (h.0, high_enough (tokens_of xs) (x.token + 1) h.1 (omega arith))
+  among (x ∷ xs) low zero d h less = (h.0, high_enough (token_indexes xs) (x.token + 1) h.1 (omega arith))
     where
       high_enough : (ys : List ℕ) (at : ℕ) → AreAscending at ys n → x.token + 1 ≤ at → x.token < n
       high_enough [] at h low = omega (arith, h, low)
@@ -75,7 +75,7 @@ module _ (f : ℕ → ℕ) (n : ℕ) (each : (i j : ℕ) → i ≤ j → j < n �
       let later = among xs (x.token + 1) i d h.1 (omega (arith, less)) in
       (omega (arith, h.0, later.0), later.1)
 
-  rising : (xs : List FieldName) (low : ℕ) → AreAscending low (tokens_of xs) n → IsNonDecreasingBy (λ x. f x.token) xs
+  rising : (xs : List FieldName) (low : ℕ) → AreAscending low (token_indexes xs) n → IsNonDecreasingBy (λ x. f x.token) xs
   rising [] low h i j d le less = absurd (omega (arith, less))
   rising (x ∷ xs) low h zero zero d le less = omega arith
   rising (x ∷ xs) low h (suc i) zero d le less = absurd (omega (arith, le))
@@ -121,20 +121,20 @@ module _ (source : TextWithTokens) (scan : IsScan source) where
 -- returns the identifier if it contains a place or ends there
 abbrev pub on_place : TextWithTokens → ℕ → Option FieldName → Option FieldName
 on_place source offset None = None
-on_place source offset (Some x) = if is_on offset (span_at source x.token) then Some x else None
+on_place source offset (Some x) = if is_on_span offset (span_at source x.token) then Some x else None
 
 module _ (source : TextWithTokens) (offset : ℕ) where
-  off_before : (x : FieldName) → nat_lt (end_of source x) offset ≡ true → is_on offset (span_at source x.token) ≡ false
-  off_before x before = one (is_on offset (span_at source x.token)) refl
+  off_before : (x : FieldName) → nat_lt (end_of source x) offset ≡ true → is_on_span offset (span_at source x.token) ≡ false
+  off_before x before = one (is_on_span offset (span_at source x.token)) refl
     where
-      one : (b : Bool) → is_on offset (span_at source x.token) ≡ b → b ≡ false
+      one : (b : Bool) → is_on_span offset (span_at source x.token) ≡ b → b ≡ false
       one false e = refl
       one true e = absurd (omega (arith, leb-true offset (end_of source x) (and_parts (nat_le (start_of source x) offset) (nat_le offset (end_of source x)) e).1, ltb-true (end_of source x) offset before))
 
-  off_following : (x : FieldName) → offset < start_of source x → is_on offset (span_at source x.token) ≡ false
-  off_following x following = one (is_on offset (span_at source x.token)) refl
+  off_following : (x : FieldName) → offset < start_of source x → is_on_span offset (span_at source x.token) ≡ false
+  off_following x following = one (is_on_span offset (span_at source x.token)) refl
     where
-      one : (b : Bool) → is_on offset (span_at source x.token) ≡ b → b ≡ false
+      one : (b : Bool) → is_on_span offset (span_at source x.token) ≡ b → b ≡ false
       one false e = refl
       one true e = absurd (omega (arith, leb-true (start_of source x) offset (and_parts (nat_le (start_of source x) offset) (nat_le offset (end_of source x)) e).0, following))
 
@@ -147,16 +147,16 @@ module _ (source : TextWithTokens) (offset : ℕ) where
   pub halved : (xs : List FieldName) (k : ℕ) → IsNonDecreasingBy (start_of source) xs → IsPartitionPoint (λ x. nat_lt (end_of source x) offset ≡ true) (λ x. nat_lt (end_of source x) offset ≡ false) xs k → k ≤ length xs
       → on_place source offset (slice_get xs k) ≡ field_at_offset source offset xs
   halved [] k rise point within = refl
-  halved (x ∷ xs) zero rise point within = one (is_on offset (span_at source x.token)) refl
+  halved (x ∷ xs) zero rise point within = one (is_on_span offset (span_at source x.token)) refl
     where
-      one : (b : Bool) → is_on offset (span_at source x.token) ≡ b → (if b then Some x else None) ≡ (if b then Some x else field_at_offset source offset xs)
+      one : (b : Bool) → is_on_span offset (span_at source x.token) ≡ b → (if b then Some x else None) ≡ (if b then Some x else field_at_offset source offset xs)
       one true e = refl
       one false e =
           let reached : offset ≤ end_of source x = ltb-false (end_of source x) offset (point.1 zero x (omega arith) (omega arith)) in
           let following : offset < start_of source x = either (nat_le (start_of source x) offset) refl (le-leb offset (end_of source x) reached) e in
           sym (none_following xs (λ i d less. omega (arith, following, rise zero (suc i) d (omega arith) (omega (arith, less)))))
         where
-          either : (b : Bool) → nat_le (start_of source x) offset ≡ b → nat_le offset (end_of source x) ≡ true → is_on offset (span_at source x.token) ≡ false → offset < start_of source x
+          either : (b : Bool) → nat_le (start_of source x) offset ≡ b → nat_le offset (end_of source x) ≡ true → is_on_span offset (span_at source x.token) ≡ false → offset < start_of source x
           either false before reached off = leb-false (start_of source x) offset before
           either true before reached off = let clash : true ≡ false = sym (and_from (nat_le (start_of source x) offset) (nat_le offset (end_of source x)) before reached) ∙ off in cc
   halved (x ∷ xs) (suc k) rise point within =

@@ -9,10 +9,10 @@ use Rattle.std.proofs.Math.Bool.{and-false}
 use Rattle.ob0_scan.specs.TextWithTokens.{TextWithTokens}
 use Rattle.ob0_tree.specs.declared.tree.Role.TheVariants as role
 use Rattle.ob0_tree.specs.Lexeme.{Name}
-use Rattle.ob0_tree.specs.Order.{leaves}
+use Rattle.ob0_tree.specs.Order.{identifier_names}
 use Rattle.ob0_tree.specs.ParsedModule.{ParsedModule, named_tree_of, tree_of}
-use Rattle.ob0_tree.specs.Places.{text_at, value_at}
-use Rattle.ob0_tree.specs.Tree.{mapped}
+use Rattle.ob0_tree.specs.Places.{token_text_at, token_value_at}
+use Rattle.ob0_tree.specs.Tree.{mapped_tree}
 use Rattle.ob0_tree.proofs.MappedIdentifiers.{leaves_mapped}
 use Rattle.ob0_language_names.specs.Names as written
 use Rattle.ob0_language_names.specs.Names.{same_name}
@@ -101,7 +101,7 @@ among_tokens x ((y, Some k) ∷ xs) h = one (x.token == y) (x.owner == k) h (amo
 
 module _ (source : TextWithTokens) (x : FieldName) where
   abbrev its_tokens : List FieldName → List ℕ
-  its_tokens xs = tokens_of_field source x.owner (text_at source x.token) xs
+  its_tokens xs = tokens_of_field source x.owner (token_text_at source x.token) xs
 
   abbrev among : List ℕ → Bool
   among xs = list_any (λ token. x.token == token) xs
@@ -110,11 +110,11 @@ module _ (source : TextWithTokens) (x : FieldName) where
   kept true y ys e = or_right (x.token == y) (among ys) e
   kept false y ys e = e
 
-  itself : (y : FieldName) → (x.token == y.token) ≡ true → (x.owner == y.owner) ≡ true → belongs_to_field source x.owner (text_at source x.token) y ≡ true
+  itself : (y : FieldName) → (x.token == y.token) ≡ true → (x.owner == y.owner) ≡ true → belongs_to_field source x.owner (token_text_at source x.token) y ≡ true
   itself y a b =
       let token : x.token ≡ y.token = eqb-true x.token y.token a in
       let owner : y.owner ≡ x.owner = sym (eqb-true x.owner y.owner b) in
-      let name : same_name (text_at source y.token) (text_at source x.token) ≡ true = (bytes_eq-Decides (text_at source y.token) (text_at source x.token)).1 (ap (text_at source) (sym token)) in
+      let name : same_name (token_text_at source y.token) (token_text_at source x.token) ≡ true = (bytes_eq-Decides (token_text_at source y.token) (token_text_at source x.token)).1 (ap (token_text_at source) (sym token)) in
       λ i. eq-eqb y.owner x.owner owner i && name i
 
   among_its_tokens : (xs : List FieldName) → list_any (same x) xs ≡ true → among (its_tokens xs) ≡ true
@@ -122,10 +122,10 @@ module _ (source : TextWithTokens) (x : FieldName) where
   among_its_tokens (y ∷ ys) h = one (x.token == y.token) refl (x.owner == y.owner) refl h (among_its_tokens ys)
     where
       one : (a : Bool) → (x.token == y.token) ≡ a → (b : Bool) → (x.owner == y.owner) ≡ b → ((a && b) || list_any (same x) ys) ≡ true → (list_any (same x) ys ≡ true → among (its_tokens ys) ≡ true)
-          → among (if belongs_to_field source x.owner (text_at source x.token) y then y.token ∷ its_tokens ys else its_tokens ys) ≡ true
+          → among (if belongs_to_field source x.owner (token_text_at source x.token) y then y.token ∷ its_tokens ys else its_tokens ys) ≡ true
       one true at true of e later = ap (λ b. among (if b then y.token ∷ its_tokens ys else its_tokens ys)) (itself y at of) ∙ ap (λ b. b || among (its_tokens ys)) at
-      one true at false of e later = kept (belongs_to_field source x.owner (text_at source x.token) y) y.token (its_tokens ys) (later e)
-      one false at b of e later = kept (belongs_to_field source x.owner (text_at source x.token) y) y.token (its_tokens ys) (later e)
+      one true at false of e later = kept (belongs_to_field source x.owner (token_text_at source x.token) y) y.token (its_tokens ys) (later e)
+      one false at b of e later = kept (belongs_to_field source x.owner (token_text_at source x.token) y) y.token (its_tokens ys) (later e)
 
 -- A property that holds for each element of a list holds for all.
 each : (P : FieldName → Type 0) (xs : List FieldName) → ((x : FieldName) → list_any (same x) xs ≡ true → P x) → All P xs
@@ -139,16 +139,16 @@ module _ (r : Resolution) (named : IsResolution r) (fits : WellTyped (named_tree
   m = r.module_read
 
   abbrev f : written.Name
-  f = text_at m.source x.token
+  f = token_text_at m.source x.token
 
   -- returns the spelling of a token if the tokens of the field have another name
   abbrev writes : ℕ → written.Name
-  writes i = if list_any (λ token. i == token) (field_tokens r x.owner f) then another f else text_at m.source i
+  writes i = if list_any (λ token. i == token) (field_tokens r x.owner f) then another f else token_text_at m.source i
 
-  among_leaves : list_any (λ token. x.token == token) (leaves (tree_of m)) ≡ true
+  among_leaves : list_any (λ token. x.token == token) (identifier_names (tree_of m)) ≡ true
   among_leaves = ap (list_any (λ token. x.token == token)) (sym (module-tokens (meanings_by_token (declared_object (named_tree_of m)) r) (tree_of m))) ∙ among_tokens x (owners_in_resolution r) listed
 
-  unchanged : is_some (field_declaring_token m x.owner f) ≡ false → named_tree_of m ≡ mapped writes (value_at m.source) (tree_of m)
+  unchanged : is_some (field_declaring_token m x.owner f) ≡ false → named_tree_of m ≡ mapped_tree writes (token_value_at m.source) (tree_of m)
   unfolding WellTyped
   unchanged none =
       let free : is_duplicate_field (named_tree_of m) x.owner (another f) f ≡ false =
@@ -163,11 +163,11 @@ module _ (r : Resolution) (named : IsResolution r) (fits : WellTyped (named_tree
       one : (b : Bool) → is_some (field_declaring_token m x.owner f) ≡ b → b ≡ true
       one true e = refl
       one false e =
-          let written_so : map (text_at m.source) (leaves (tree_of m)) ≡ map writes (leaves (tree_of m)) =
-          sym (leaves_mapped (text_at m.source) (value_at m.source) (tree_of m)) ∙ (ap leaves (unchanged e) ∙ leaves_mapped writes (value_at m.source) (tree_of m)) in
-          let here : f ≡ writes x.token = same_at (text_at m.source) writes x.token (leaves (tree_of m)) written_so among_leaves in
+          let written_so : map (token_text_at m.source) (identifier_names (tree_of m)) ≡ map writes (identifier_names (tree_of m)) =
+          sym (leaves_mapped (token_text_at m.source) (token_value_at m.source) (tree_of m)) ∙ (ap identifier_names (unchanged e) ∙ leaves_mapped writes (token_value_at m.source) (tree_of m)) in
+          let here : f ≡ writes x.token = same_at (token_text_at m.source) writes x.token (identifier_names (tree_of m)) written_so among_leaves in
           let there : writes x.token ≡ another f = ap (λ b. if b then another f else f) (among_its_tokens m.source x (field_identifiers r) listed) in
           absurd (longer f (here ∙ there))
 
 pub fields_are_declared-holds : FieldsAreDeclared
-fields_are_declared-holds r named fits = each (λ x. is_some (field_declaring_token r.module_read x.owner (text_at r.module_read.source x.token)) ≡ true) (field_identifiers r) (is_declared r named fits)
+fields_are_declared-holds r named fits = each (λ x. is_some (field_declaring_token r.module_read x.owner (token_text_at r.module_read.source x.token)) ≡ true) (field_identifiers r) (is_declared r named fits)

@@ -5,12 +5,12 @@ use Rattle.std.proofs.Math.Nat.{min-eq_left}
 use Rattle.std.proofs.lemmas.List.{map-append}
 use Rattle.std.proofs.lemmas.Bool.{lt-leb, le-leb, le-ltb, lt-ltb}
 use Rattle.std.specs.List.{AllByRecursion}
-use Rattle.ob0_scan.specs.declared.tokens.SameTokens.{SameTokens}
+use Rattle.ob0_scan.specs.declared.tokens.SameParts.{SameParts}
 use Rattle.ob0_tree.specs.declared.tree.Role.TheVariants as role
-use Rattle.ob0_tree.specs.Order.{AreAscending, leaves}
+use Rattle.ob0_tree.specs.Order.{AreAscending, identifier_names}
 use Rattle.ob0_tree.specs.ParsedModule.{named_tree_of, tree_of}
-use Rattle.ob0_tree.specs.Places.{tree_with_names, text_at, value_at}
-use Rattle.ob0_tree.specs.Tree.{Tree, body, identifiers, mapped, maybe, module_text}
+use Rattle.ob0_tree.specs.Places.{tree_with_names, token_text_at, token_value_at}
+use Rattle.ob0_tree.specs.Tree.{Tree, body, identifiers, mapped_tree, maybe, module_text}
 use Rattle.ob0_tree.proofs.Leaves.{leaves_ascend}
 use Rattle.ob0_language_names.specs.Names.{Name}
 use Rattle.ob0_language_names.specs.Parts.{module_block}
@@ -22,14 +22,14 @@ use Rattle.ob0_language_fields.specs.Fields.{rename_fields_in_module}
 use Rattle.ob0_language_values.specs.Values.{Shape}
 use Rattle.ob0_tree.specs.FirstIdentifier.{first_token_of}
 use Rattle.ob0_tree.proofs.MappedIdentifiers.{leaves_mapped}
-use Rattle.ob0_scope_table.specs.BodyReplaced.{IsBodyReplaced, PathToBody, body_at, closing_name_in_module, moved_token_index, module_without_body}
+use Rattle.ob0_scope_table.specs.BodyReplaced.{IsBodyReplaced, PathToBody, body_at_path, closing_name_in_module, moved_token_index, module_without_body}
 use Rattle.ob0_scope_table.specs.Resolution.{IsResolution, Resolution, ordinal_in}
 use Rattle.ob0_scope_table.proofs.BodyReplaced.{names_outside, without_mapped}
 use Rattle.ob0_scope_table.proofs.FewTokens.{few_tokens}
 use Rattle.ob0_scope_table.proofs.Moved.{moved_above, moved_below}
 use Rattle.ob0_types_table.specs.KnownTables.{Tables, declared_object_in}
 use Rattle.ob0_types_fields.specs.declared.field_name.FieldName.{FieldName}
-use Rattle.ob0_types_fields.specs.Identifiers.{declared_fields, declared_in_block, field_identifiers}
+use Rattle.ob0_types_fields.specs.Identifiers.{declared_fields, fields_declared_in_block, field_identifiers}
 use Rattle.ob0_types_fields.specs.FieldLists.{AreFieldListsOf, FieldLists, moved_field, fields_before, fields_from, old_token_index}
 use Rattle.ob0_types_fields.specs.Owned.{AgreesWithOwnerList, fields_with_owners, fields_in_tree, owners_in_tree, owners_in_module, owners_in_resolution, meanings_by_token}
 use Rattle.ob0_types_fields.specs.Owners.{field_names_by_record}
@@ -37,7 +37,7 @@ use Rattle.ob0_types_fields.proofs.DeclaredMoved.{among_placed, declared_among, 
 use Rattle.ob0_types_fields.proofs.WalkFindsAllFields.{fields_in_tree-fields, module-fields}
 use Rattle.ob0_types_fields.proofs.OwnedAround.{IsAround, module_split}
 use Rattle.ob0_types_fields.proofs.OwnedStatements.{owners_split}
-use Rattle.ob0_types_fields.proofs.OwnedTokens.{fields_have-owners, module-tokens, owners_in_tree-tokens, fields_give_all_owners-holds, tokens, with_owners}
+use Rattle.ob0_types_fields.proofs.OwnedTokens.{fields_have-owners, module-tokens, owners_in_tree-tokens, entered_fields_complete_owner_table-holds, tokens, with_owners}
 use Rattle.ob0_types_fields.proofs.RefieldedWithout.{refielded_without}
 use Rattle.ob0_types_fields.proofs.Seams.{AreBetween, Between, all_between, among_each, between, fields_around, keeps_first, keeps_last, same_seam, weaker}
 
@@ -46,7 +46,7 @@ use Rattle.ob0_types_fields.proofs.Seams.{AreBetween, Between, all_between, amon
 at_most : (n : ℕ) → n < 2 ^ 64 → n ≡ min n (2 ^ 64 - 1)
 at_most n less = sym (min-eq_left (omega (arith, less)))
 
-module _ (s : SameTokens) where
+module _ (s : SameParts) where
   stays : (xs : List (ℕ × Option ℕ)) → AllByRecursion (λ x. x.0 < s.prefix) xs → map (placed (moved_token_index s)) xs ≡ xs
   stays [] h = refl
   stays ((x, o) ∷ xs) h = λ i. (moved_below s x h.0 i, o) ∷ stays xs h.1 i
@@ -111,17 +111,17 @@ meant q = meanings_by_token (declared_object (named_tree_of q.module_read)) q
 
 -- In a well-typed module without some statements, putting the owner before each field's name is the same as rewriting
 -- each token according to the table.
-written_without : (q : Resolution) (way : PathToBody) → IsResolution q → WellTyped (named_tree_of q.module_read)
-    → rename_fields_in_module (field_names_by_record with_owner) (tree_with_names q.module_read.source (module_without_body way (tree_of q.module_read)))
-    ≡ mapped (λ i. field_names_by_record with_owner (ordinal_in (with_owners q) i) (text_at q.module_read.source i)) (value_at q.module_read.source) (module_without_body way (tree_of q.module_read))
-written_without q way named_q fits =
+written_without : (q : Resolution) (path : PathToBody) → IsResolution q → WellTyped (named_tree_of q.module_read)
+    → rename_fields_in_module (field_names_by_record with_owner) (tree_with_names q.module_read.source (module_without_body path (tree_of q.module_read)))
+    ≡ mapped_tree (λ i. field_names_by_record with_owner (ordinal_in (with_owners q) i) (token_text_at q.module_read.source i)) (token_value_at q.module_read.source) (module_without_body path (tree_of q.module_read))
+written_without q path named_q fits =
     let m = q.module_read in
-    let writes : ℕ → Name = λ i. field_names_by_record with_owner (ordinal_in (with_owners q) i) (text_at m.source i) in
-    sym (ap (rename_fields_in_module (field_names_by_record with_owner)) (without_mapped (text_at m.source) (value_at m.source) way (tree_of m)))
-    ∙ (sym (refielded_without (field_names_by_record with_owner) way (named_tree_of m))
-    ∙ (ap (module_without_body way) (fields_give_all_owners-holds q named_q fits with_owner) ∙ without_mapped writes (value_at m.source) way (tree_of m)))
+    let writes : ℕ → Name = λ i. field_names_by_record with_owner (ordinal_in (with_owners q) i) (token_text_at m.source i) in
+    sym (ap (rename_fields_in_module (field_names_by_record with_owner)) (without_mapped (token_text_at m.source) (token_value_at m.source) path (tree_of m)))
+    ∙ (sym (refielded_without (field_names_by_record with_owner) path (named_tree_of m))
+    ∙ (ap (module_without_body path) (entered_fields_complete_owner_table-holds q named_q fits with_owner) ∙ without_mapped writes (token_value_at m.source) path (tree_of m)))
 
-module _ (old r : Resolution) (way : PathToBody) (s : SameTokens) (is : IsBodyReplaced old.module_read r.module_read way s)
+module _ (old r : Resolution) (path : PathToBody) (s : SameParts) (is : IsBodyReplaced old.module_read r.module_read path s)
     (was_named : IsResolution old) (is_named : IsResolution r) (was_typed : WellTyped (named_tree_of old.module_read)) (is_typed : WellTyped (named_tree_of r.module_read)) where
   abbrev before : Tree ℕ module_text
   before = tree_of old.module_read
@@ -136,55 +136,55 @@ module _ (old r : Resolution) (way : PathToBody) (s : SameTokens) (is : IsBodyRe
   meant_now = meant r
 
   -- The identifiers outside the replaced statements are at their new indexes.
-  leaves_now : leaves (module_without_body way now) ≡ map (moved_token_index s) (leaves (module_without_body way before))
-  leaves_now = ap leaves is.outside ∙ leaves_mapped (moved_token_index s) (moved_token_index s) (module_without_body way before)
+  leaves_now : identifier_names (module_without_body path now) ≡ map (moved_token_index s) (identifier_names (module_without_body path before))
+  leaves_now = ap identifier_names is.outside ∙ leaves_mapped (moved_token_index s) (moved_token_index s) (module_without_body path before)
 
-  texts_same : map (text_at r.module_read.source) (map (moved_token_index s) (leaves (module_without_body way before))) ≡ map (text_at old.module_read.source) (leaves (module_without_body way before))
+  texts_same : map (token_text_at r.module_read.source) (map (moved_token_index s) (identifier_names (module_without_body path before))) ≡ map (token_text_at old.module_read.source) (identifier_names (module_without_body path before))
   texts_same =
-      ap (map (text_at r.module_read.source)) (sym leaves_now)
-      ∙ (sym (leaves_mapped (text_at r.module_read.source) (value_at r.module_read.source) (module_without_body way now))
-      ∙ (ap leaves (names_outside old.module_read r.module_read way s is) ∙ leaves_mapped (text_at old.module_read.source) (value_at old.module_read.source) (module_without_body way before)))
+      ap (map (token_text_at r.module_read.source)) (sym leaves_now)
+      ∙ (sym (leaves_mapped (token_text_at r.module_read.source) (token_value_at r.module_read.source) (module_without_body path now))
+      ∙ (ap identifier_names (names_outside old.module_read r.module_read path s is) ∙ leaves_mapped (token_text_at old.module_read.source) (token_value_at old.module_read.source) (module_without_body path before)))
 
   abbrev writes_before : ℕ → Name
-  writes_before i = field_names_by_record with_owner (ordinal_in (with_owners old) i) (text_at old.module_read.source i)
+  writes_before i = field_names_by_record with_owner (ordinal_in (with_owners old) i) (token_text_at old.module_read.source i)
 
   abbrev writes_now : ℕ → Name
-  writes_now i = field_names_by_record with_owner (ordinal_in (with_owners r) i) (text_at r.module_read.source i)
+  writes_now i = field_names_by_record with_owner (ordinal_in (with_owners r) i) (token_text_at r.module_read.source i)
 
-  written_same : map writes_now (map (moved_token_index s) (leaves (module_without_body way before))) ≡ map writes_before (leaves (module_without_body way before))
+  written_same : map writes_now (map (moved_token_index s) (identifier_names (module_without_body path before))) ≡ map writes_before (identifier_names (module_without_body path before))
   written_same =
       ap (map writes_now) (sym leaves_now)
-      ∙ (sym (leaves_mapped writes_now (value_at r.module_read.source) (module_without_body way now))
-      ∙ (ap leaves (sym (written_without r way is_named is_typed) ∙ (ap (rename_fields_in_module (field_names_by_record with_owner)) (names_outside old.module_read r.module_read way s is) ∙ written_without old way was_named was_typed))
-      ∙ leaves_mapped writes_before (value_at old.module_read.source) (module_without_body way before)))
+      ∙ (sym (leaves_mapped writes_now (token_value_at r.module_read.source) (module_without_body path now))
+      ∙ (ap identifier_names (sym (written_without r path is_named is_typed) ∙ (ap (rename_fields_in_module (field_names_by_record with_owner)) (names_outside old.module_read r.module_read path s is) ∙ written_without old path was_named was_typed))
+      ∙ leaves_mapped writes_before (token_value_at old.module_read.source) (module_without_body path before)))
 
-  owners_same : AllByRecursion (λ i. ordinal_in (with_owners r) (moved_token_index s i) ≡ ordinal_in (with_owners old) i) (leaves (module_without_body way before))
+  owners_same : AllByRecursion (λ i. ordinal_in (with_owners r) (moved_token_index s i) ≡ ordinal_in (with_owners old) i) (identifier_names (module_without_body path before))
   owners_same =
-      owners_kept (moved_token_index s) (ordinal_in (with_owners old)) (ordinal_in (with_owners r)) (text_at old.module_read.source) (text_at r.module_read.source) (leaves (module_without_body way before)) written_same texts_same
+      owners_kept (moved_token_index s) (ordinal_in (with_owners old)) (ordinal_in (with_owners r)) (token_text_at old.module_read.source) (token_text_at r.module_read.source) (identifier_names (module_without_body path before)) written_same texts_same
 
-  around_before : IsAround (owners_in_module meant_before before) (owners_in_module meant_before (module_without_body way before)) (owners_in_tree meant_before None (body_at way before)) (closing_name_in_module way before)
-  around_before = module_split meant_before way before
+  around_before : IsAround (owners_in_module meant_before before) (owners_in_module meant_before (module_without_body path before)) (owners_in_tree meant_before None (body_at_path path before)) (closing_name_in_module path before)
+  around_before = module_split meant_before path before
 
-  around_now : IsAround (owners_in_module meant_now now) (owners_in_module meant_now (module_without_body way now)) (owners_in_tree meant_now None (body_at way now)) (closing_name_in_module way now)
-  around_now = module_split meant_now way now
+  around_now : IsAround (owners_in_module meant_now now) (owners_in_module meant_now (module_without_body path now)) (owners_in_tree meant_now None (body_at_path path now)) (closing_name_in_module path now)
+  around_now = module_split meant_now path now
 
   abbrev inner_before : List (ℕ × Option ℕ)
-  inner_before = owners_in_tree meant_before None (body_at way before)
+  inner_before = owners_in_tree meant_before None (body_at_path path before)
 
   abbrev inner_now : List (ℕ × Option ℕ)
-  inner_now = owners_in_tree meant_now None (body_at way now)
+  inner_now = owners_in_tree meant_now None (body_at_path path now)
 
-  between_before : AreBetween around_before.before inner_before around_before.after is.first (closing_name_in_module way before) (length old.module_read.source.tokens)
+  between_before : AreBetween around_before.before inner_before around_before.after is.first (closing_name_in_module path before) (length old.module_read.source.tokens)
   between_before =
-      between around_before.before inner_before around_before.after is.first (closing_name_in_module way before) (length old.module_read.source.tokens) (identifiers role.Declaring (body_at way before))
+      between around_before.before inner_before around_before.after is.first (closing_name_in_module path before) (length old.module_read.source.tokens) (identifiers role.Declaring (body_at_path path before))
       (subst (λ xs. AreAscending 0 xs (length old.module_read.source.tokens)) (sym (module-tokens meant_before before) ∙ ap tokens around_before.whole) (leaves_ascend old.module_read is.old_parsed))
-      (owners_in_tree-tokens meant_before None (body_at way before)) is.old_first
+      (owners_in_tree-tokens meant_before None (body_at_path path before)) is.old_first
 
-  between_now : AreBetween around_now.before inner_now around_now.after is.first (closing_name_in_module way now) (length r.module_read.source.tokens)
+  between_now : AreBetween around_now.before inner_now around_now.after is.first (closing_name_in_module path now) (length r.module_read.source.tokens)
   between_now =
-      between around_now.before inner_now around_now.after is.first (closing_name_in_module way now) (length r.module_read.source.tokens) (identifiers role.Declaring (body_at way now))
+      between around_now.before inner_now around_now.after is.first (closing_name_in_module path now) (length r.module_read.source.tokens) (identifiers role.Declaring (body_at_path path now))
       (subst (λ xs. AreAscending 0 xs (length r.module_read.source.tokens)) (sym (module-tokens meant_now now) ∙ ap tokens around_now.whole) (leaves_ascend r.module_read is.new_parsed))
-      (owners_in_tree-tokens meant_now None (body_at way now)) is.new_first
+      (owners_in_tree-tokens meant_now None (body_at_path path now)) is.new_first
 
   -- ---- the identifiers before the body and after it
 
@@ -192,33 +192,33 @@ module _ (old r : Resolution) (way : PathToBody) (s : SameTokens) (is : IsBodyRe
   stay = stays s around_before.before (weaker (λ x. x.0 < is.first) (λ x. x.0 < s.prefix) (λ x h. omega (arith, h, is.front)) around_before.before between_before.below)
 
   abbrev rest_before : List (ℕ × Option ℕ)
-  rest_before = around_before.before ++ ((closing_name_in_module way before, None) ∷ around_before.after)
+  rest_before = around_before.before ++ ((closing_name_in_module path before, None) ∷ around_before.after)
 
   abbrev rest_now : List (ℕ × Option ℕ)
-  rest_now = around_now.before ++ ((closing_name_in_module way now, None) ∷ around_now.after)
+  rest_now = around_now.before ++ ((closing_name_in_module path now, None) ∷ around_now.after)
 
-  tokens_before : tokens rest_before ≡ leaves (module_without_body way before)
-  tokens_before = ap tokens (sym around_before.left) ∙ module-tokens meant_before (module_without_body way before)
+  tokens_before : tokens rest_before ≡ identifier_names (module_without_body path before)
+  tokens_before = ap tokens (sym around_before.left) ∙ module-tokens meant_before (module_without_body path before)
 
   rest_placed : rest_now ≡ map (placed (moved_token_index s)) rest_before
   rest_placed =
       placed_alike (moved_token_index s) (ordinal_in (with_owners old)) (ordinal_in (with_owners r)) rest_now rest_before
-      (ap tokens (sym around_now.left) ∙ (module-tokens meant_now (module_without_body way now) ∙ (leaves_now ∙ ap (map (moved_token_index s)) (sym tokens_before))))
-      (owners_around (ordinal_in (with_owners r)) around_now.before inner_now ((closing_name_in_module way now, None) ∷ around_now.after) (subst (AgreesWithOwnerList (ordinal_in (with_owners r))) around_now.whole (fields_have-owners r is_named)))
-      (owners_around (ordinal_in (with_owners old)) around_before.before inner_before ((closing_name_in_module way before, None) ∷ around_before.after) (subst (AgreesWithOwnerList (ordinal_in (with_owners old))) around_before.whole (fields_have-owners old was_named)))
+      (ap tokens (sym around_now.left) ∙ (module-tokens meant_now (module_without_body path now) ∙ (leaves_now ∙ ap (map (moved_token_index s)) (sym tokens_before))))
+      (owners_around (ordinal_in (with_owners r)) around_now.before inner_now ((closing_name_in_module path now, None) ∷ around_now.after) (subst (AgreesWithOwnerList (ordinal_in (with_owners r))) around_now.whole (fields_have-owners r is_named)))
+      (owners_around (ordinal_in (with_owners old)) around_before.before inner_before ((closing_name_in_module path before, None) ∷ around_before.after) (subst (AgreesWithOwnerList (ordinal_in (with_owners old))) around_before.whole (fields_have-owners old was_named)))
       (subst (AllByRecursion (λ i. ordinal_in (with_owners r) (moved_token_index s i) ≡ ordinal_in (with_owners old) i)) (sym tokens_before) owners_same)
 
-  seam : rest_now ≡ around_before.before ++ ((closing_name_in_module way now, None) ∷ map (placed (moved_token_index s)) around_before.after)
+  seam : rest_now ≡ around_before.before ++ ((closing_name_in_module path now, None) ∷ map (placed (moved_token_index s)) around_before.after)
   seam =
       rest_placed
-      ∙ (map-append (placed (moved_token_index s)) around_before.before ((closing_name_in_module way before, None) ∷ around_before.after)
+      ∙ (map-append (placed (moved_token_index s)) around_before.before ((closing_name_in_module path before, None) ∷ around_before.after)
       ∙ (λ i. stay i ++ ((sym is.closing i, None) ∷ map (placed (moved_token_index s)) around_before.after)))
 
   sides : (around_now.before ≡ around_before.before) × (around_now.after ≡ map (placed (moved_token_index s)) around_before.after)
   sides =
-      same_seam (closing_name_in_module way now) None around_now.before around_before.before around_now.after (map (placed (moved_token_index s)) around_before.after)
-      (weaker (λ x. x.0 < is.first) (λ x. x.0 < closing_name_in_module way now) (λ x h. omega (arith, h, between_now.reaches)) around_now.before between_now.below)
-      (weaker (λ x. x.0 < is.first) (λ x. x.0 < closing_name_in_module way now) (λ x h. omega (arith, h, between_now.reaches)) around_before.before between_before.below)
+      same_seam (closing_name_in_module path now) None around_now.before around_before.before around_now.after (map (placed (moved_token_index s)) around_before.after)
+      (weaker (λ x. x.0 < is.first) (λ x. x.0 < closing_name_in_module path now) (λ x h. omega (arith, h, between_now.reaches)) around_now.before between_now.below)
+      (weaker (λ x. x.0 < is.first) (λ x. x.0 < closing_name_in_module path now) (λ x h. omega (arith, h, between_now.reaches)) around_before.before between_before.below)
       seam
 
   few : length r.module_read.source.tokens < 2 ^ 64
@@ -226,7 +226,7 @@ module _ (old r : Resolution) (way : PathToBody) (s : SameTokens) (is : IsBodyRe
 
   after_same : fields_with_owners around_now.after ≡ map (moved_field s) (fields_with_owners around_before.after)
   after_same =
-      let low : AllByRecursion (λ x. x.0 < length r.module_read.source.tokens) around_now.after = weaker (λ x. (closing_name_in_module way now + 1 ≤ x.0) × (x.0 < length r.module_read.source.tokens)) (λ x. x.0 < length r.module_read.source.tokens) (λ x h. h.1) around_now.after between_now.above in
+      let low : AllByRecursion (λ x. x.0 < length r.module_read.source.tokens) around_now.after = weaker (λ x. (closing_name_in_module path now + 1 ≤ x.0) × (x.0 < length r.module_read.source.tokens)) (λ x. x.0 < length r.module_read.source.tokens) (λ x h. h.1) around_now.after between_now.above in
       let there = of_made (placed (moved_token_index s)) (λ x. x.0 < length r.module_read.source.tokens) around_before.after (subst (AllByRecursion (λ x. x.0 < length r.module_read.source.tokens)) sides.1 low) in
       let small = weaker (λ x. moved_token_index s x.0 < length r.module_read.source.tokens) (λ x. moved_token_index s x.0 < 2 ^ 64) (λ x h. omega (arith, h, few)) around_before.after there in
       ap fields_with_owners sides.1
@@ -235,13 +235,13 @@ module _ (old r : Resolution) (way : PathToBody) (s : SameTokens) (is : IsBodyRe
   -- ---- the lists
 
   all_before : field_identifiers old ≡ fields_with_owners around_before.before ++ (fields_with_owners inner_before ++ fields_with_owners around_before.after)
-  all_before = ap fields_with_owners around_before.whole ∙ fields_around around_before.before inner_before around_before.after (closing_name_in_module way before)
+  all_before = ap fields_with_owners around_before.whole ∙ fields_around around_before.before inner_before around_before.after (closing_name_in_module path before)
 
-  all_now : field_identifiers r ≡ fields_with_owners around_before.before ++ (fields_in_tree meant_now (body_at way now) ++ map (moved_field s) (fields_with_owners around_before.after))
+  all_now : field_identifiers r ≡ fields_with_owners around_before.before ++ (fields_in_tree meant_now (body_at_path path now) ++ map (moved_field s) (fields_with_owners around_before.after))
   all_now =
       ap fields_with_owners around_now.whole
-      ∙ (fields_around around_now.before inner_now around_now.after (closing_name_in_module way now)
-      ∙ (λ i. fields_with_owners (sides.0 i) ++ (fields_in_tree-fields meant_now (body_at way now) i ++ after_same i)))
+      ∙ (fields_around around_now.before inner_now around_now.after (closing_name_in_module path now)
+      ∙ (λ i. fields_with_owners (sides.0 i) ++ (fields_in_tree-fields meant_now (body_at_path path now) i ++ after_same i)))
 
   kept_before : fields_before is.first (field_identifiers old) ≡ fields_with_owners around_before.before
   kept_before =
@@ -249,13 +249,13 @@ module _ (old r : Resolution) (way : PathToBody) (s : SameTokens) (is : IsBodyRe
       ap (fields_before is.first) all_before
       ∙ keeps_first (λ x. nat_lt x.token is.first) (fields_with_owners around_before.before) (fields_with_owners inner_before) (fields_with_owners around_before.after)
       (among_each (λ t. nat_lt t is.first ≡ true) around_before.before (weaker (λ x. x.0 < is.first) (λ x. nat_lt x.0 is.first ≡ true) (λ x h. lt-ltb x.0 is.first h) around_before.before b.below))
-      (among_each (λ t. nat_lt t is.first ≡ false) inner_before (weaker (λ x. (is.first ≤ x.0) × (x.0 < closing_name_in_module way before)) (λ x. nat_lt x.0 is.first ≡ false) (λ x h. le-ltb x.0 is.first h.0) inner_before b.inside))
-      (among_each (λ t. nat_lt t is.first ≡ false) around_before.after (weaker (λ x. (closing_name_in_module way before + 1 ≤ x.0) × (x.0 < length old.module_read.source.tokens)) (λ x. nat_lt x.0 is.first ≡ false) (λ x h. le-ltb x.0 is.first (omega (arith, h.0, b.reaches))) around_before.after b.above))
+      (among_each (λ t. nat_lt t is.first ≡ false) inner_before (weaker (λ x. (is.first ≤ x.0) × (x.0 < closing_name_in_module path before)) (λ x. nat_lt x.0 is.first ≡ false) (λ x h. le-ltb x.0 is.first h.0) inner_before b.inside))
+      (among_each (λ t. nat_lt t is.first ≡ false) around_before.after (weaker (λ x. (closing_name_in_module path before + 1 ≤ x.0) × (x.0 < length old.module_read.source.tokens)) (λ x. nat_lt x.0 is.first ≡ false) (λ x h. le-ltb x.0 is.first (omega (arith, h.0, b.reaches))) around_before.after b.above))
 
-  kept_after : fields_from (closing_name_in_module way before) (field_identifiers old) ≡ fields_with_owners around_before.after
+  kept_after : fields_from (closing_name_in_module path before) (field_identifiers old) ≡ fields_with_owners around_before.after
   kept_after =
       let b = between_before in
-      let c : ℕ = closing_name_in_module way before in
+      let c : ℕ = closing_name_in_module path before in
       ap (fields_from c) all_before
       ∙ keeps_last (λ x. nat_le c x.token) (fields_with_owners around_before.before) (fields_with_owners inner_before) (fields_with_owners around_before.after)
       (among_each (λ t. nat_le c t ≡ false) around_before.before (weaker (λ x. x.0 < is.first) (λ x. nat_le c x.0 ≡ false) (λ x h. lt-leb c x.0 (omega (arith, h, b.reaches))) around_before.before b.below))
@@ -263,11 +263,11 @@ module _ (old r : Resolution) (way : PathToBody) (s : SameTokens) (is : IsBodyRe
       (among_each (λ t. nat_le c t ≡ true) around_before.after (weaker (λ x. (c + 1 ≤ x.0) × (x.0 < length old.module_read.source.tokens)) (λ x. nat_le c x.0 ≡ true) (λ x h. le-leb c x.0 (omega (arith, h.0))) around_before.after b.above))
 
   -- The old index of the closing name follows from its new index.
-  closing_before : old_token_index s (closing_name_in_module way now) ≡ closing_name_in_module way before
+  closing_before : old_token_index s (closing_name_in_module path now) ≡ closing_name_in_module path before
   closing_before =
-      let c : ℕ = closing_name_in_module way before in
+      let c : ℕ = closing_name_in_module path before in
       let at = is.closing ∙ moved_above s c is.old_range (omega (arith, is.back)) in
-      let back : closing_name_in_module way now - s.new_suffix + s.old_suffix ≡ c = omega (arith, at, is.back) in
+      let back : closing_name_in_module path now - s.new_suffix + s.old_suffix ≡ c = omega (arith, at, is.back) in
       let small = few_tokens old.module_read.source is.old_scan in
       ap (λ n. min n (2 ^ 64 - 1)) back ∙ sym (at_most c (omega (arith, small, between_before.closes)))
 
@@ -275,9 +275,9 @@ module _ (old r : Resolution) (way : PathToBody) (s : SameTokens) (is : IsBodyRe
 
   declared_now : declared_fields r.module_read ≡ map (field_placed (moved_token_index s)) (declared_fields old.module_read)
   declared_now =
-      sym (declared_without way now)
-      ∙ (ap (λ t. declared_in_block 0 (module_block t)) is.outside
-      ∙ (declared_placed (moved_token_index s) (module_without_body way before) ∙ ap (map (field_placed (moved_token_index s))) (declared_without way before)))
+      sym (declared_without path now)
+      ∙ (ap (λ t. fields_declared_in_block 0 (module_block t)) is.outside
+      ∙ (declared_placed (moved_token_index s) (module_without_body path before) ∙ ap (map (field_placed (moved_token_index s))) (declared_without path before)))
 
   all_few : AllByRecursion (λ x. x.token < 2 ^ 64) (field_identifiers r)
   all_few =
@@ -293,15 +293,15 @@ module _ (old r : Resolution) (way : PathToBody) (s : SameTokens) (is : IsBodyRe
 
   -- The lists that are made from the old fields are the module's fields.
   pub fields_elsewhere : (fields f : FieldLists) (t : Tables) → AreFieldListsOf old fields → ((k : ℕ) → declared_object_in t k ≡ declared_object (named_tree_of r.module_read) k)
-      → (statements : Tree ℕ (maybe body)) → statements ≡ body_at way now → (first closing : ℕ) → first_token_of (identifiers role.Declaring (body_at way now)) ≡ Some first → closing ≡ closing_name_in_module way now
+      → (statements : Tree ℕ (maybe body)) → statements ≡ body_at_path path now → (first closing : ℕ) → first_token_of (identifiers role.Declaring (body_at_path path now)) ≡ Some first → closing ≡ closing_name_in_module path now
       → f.declared ≡ map (moved_field s) fields.declared
       → f.all ≡ fields_before first fields.all ++ (fields_in_tree (meanings_by_token (declared_object_in t) r) statements ++ map (moved_field s) (fields_from (old_token_index s closing) fields.all))
       → AreFieldListsOf r f
   fields_elsewhere fields f t were holds statements here first closing begins closes of_declared of_all =
       let same : first ≡ is.first = ap (λ o. unwrap_or o first) (sym begins ∙ is.new_first) in
-      let at : old_token_index s closing ≡ closing_name_in_module way before = ap (old_token_index s) closes ∙ closing_before in (
+      let at : old_token_index s closing ≡ closing_name_in_module path before = ap (old_token_index s) closes ∙ closing_before in (
         of_declared ∙ (ap (map (moved_field s)) were.0 ∙ (sym (same_places s (declared_fields old.module_read) declared_few) ∙ sym declared_now)),
         of_all
             ∙ ((λ i. fields_before (same i) (were.1 i) ++ (fields_in_tree (meanings_by_token (λ k. holds k i) r) (here i) ++ map (moved_field s) (fields_from (at i) (were.1 i))))
-            ∙ ((λ i. kept_before i ++ (fields_in_tree meant_now (body_at way now) ++ map (moved_field s) (kept_after i))) ∙ sym all_now)),
+            ∙ ((λ i. kept_before i ++ (fields_in_tree meant_now (body_at_path path now) ++ map (moved_field s) (kept_after i))) ∙ sym all_now)),
       )

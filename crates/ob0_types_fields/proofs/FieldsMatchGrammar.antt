@@ -7,18 +7,18 @@ use Rattle.ob0_tree.specs.declared.tree.Role.{Role}
 use Rattle.ob0_tree.specs.declared.tree.Role.TheVariants as role
 use Rattle.ob0_tree.specs.Order.{names_without_roles}
 use Rattle.ob0_tree.specs.ParsedModule.{ParsedModule, named_tree_of, tree_of}
-use Rattle.ob0_tree.specs.Places.{text_at, value_at}
-use Rattle.ob0_tree.specs.Tree.{Sort, Tree, addend, adds, arguments, array_type, assigns, begins, block, body, branches, calls, compares, constant, constants, declares, declares_constant, declares_constants, declares_procedure, declares_type, declares_types, declares_variable, declares_variables, designator, else_branch, else_part, elsif_branch, elsif_part, empty, end, expression, factor, field, fields, formals, further_argument, further_fields, further_name, further_section, further_statement, has_body, identifiers, index, integer, is_module, item, items, listed, mapped, maybe, module_text, more, multiplier, multiplies, named_type, names, negation, no_arguments, no_fields, no_formals, none, one, parenthesised, procedure, product, record_type, relates, repeat_loop, runs, section, selector, sequence, simple, some_arguments, some_fields, some_formals, statement, sum, term, then_argument, then_fields, then_name, then_section, then_statement, type_name, type_names, value_section, variable, variable_section, variables, while_loop, written_type}
+use Rattle.ob0_tree.specs.Places.{token_text_at, token_value_at}
+use Rattle.ob0_tree.specs.Tree.{Sort, Tree, addend, adds, arguments, array_type, assigns, begins, block, body, branches, calls, compares, constant, constants, declares, declares_constant, declares_constants, declares_procedure, declares_type, declares_types, declares_variable, declares_variables, designator, else_branch, else_part, elsif_branch, elsif_part, empty, end, expression, factor, field, fields, formals, further_argument, further_fields, further_name, further_section, further_statement, forms_block, identifiers, index, integer, is_module, item, items, listed, mapped_tree, maybe, module_text, more, multiplier, multiplies, named_type, names, negation, no_arguments, no_fields, no_formals, none, one, parenthesised, procedure, product, record_type, relates, repeat_loop, runs, section, selector, sequence, simple, some_arguments, some_fields, some_formals, statement, sum, term, then_argument, then_fields, then_name, then_section, then_statement, type_definition, type_definitions, value_section, variable, variable_section, variables, while_loop, written_type}
 use Rattle.ob0_language_names.specs.Mapping.{map_names}
 use Rattle.ob0_language_names.specs.Names.{Name, naming_by_spelling}
 use Rattle.ob0_language_names.specs.Parts.{formal_sections, names_in_list, procedure_formals, procedure_name, section_constants, section_names, section_type, section_types, section_variables}
 use Rattle.ob0_language_names.proofs.Peeling.{heads}
 use Rattle.ob0_scope_table.specs.Resolution.{ordinal_in}
-use Rattle.ob0_language_types.specs.Declarations.{constructor_after_formals, constructors_before_variables, constructor_after_variables, declare_constants, declare_first, declare_types, procedure_constructor_count}
-use Rattle.ob0_language_types.specs.Environments.{meanings, outermost}
+use Rattle.ob0_language_types.specs.Declarations.{constructors_before_procedure_block, constructors_before_variables, constructors_before_procedures, declare_constants, declare_constants_and_types, declare_types, procedure_constructor_count}
+use Rattle.ob0_language_types.specs.Environments.{meanings, outermost_environment}
 use Rattle.ob0_language_types.specs.Expressions.{Meanings, Object, a_constant, a_procedure, a_standard, a_type, a_variable, evaluate}
-use Rattle.ob0_language_types.specs.Typing.{addition_type, array_length, negation_type, constant_of, constant_value, constant_meanings, constructor_count, denoted, denoted_group, denoted_groups, element_type, outcome_value, group_constructor_count, multiplication_type, object_type, relation_type, sign_type, type_at, type_of, type_of_addends, type_of_factor, type_of_multipliers, type_of_simple, type_of_term, value_type, prepend_fields, check_limits}
-use Rattle.ob0_language_types.specs.WellTyped.{Signature, TypeEnvironment, TypeMeanings, TypedParameter, WellTyped, bind_names, bind_typed_parameters, block_fits, declare_typed, passes_type_check, bind_procedure, procedure_fits, procedures_fit, section_mode, typed_parameters}
+use Rattle.ob0_language_types.specs.Typing.{addition_type, array_length, negation_type, constant_of, constant_value, constant_meanings, constructor_count, denoted_type, denoted_group_fields, denoted_further_fields, element_type, outcome_value, group_constructor_count, multiplication_type, object_type, relation_type, sign_type, type_after_selectors, type_of, type_of_addends, type_of_factor, type_of_multipliers, type_of_simple, type_of_term, value_type, prepend_fields, check_limits}
+use Rattle.ob0_language_types.specs.WellTyped.{Signature, TypeEnvironment, TypeMeanings, TypedParameter, WellTyped, bind_names, bind_typed_parameters, block_is_well_typed, declare_typed_variables, passes_type_check, bind_procedure, procedure_is_well_typed, procedures_are_well_typed, section_mode, typed_parameters}
 use Rattle.ob0_language_values.specs.Values.{FieldShapes, Shape, Value, array_shape, boolean_shape, elements, integer_shape, members, number, record_shape, truth}
 use Rattle.ob0_language_fields.specs.Fields.{FieldRenaming, select_type, rename_fields, rename_fields_in_block, rename_fields_in_formals, rename_fields_in_group, rename_fields_in_groups, rename_fields_in_procedure, rename_fields_in_procedures, rename_fields_in_section, rename_fields_in_sections, rename_fields_in_type, rename_fields_in_type_section, rename_fields_in_types, rename_fields_in_variable_section, rename_fields_in_variables, rename_fields_in_module}
 use Rattle.ob0_types_fields.specs.Owners.{field_names_by_record}
@@ -29,10 +29,10 @@ use Rattle.ob0_language_fields.proofs.NamesMeant.{parameter_of}
 use Rattle.ob0_language_types.specs.Bindings.{declared_object}
 use Rattle.ob0_language_types.proofs.Conditions.{both_true, hold-true, of_some}
 use Rattle.ob0_language_types.proofs.TypedElsewhere.{then_some}
-use Rattle.ob0_types_fields.specs.Identifiers.{FieldsMatchGrammar, tokens_of, field_role_tokens}
+use Rattle.ob0_types_fields.specs.Identifiers.{FieldsMatchGrammar, token_indexes, field_role_tokens}
 use Rattle.ob0_types_fields.specs.Owned.{AgreesWithOwnerList, fields_with_owners, owners_in_resolution, meanings_by_token}
-use Rattle.ob0_tree.proofs.MappedIdentifiers.{beside_role, both, identifiers-mapped}
-use Rattle.ob0_types_fields.proofs.OwnedModules.{listed_owners_are_complete-holds}
+use Rattle.ob0_tree.proofs.MappedIdentifiers.{beside_role, both, identifiers-mapped_tree}
+use Rattle.ob0_types_fields.proofs.OwnedModules.{agreeing_table_is_owner_table-holds}
 use Rattle.ob0_types_fields.proofs.OwnedTokens.{fields_have-owners, module-tokens, tokens, with_owners}
 
 -- ---- a name that no field had, used for each field
@@ -156,16 +156,16 @@ constant-scalar (Some (a_standard t)) s h = absurd (cc)
 abbrev alone : TypeMeanings Name → Meanings Name Shape (Unit {0})
 alone m = constant_meanings m
 
-path-plain : (m : TypeMeanings Name) (t : Shape) (path : Tree Name (items selector)) (s : Shape) → OneScalar t → type_at (alone m) t path ≡ Some s → ids path ≡ marked (ids path)
+path-plain : (m : TypeMeanings Name) (t : Shape) (path : Tree Name (items selector)) (s : Shape) → OneScalar t → type_after_selectors (alone m) t path ≡ Some s → ids path ≡ marked (ids path)
 unfolding type_of
 path-plain m t end s scalar h = refl
 path-plain m integer_shape (more (field x) rest) s scalar h = absurd (cc)
 path-plain m boolean_shape (more (field x) rest) s scalar h = absurd (cc)
 path-plain m integer_shape (more (index e) rest) s scalar h =
-    let (j, ej, h₁) = then_some (type_of (alone m) e) (λ j. option_and_then (λ u. type_at (alone m) u rest) (element_type integer_shape j)) s h in
+    let (j, ej, h₁) = then_some (type_of (alone m) e) (λ j. option_and_then (λ u. type_after_selectors (alone m) u rest) (element_type integer_shape j)) s h in
     absurd (cc)
 path-plain m boolean_shape (more (index e) rest) s scalar h =
-    let (j, ej, h₁) = then_some (type_of (alone m) e) (λ j. option_and_then (λ u. type_at (alone m) u rest) (element_type boolean_shape j)) s h in
+    let (j, ej, h₁) = then_some (type_of (alone m) e) (λ j. option_and_then (λ u. type_after_selectors (alone m) u rest) (element_type boolean_shape j)) s h in
     absurd (cc)
 path-plain m (array_shape k n u) (more a rest) s scalar h = absurd scalar
 path-plain m (record_shape k fs) (more a rest) s scalar h = absurd scalar
@@ -207,7 +207,7 @@ mutual
 
   factor-plain : (m : TypeMeanings Name) (a : Tree Name factor) (s : Shape) → type_of_factor (alone m) a ≡ Some s → ids a ≡ marked (ids a)
   factor-plain m (designator x path) s h =
-      let (t, et, h₁) = then_some (object_type {P = Unit {0}} (option_map a_constant (constant_of (m.object_for x)))) (λ t. type_at (alone m) t path) s h in
+      let (t, et, h₁) = then_some (object_type {P = Unit {0}} (option_map a_constant (constant_of (m.object_for x)))) (λ t. type_after_selectors (alone m) t path) s h in
       ap (λ z. (role.LookedUp, x) ∷ z) (path-plain m t path s (constant-scalar (m.object_for x) t et) h₁)
   factor-plain m (integer n) s h = refl
   factor-plain m (parenthesised e) s h = expression-plain m e s h
@@ -240,40 +240,40 @@ names-marked : (k : ℕ) (ns : Tree Name names) → identifiers role.FieldName (
 names-marked k (listed x rest) = ap (λ z. (role.FieldName, again x) ∷ z) (further-marked k rest)
 
 mutual
-  unfolding denoted
+  unfolding denoted_type
 
-  type-marked : (m : TypeMeanings Name) (k : ℕ) (t : Tree Name written_type) (s : Shape) → denoted m k t ≡ Some s → ids (rename_fields_in_type every k t) ≡ marked (ids t)
+  type-marked : (m : TypeMeanings Name) (k : ℕ) (t : Tree Name written_type) (s : Shape) → denoted_type m k t ≡ Some s → ids (rename_fields_in_type every k t) ≡ marked (ids t)
   type-marked m k (named_type x) s h = refl
   type-marked m k (array_type e t) s h =
-      let (v, ev, h₁) = then_some (constant_value m e) (λ v. option_and_then (λ n. option_and_then (λ u. check_limits (array_shape k n u)) (denoted m (suc k) t)) (array_length v)) s h in
-      let (n, en, h₂) = then_some (array_length v) (λ n. option_and_then (λ u. check_limits (array_shape k n u)) (denoted m (suc k) t)) s h₁ in
-      let (u, eu, h₃) = then_some (denoted m (suc k) t) (λ u. check_limits (array_shape k n u)) s h₂ in
+      let (v, ev, h₁) = then_some (constant_value m e) (λ v. option_and_then (λ n. option_and_then (λ u. check_limits (array_shape k n u)) (denoted_type m (suc k) t)) (array_length v)) s h in
+      let (n, en, h₂) = then_some (array_length v) (λ n. option_and_then (λ u. check_limits (array_shape k n u)) (denoted_type m (suc k) t)) s h₁ in
+      let (u, eu, h₃) = then_some (denoted_type m (suc k) t) (λ u. check_limits (array_shape k n u)) s h₂ in
       both mark_at (ids e) (ids t) (constant-plain m e v ev) (type-marked m (suc k) t u eu)
   type-marked m k (record_type g rest) s h =
-      let (later, el, h₁) = then_some (denoted_groups m (suc k + group_constructor_count g) rest) (λ later. option_and_then (λ fs. check_limits (record_shape k fs)) (denoted_group m (suc k) later g)) s h in
-      let (fs, ef, h₂) = then_some (denoted_group m (suc k) later g) (λ fs. check_limits (record_shape k fs)) s h₁ in
+      let (later, el, h₁) = then_some (denoted_further_fields m (suc k + group_constructor_count g) rest) (λ later. option_and_then (λ fs. check_limits (record_shape k fs)) (denoted_group_fields m (suc k) later g)) s h in
+      let (fs, ef, h₂) = then_some (denoted_group_fields m (suc k) later g) (λ fs. check_limits (record_shape k fs)) s h₁ in
       both mark_at (ids g) (ids rest) (group-marked m k (suc k) later g fs ef) (groups-marked m k (suc k + group_constructor_count g) rest later el)
 
-  group-marked : (m : TypeMeanings Name) (r k : ℕ) (later : FieldShapes) (g : Tree Name fields) (fs : FieldShapes) → denoted_group m k later g ≡ Some fs → ids (rename_fields_in_group every r k g) ≡ marked (ids g)
+  group-marked : (m : TypeMeanings Name) (r k : ℕ) (later : FieldShapes) (g : Tree Name fields) (fs : FieldShapes) → denoted_group_fields m k later g ≡ Some fs → ids (rename_fields_in_group every r k g) ≡ marked (ids g)
   group-marked m r k later no_fields fs h = refl
   group-marked m r k later (some_fields ns t) fs h =
-      let (s, es, h₁) = then_some (denoted m k t) (λ s. Some (prepend_fields (map m.written (names_in_list ns)) s later)) fs h in
+      let (s, es, h₁) = then_some (denoted_type m k t) (λ s. Some (prepend_fields (map m.written (names_in_list ns)) s later)) fs h in
       both mark_at (identifiers role.FieldName ns) (ids t) (names-marked r ns) (type-marked m k t s es)
 
-  groups-marked : (m : TypeMeanings Name) (r k : ℕ) (gs : Tree Name (items further_fields)) (fs : FieldShapes) → denoted_groups m k gs ≡ Some fs → ids (rename_fields_in_groups every r k gs) ≡ marked (ids gs)
+  groups-marked : (m : TypeMeanings Name) (r k : ℕ) (gs : Tree Name (items further_fields)) (fs : FieldShapes) → denoted_further_fields m k gs ≡ Some fs → ids (rename_fields_in_groups every r k gs) ≡ marked (ids gs)
   groups-marked m r k end fs h = refl
   groups-marked m r k (more (then_fields g) rest) fs h =
-      let (later, el, h₁) = then_some (denoted_groups m (k + group_constructor_count g) rest) (λ later. denoted_group m k later g) fs h in
+      let (later, el, h₁) = then_some (denoted_further_fields m (k + group_constructor_count g) rest) (λ later. denoted_group_fields m k later g) fs h in
       both mark_at (ids g) (ids rest) (group-marked m r k later g fs h₁) (groups-marked m r (k + group_constructor_count g) rest later el)
 
-types-marked : (env : TypeEnvironment Name) (k : ℕ) (ds : Tree Name (items type_name)) (after : TypeEnvironment Name) → declare_types naming_by_spelling env k ds ≡ Some after → ids (rename_fields_in_types every k ds) ≡ marked (ids ds)
+types-marked : (env : TypeEnvironment Name) (k : ℕ) (ds : Tree Name (items type_definition)) (after : TypeEnvironment Name) → declare_types naming_by_spelling env k ds ≡ Some after → ids (rename_fields_in_types every k ds) ≡ marked (ids ds)
 unfolding declare_types
 types-marked env k end after h = refl
 types-marked env k (more (declares_type x u) ds) after h =
-    let (s, es, h₁) = then_some (denoted (meanings naming_by_spelling env) k u) (λ s. declare_types naming_by_spelling ((x, a_type s) ∷ env) (k + constructor_count u) ds) after h in
+    let (s, es, h₁) = then_some (denoted_type (meanings naming_by_spelling env) k u) (λ s. declare_types naming_by_spelling ((x, a_type s) ∷ env) (k + constructor_count u) ds) after h in
     both mark_at ((role.Declaring, x) ∷ ids u) (ids ds) (ap (λ z. (role.Declaring, x) ∷ z) (type-marked (meanings naming_by_spelling env) k u s es)) (types-marked ((x, a_type s) ∷ env) (k + constructor_count u) ds after h₁)
 
-type_section-marked : (env : TypeEnvironment Name) (k : ℕ) (ts : Tree Name (maybe type_names)) (after : TypeEnvironment Name) → declare_types naming_by_spelling env k (section_types ts) ≡ Some after → ids (rename_fields_in_type_section every k ts) ≡ marked (ids ts)
+type_section-marked : (env : TypeEnvironment Name) (k : ℕ) (ts : Tree Name (maybe type_definitions)) (after : TypeEnvironment Name) → declare_types naming_by_spelling env k (section_types ts) ≡ Some after → ids (rename_fields_in_type_section every k ts) ≡ marked (ids ts)
 type_section-marked env k none after h = refl
 type_section-marked env k (one (declares_types ts)) after h = types-marked env k ts after h
 
@@ -284,19 +284,19 @@ further_declared (more (then_name x) rest) = ap (λ z. (role.Declaring, x) ∷ z
 names_declared : (ns : Tree Name names) → ids ns ≡ marked (ids ns)
 names_declared (listed x rest) = ap (λ z. (role.Declaring, x) ∷ z) (further_declared rest)
 
-variables-marked : (env : TypeEnvironment Name) (k : ℕ) (gs : Tree Name (items variable)) (after : TypeEnvironment Name) → declare_typed naming_by_spelling k gs env ≡ Some after → ids (rename_fields_in_variables every k gs) ≡ marked (ids gs)
-unfolding declare_typed
+variables-marked : (env : TypeEnvironment Name) (k : ℕ) (gs : Tree Name (items variable)) (after : TypeEnvironment Name) → declare_typed_variables naming_by_spelling k gs env ≡ Some after → ids (rename_fields_in_variables every k gs) ≡ marked (ids gs)
+unfolding declare_typed_variables
 variables-marked env k end after h = refl
 variables-marked env k (more (declares_variable ns u) gs) after h =
-    let (s, es, h₁) = then_some (denoted (meanings naming_by_spelling env) k u) (λ s. declare_typed naming_by_spelling (k + constructor_count u) gs (bind_names (names_in_list ns) (a_variable s) env)) after h in
+    let (s, es, h₁) = then_some (denoted_type (meanings naming_by_spelling env) k u) (λ s. declare_typed_variables naming_by_spelling (k + constructor_count u) gs (bind_names (names_in_list ns) (a_variable s) env)) after h in
     both mark_at (ids ns ++ ids u) (ids gs) (both mark_at (ids ns) (ids u) (names_declared ns) (type-marked (meanings naming_by_spelling env) k u s es))
     (variables-marked (bind_names (names_in_list ns) (a_variable s) env) (k + constructor_count u) gs after h₁)
 
-variable_section-marked : (env : TypeEnvironment Name) (k : ℕ) (vs : Tree Name (maybe variables)) (after : TypeEnvironment Name) → declare_typed naming_by_spelling k (section_variables vs) env ≡ Some after → ids (rename_fields_in_variable_section every k vs) ≡ marked (ids vs)
+variable_section-marked : (env : TypeEnvironment Name) (k : ℕ) (vs : Tree Name (maybe variables)) (after : TypeEnvironment Name) → declare_typed_variables naming_by_spelling k (section_variables vs) env ≡ Some after → ids (rename_fields_in_variable_section every k vs) ≡ marked (ids vs)
 variable_section-marked env k none after h = refl
 variable_section-marked env k (one (declares_variables vs)) after h = variables-marked env k vs after h
 
-section-marked : (m : TypeMeanings Name) (k : ℕ) (f : Tree Name section) (s : Shape) → denoted m k (section_type f) ≡ Some s → ids (rename_fields_in_section every k f) ≡ marked (ids f)
+section-marked : (m : TypeMeanings Name) (k : ℕ) (f : Tree Name section) (s : Shape) → denoted_type m k (section_type f) ≡ Some s → ids (rename_fields_in_section every k f) ≡ marked (ids f)
 section-marked m k (value_section ns u) s h = both mark_at (ids ns) (ids u) (names_declared ns) (type-marked m k u s h)
 section-marked m k (variable_section ns u) s h = both mark_at (ids ns) (ids u) (names_declared ns) (type-marked m k u s h)
 
@@ -304,7 +304,7 @@ sections-marked : (env : TypeEnvironment Name) (k : ℕ) (fs : Tree Name (items 
 unfolding typed_parameters
 sections-marked env k end ps h = refl
 sections-marked env k (more (then_section f) fs) ps h =
-    let (s, es, h₁) = then_some (denoted (meanings naming_by_spelling env) k (section_type f)) (λ s. option_and_then (λ rest. Some (map (parameter_of (section_mode f) s) (section_names f) ++ rest)) (typed_parameters naming_by_spelling (bind_names (section_names f) (a_variable s) env) (k + constructor_count (section_type f)) fs)) ps h in
+    let (s, es, h₁) = then_some (denoted_type (meanings naming_by_spelling env) k (section_type f)) (λ s. option_and_then (λ rest. Some (map (parameter_of (section_mode f) s) (section_names f) ++ rest)) (typed_parameters naming_by_spelling (bind_names (section_names f) (a_variable s) env) (k + constructor_count (section_type f)) fs)) ps h in
     let (rest, er, h₂) = then_some (typed_parameters naming_by_spelling (bind_names (section_names f) (a_variable s) env) (k + constructor_count (section_type f)) fs) (λ rest. Some (map (parameter_of (section_mode f) s) (section_names f) ++ rest)) ps h₁ in
     both mark_at (ids f) (ids fs) (section-marked (meanings naming_by_spelling env) k f s es)
     (sections-marked (bind_names (section_names f) (a_variable s) env) (k + constructor_count (section_type f)) fs rest er)
@@ -317,40 +317,40 @@ formals-marked env k (one (some_formals f fs)) ps h = sections-marked env k (mor
 -- ---- blocks
 
 mutual
-  unfolding block_fits declare_first
+  unfolding block_is_well_typed declare_constants_and_types
 
-  block-marked : (env : TypeEnvironment Name) (k : ℕ) (b : Tree Name block) → block_fits naming_by_spelling env k b ≡ true → ids (rename_fields_in_block every env k b) ≡ marked (ids b)
-  block-marked env k (has_body (declares cs ts vs ps) statements) h =
-      let b : Tree Name block = has_body (declares cs ts vs ps) statements in
-      let (inner, e₁, e₂) = hold-true (option_and_then (declare_typed naming_by_spelling (constructors_before_variables k b) (section_variables vs)) (declare_first naming_by_spelling env k b)) (λ inner. procedures_fit naming_by_spelling inner (constructor_after_variables k b) statements ps) h in
-      let (first, ef, e₃) = then_some (declare_first naming_by_spelling env k b) (declare_typed naming_by_spelling (constructors_before_variables k b) (section_variables vs)) inner e₁ in
+  block-marked : (env : TypeEnvironment Name) (k : ℕ) (b : Tree Name block) → block_is_well_typed naming_by_spelling env k b ≡ true → ids (rename_fields_in_block every env k b) ≡ marked (ids b)
+  block-marked env k (forms_block (declares cs ts vs ps) statements) h =
+      let b : Tree Name block = forms_block (declares cs ts vs ps) statements in
+      let (inner, e₁, e₂) = hold-true (option_and_then (declare_typed_variables naming_by_spelling (constructors_before_variables k b) (section_variables vs)) (declare_constants_and_types naming_by_spelling env k b)) (λ inner. procedures_are_well_typed naming_by_spelling inner (constructors_before_procedures k b) statements ps) h in
+      let (first, ef, e₃) = then_some (declare_constants_and_types naming_by_spelling env k b) (declare_typed_variables naming_by_spelling (constructors_before_variables k b) (section_variables vs)) inner e₁ in
       let (consts, ec, e₄) = then_some (declare_constants naming_by_spelling env (section_constants cs)) (λ env. declare_types naming_by_spelling env k (section_types ts)) first ef in
-      let later = subst (λ inner. ids (rename_fields_in_procedures every inner (constructor_after_variables k b) ps) ≡ marked (ids ps)) (sym (ap (λ o. unwrap_or o env) e₁)) (procedures-marked inner (constructor_after_variables k b) statements ps e₂) in
+      let later = subst (λ inner. ids (rename_fields_in_procedures every inner (constructors_before_procedures k b) ps) ≡ marked (ids ps)) (sym (ap (λ o. unwrap_or o env) e₁)) (procedures-marked inner (constructors_before_procedures k b) statements ps e₂) in
       both mark_at (ids cs ++ (ids ts ++ (ids vs ++ ids ps))) (ids statements)
       (both mark_at (ids cs) (ids ts ++ (ids vs ++ ids ps)) (constant_section-plain env cs consts ec)
       (both mark_at (ids ts) (ids vs ++ ids ps) (type_section-marked consts k ts first e₄)
       (both mark_at (ids vs) (ids ps) (variable_section-marked first (constructors_before_variables k b) vs inner e₃) later)))
       (body-marked _ statements)
 
-  procedures-marked : (env : TypeEnvironment Name) (k : ℕ) (statements : Tree Name (maybe body)) (ps : Tree Name (items procedure)) → procedures_fit naming_by_spelling env k statements ps ≡ true → ids (rename_fields_in_procedures every env k ps) ≡ marked (ids ps)
+  procedures-marked : (env : TypeEnvironment Name) (k : ℕ) (statements : Tree Name (maybe body)) (ps : Tree Name (items procedure)) → procedures_are_well_typed naming_by_spelling env k statements ps ≡ true → ids (rename_fields_in_procedures every env k ps) ≡ marked (ids ps)
   procedures-marked env k statements end h = refl
   procedures-marked env k statements (more a rest) h =
-      let (qs, eqs, e₁) = hold-true (typed_parameters naming_by_spelling env k (procedure_formals a)) (λ qs. procedure_fits naming_by_spelling (bind_typed_parameters qs (bind_procedure (procedure_name a) qs env)) k a && procedures_fit naming_by_spelling (bind_procedure (procedure_name a) qs env) (k + procedure_constructor_count a) statements rest) h in
-      let split = both_true (procedure_fits naming_by_spelling (bind_typed_parameters qs (bind_procedure (procedure_name a) qs env)) k a) (procedures_fit naming_by_spelling (bind_procedure (procedure_name a) qs env) (k + procedure_constructor_count a) statements rest) e₁ in
+      let (qs, eqs, e₁) = hold-true (typed_parameters naming_by_spelling env k (procedure_formals a)) (λ qs. procedure_is_well_typed naming_by_spelling (bind_typed_parameters qs (bind_procedure (procedure_name a) qs env)) k a && procedures_are_well_typed naming_by_spelling (bind_procedure (procedure_name a) qs env) (k + procedure_constructor_count a) statements rest) h in
+      let split = both_true (procedure_is_well_typed naming_by_spelling (bind_typed_parameters qs (bind_procedure (procedure_name a) qs env)) k a) (procedures_are_well_typed naming_by_spelling (bind_procedure (procedure_name a) qs env) (k + procedure_constructor_count a) statements rest) e₁ in
       let own = procedure-marked env (bind_typed_parameters qs (bind_procedure (procedure_name a) qs env)) k a qs eqs split.0 in
       let others = procedures-marked (bind_procedure (procedure_name a) qs env) (k + procedure_constructor_count a) statements rest split.1 in
       subst (λ qs. ids (rename_fields_in_procedure every (bind_typed_parameters qs (bind_procedure (procedure_name a) qs env)) k a) ++ ids (rename_fields_in_procedures every (bind_procedure (procedure_name a) qs env) (k + procedure_constructor_count a) rest) ≡ marked (ids a ++ ids rest))
       (sym (ap (λ o. unwrap_or o []) eqs)) (both mark_at (ids a) (ids rest) own others)
 
-  procedure-marked : (before env : TypeEnvironment Name) (k : ℕ) (a : Tree Name (item procedure)) (ps : List (TypedParameter Name)) → typed_parameters naming_by_spelling before k (procedure_formals a) ≡ Some ps → procedure_fits naming_by_spelling env k a ≡ true
+  procedure-marked : (before env : TypeEnvironment Name) (k : ℕ) (a : Tree Name (item procedure)) (ps : List (TypedParameter Name)) → typed_parameters naming_by_spelling before k (procedure_formals a) ≡ Some ps → procedure_is_well_typed naming_by_spelling env k a ≡ true
       → ids (rename_fields_in_procedure every env k a) ≡ marked (ids a)
   procedure-marked before env k (declares_procedure x fs b closing) ps h e =
       ap (λ z. (role.Declaring, x) ∷ z) (both mark_at (ids fs) (ids b ++ ((role.ClosingName, closing) ∷ [])) (formals-marked before k fs ps h)
-      (both mark_at (ids b) ((role.ClosingName, closing) ∷ []) (block-marked env (constructor_after_formals k (declares_procedure x fs b closing)) b e) refl))
+      (both mark_at (ids b) ((role.ClosingName, closing) ∷ []) (block-marked env (constructors_before_procedure_block k (declares_procedure x fs b closing)) b e) refl))
 
 module-marked : (m : Tree Name module_text) → passes_type_check naming_by_spelling m ≡ true → ids (rename_fields_in_module every m) ≡ marked (ids m)
 unfolding passes_type_check
-module-marked (is_module x b closing) h = ap (λ z. (role.ModuleName, x) ∷ z) (both mark_at (ids b) ((role.ModuleName, closing) ∷ []) (block-marked (outermost naming_by_spelling) 0 b h) refl)
+module-marked (is_module x b closing) h = ap (λ z. (role.ModuleName, x) ∷ z) (both mark_at (ids b) ((role.ModuleName, closing) ∷ []) (block-marked (outermost_environment naming_by_spelling) 0 b h) refl)
 
 -- ---- the declarations of records have the same spelling, whatever is used for an unknown record
 
@@ -371,7 +371,7 @@ longer : (f : List ℕ) → f ≡ 0 ∷ f → ⊥
 longer f h = let long : length f ≡ suc (length f) = ap length h in omega (arith, long)
 
 abbrev owner_writes : TextWithTokens → (ℕ → Option ℕ) → ℕ → Name
-owner_writes source table i = field_names_by_record (λ k x. again x) (table i) (text_at source i)
+owner_writes source table i = field_names_by_record (λ k x. again x) (table i) (token_text_at source i)
 
 -- holds if an identifier has an owner exactly if it is in the place of a field
 abbrev Matches : Role → Option ℕ → Type 0
@@ -395,18 +395,18 @@ matched x role.ModuleName (Some k) h = longer x h
 -- The identifiers with an owner are exactly the identifiers in the places of fields, if each identifier has an owner
 -- exactly if its role says that it is a field.
 listed_fields : (source : TextWithTokens) (table : ℕ → Option ℕ) (xs : List (ℕ × Option ℕ)) (ys : List (Role × ℕ)) → tokens xs ≡ names_without_roles ys → AgreesWithOwnerList table xs
-    → map mark_at (map (beside_role (text_at source)) ys) ≡ map (beside_role (owner_writes source table)) ys → tokens_of (fields_with_owners xs) ≡ field_role_tokens ys
+    → map mark_at (map (beside_role (token_text_at source)) ys) ≡ map (beside_role (owner_writes source table)) ys → token_indexes (fields_with_owners xs) ≡ field_role_tokens ys
 listed_fields source table [] [] e has h = refl
 listed_fields source table [] (y ∷ ys) e has h = absurd (cc)
 listed_fields source table (x ∷ xs) [] e has h = absurd (cc)
 listed_fields source table ((i, o) ∷ xs) ((r, j) ∷ ys) e has h =
     let same : i ≡ j = (heads e).0 in
     let owners_in_tree : table j ≡ o = ap table (sym same) ∙ has.0 in
-    let written : mark r (text_at source j) ≡ owner_writes source table j = ap (λ z. z.1) (heads h).0 in
-    by_role r o same (matched (text_at source j) r o (written ∙ ap (λ o. field_names_by_record (λ k x. again x) o (text_at source j)) owners_in_tree))
+    let written : mark r (token_text_at source j) ≡ owner_writes source table j = ap (λ z. z.1) (heads h).0 in
+    by_role r o same (matched (token_text_at source j) r o (written ∙ ap (λ o. field_names_by_record (λ k x. again x) o (token_text_at source j)) owners_in_tree))
     (listed_fields source table xs ys (heads e).1 has.1 (heads h).1)
   where
-    by_role : (r : Role) (o : Option ℕ) → i ≡ j → Matches r o → tokens_of (fields_with_owners xs) ≡ field_role_tokens ys → tokens_of (fields_with_owners ((i, o) ∷ xs)) ≡ field_role_tokens ((r, j) ∷ ys)
+    by_role : (r : Role) (o : Option ℕ) → i ≡ j → Matches r o → token_indexes (fields_with_owners xs) ≡ field_role_tokens ys → token_indexes (fields_with_owners ((i, o) ∷ xs)) ≡ field_role_tokens ((r, j) ∷ ys)
     by_role role.FieldName (Some k) same m later = λ z. same z ∷ later z
     by_role role.FieldName None same m later = absurd m
     by_role role.Declaring None same m later = later
@@ -424,10 +424,10 @@ fields_match_grammar-holds r named fits =
     let m : ParsedModule = r.module_read in
     let owners : List (Option ℕ) = with_owners r in
     let has : AgreesWithOwnerList (ordinal_in owners) (owners_in_resolution r) = fields_have-owners r named in
-    let by_table = listed_owners_are_complete-holds r owners named fits has (λ k x. again x) in
-    let written : marked (ids (named_tree_of m)) ≡ ids (mapped (owner_writes m.source (ordinal_in owners)) (value_at m.source) (tree_of m)) =
+    let by_table = agreeing_table_is_owner_table-holds r owners named fits has (λ k x. again x) in
+    let written : marked (ids (named_tree_of m)) ≡ ids (mapped_tree (owner_writes m.source (ordinal_in owners)) (token_value_at m.source) (tree_of m)) =
     sym (module-marked (named_tree_of m) fits.1) ∙ (ap ids (module-alike every by_record (named_tree_of m) (alike-records (records (named_tree_of m))) fits.1) ∙ ap ids by_table) in
     listed_fields m.source (ordinal_in owners) (owners_in_resolution r) (identifiers role.Declaring (tree_of m))
     (module-tokens (meanings_by_token (declared_object (named_tree_of m)) r) (tree_of m)) has
-    (ap marked (sym (identifiers-mapped (text_at m.source) (value_at m.source) role.Declaring (tree_of m)))
-    ∙ (written ∙ identifiers-mapped (owner_writes m.source (ordinal_in owners)) (value_at m.source) role.Declaring (tree_of m)))
+    (ap marked (sym (identifiers-mapped_tree (token_text_at m.source) (token_value_at m.source) role.Declaring (tree_of m)))
+    ∙ (written ∙ identifiers-mapped_tree (owner_writes m.source (ordinal_in owners)) (token_value_at m.source) role.Declaring (tree_of m)))

@@ -1,9 +1,9 @@
 -- Statements select the same fields if the names at their tokens have the same meanings and
 -- spellings.
 use Rattle.std.proofs.Common.{◌≡◌, ℕ, ◌+◌, List, ◌++◌, Option, option_and_then, refl, ap}
-use Rattle.ob0_tree.specs.Tree.{Sort, Tree, adds, array_type, assigns, begins, block, branches, calls, compares, declares, declares_constant, declares_constants, declares_procedure, declares_type, declares_types, declares_variable, declares_variables, designator, else_branch, elsif_branch, empty, end, field, has_body, index, integer, is_module, item, items, listed, more, multiplies, named_type, negation, no_arguments, no_fields, no_formals, none, one, parenthesised, procedure, product, record_type, relates, repeat_loop, runs, selector, some_arguments, some_fields, some_formals, sum, then_argument, then_fields, then_name, then_section, then_statement, value_section, variable_section, while_loop}
+use Rattle.ob0_tree.specs.Tree.{Sort, Tree, adds, array_type, assigns, begins, block, branches, calls, compares, declares, declares_constant, declares_constants, declares_procedure, declares_type, declares_types, declares_variable, declares_variables, designator, else_branch, elsif_branch, empty, end, field, forms_block, index, integer, is_module, item, items, listed, more, multiplies, named_type, negation, no_arguments, no_fields, no_formals, none, one, parenthesised, procedure, product, record_type, relates, repeat_loop, runs, selector, some_arguments, some_fields, some_formals, sum, then_argument, then_fields, then_name, then_section, then_statement, value_section, variable_section, while_loop}
 use Rattle.ob0_language_names.specs.Parts.{formal_sections, section_types, section_variables}
-use Rattle.ob0_language_types.specs.Declarations.{constructor_after_formals, constructors_before_variables, constructor_after_variables, procedure_constructor_count}
+use Rattle.ob0_language_types.specs.Declarations.{constructors_before_procedure_block, constructors_before_variables, constructors_before_procedures, procedure_constructor_count}
 use Rattle.ob0_language_types.specs.Expressions.{Meanings}
 use Rattle.ob0_language_types.specs.Typing.{element_type, field_type, object_type}
 use Rattle.ob0_language_values.specs.Values.{Shape, integer_shape}
@@ -75,7 +75,7 @@ module _ {Q : Type 0} (m n : Meanings ℕ Shape Q) where
     tree_same (declares_procedure a b c d) h = refl
     tree_same (declares a b c d) h = refl
     tree_same (begins a) h = tree_same a h
-    tree_same (has_body a b) h = refl
+    tree_same (forms_block a b) h = refl
     tree_same (is_module a b c) h = refl
 
     -- Selectors select the same fields from a value of the same type.
@@ -90,8 +90,8 @@ module _ {Q : Type 0} (m n : Meanings ℕ Shape Q) where
 
   mutual
     pub block_same : (k : ℕ) (b : Tree ℕ block) → EachTokenHas Same b → fields_in_block m k b ≡ fields_in_block n k b
-    block_same k (has_body (declares cs ts vs ps) statements) h =
-        both_same (ap (λ l. fields_in_types k (section_types ts) ++ (fields_in_variables (constructors_before_variables k (has_body (declares cs ts vs ps) statements)) (section_variables vs) ++ l)) (procedures_same (constructor_after_variables k (has_body (declares cs ts vs ps) statements)) ps h.0.3))
+    block_same k (forms_block (declares cs ts vs ps) statements) h =
+        both_same (ap (λ l. fields_in_types k (section_types ts) ++ (fields_in_variables (constructors_before_variables k (forms_block (declares cs ts vs ps) statements)) (section_variables vs) ++ l)) (procedures_same (constructors_before_procedures k (forms_block (declares cs ts vs ps) statements)) ps h.0.3))
         (tree_same statements h.1)
 
     pub procedures_same : (k : ℕ) (ps : Tree ℕ (items procedure)) → EachTokenHas Same ps → fields_in_procedures m k ps ≡ fields_in_procedures n k ps
@@ -100,4 +100,4 @@ module _ {Q : Type 0} (m n : Meanings ℕ Shape Q) where
 
     pub procedure_same : (k : ℕ) (p : Tree ℕ (item procedure)) → EachTokenHas Same p → fields_in_procedure m k p ≡ fields_in_procedure n k p
     procedure_same k (declares_procedure x fs b closing) h =
-        ap (λ l. fields_in_sections k (formal_sections fs) ++ l) (block_same (constructor_after_formals k (declares_procedure x fs b closing)) b h.2)
+        ap (λ l. fields_in_sections k (formal_sections fs) ++ l) (block_same (constructors_before_procedure_block k (declares_procedure x fs b closing)) b h.2)

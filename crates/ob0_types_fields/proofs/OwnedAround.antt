@@ -1,31 +1,31 @@
 -- The identifiers of a module can be split around the statements to which a way leads. The identifiers before and after
 -- are the identifiers of the module without these statements.
 use Rattle.std.proofs.Common.{◌≡◌, ℕ, zero, suc, ◌+◌, List, [], ◌∷◌, ◌++◌, None, Option, refl, ap, ◌∙◌, sym, append_assoc, append-nil}
-use Rattle.ob0_tree.specs.Tree.{Tree, block, declares, declares_procedure, end, has_body, is_module, item, items, module_text, more, procedure}
-use Rattle.ob0_language_types.specs.Declarations.{constructor_after_formals, constructors_before_variables, constructor_after_variables, block_constructor_count, formals_constructor_count, procedure_constructor_count, procedures_constructor_count, types_constructor_count, variables_constructor_count}
+use Rattle.ob0_tree.specs.Tree.{Tree, block, declares, declares_procedure, end, forms_block, is_module, item, items, module_text, more, procedure}
+use Rattle.ob0_language_types.specs.Declarations.{constructors_before_procedure_block, constructors_before_variables, constructors_before_procedures, block_constructor_count, formals_constructor_count, procedure_constructor_count, procedures_constructor_count, types_constructor_count, variables_constructor_count}
 use Rattle.ob0_language_types.specs.Expressions.{Meanings}
 use Rattle.ob0_language_names.specs.Parts.{formal_sections, section_types, section_variables}
 use Rattle.ob0_language_values.specs.Values.{Shape}
-use Rattle.ob0_scope_table.specs.BodyReplaced.{PathToBody, block_without, body_among, body_at, body_in, body_inside, closing_name_in_procedures, closing_name_in_module, closing_name_in_block, closing_name_in_procedure, procedure_without, procedures_without, module_without_body}
+use Rattle.ob0_scope_table.specs.BodyReplaced.{PathToBody, block_without, body_at_path_in_procedures, body_at_path, body_at_path_in_block, body_at_path_in_procedure, closing_name_in_procedures, closing_name_in_module, closing_name_in_block, closing_name_in_procedure, procedure_without, procedures_without, module_without_body}
 use Rattle.ob0_types_fields.specs.Owned.{owners_in_tree, owners_in_block, owners_in_formals, owners_in_module, owners_in_procedure, owners_in_procedures, owners_in_type_section, owners_in_variable_section, identifiers_without_owners}
 
 -- ---- leaving out statements doesn't change the number of words ARRAY and RECORD
 
 module _ {N : Type 0} where
   mutual
-    pub block_counted : (way : PathToBody) (b : Tree N block) → block_constructor_count (block_without way b) ≡ block_constructor_count b
-    block_counted [] (has_body (declares cs ts vs ps) statements) = refl
-    block_counted (k ∷ way) (has_body (declares cs ts vs ps) statements) =
-        ap (λ n. types_constructor_count (section_types ts) + (variables_constructor_count (section_variables vs) + n)) (procedures_counted k way ps)
+    pub block_counted : (path : PathToBody) (b : Tree N block) → block_constructor_count (block_without path b) ≡ block_constructor_count b
+    block_counted [] (forms_block (declares cs ts vs ps) statements) = refl
+    block_counted (k ∷ path) (forms_block (declares cs ts vs ps) statements) =
+        ap (λ n. types_constructor_count (section_types ts) + (variables_constructor_count (section_variables vs) + n)) (procedures_counted k path ps)
 
-    pub procedures_counted : (k : ℕ) (way : PathToBody) (ps : Tree N (items procedure)) → procedures_constructor_count (procedures_without k way ps) ≡ procedures_constructor_count ps
-    procedures_counted zero way end = refl
-    procedures_counted (suc k) way end = refl
-    procedures_counted zero way (more p rest) = ap (λ n. n + procedures_constructor_count rest) (procedure_counted way p)
-    procedures_counted (suc k) way (more p rest) = ap (λ n. procedure_constructor_count p + n) (procedures_counted k way rest)
+    pub procedures_counted : (k : ℕ) (path : PathToBody) (ps : Tree N (items procedure)) → procedures_constructor_count (procedures_without k path ps) ≡ procedures_constructor_count ps
+    procedures_counted zero path end = refl
+    procedures_counted (suc k) path end = refl
+    procedures_counted zero path (more p rest) = ap (λ n. n + procedures_constructor_count rest) (procedure_counted path p)
+    procedures_counted (suc k) path (more p rest) = ap (λ n. procedure_constructor_count p + n) (procedures_counted k path rest)
 
-    pub procedure_counted : (way : PathToBody) (p : Tree N (item procedure)) → procedure_constructor_count (procedure_without way p) ≡ procedure_constructor_count p
-    procedure_counted way (declares_procedure x fs b closing) = ap (λ n. formals_constructor_count (formal_sections fs) + n) (block_counted way b)
+    pub procedure_counted : (path : PathToBody) (p : Tree N (item procedure)) → procedure_constructor_count (procedure_without path p) ≡ procedure_constructor_count p
+    procedure_counted path (declares_procedure x fs b closing) = ap (λ n. formals_constructor_count (formal_sections fs) + n) (block_counted path b)
 
 -- ---- before and after
 
@@ -71,58 +71,58 @@ closed own = (own, None) ∷ []
 
 module _ {Q : Type 0} (m : Meanings ℕ Shape Q) where
   mutual
-    pub block_split : (way : PathToBody) (k own : ℕ) (b : Tree ℕ block)
-        → IsAround (owners_in_block m k b ++ closed own) (owners_in_block m k (block_without way b) ++ closed own) (owners_in_tree m None (body_in way b)) (closing_name_in_block way own b)
-    block_split [] k own (has_body (declares cs ts vs ps) statements) =
-        let b : Tree ℕ block = has_body (declares cs ts vs ps) statements in
-        let D : List (ℕ × Option ℕ) = identifiers_without_owners cs ++ (owners_in_type_section k ts ++ (owners_in_variable_section (constructors_before_variables k b) vs ++ owners_in_procedures m (constructor_after_variables k b) ps)) in
+    pub block_split : (path : PathToBody) (k own : ℕ) (b : Tree ℕ block)
+        → IsAround (owners_in_block m k b ++ closed own) (owners_in_block m k (block_without path b) ++ closed own) (owners_in_tree m None (body_at_path_in_block path b)) (closing_name_in_block path own b)
+    block_split [] k own (forms_block (declares cs ts vs ps) statements) =
+        let b : Tree ℕ block = forms_block (declares cs ts vs ps) statements in
+        let D : List (ℕ × Option ℕ) = identifiers_without_owners cs ++ (owners_in_type_section k ts ++ (owners_in_variable_section (constructors_before_variables k b) vs ++ owners_in_procedures m (constructors_before_procedures k b) ps)) in
         record { before = D; after = []; whole = append_assoc D (owners_in_tree m None statements) (closed own); left = ap (λ l. l ++ closed own) (append-nil D) }
-    block_split (j ∷ way) k own (has_body (declares cs ts vs ps) statements) =
-        let b : Tree ℕ block = has_body (declares cs ts vs ps) statements in
-        let inner : List (ℕ × Option ℕ) = owners_in_tree m None (body_among j way ps) in
-        let c : ℕ = closing_name_in_procedures j way own ps in
+    block_split (j ∷ path) k own (forms_block (declares cs ts vs ps) statements) =
+        let b : Tree ℕ block = forms_block (declares cs ts vs ps) statements in
+        let inner : List (ℕ × Option ℕ) = owners_in_tree m None (body_at_path_in_procedures j path ps) in
+        let c : ℕ = closing_name_in_procedures j path own ps in
         let C : List (ℕ × Option ℕ) = identifiers_without_owners cs in
         let T : List (ℕ × Option ℕ) = owners_in_type_section k ts in
         let V : List (ℕ × Option ℕ) = owners_in_variable_section (constructors_before_variables k b) vs in
         let S : List (ℕ × Option ℕ) = owners_in_tree m None statements in
-        let full : List (ℕ × Option ℕ) = owners_in_procedures m (constructor_after_variables k b) ps in
-        let less : List (ℕ × Option ℕ) = owners_in_procedures m (constructor_after_variables k b) (procedures_without j way ps) in
+        let full : List (ℕ × Option ℕ) = owners_in_procedures m (constructors_before_procedures k b) ps in
+        let less : List (ℕ × Option ℕ) = owners_in_procedures m (constructors_before_procedures k b) (procedures_without j path ps) in
         as_these inner c (regrouped C T V full S (closed own)) (regrouped C T V less S (closed own))
         (in_front (T ++ (V ++ (full ++ (S ++ closed own)))) (T ++ (V ++ (less ++ (S ++ closed own)))) inner C c
         (in_front (V ++ (full ++ (S ++ closed own))) (V ++ (less ++ (S ++ closed own))) inner T c
         (in_front (full ++ (S ++ closed own)) (less ++ (S ++ closed own)) inner V c
-        (procedures_split j way (constructor_after_variables k b) own ps S))))
+        (procedures_split j path (constructors_before_procedures k b) own ps S))))
 
-    pub procedures_split : (j : ℕ) (way : PathToBody) (k own : ℕ) (ps : Tree ℕ (items procedure)) (tail : List (ℕ × Option ℕ))
-        → IsAround (owners_in_procedures m k ps ++ (tail ++ closed own)) (owners_in_procedures m k (procedures_without j way ps) ++ (tail ++ closed own)) (owners_in_tree m None (body_among j way ps)) (closing_name_in_procedures j way own ps)
-    procedures_split zero way k own end tail = record { before = tail; after = []; whole = refl; left = refl }
-    procedures_split (suc j) way k own end tail = record { before = tail; after = []; whole = refl; left = refl }
-    procedures_split zero way k own (more p rest) tail =
-        let inner : List (ℕ × Option ℕ) = owners_in_tree m None (body_inside way p) in
-        let c : ℕ = closing_name_in_procedure way p in
+    pub procedures_split : (j : ℕ) (path : PathToBody) (k own : ℕ) (ps : Tree ℕ (items procedure)) (tail : List (ℕ × Option ℕ))
+        → IsAround (owners_in_procedures m k ps ++ (tail ++ closed own)) (owners_in_procedures m k (procedures_without j path ps) ++ (tail ++ closed own)) (owners_in_tree m None (body_at_path_in_procedures j path ps)) (closing_name_in_procedures j path own ps)
+    procedures_split zero path k own end tail = record { before = tail; after = []; whole = refl; left = refl }
+    procedures_split (suc j) path k own end tail = record { before = tail; after = []; whole = refl; left = refl }
+    procedures_split zero path k own (more p rest) tail =
+        let inner : List (ℕ × Option ℕ) = owners_in_tree m None (body_at_path_in_procedure path p) in
+        let c : ℕ = closing_name_in_procedure path p in
         let R : List (ℕ × Option ℕ) = owners_in_procedures m (k + procedure_constructor_count p) rest in
         let last : List (ℕ × Option ℕ) = tail ++ closed own in
         as_these inner c (append_assoc (owners_in_procedure m k p) R last)
-        ((λ i. (owners_in_procedure m k (procedure_without way p) ++ owners_in_procedures m (k + procedure_counted way p i) rest) ++ last) ∙ append_assoc (owners_in_procedure m k (procedure_without way p)) R last)
-        (followed_by (owners_in_procedure m k p) (owners_in_procedure m k (procedure_without way p)) inner (R ++ last) c (procedure_split way k p))
-    procedures_split (suc j) way k own (more p rest) tail =
-        let inner : List (ℕ × Option ℕ) = owners_in_tree m None (body_among j way rest) in
-        let c : ℕ = closing_name_in_procedures j way own rest in
+        ((λ i. (owners_in_procedure m k (procedure_without path p) ++ owners_in_procedures m (k + procedure_counted path p i) rest) ++ last) ∙ append_assoc (owners_in_procedure m k (procedure_without path p)) R last)
+        (followed_by (owners_in_procedure m k p) (owners_in_procedure m k (procedure_without path p)) inner (R ++ last) c (procedure_split path k p))
+    procedures_split (suc j) path k own (more p rest) tail =
+        let inner : List (ℕ × Option ℕ) = owners_in_tree m None (body_at_path_in_procedures j path rest) in
+        let c : ℕ = closing_name_in_procedures j path own rest in
         let P : List (ℕ × Option ℕ) = owners_in_procedure m k p in
         let n : ℕ = k + procedure_constructor_count p in
         let full : List (ℕ × Option ℕ) = owners_in_procedures m n rest in
-        let less : List (ℕ × Option ℕ) = owners_in_procedures m n (procedures_without j way rest) in
+        let less : List (ℕ × Option ℕ) = owners_in_procedures m n (procedures_without j path rest) in
         let last : List (ℕ × Option ℕ) = tail ++ closed own in
         as_these inner c (append_assoc P full last) (append_assoc P less last)
-        (in_front (full ++ last) (less ++ last) inner P c (procedures_split j way n own rest tail))
+        (in_front (full ++ last) (less ++ last) inner P c (procedures_split j path n own rest tail))
 
-    pub procedure_split : (way : PathToBody) (k : ℕ) (p : Tree ℕ (item procedure))
-        → IsAround (owners_in_procedure m k p) (owners_in_procedure m k (procedure_without way p)) (owners_in_tree m None (body_inside way p)) (closing_name_in_procedure way p)
-    procedure_split way k (declares_procedure x fs b closing) =
-        let j : ℕ = constructor_after_formals k (declares_procedure x fs b closing) in
+    pub procedure_split : (path : PathToBody) (k : ℕ) (p : Tree ℕ (item procedure))
+        → IsAround (owners_in_procedure m k p) (owners_in_procedure m k (procedure_without path p)) (owners_in_tree m None (body_at_path_in_procedure path p)) (closing_name_in_procedure path p)
+    procedure_split path k (declares_procedure x fs b closing) =
+        let j : ℕ = constructors_before_procedure_block k (declares_procedure x fs b closing) in
         let head : List (ℕ × Option ℕ) = (x, None) ∷ owners_in_formals k fs in
-        in_front (owners_in_block m j b ++ closed closing) (owners_in_block m j (block_without way b) ++ closed closing) (owners_in_tree m None (body_in way b)) head (closing_name_in_block way closing b) (block_split way j closing b)
+        in_front (owners_in_block m j b ++ closed closing) (owners_in_block m j (block_without path b) ++ closed closing) (owners_in_tree m None (body_at_path_in_block path b)) head (closing_name_in_block path closing b) (block_split path j closing b)
 
-  pub module_split : (way : PathToBody) (t : Tree ℕ module_text) → IsAround (owners_in_module m t) (owners_in_module m (module_without_body way t)) (owners_in_tree m None (body_at way t)) (closing_name_in_module way t)
-  module_split way (is_module x b closing) =
-      in_front (owners_in_block m 0 b ++ closed closing) (owners_in_block m 0 (block_without way b) ++ closed closing) (owners_in_tree m None (body_in way b)) ((x, None) ∷ []) (closing_name_in_block way closing b) (block_split way 0 closing b)
+  pub module_split : (path : PathToBody) (t : Tree ℕ module_text) → IsAround (owners_in_module m t) (owners_in_module m (module_without_body path t)) (owners_in_tree m None (body_at_path path t)) (closing_name_in_module path t)
+  module_split path (is_module x b closing) =
+      in_front (owners_in_block m 0 b ++ closed closing) (owners_in_block m 0 (block_without path b) ++ closed closing) (owners_in_tree m None (body_at_path_in_block path b)) ((x, None) ∷ []) (closing_name_in_block path closing b) (block_split path 0 closing b)

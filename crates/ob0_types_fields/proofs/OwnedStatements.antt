@@ -3,7 +3,7 @@
 use Rattle.std.proofs.Common.{◌≡◌, ℕ, List, [], ◌∷◌, ◌++◌, None, Option, option_and_then, refl, ap, ◌∙◌, sym}
 use Rattle.ob0_tree.specs.declared.tree.Role.{Role}
 use Rattle.ob0_tree.specs.declared.tree.Role.TheVariants as role
-use Rattle.ob0_tree.specs.Tree.{Sort, Tree, Item, item, adds, array_type, assigns, begins, branches, calls, compares, declares, declares_constant, declares_constants, declares_procedure, declares_type, declares_types, declares_variable, declares_variables, designator, else_branch, elsif_branch, empty, end, field, has_body, identifiers, index, integer, is_module, listed, mapped, more, multiplies, named_type, negation, no_arguments, no_fields, no_formals, none, occurrences, one, parenthesised, product, record_type, relates, repeat_loop, runs, some_arguments, some_fields, some_formals, sum, then_argument, then_fields, then_name, then_section, then_statement, value_section, variable_section, while_loop}
+use Rattle.ob0_tree.specs.Tree.{Sort, Tree, Item, item, adds, array_type, assigns, begins, branches, calls, compares, declares, declares_constant, declares_constants, declares_procedure, declares_type, declares_types, declares_variable, declares_variables, designator, else_branch, elsif_branch, empty, end, field, forms_block, identifiers, index, integer, is_module, listed, mapped_tree, more, multiplies, named_type, negation, no_arguments, no_fields, no_formals, none, occurrences, one, parenthesised, product, record_type, relates, repeat_loop, runs, some_arguments, some_fields, some_formals, sum, then_argument, then_fields, then_name, then_section, then_statement, value_section, variable_section, while_loop}
 use Rattle.ob0_language_names.specs.Names.{Name}
 use Rattle.ob0_language_types.specs.Expressions.{Meanings}
 use Rattle.ob0_language_types.specs.Typing.{field_type, object_type}
@@ -30,113 +30,113 @@ all_none : (at : ℕ → Option ℕ) (xs : List (Role × ℕ)) → AgreesWithOwn
 all_none at [] h = tt
 all_none at (x ∷ xs) h = (h.0, all_none at xs h.1)
 
-identifiers_without_owners-mapped : (l : ℕ → Name → Name) (at : ℕ → Option ℕ) (text : ℕ → Name) (value : ℕ → ℕ) (r : Role) {s : Sort} (t : Tree ℕ s) → AllNone at (identifiers r t) → mapped text value t ≡ mapped (λ j. field_names_by_record l (at j) (text j)) value t
-identifiers_without_owners-mapped l at text value r none h = refl
-identifiers_without_owners-mapped l at text value r (one a) h = λ i. one (identifiers_without_owners-mapped l at text value r a h i)
-identifiers_without_owners-mapped l at text value r end h = refl
-identifiers_without_owners-mapped l at text value r (more a b) h =
+identifiers_without_owners-mapped_tree : (l : ℕ → Name → Name) (at : ℕ → Option ℕ) (text : ℕ → Name) (value : ℕ → ℕ) (r : Role) {s : Sort} (t : Tree ℕ s) → AllNone at (identifiers r t) → mapped_tree text value t ≡ mapped_tree (λ j. field_names_by_record l (at j) (text j)) value t
+identifiers_without_owners-mapped_tree l at text value r none h = refl
+identifiers_without_owners-mapped_tree l at text value r (one a) h = λ i. one (identifiers_without_owners-mapped_tree l at text value r a h i)
+identifiers_without_owners-mapped_tree l at text value r end h = refl
+identifiers_without_owners-mapped_tree l at text value r (more a b) h =
     let s0 = none_split at (identifiers r a) (identifiers r b) h in
-    λ i. more (identifiers_without_owners-mapped l at text value r a s0.0 i) (identifiers_without_owners-mapped l at text value r b s0.1 i)
-identifiers_without_owners-mapped l at text value r (compares a b) h =
+    λ i. more (identifiers_without_owners-mapped_tree l at text value r a s0.0 i) (identifiers_without_owners-mapped_tree l at text value r b s0.1 i)
+identifiers_without_owners-mapped_tree l at text value r (compares a b) h =
     let s0 = none_split at (identifiers r a) (identifiers r b) h in
-    λ i. compares (identifiers_without_owners-mapped l at text value r a s0.0 i) (identifiers_without_owners-mapped l at text value r b s0.1 i)
-identifiers_without_owners-mapped l at text value r (relates a b) h = λ i. relates a (identifiers_without_owners-mapped l at text value r b h i)
-identifiers_without_owners-mapped l at text value r (sum a b c) h =
+    λ i. compares (identifiers_without_owners-mapped_tree l at text value r a s0.0 i) (identifiers_without_owners-mapped_tree l at text value r b s0.1 i)
+identifiers_without_owners-mapped_tree l at text value r (relates a b) h = λ i. relates a (identifiers_without_owners-mapped_tree l at text value r b h i)
+identifiers_without_owners-mapped_tree l at text value r (sum a b c) h =
     let s0 = none_split at (identifiers r b) (identifiers r c) h in
-    λ i. sum a (identifiers_without_owners-mapped l at text value r b s0.0 i) (identifiers_without_owners-mapped l at text value r c s0.1 i)
-identifiers_without_owners-mapped l at text value r (adds a b) h = λ i. adds a (identifiers_without_owners-mapped l at text value r b h i)
-identifiers_without_owners-mapped l at text value r (product a b) h =
+    λ i. sum a (identifiers_without_owners-mapped_tree l at text value r b s0.0 i) (identifiers_without_owners-mapped_tree l at text value r c s0.1 i)
+identifiers_without_owners-mapped_tree l at text value r (adds a b) h = λ i. adds a (identifiers_without_owners-mapped_tree l at text value r b h i)
+identifiers_without_owners-mapped_tree l at text value r (product a b) h =
     let s0 = none_split at (identifiers r a) (identifiers r b) h in
-    λ i. product (identifiers_without_owners-mapped l at text value r a s0.0 i) (identifiers_without_owners-mapped l at text value r b s0.1 i)
-identifiers_without_owners-mapped l at text value r (multiplies a b) h = λ i. multiplies a (identifiers_without_owners-mapped l at text value r b h i)
-identifiers_without_owners-mapped l at text value r (designator a b) h = λ i. designator (field_names_by_record l (sym h.0 i) (text a)) (identifiers_without_owners-mapped l at text value r b h.1 i)
-identifiers_without_owners-mapped l at text value r (integer a) h = refl
-identifiers_without_owners-mapped l at text value r (parenthesised a) h = λ i. parenthesised (identifiers_without_owners-mapped l at text value r a h i)
-identifiers_without_owners-mapped l at text value r (negation a) h = λ i. negation (identifiers_without_owners-mapped l at text value r a h i)
-identifiers_without_owners-mapped l at text value r (field a) h = λ i. field (field_names_by_record l (sym h.0 i) (text a))
-identifiers_without_owners-mapped l at text value r (index a) h = λ i. index (identifiers_without_owners-mapped l at text value r a h i)
-identifiers_without_owners-mapped l at text value r empty h = refl
-identifiers_without_owners-mapped l at text value r (assigns a b c) h =
+    λ i. product (identifiers_without_owners-mapped_tree l at text value r a s0.0 i) (identifiers_without_owners-mapped_tree l at text value r b s0.1 i)
+identifiers_without_owners-mapped_tree l at text value r (multiplies a b) h = λ i. multiplies a (identifiers_without_owners-mapped_tree l at text value r b h i)
+identifiers_without_owners-mapped_tree l at text value r (designator a b) h = λ i. designator (field_names_by_record l (sym h.0 i) (text a)) (identifiers_without_owners-mapped_tree l at text value r b h.1 i)
+identifiers_without_owners-mapped_tree l at text value r (integer a) h = refl
+identifiers_without_owners-mapped_tree l at text value r (parenthesised a) h = λ i. parenthesised (identifiers_without_owners-mapped_tree l at text value r a h i)
+identifiers_without_owners-mapped_tree l at text value r (negation a) h = λ i. negation (identifiers_without_owners-mapped_tree l at text value r a h i)
+identifiers_without_owners-mapped_tree l at text value r (field a) h = λ i. field (field_names_by_record l (sym h.0 i) (text a))
+identifiers_without_owners-mapped_tree l at text value r (index a) h = λ i. index (identifiers_without_owners-mapped_tree l at text value r a h i)
+identifiers_without_owners-mapped_tree l at text value r empty h = refl
+identifiers_without_owners-mapped_tree l at text value r (assigns a b c) h =
     let s0 = none_split at (identifiers r b) (identifiers r c) h.1 in
-    λ i. assigns (field_names_by_record l (sym h.0 i) (text a)) (identifiers_without_owners-mapped l at text value r b s0.0 i) (identifiers_without_owners-mapped l at text value r c s0.1 i)
-identifiers_without_owners-mapped l at text value r (calls a b) h = λ i. calls (field_names_by_record l (sym h.0 i) (text a)) (identifiers_without_owners-mapped l at text value r b h.1 i)
-identifiers_without_owners-mapped l at text value r (branches a b c d) h =
+    λ i. assigns (field_names_by_record l (sym h.0 i) (text a)) (identifiers_without_owners-mapped_tree l at text value r b s0.0 i) (identifiers_without_owners-mapped_tree l at text value r c s0.1 i)
+identifiers_without_owners-mapped_tree l at text value r (calls a b) h = λ i. calls (field_names_by_record l (sym h.0 i) (text a)) (identifiers_without_owners-mapped_tree l at text value r b h.1 i)
+identifiers_without_owners-mapped_tree l at text value r (branches a b c d) h =
     let s0 = none_split at (identifiers r a) (identifiers r b ++ (identifiers r c ++ (identifiers r d))) h in
     let s1 = none_split at (identifiers r b) (identifiers r c ++ (identifiers r d)) s0.1 in
     let s2 = none_split at (identifiers r c) (identifiers r d) s1.1 in
-    λ i. branches (identifiers_without_owners-mapped l at text value r a s0.0 i) (identifiers_without_owners-mapped l at text value r b s1.0 i) (identifiers_without_owners-mapped l at text value r c s2.0 i) (identifiers_without_owners-mapped l at text value r d s2.1 i)
-identifiers_without_owners-mapped l at text value r (while_loop a b) h =
+    λ i. branches (identifiers_without_owners-mapped_tree l at text value r a s0.0 i) (identifiers_without_owners-mapped_tree l at text value r b s1.0 i) (identifiers_without_owners-mapped_tree l at text value r c s2.0 i) (identifiers_without_owners-mapped_tree l at text value r d s2.1 i)
+identifiers_without_owners-mapped_tree l at text value r (while_loop a b) h =
     let s0 = none_split at (identifiers r a) (identifiers r b) h in
-    λ i. while_loop (identifiers_without_owners-mapped l at text value r a s0.0 i) (identifiers_without_owners-mapped l at text value r b s0.1 i)
-identifiers_without_owners-mapped l at text value r (repeat_loop a b) h =
+    λ i. while_loop (identifiers_without_owners-mapped_tree l at text value r a s0.0 i) (identifiers_without_owners-mapped_tree l at text value r b s0.1 i)
+identifiers_without_owners-mapped_tree l at text value r (repeat_loop a b) h =
     let s0 = none_split at (identifiers r a) (identifiers r b) h in
-    λ i. repeat_loop (identifiers_without_owners-mapped l at text value r a s0.0 i) (identifiers_without_owners-mapped l at text value r b s0.1 i)
-identifiers_without_owners-mapped l at text value r no_arguments h = refl
-identifiers_without_owners-mapped l at text value r (some_arguments a b) h =
+    λ i. repeat_loop (identifiers_without_owners-mapped_tree l at text value r a s0.0 i) (identifiers_without_owners-mapped_tree l at text value r b s0.1 i)
+identifiers_without_owners-mapped_tree l at text value r no_arguments h = refl
+identifiers_without_owners-mapped_tree l at text value r (some_arguments a b) h =
     let s0 = none_split at (identifiers r a) (identifiers r b) h in
-    λ i. some_arguments (identifiers_without_owners-mapped l at text value r a s0.0 i) (identifiers_without_owners-mapped l at text value r b s0.1 i)
-identifiers_without_owners-mapped l at text value r (then_argument a) h = λ i. then_argument (identifiers_without_owners-mapped l at text value r a h i)
-identifiers_without_owners-mapped l at text value r (runs a b) h =
+    λ i. some_arguments (identifiers_without_owners-mapped_tree l at text value r a s0.0 i) (identifiers_without_owners-mapped_tree l at text value r b s0.1 i)
+identifiers_without_owners-mapped_tree l at text value r (then_argument a) h = λ i. then_argument (identifiers_without_owners-mapped_tree l at text value r a h i)
+identifiers_without_owners-mapped_tree l at text value r (runs a b) h =
     let s0 = none_split at (identifiers r a) (identifiers r b) h in
-    λ i. runs (identifiers_without_owners-mapped l at text value r a s0.0 i) (identifiers_without_owners-mapped l at text value r b s0.1 i)
-identifiers_without_owners-mapped l at text value r (then_statement a) h = λ i. then_statement (identifiers_without_owners-mapped l at text value r a h i)
-identifiers_without_owners-mapped l at text value r (elsif_branch a b) h =
+    λ i. runs (identifiers_without_owners-mapped_tree l at text value r a s0.0 i) (identifiers_without_owners-mapped_tree l at text value r b s0.1 i)
+identifiers_without_owners-mapped_tree l at text value r (then_statement a) h = λ i. then_statement (identifiers_without_owners-mapped_tree l at text value r a h i)
+identifiers_without_owners-mapped_tree l at text value r (elsif_branch a b) h =
     let s0 = none_split at (identifiers r a) (identifiers r b) h in
-    λ i. elsif_branch (identifiers_without_owners-mapped l at text value r a s0.0 i) (identifiers_without_owners-mapped l at text value r b s0.1 i)
-identifiers_without_owners-mapped l at text value r (else_branch a) h = λ i. else_branch (identifiers_without_owners-mapped l at text value r a h i)
-identifiers_without_owners-mapped l at text value r (listed a b) h = λ i. listed (field_names_by_record l (sym h.0 i) (text a)) (identifiers_without_owners-mapped l at text value r b h.1 i)
-identifiers_without_owners-mapped l at text value r (then_name a) h = λ i. then_name (field_names_by_record l (sym h.0 i) (text a))
-identifiers_without_owners-mapped l at text value r (named_type a) h = λ i. named_type (field_names_by_record l (sym h.0 i) (text a))
-identifiers_without_owners-mapped l at text value r (array_type a b) h =
+    λ i. elsif_branch (identifiers_without_owners-mapped_tree l at text value r a s0.0 i) (identifiers_without_owners-mapped_tree l at text value r b s0.1 i)
+identifiers_without_owners-mapped_tree l at text value r (else_branch a) h = λ i. else_branch (identifiers_without_owners-mapped_tree l at text value r a h i)
+identifiers_without_owners-mapped_tree l at text value r (listed a b) h = λ i. listed (field_names_by_record l (sym h.0 i) (text a)) (identifiers_without_owners-mapped_tree l at text value r b h.1 i)
+identifiers_without_owners-mapped_tree l at text value r (then_name a) h = λ i. then_name (field_names_by_record l (sym h.0 i) (text a))
+identifiers_without_owners-mapped_tree l at text value r (named_type a) h = λ i. named_type (field_names_by_record l (sym h.0 i) (text a))
+identifiers_without_owners-mapped_tree l at text value r (array_type a b) h =
     let s0 = none_split at (identifiers r a) (identifiers r b) h in
-    λ i. array_type (identifiers_without_owners-mapped l at text value r a s0.0 i) (identifiers_without_owners-mapped l at text value r b s0.1 i)
-identifiers_without_owners-mapped l at text value r (record_type a b) h =
+    λ i. array_type (identifiers_without_owners-mapped_tree l at text value r a s0.0 i) (identifiers_without_owners-mapped_tree l at text value r b s0.1 i)
+identifiers_without_owners-mapped_tree l at text value r (record_type a b) h =
     let s0 = none_split at (identifiers r a) (identifiers r b) h in
-    λ i. record_type (identifiers_without_owners-mapped l at text value r a s0.0 i) (identifiers_without_owners-mapped l at text value r b s0.1 i)
-identifiers_without_owners-mapped l at text value r no_fields h = refl
-identifiers_without_owners-mapped l at text value r (some_fields a b) h =
+    λ i. record_type (identifiers_without_owners-mapped_tree l at text value r a s0.0 i) (identifiers_without_owners-mapped_tree l at text value r b s0.1 i)
+identifiers_without_owners-mapped_tree l at text value r no_fields h = refl
+identifiers_without_owners-mapped_tree l at text value r (some_fields a b) h =
     let s0 = none_split at (identifiers role.FieldName a) (identifiers r b) h in
-    λ i. some_fields (identifiers_without_owners-mapped l at text value role.FieldName a s0.0 i) (identifiers_without_owners-mapped l at text value r b s0.1 i)
-identifiers_without_owners-mapped l at text value r (then_fields a) h = λ i. then_fields (identifiers_without_owners-mapped l at text value r a h i)
-identifiers_without_owners-mapped l at text value r no_formals h = refl
-identifiers_without_owners-mapped l at text value r (some_formals a b) h =
+    λ i. some_fields (identifiers_without_owners-mapped_tree l at text value role.FieldName a s0.0 i) (identifiers_without_owners-mapped_tree l at text value r b s0.1 i)
+identifiers_without_owners-mapped_tree l at text value r (then_fields a) h = λ i. then_fields (identifiers_without_owners-mapped_tree l at text value r a h i)
+identifiers_without_owners-mapped_tree l at text value r no_formals h = refl
+identifiers_without_owners-mapped_tree l at text value r (some_formals a b) h =
     let s0 = none_split at (identifiers r a) (identifiers r b) h in
-    λ i. some_formals (identifiers_without_owners-mapped l at text value r a s0.0 i) (identifiers_without_owners-mapped l at text value r b s0.1 i)
-identifiers_without_owners-mapped l at text value r (value_section a b) h =
+    λ i. some_formals (identifiers_without_owners-mapped_tree l at text value r a s0.0 i) (identifiers_without_owners-mapped_tree l at text value r b s0.1 i)
+identifiers_without_owners-mapped_tree l at text value r (value_section a b) h =
     let s0 = none_split at (identifiers role.Declaring a) (identifiers r b) h in
-    λ i. value_section (identifiers_without_owners-mapped l at text value role.Declaring a s0.0 i) (identifiers_without_owners-mapped l at text value r b s0.1 i)
-identifiers_without_owners-mapped l at text value r (variable_section a b) h =
+    λ i. value_section (identifiers_without_owners-mapped_tree l at text value role.Declaring a s0.0 i) (identifiers_without_owners-mapped_tree l at text value r b s0.1 i)
+identifiers_without_owners-mapped_tree l at text value r (variable_section a b) h =
     let s0 = none_split at (identifiers role.Declaring a) (identifiers r b) h in
-    λ i. variable_section (identifiers_without_owners-mapped l at text value role.Declaring a s0.0 i) (identifiers_without_owners-mapped l at text value r b s0.1 i)
-identifiers_without_owners-mapped l at text value r (then_section a) h = λ i. then_section (identifiers_without_owners-mapped l at text value r a h i)
-identifiers_without_owners-mapped l at text value r (declares_constant a b) h = λ i. declares_constant (field_names_by_record l (sym h.0 i) (text a)) (identifiers_without_owners-mapped l at text value r b h.1 i)
-identifiers_without_owners-mapped l at text value r (declares_constants a) h = λ i. declares_constants (identifiers_without_owners-mapped l at text value r a h i)
-identifiers_without_owners-mapped l at text value r (declares_type a b) h = λ i. declares_type (field_names_by_record l (sym h.0 i) (text a)) (identifiers_without_owners-mapped l at text value r b h.1 i)
-identifiers_without_owners-mapped l at text value r (declares_types a) h = λ i. declares_types (identifiers_without_owners-mapped l at text value r a h i)
-identifiers_without_owners-mapped l at text value r (declares_variable a b) h =
+    λ i. variable_section (identifiers_without_owners-mapped_tree l at text value role.Declaring a s0.0 i) (identifiers_without_owners-mapped_tree l at text value r b s0.1 i)
+identifiers_without_owners-mapped_tree l at text value r (then_section a) h = λ i. then_section (identifiers_without_owners-mapped_tree l at text value r a h i)
+identifiers_without_owners-mapped_tree l at text value r (declares_constant a b) h = λ i. declares_constant (field_names_by_record l (sym h.0 i) (text a)) (identifiers_without_owners-mapped_tree l at text value r b h.1 i)
+identifiers_without_owners-mapped_tree l at text value r (declares_constants a) h = λ i. declares_constants (identifiers_without_owners-mapped_tree l at text value r a h i)
+identifiers_without_owners-mapped_tree l at text value r (declares_type a b) h = λ i. declares_type (field_names_by_record l (sym h.0 i) (text a)) (identifiers_without_owners-mapped_tree l at text value r b h.1 i)
+identifiers_without_owners-mapped_tree l at text value r (declares_types a) h = λ i. declares_types (identifiers_without_owners-mapped_tree l at text value r a h i)
+identifiers_without_owners-mapped_tree l at text value r (declares_variable a b) h =
     let s0 = none_split at (identifiers role.Declaring a) (identifiers r b) h in
-    λ i. declares_variable (identifiers_without_owners-mapped l at text value role.Declaring a s0.0 i) (identifiers_without_owners-mapped l at text value r b s0.1 i)
-identifiers_without_owners-mapped l at text value r (declares_variables a) h = λ i. declares_variables (identifiers_without_owners-mapped l at text value r a h i)
-identifiers_without_owners-mapped l at text value r (declares_procedure a b c d) h =
+    λ i. declares_variable (identifiers_without_owners-mapped_tree l at text value role.Declaring a s0.0 i) (identifiers_without_owners-mapped_tree l at text value r b s0.1 i)
+identifiers_without_owners-mapped_tree l at text value r (declares_variables a) h = λ i. declares_variables (identifiers_without_owners-mapped_tree l at text value r a h i)
+identifiers_without_owners-mapped_tree l at text value r (declares_procedure a b c d) h =
     let s0 = none_split at (identifiers r b) (identifiers r c ++ ((role.ClosingName, d) ∷ [])) h.1 in
     let s1 = none_split at (identifiers r c) ((role.ClosingName, d) ∷ []) s0.1 in
-    λ i. declares_procedure (field_names_by_record l (sym h.0 i) (text a)) (identifiers_without_owners-mapped l at text value r b s0.0 i) (identifiers_without_owners-mapped l at text value r c s1.0 i) (field_names_by_record l (sym s1.1.0 i) (text d))
-identifiers_without_owners-mapped l at text value r (declares a b c d) h =
+    λ i. declares_procedure (field_names_by_record l (sym h.0 i) (text a)) (identifiers_without_owners-mapped_tree l at text value r b s0.0 i) (identifiers_without_owners-mapped_tree l at text value r c s1.0 i) (field_names_by_record l (sym s1.1.0 i) (text d))
+identifiers_without_owners-mapped_tree l at text value r (declares a b c d) h =
     let s0 = none_split at (identifiers r a) (identifiers r b ++ (identifiers r c ++ (identifiers r d))) h in
     let s1 = none_split at (identifiers r b) (identifiers r c ++ (identifiers r d)) s0.1 in
     let s2 = none_split at (identifiers r c) (identifiers r d) s1.1 in
-    λ i. declares (identifiers_without_owners-mapped l at text value r a s0.0 i) (identifiers_without_owners-mapped l at text value r b s1.0 i) (identifiers_without_owners-mapped l at text value r c s2.0 i) (identifiers_without_owners-mapped l at text value r d s2.1 i)
-identifiers_without_owners-mapped l at text value r (begins a) h = λ i. begins (identifiers_without_owners-mapped l at text value r a h i)
-identifiers_without_owners-mapped l at text value r (has_body a b) h =
+    λ i. declares (identifiers_without_owners-mapped_tree l at text value r a s0.0 i) (identifiers_without_owners-mapped_tree l at text value r b s1.0 i) (identifiers_without_owners-mapped_tree l at text value r c s2.0 i) (identifiers_without_owners-mapped_tree l at text value r d s2.1 i)
+identifiers_without_owners-mapped_tree l at text value r (begins a) h = λ i. begins (identifiers_without_owners-mapped_tree l at text value r a h i)
+identifiers_without_owners-mapped_tree l at text value r (forms_block a b) h =
     let s0 = none_split at (identifiers r a) (identifiers r b) h in
-    λ i. has_body (identifiers_without_owners-mapped l at text value r a s0.0 i) (identifiers_without_owners-mapped l at text value r b s0.1 i)
-identifiers_without_owners-mapped l at text value r (is_module a b c) h =
+    λ i. forms_block (identifiers_without_owners-mapped_tree l at text value r a s0.0 i) (identifiers_without_owners-mapped_tree l at text value r b s0.1 i)
+identifiers_without_owners-mapped_tree l at text value r (is_module a b c) h =
     let s0 = none_split at (identifiers r b) ((role.ModuleName, c) ∷ []) h.1 in
-    λ i. is_module (field_names_by_record l (sym h.0 i) (text a)) (identifiers_without_owners-mapped l at text value r b s0.0 i) (field_names_by_record l (sym s0.1.0 i) (text c))
+    λ i. is_module (field_names_by_record l (sym h.0 i) (text a)) (identifiers_without_owners-mapped_tree l at text value r b s0.0 i) (field_names_by_record l (sym s0.1.0 i) (text c))
 
 -- Rewriting a part without fields changes nothing.
-pub identifiers_without_owners-all : (l : ℕ → Name → Name) (at : ℕ → Option ℕ) (text : ℕ → Name) (value : ℕ → ℕ) {s : Sort} (t : Tree ℕ s) → AgreesWithOwnerList at (identifiers_without_owners t) → mapped text value t ≡ mapped (λ j. field_names_by_record l (at j) (text j)) value t
-identifiers_without_owners-all l at text value t h = identifiers_without_owners-mapped l at text value role.Declaring t (all_none at (identifiers role.Declaring t) h)
+pub identifiers_without_owners-all : (l : ℕ → Name → Name) (at : ℕ → Option ℕ) (text : ℕ → Name) (value : ℕ → ℕ) {s : Sort} (t : Tree ℕ s) → AgreesWithOwnerList at (identifiers_without_owners t) → mapped_tree text value t ≡ mapped_tree (λ j. field_names_by_record l (at j) (text j)) value t
+identifiers_without_owners-all l at text value t h = identifiers_without_owners-mapped_tree l at text value role.Declaring t (all_none at (identifiers role.Declaring t) h)
 
 -- holds if names have values of the same types by name and by token
 abbrev pub Alike : {P : Type 0} → TypeMeanings Name → Meanings ℕ Shape P → List ℕ → Type 0
@@ -147,31 +147,31 @@ alike_split : {P : Type 0} (meaning : TypeMeanings Name) (m : Meanings ℕ Shape
 alike_split meaning m [] ys h = (tt, h)
 alike_split meaning m (x ∷ xs) ys h = let rest = alike_split meaning m xs ys h.1 in ((h.0, rest.0), rest.1)
 
-following-mapped : {P : Type 0} {i : Item} (m : Meanings ℕ Shape P) (value : ℕ → ℕ) (s : Option Shape) (t : Tree ℕ (item i)) → select_type s (mapped m.written value t) ≡ type_after_selector m s t
-following-mapped m value s (relates a b) = refl
-following-mapped m value s (adds a b) = refl
-following-mapped m value s (multiplies a b) = refl
-following-mapped m value s (field a) = refl
-following-mapped m value s (index a) = refl
-following-mapped m value s no_arguments = refl
-following-mapped m value s (some_arguments a b) = refl
-following-mapped m value s (then_argument a) = refl
-following-mapped m value s (then_statement a) = refl
-following-mapped m value s (elsif_branch a b) = refl
-following-mapped m value s (else_branch a) = refl
-following-mapped m value s (then_name a) = refl
-following-mapped m value s (then_fields a) = refl
-following-mapped m value s no_formals = refl
-following-mapped m value s (some_formals a b) = refl
-following-mapped m value s (then_section a) = refl
-following-mapped m value s (declares_constant a b) = refl
-following-mapped m value s (declares_constants a) = refl
-following-mapped m value s (declares_type a b) = refl
-following-mapped m value s (declares_types a) = refl
-following-mapped m value s (declares_variable a b) = refl
-following-mapped m value s (declares_variables a) = refl
-following-mapped m value s (declares_procedure a b c d) = refl
-following-mapped m value s (begins a) = refl
+following-mapped_tree : {P : Type 0} {i : Item} (m : Meanings ℕ Shape P) (value : ℕ → ℕ) (s : Option Shape) (t : Tree ℕ (item i)) → select_type s (mapped_tree m.written value t) ≡ type_after_selector m s t
+following-mapped_tree m value s (relates a b) = refl
+following-mapped_tree m value s (adds a b) = refl
+following-mapped_tree m value s (multiplies a b) = refl
+following-mapped_tree m value s (field a) = refl
+following-mapped_tree m value s (index a) = refl
+following-mapped_tree m value s no_arguments = refl
+following-mapped_tree m value s (some_arguments a b) = refl
+following-mapped_tree m value s (then_argument a) = refl
+following-mapped_tree m value s (then_statement a) = refl
+following-mapped_tree m value s (elsif_branch a b) = refl
+following-mapped_tree m value s (else_branch a) = refl
+following-mapped_tree m value s (then_name a) = refl
+following-mapped_tree m value s (then_fields a) = refl
+following-mapped_tree m value s no_formals = refl
+following-mapped_tree m value s (some_formals a b) = refl
+following-mapped_tree m value s (then_section a) = refl
+following-mapped_tree m value s (declares_constant a b) = refl
+following-mapped_tree m value s (declares_constants a) = refl
+following-mapped_tree m value s (declares_type a b) = refl
+following-mapped_tree m value s (declares_types a) = refl
+following-mapped_tree m value s (declares_variable a b) = refl
+following-mapped_tree m value s (declares_variables a) = refl
+following-mapped_tree m value s (declares_procedure a b c d) = refl
+following-mapped_tree m value s (begins a) = refl
 
 -- returns each selected name with the ordinal of the record before it, whether or not that record has the field
 abbrev pub recorded : {P : Type 0} {s : Sort} → Meanings ℕ Shape P → Option Shape → Tree ℕ s → List (ℕ × Option ℕ)
@@ -208,99 +208,99 @@ recorded m s (begins a) = recorded m None a
 recorded m s t = identifiers_without_owners t
 
 -- Rewriting the fields in a part of a statement is the same as rewriting each token according to the table.
-pub recorded-mapped : {P : Type 0} (l : ℕ → Name → Name) (at : ℕ → Option ℕ) (meaning : TypeMeanings Name) (m : Meanings ℕ Shape P) (value : ℕ → ℕ) (s : Option Shape) {sort : Sort} (t : Tree ℕ sort)
-    → AgreesWithOwnerList at (recorded m s t) → Alike meaning m (occurrences t) → rename_fields (field_names_by_record l) meaning s (mapped m.written value t) ≡ mapped (λ j. field_names_by_record l (at j) (m.written j)) value t
-recorded-mapped l at meaning m value s none h e = refl
-recorded-mapped l at meaning m value s (one a) h e = λ i. one (recorded-mapped l at meaning m value None a h e i)
-recorded-mapped l at meaning m value s end h e = refl
-recorded-mapped l at meaning m value s (more a b) h e =
+pub recorded-mapped_tree : {P : Type 0} (l : ℕ → Name → Name) (at : ℕ → Option ℕ) (meaning : TypeMeanings Name) (m : Meanings ℕ Shape P) (value : ℕ → ℕ) (s : Option Shape) {sort : Sort} (t : Tree ℕ sort)
+    → AgreesWithOwnerList at (recorded m s t) → Alike meaning m (occurrences t) → rename_fields (field_names_by_record l) meaning s (mapped_tree m.written value t) ≡ mapped_tree (λ j. field_names_by_record l (at j) (m.written j)) value t
+recorded-mapped_tree l at meaning m value s none h e = refl
+recorded-mapped_tree l at meaning m value s (one a) h e = λ i. one (recorded-mapped_tree l at meaning m value None a h e i)
+recorded-mapped_tree l at meaning m value s end h e = refl
+recorded-mapped_tree l at meaning m value s (more a b) h e =
     let p = owners_split at (recorded m s a) (recorded m (type_after_selector m s a) b) h in
     let q = alike_split meaning m (occurrences a) (occurrences b) e in
-    λ i. more (recorded-mapped l at meaning m value s a p.0 q.0 i)
-    ((ap (λ z. rename_fields (field_names_by_record l) meaning z (mapped m.written value b)) (following-mapped m value s a) ∙ recorded-mapped l at meaning m value (type_after_selector m s a) b p.1 q.1) i)
-recorded-mapped l at meaning m value s (compares a b) h e =
+    λ i. more (recorded-mapped_tree l at meaning m value s a p.0 q.0 i)
+    ((ap (λ z. rename_fields (field_names_by_record l) meaning z (mapped_tree m.written value b)) (following-mapped_tree m value s a) ∙ recorded-mapped_tree l at meaning m value (type_after_selector m s a) b p.1 q.1) i)
+recorded-mapped_tree l at meaning m value s (compares a b) h e =
     let p0 = owners_split at (recorded m None a) (recorded m None b) h in
     let q0 = alike_split meaning m (occurrences a) (occurrences b) e in
-    λ i. compares (recorded-mapped l at meaning m value None a p0.0 q0.0 i) (recorded-mapped l at meaning m value None b p0.1 q0.1 i)
-recorded-mapped l at meaning m value s (relates a b) h e = λ i. relates a (recorded-mapped l at meaning m value None b h e i)
-recorded-mapped l at meaning m value s (sum a b c) h e =
+    λ i. compares (recorded-mapped_tree l at meaning m value None a p0.0 q0.0 i) (recorded-mapped_tree l at meaning m value None b p0.1 q0.1 i)
+recorded-mapped_tree l at meaning m value s (relates a b) h e = λ i. relates a (recorded-mapped_tree l at meaning m value None b h e i)
+recorded-mapped_tree l at meaning m value s (sum a b c) h e =
     let p0 = owners_split at (recorded m None b) (recorded m None c) h in
     let q0 = alike_split meaning m (occurrences b) (occurrences c) e in
-    λ i. sum a (recorded-mapped l at meaning m value None b p0.0 q0.0 i) (recorded-mapped l at meaning m value None c p0.1 q0.1 i)
-recorded-mapped l at meaning m value s (adds a b) h e = λ i. adds a (recorded-mapped l at meaning m value None b h e i)
-recorded-mapped l at meaning m value s (product a b) h e =
+    λ i. sum a (recorded-mapped_tree l at meaning m value None b p0.0 q0.0 i) (recorded-mapped_tree l at meaning m value None c p0.1 q0.1 i)
+recorded-mapped_tree l at meaning m value s (adds a b) h e = λ i. adds a (recorded-mapped_tree l at meaning m value None b h e i)
+recorded-mapped_tree l at meaning m value s (product a b) h e =
     let p0 = owners_split at (recorded m None a) (recorded m None b) h in
     let q0 = alike_split meaning m (occurrences a) (occurrences b) e in
-    λ i. product (recorded-mapped l at meaning m value None a p0.0 q0.0 i) (recorded-mapped l at meaning m value None b p0.1 q0.1 i)
-recorded-mapped l at meaning m value s (multiplies a b) h e = λ i. multiplies a (recorded-mapped l at meaning m value None b h e i)
-recorded-mapped l at meaning m value s (designator a b) h e = λ i. designator (field_names_by_record l (sym h.0 i) (m.written a)) ((ap (λ z. rename_fields (field_names_by_record l) meaning z (mapped m.written value b)) e.0 ∙ recorded-mapped l at meaning m value (object_type (m.object_for a)) b h.1 e.1) i)
-recorded-mapped l at meaning m value s (integer a) h e = refl
-recorded-mapped l at meaning m value s (parenthesised a) h e = λ i. parenthesised (recorded-mapped l at meaning m value None a h e i)
-recorded-mapped l at meaning m value s (negation a) h e = λ i. negation (recorded-mapped l at meaning m value None a h e i)
-recorded-mapped l at meaning m value s (field a) h e = λ i. field (field_names_by_record l (sym h.0 i) (m.written a))
-recorded-mapped l at meaning m value s (index a) h e = λ i. index (recorded-mapped l at meaning m value None a h e i)
-recorded-mapped l at meaning m value s empty h e = refl
-recorded-mapped l at meaning m value s (assigns a b c) h e =
+    λ i. product (recorded-mapped_tree l at meaning m value None a p0.0 q0.0 i) (recorded-mapped_tree l at meaning m value None b p0.1 q0.1 i)
+recorded-mapped_tree l at meaning m value s (multiplies a b) h e = λ i. multiplies a (recorded-mapped_tree l at meaning m value None b h e i)
+recorded-mapped_tree l at meaning m value s (designator a b) h e = λ i. designator (field_names_by_record l (sym h.0 i) (m.written a)) ((ap (λ z. rename_fields (field_names_by_record l) meaning z (mapped_tree m.written value b)) e.0 ∙ recorded-mapped_tree l at meaning m value (object_type (m.object_for a)) b h.1 e.1) i)
+recorded-mapped_tree l at meaning m value s (integer a) h e = refl
+recorded-mapped_tree l at meaning m value s (parenthesised a) h e = λ i. parenthesised (recorded-mapped_tree l at meaning m value None a h e i)
+recorded-mapped_tree l at meaning m value s (negation a) h e = λ i. negation (recorded-mapped_tree l at meaning m value None a h e i)
+recorded-mapped_tree l at meaning m value s (field a) h e = λ i. field (field_names_by_record l (sym h.0 i) (m.written a))
+recorded-mapped_tree l at meaning m value s (index a) h e = λ i. index (recorded-mapped_tree l at meaning m value None a h e i)
+recorded-mapped_tree l at meaning m value s empty h e = refl
+recorded-mapped_tree l at meaning m value s (assigns a b c) h e =
     let p0 = owners_split at (recorded m (object_type (m.object_for a)) b) (recorded m None c) h.1 in
     let q0 = alike_split meaning m (occurrences b) (occurrences c) e.1 in
-    λ i. assigns (field_names_by_record l (sym h.0 i) (m.written a)) ((ap (λ z. rename_fields (field_names_by_record l) meaning z (mapped m.written value b)) e.0 ∙ recorded-mapped l at meaning m value (object_type (m.object_for a)) b p0.0 q0.0) i) (recorded-mapped l at meaning m value None c p0.1 q0.1 i)
-recorded-mapped l at meaning m value s (calls a b) h e = λ i. calls (field_names_by_record l (sym h.0 i) (m.written a)) (recorded-mapped l at meaning m value None b h.1 e.1 i)
-recorded-mapped l at meaning m value s (branches a b c d) h e =
+    λ i. assigns (field_names_by_record l (sym h.0 i) (m.written a)) ((ap (λ z. rename_fields (field_names_by_record l) meaning z (mapped_tree m.written value b)) e.0 ∙ recorded-mapped_tree l at meaning m value (object_type (m.object_for a)) b p0.0 q0.0) i) (recorded-mapped_tree l at meaning m value None c p0.1 q0.1 i)
+recorded-mapped_tree l at meaning m value s (calls a b) h e = λ i. calls (field_names_by_record l (sym h.0 i) (m.written a)) (recorded-mapped_tree l at meaning m value None b h.1 e.1 i)
+recorded-mapped_tree l at meaning m value s (branches a b c d) h e =
     let p0 = owners_split at (recorded m None a) (recorded m None b ++ (recorded m None c ++ (recorded m None d))) h in
     let q0 = alike_split meaning m (occurrences a) (occurrences b ++ (occurrences c ++ (occurrences d))) e in
     let p1 = owners_split at (recorded m None b) (recorded m None c ++ (recorded m None d)) p0.1 in
     let q1 = alike_split meaning m (occurrences b) (occurrences c ++ (occurrences d)) q0.1 in
     let p2 = owners_split at (recorded m None c) (recorded m None d) p1.1 in
     let q2 = alike_split meaning m (occurrences c) (occurrences d) q1.1 in
-    λ i. branches (recorded-mapped l at meaning m value None a p0.0 q0.0 i) (recorded-mapped l at meaning m value None b p1.0 q1.0 i) (recorded-mapped l at meaning m value None c p2.0 q2.0 i) (recorded-mapped l at meaning m value None d p2.1 q2.1 i)
-recorded-mapped l at meaning m value s (while_loop a b) h e =
+    λ i. branches (recorded-mapped_tree l at meaning m value None a p0.0 q0.0 i) (recorded-mapped_tree l at meaning m value None b p1.0 q1.0 i) (recorded-mapped_tree l at meaning m value None c p2.0 q2.0 i) (recorded-mapped_tree l at meaning m value None d p2.1 q2.1 i)
+recorded-mapped_tree l at meaning m value s (while_loop a b) h e =
     let p0 = owners_split at (recorded m None a) (recorded m None b) h in
     let q0 = alike_split meaning m (occurrences a) (occurrences b) e in
-    λ i. while_loop (recorded-mapped l at meaning m value None a p0.0 q0.0 i) (recorded-mapped l at meaning m value None b p0.1 q0.1 i)
-recorded-mapped l at meaning m value s (repeat_loop a b) h e =
+    λ i. while_loop (recorded-mapped_tree l at meaning m value None a p0.0 q0.0 i) (recorded-mapped_tree l at meaning m value None b p0.1 q0.1 i)
+recorded-mapped_tree l at meaning m value s (repeat_loop a b) h e =
     let p0 = owners_split at (recorded m None a) (recorded m None b) h in
     let q0 = alike_split meaning m (occurrences a) (occurrences b) e in
-    λ i. repeat_loop (recorded-mapped l at meaning m value None a p0.0 q0.0 i) (recorded-mapped l at meaning m value None b p0.1 q0.1 i)
-recorded-mapped l at meaning m value s no_arguments h e = refl
-recorded-mapped l at meaning m value s (some_arguments a b) h e =
+    λ i. repeat_loop (recorded-mapped_tree l at meaning m value None a p0.0 q0.0 i) (recorded-mapped_tree l at meaning m value None b p0.1 q0.1 i)
+recorded-mapped_tree l at meaning m value s no_arguments h e = refl
+recorded-mapped_tree l at meaning m value s (some_arguments a b) h e =
     let p0 = owners_split at (recorded m None a) (recorded m None b) h in
     let q0 = alike_split meaning m (occurrences a) (occurrences b) e in
-    λ i. some_arguments (recorded-mapped l at meaning m value None a p0.0 q0.0 i) (recorded-mapped l at meaning m value None b p0.1 q0.1 i)
-recorded-mapped l at meaning m value s (then_argument a) h e = λ i. then_argument (recorded-mapped l at meaning m value None a h e i)
-recorded-mapped l at meaning m value s (runs a b) h e =
+    λ i. some_arguments (recorded-mapped_tree l at meaning m value None a p0.0 q0.0 i) (recorded-mapped_tree l at meaning m value None b p0.1 q0.1 i)
+recorded-mapped_tree l at meaning m value s (then_argument a) h e = λ i. then_argument (recorded-mapped_tree l at meaning m value None a h e i)
+recorded-mapped_tree l at meaning m value s (runs a b) h e =
     let p0 = owners_split at (recorded m None a) (recorded m None b) h in
     let q0 = alike_split meaning m (occurrences a) (occurrences b) e in
-    λ i. runs (recorded-mapped l at meaning m value None a p0.0 q0.0 i) (recorded-mapped l at meaning m value None b p0.1 q0.1 i)
-recorded-mapped l at meaning m value s (then_statement a) h e = λ i. then_statement (recorded-mapped l at meaning m value None a h e i)
-recorded-mapped l at meaning m value s (elsif_branch a b) h e =
+    λ i. runs (recorded-mapped_tree l at meaning m value None a p0.0 q0.0 i) (recorded-mapped_tree l at meaning m value None b p0.1 q0.1 i)
+recorded-mapped_tree l at meaning m value s (then_statement a) h e = λ i. then_statement (recorded-mapped_tree l at meaning m value None a h e i)
+recorded-mapped_tree l at meaning m value s (elsif_branch a b) h e =
     let p0 = owners_split at (recorded m None a) (recorded m None b) h in
     let q0 = alike_split meaning m (occurrences a) (occurrences b) e in
-    λ i. elsif_branch (recorded-mapped l at meaning m value None a p0.0 q0.0 i) (recorded-mapped l at meaning m value None b p0.1 q0.1 i)
-recorded-mapped l at meaning m value s (else_branch a) h e = λ i. else_branch (recorded-mapped l at meaning m value None a h e i)
-recorded-mapped l at meaning m value s (listed a b) h e = identifiers_without_owners-all l at m.written value (listed a b) h
-recorded-mapped l at meaning m value s (then_name a) h e = identifiers_without_owners-all l at m.written value (then_name a) h
-recorded-mapped l at meaning m value s (named_type a) h e = identifiers_without_owners-all l at m.written value (named_type a) h
-recorded-mapped l at meaning m value s (array_type a b) h e = identifiers_without_owners-all l at m.written value (array_type a b) h
-recorded-mapped l at meaning m value s (record_type a b) h e = identifiers_without_owners-all l at m.written value (record_type a b) h
-recorded-mapped l at meaning m value s no_fields h e = identifiers_without_owners-all l at m.written value no_fields h
-recorded-mapped l at meaning m value s (some_fields a b) h e = identifiers_without_owners-all l at m.written value (some_fields a b) h
-recorded-mapped l at meaning m value s (then_fields a) h e = identifiers_without_owners-all l at m.written value (then_fields a) h
-recorded-mapped l at meaning m value s no_formals h e = identifiers_without_owners-all l at m.written value no_formals h
-recorded-mapped l at meaning m value s (some_formals a b) h e = identifiers_without_owners-all l at m.written value (some_formals a b) h
-recorded-mapped l at meaning m value s (value_section a b) h e = identifiers_without_owners-all l at m.written value (value_section a b) h
-recorded-mapped l at meaning m value s (variable_section a b) h e = identifiers_without_owners-all l at m.written value (variable_section a b) h
-recorded-mapped l at meaning m value s (then_section a) h e = identifiers_without_owners-all l at m.written value (then_section a) h
-recorded-mapped l at meaning m value s (declares_constant a b) h e = identifiers_without_owners-all l at m.written value (declares_constant a b) h
-recorded-mapped l at meaning m value s (declares_constants a) h e = identifiers_without_owners-all l at m.written value (declares_constants a) h
-recorded-mapped l at meaning m value s (declares_type a b) h e = identifiers_without_owners-all l at m.written value (declares_type a b) h
-recorded-mapped l at meaning m value s (declares_types a) h e = identifiers_without_owners-all l at m.written value (declares_types a) h
-recorded-mapped l at meaning m value s (declares_variable a b) h e = identifiers_without_owners-all l at m.written value (declares_variable a b) h
-recorded-mapped l at meaning m value s (declares_variables a) h e = identifiers_without_owners-all l at m.written value (declares_variables a) h
-recorded-mapped l at meaning m value s (declares_procedure a b c d) h e = identifiers_without_owners-all l at m.written value (declares_procedure a b c d) h
-recorded-mapped l at meaning m value s (declares a b c d) h e = identifiers_without_owners-all l at m.written value (declares a b c d) h
-recorded-mapped l at meaning m value s (begins a) h e = λ i. begins (recorded-mapped l at meaning m value None a h e i)
-recorded-mapped l at meaning m value s (has_body a b) h e = identifiers_without_owners-all l at m.written value (has_body a b) h
-recorded-mapped l at meaning m value s (is_module a b c) h e = identifiers_without_owners-all l at m.written value (is_module a b c) h
+    λ i. elsif_branch (recorded-mapped_tree l at meaning m value None a p0.0 q0.0 i) (recorded-mapped_tree l at meaning m value None b p0.1 q0.1 i)
+recorded-mapped_tree l at meaning m value s (else_branch a) h e = λ i. else_branch (recorded-mapped_tree l at meaning m value None a h e i)
+recorded-mapped_tree l at meaning m value s (listed a b) h e = identifiers_without_owners-all l at m.written value (listed a b) h
+recorded-mapped_tree l at meaning m value s (then_name a) h e = identifiers_without_owners-all l at m.written value (then_name a) h
+recorded-mapped_tree l at meaning m value s (named_type a) h e = identifiers_without_owners-all l at m.written value (named_type a) h
+recorded-mapped_tree l at meaning m value s (array_type a b) h e = identifiers_without_owners-all l at m.written value (array_type a b) h
+recorded-mapped_tree l at meaning m value s (record_type a b) h e = identifiers_without_owners-all l at m.written value (record_type a b) h
+recorded-mapped_tree l at meaning m value s no_fields h e = identifiers_without_owners-all l at m.written value no_fields h
+recorded-mapped_tree l at meaning m value s (some_fields a b) h e = identifiers_without_owners-all l at m.written value (some_fields a b) h
+recorded-mapped_tree l at meaning m value s (then_fields a) h e = identifiers_without_owners-all l at m.written value (then_fields a) h
+recorded-mapped_tree l at meaning m value s no_formals h e = identifiers_without_owners-all l at m.written value no_formals h
+recorded-mapped_tree l at meaning m value s (some_formals a b) h e = identifiers_without_owners-all l at m.written value (some_formals a b) h
+recorded-mapped_tree l at meaning m value s (value_section a b) h e = identifiers_without_owners-all l at m.written value (value_section a b) h
+recorded-mapped_tree l at meaning m value s (variable_section a b) h e = identifiers_without_owners-all l at m.written value (variable_section a b) h
+recorded-mapped_tree l at meaning m value s (then_section a) h e = identifiers_without_owners-all l at m.written value (then_section a) h
+recorded-mapped_tree l at meaning m value s (declares_constant a b) h e = identifiers_without_owners-all l at m.written value (declares_constant a b) h
+recorded-mapped_tree l at meaning m value s (declares_constants a) h e = identifiers_without_owners-all l at m.written value (declares_constants a) h
+recorded-mapped_tree l at meaning m value s (declares_type a b) h e = identifiers_without_owners-all l at m.written value (declares_type a b) h
+recorded-mapped_tree l at meaning m value s (declares_types a) h e = identifiers_without_owners-all l at m.written value (declares_types a) h
+recorded-mapped_tree l at meaning m value s (declares_variable a b) h e = identifiers_without_owners-all l at m.written value (declares_variable a b) h
+recorded-mapped_tree l at meaning m value s (declares_variables a) h e = identifiers_without_owners-all l at m.written value (declares_variables a) h
+recorded-mapped_tree l at meaning m value s (declares_procedure a b c d) h e = identifiers_without_owners-all l at m.written value (declares_procedure a b c d) h
+recorded-mapped_tree l at meaning m value s (declares a b c d) h e = identifiers_without_owners-all l at m.written value (declares a b c d) h
+recorded-mapped_tree l at meaning m value s (begins a) h e = λ i. begins (recorded-mapped_tree l at meaning m value None a h e i)
+recorded-mapped_tree l at meaning m value s (forms_block a b) h e = identifiers_without_owners-all l at m.written value (forms_block a b) h
+recorded-mapped_tree l at meaning m value s (is_module a b c) h e = identifiers_without_owners-all l at m.written value (is_module a b c) h
 
 -- holds if the values of names have the same types in both meanings
 abbrev pub SameTypes : {P Q : Type 0} → Meanings ℕ Shape P → Meanings ℕ Shape Q → List ℕ → Type 0
@@ -413,7 +413,7 @@ owners_in_tree-alike m n same s (declares_variables a) e = refl
 owners_in_tree-alike m n same s (declares_procedure a b c d) e = refl
 owners_in_tree-alike m n same s (declares a b c d) e = refl
 owners_in_tree-alike m n same s (begins a) e = λ i. owners_in_tree-alike m n same None a e i
-owners_in_tree-alike m n same s (has_body a b) e = refl
+owners_in_tree-alike m n same s (forms_block a b) e = refl
 owners_in_tree-alike m n same s (is_module a b c) e = refl
 
 pub recorded-alike : {P Q : Type 0} {sort : Sort} (m : Meanings ℕ Shape P) (n : Meanings ℕ Shape Q) (same : (x : ℕ) → m.written x ≡ n.written x) (s : Option Shape) (t : Tree ℕ sort) → SameTypes m n (occurrences t) → recorded m s t ≡ recorded n s t
@@ -492,5 +492,5 @@ recorded-alike m n same s (declares_variables a) e = refl
 recorded-alike m n same s (declares_procedure a b c d) e = refl
 recorded-alike m n same s (declares a b c d) e = refl
 recorded-alike m n same s (begins a) e = λ i. recorded-alike m n same None a e i
-recorded-alike m n same s (has_body a b) e = refl
+recorded-alike m n same s (forms_block a b) e = refl
 recorded-alike m n same s (is_module a b c) e = refl

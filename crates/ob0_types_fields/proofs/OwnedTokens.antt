@@ -5,18 +5,18 @@ use Rattle.std.proofs.Math.ListN.{length-set}
 use Rattle.std.proofs.lemmas.List.{get_or-replicate, length-replicate, map-append}
 use Rattle.ob0_tree.specs.declared.tree.Role.{Role}
 use Rattle.ob0_tree.specs.declared.tree.Role.TheVariants as role
-use Rattle.ob0_tree.specs.Order.{AreAscending, leaves, names_without_roles}
+use Rattle.ob0_tree.specs.Order.{AreAscending, identifier_names, names_without_roles}
 use Rattle.ob0_tree.specs.ParsedModule.{tree_of}
-use Rattle.ob0_tree.specs.Tree.{Sort, Tree, item, adds, array_type, assigns, begins, branches, calls, compares, declares, declares_constant, declares_constants, declares_procedure, declares_type, declares_types, declares_variable, declares_variables, designator, else_branch, elsif_branch, empty, end, field, has_body, identifiers, index, integer, is_module, listed, more, multiplies, named_type, negation, no_arguments, no_fields, no_formals, none, one, parenthesised, product, record_type, relates, repeat_loop, runs, some_arguments, some_fields, some_formals, sum, then_argument, then_fields, then_name, then_section, then_statement, value_section, variable_section, while_loop, block, names, written_type, fields, further_name, further_fields, section, further_section, formals, type_name, type_names, variable, variables, procedure, module_text, items, maybe}
+use Rattle.ob0_tree.specs.Tree.{Sort, Tree, item, adds, array_type, assigns, begins, branches, calls, compares, declares, declares_constant, declares_constants, declares_procedure, declares_type, declares_types, declares_variable, declares_variables, designator, else_branch, elsif_branch, empty, end, field, forms_block, identifiers, index, integer, is_module, listed, more, multiplies, named_type, negation, no_arguments, no_fields, no_formals, none, one, parenthesised, product, record_type, relates, repeat_loop, runs, some_arguments, some_fields, some_formals, sum, then_argument, then_fields, then_name, then_section, then_statement, value_section, variable_section, while_loop, block, names, written_type, fields, further_name, further_fields, section, further_section, formals, type_definition, type_definitions, variable, variables, procedure, module_text, items, maybe}
 use Rattle.ob0_tree.proofs.Leaves.{ascending_bounds, leaves_ascend}
 use Rattle.ob0_language_names.specs.Parts.{further_names, names_in_list, section_type}
 use Rattle.ob0_scope_table.specs.Resolution.{IsResolution, Resolution, ordinal_in}
-use Rattle.ob0_language_types.specs.Declarations.{constructor_after_formals, constructors_before_variables, constructor_after_variables, procedure_constructor_count}
+use Rattle.ob0_language_types.specs.Declarations.{constructors_before_procedure_block, constructors_before_variables, constructors_before_procedures, procedure_constructor_count}
 use Rattle.ob0_language_types.specs.Expressions.{Meanings}
 use Rattle.ob0_language_types.specs.Typing.{constructor_count, group_constructor_count, object_type}
 use Rattle.ob0_language_values.specs.Values.{Shape}
-use Rattle.ob0_types_fields.specs.Owned.{AgreesWithOwnerList, FieldsGiveAllOwners, fields_with_owners, owners_in_tree, owners_in_block, owners_in_formals, owners_in_group, owners_in_groups, owners_in_module, owners_in_procedure, owners_in_procedures, owners_in_section, owners_in_sections, owners_in_resolution, owners_in_type, owners_in_type_section, owners_in_types, owners_in_variable_section, owners_in_variables, type_after_selector, identifiers_without_owners, unowned_identifiers, table_with_owners}
-use Rattle.ob0_types_fields.proofs.OwnedModules.{listed_owners_are_complete-holds}
+use Rattle.ob0_types_fields.specs.Owned.{AgreesWithOwnerList, EnteredFieldsCompleteOwnerTable, fields_with_owners, owners_in_tree, owners_in_block, owners_in_formals, owners_in_group, owners_in_groups, owners_in_module, owners_in_procedure, owners_in_procedures, owners_in_section, owners_in_sections, owners_in_resolution, owners_in_type, owners_in_type_section, owners_in_types, owners_in_variable_section, owners_in_variables, type_after_selector, identifiers_without_owners, unowned_identifiers, table_with_owners}
+use Rattle.ob0_types_fields.proofs.OwnedModules.{agreeing_table_is_owner_table-holds}
 
 abbrev pub tokens : List (ℕ × Option ℕ) → List ℕ
 tokens xs = map (λ x. x.0) xs
@@ -83,7 +83,7 @@ owners_in_tree-tokens m s (declares_variables a) = identifiers_without_owners-to
 owners_in_tree-tokens m s (declares_procedure a b c d) = identifiers_without_owners-tokens (identifiers role.Declaring (declares_procedure a b c d))
 owners_in_tree-tokens m s (declares a b c d) = identifiers_without_owners-tokens (identifiers role.Declaring (declares a b c d))
 owners_in_tree-tokens m s (begins a) = owners_in_tree-tokens m None a
-owners_in_tree-tokens m s (has_body a b) = identifiers_without_owners-tokens (identifiers role.Declaring (has_body a b))
+owners_in_tree-tokens m s (forms_block a b) = identifiers_without_owners-tokens (identifiers role.Declaring (forms_block a b))
 owners_in_tree-tokens m s (is_module a b c) = identifiers_without_owners-tokens (identifiers role.Declaring (is_module a b c))
 
 further-tokens : (k : ℕ) (ns : Tree ℕ (items further_name)) → tokens (map (λ x. (x, Some k)) (further_names ns)) ≡ names_without_roles (identifiers role.FieldName ns)
@@ -112,12 +112,12 @@ mutual
   groups-tokens r k (more (then_fields g) rest) =
       both-tokens (owners_in_group r k g) (owners_in_groups r (k + group_constructor_count g) rest) (identifiers role.Declaring g) (identifiers role.Declaring rest) (group-tokens r k g) (groups-tokens r (k + group_constructor_count g) rest)
 
-types-tokens : (k : ℕ) (ds : Tree ℕ (items type_name)) → tokens (owners_in_types k ds) ≡ names_without_roles (identifiers role.Declaring ds)
+types-tokens : (k : ℕ) (ds : Tree ℕ (items type_definition)) → tokens (owners_in_types k ds) ≡ names_without_roles (identifiers role.Declaring ds)
 types-tokens k end = refl
 types-tokens k (more (declares_type x u) ds) =
     ap (λ z. x ∷ z) (both-tokens (owners_in_type k u) (owners_in_types (k + constructor_count u) ds) (identifiers role.Declaring u) (identifiers role.Declaring ds) (type-tokens k u) (types-tokens (k + constructor_count u) ds))
 
-type_section-tokens : (k : ℕ) (ts : Tree ℕ (maybe type_names)) → tokens (owners_in_type_section k ts) ≡ names_without_roles (identifiers role.Declaring ts)
+type_section-tokens : (k : ℕ) (ts : Tree ℕ (maybe type_definitions)) → tokens (owners_in_type_section k ts) ≡ names_without_roles (identifiers role.Declaring ts)
 type_section-tokens k none = refl
 type_section-tokens k (one (declares_types ts)) = types-tokens k ts
 
@@ -150,14 +150,14 @@ formals-tokens k (one (some_formals f fs)) =
 
 mutual
   block-tokens : {P : Type 0} (m : Meanings ℕ Shape P) (k : ℕ) (b : Tree ℕ block) → tokens (owners_in_block m k b) ≡ names_without_roles (identifiers role.Declaring b)
-  block-tokens m k (has_body (declares cs ts vs ps) st) =
-      let b : Tree ℕ block = has_body (declares cs ts vs ps) st in
+  block-tokens m k (forms_block (declares cs ts vs ps) st) =
+      let b : Tree ℕ block = forms_block (declares cs ts vs ps) st in
       let V : List (ℕ × Option ℕ) = owners_in_variable_section (constructors_before_variables k b) vs in
-      let Q : List (ℕ × Option ℕ) = owners_in_procedures m (constructor_after_variables k b) ps in
+      let Q : List (ℕ × Option ℕ) = owners_in_procedures m (constructors_before_procedures k b) ps in
       both-tokens (identifiers_without_owners cs ++ (owners_in_type_section k ts ++ (V ++ Q))) (owners_in_tree m None st) (identifiers role.Declaring cs ++ (identifiers role.Declaring ts ++ (identifiers role.Declaring vs ++ identifiers role.Declaring ps))) (identifiers role.Declaring st)
       (both-tokens (identifiers_without_owners cs) (owners_in_type_section k ts ++ (V ++ Q)) (identifiers role.Declaring cs) (identifiers role.Declaring ts ++ (identifiers role.Declaring vs ++ identifiers role.Declaring ps)) (plain-tokens cs)
       (both-tokens (owners_in_type_section k ts) (V ++ Q) (identifiers role.Declaring ts) (identifiers role.Declaring vs ++ identifiers role.Declaring ps) (type_section-tokens k ts)
-      (both-tokens V Q (identifiers role.Declaring vs) (identifiers role.Declaring ps) (variable_section-tokens (constructors_before_variables k b) vs) (procedures-tokens m (constructor_after_variables k b) ps))))
+      (both-tokens V Q (identifiers role.Declaring vs) (identifiers role.Declaring ps) (variable_section-tokens (constructors_before_variables k b) vs) (procedures-tokens m (constructors_before_procedures k b) ps))))
       (owners_in_tree-tokens m None st)
 
   procedures-tokens : {P : Type 0} (m : Meanings ℕ Shape P) (k : ℕ) (ps : Tree ℕ (items procedure)) → tokens (owners_in_procedures m k ps) ≡ names_without_roles (identifiers role.Declaring ps)
@@ -166,11 +166,11 @@ mutual
       let p : Tree ℕ (item procedure) = declares_procedure x fs b closing in
       let last : List (ℕ × Option ℕ) = (closing, None) ∷ [] in
       both-tokens (owners_in_procedure m k p) (owners_in_procedures m (k + procedure_constructor_count p) rest) (identifiers role.Declaring p) (identifiers role.Declaring rest)
-      (ap (λ z. x ∷ z) (both-tokens (owners_in_formals k fs) (owners_in_block m (constructor_after_formals k p) b ++ last) (identifiers role.Declaring fs) (identifiers role.Declaring b ++ ((role.ClosingName, closing) ∷ [])) (formals-tokens k fs)
-      (both-tokens (owners_in_block m (constructor_after_formals k p) b) last (identifiers role.Declaring b) ((role.ClosingName, closing) ∷ []) (block-tokens m (constructor_after_formals k p) b) refl)))
+      (ap (λ z. x ∷ z) (both-tokens (owners_in_formals k fs) (owners_in_block m (constructors_before_procedure_block k p) b ++ last) (identifiers role.Declaring fs) (identifiers role.Declaring b ++ ((role.ClosingName, closing) ∷ [])) (formals-tokens k fs)
+      (both-tokens (owners_in_block m (constructors_before_procedure_block k p) b) last (identifiers role.Declaring b) ((role.ClosingName, closing) ∷ []) (block-tokens m (constructors_before_procedure_block k p) b) refl)))
       (procedures-tokens m (k + procedure_constructor_count p) rest)
 
-pub module-tokens : {P : Type 0} (m : Meanings ℕ Shape P) (t : Tree ℕ module_text) → tokens (owners_in_module m t) ≡ leaves t
+pub module-tokens : {P : Type 0} (m : Meanings ℕ Shape P) (t : Tree ℕ module_text) → tokens (owners_in_module m t) ≡ identifier_names t
 module-tokens m (is_module x b closing) =
     ap (λ z. x ∷ z) (both-tokens (owners_in_block m 0 b) ((closing, None) ∷ []) (identifiers role.Declaring b) ((role.ModuleName, closing) ∷ []) (block-tokens m 0 b) refl)
 
@@ -213,5 +213,5 @@ fields_have-owners r named =
     let ascend = subst (λ ts. AreAscending 0 ts n) (sym (module-tokens _ (tree_of r.module_read))) (leaves_ascend r.module_read named.parsed) in
     fields_are_identifiers (owners_in_resolution r) vacant 0 n ascend (subst (λ z. n ≤ z) (sym (length-replicate n nothing)) (le_refl n)) (λ i l u. get_or-replicate n i nothing None u)
 
-pub fields_give_all_owners-holds : FieldsGiveAllOwners
-fields_give_all_owners-holds r named fits = listed_owners_are_complete-holds r (with_owners r) named fits (fields_have-owners r named)
+pub entered_fields_complete_owner_table-holds : EnteredFieldsCompleteOwnerTable
+entered_fields_complete_owner_table-holds r named fits = agreeing_table_is_owner_table-holds r (with_owners r) named fits (fields_have-owners r named)

@@ -1,7 +1,7 @@
 -- Rewriting the fields in declarations is the same as rewriting each token according to a table of
 -- owners.
 use Rattle.std.proofs.Common.{◌≡◌, ℕ, suc, ◌+◌, ◌++◌, map, Some, Option, refl, ap, ◌∙◌, sym}
-use Rattle.ob0_tree.specs.Tree.{Tree, item, items, maybe, array_type, block, declares, declares_procedure, declares_type, declares_types, declares_variable, declares_variables, end, fields, formals, further_fields, further_name, further_section, has_body, listed, mapped, more, named_type, names, no_fields, no_formals, none, one, procedure, record_type, section, some_fields, some_formals, then_fields, then_name, then_section, type_name, type_names, value_section, variable, variable_section, variables, written_type}
+use Rattle.ob0_tree.specs.Tree.{Tree, item, items, maybe, array_type, block, declares, declares_procedure, declares_type, declares_types, declares_variable, declares_variables, end, fields, formals, further_fields, further_name, further_section, forms_block, listed, mapped_tree, more, named_type, names, no_fields, no_formals, none, one, procedure, record_type, section, some_fields, some_formals, then_fields, then_name, then_section, type_definition, type_definitions, value_section, variable, variable_section, variables, written_type}
 use Rattle.ob0_language_names.specs.Mapping.{map_names}
 use Rattle.ob0_language_names.specs.Names.{Name}
 use Rattle.ob0_language_names.specs.Parts.{formal_sections, further_names, names_in_list, section_type, section_types, section_variables}
@@ -15,78 +15,78 @@ use Rattle.ob0_types_fields.proofs.OwnedStatements.{owners_split, identifiers_wi
 -- The number of words ARRAY and RECORD in a tree doesn't depend on the representation of its names.
 module _ {M : Type 0} (f : ℕ → M) (g : ℕ → ℕ) where
   mutual
-    pub counted_type : (t : Tree ℕ written_type) → constructor_count (mapped f g t) ≡ constructor_count t
+    pub counted_type : (t : Tree ℕ written_type) → constructor_count (mapped_tree f g t) ≡ constructor_count t
     counted_type (named_type x) = refl
     counted_type (array_type e t) = ap suc (counted_type t)
     counted_type (record_type group rest) = λ i. suc (counted_group group i + counted_groups rest i)
 
-    pub counted_group : (t : Tree ℕ fields) → group_constructor_count (mapped f g t) ≡ group_constructor_count t
+    pub counted_group : (t : Tree ℕ fields) → group_constructor_count (mapped_tree f g t) ≡ group_constructor_count t
     counted_group no_fields = refl
     counted_group (some_fields ns t) = counted_type t
 
-    pub counted_groups : (t : Tree ℕ (items further_fields)) → groups_constructor_count (mapped f g t) ≡ groups_constructor_count t
+    pub counted_groups : (t : Tree ℕ (items further_fields)) → groups_constructor_count (mapped_tree f g t) ≡ groups_constructor_count t
     counted_groups end = refl
     counted_groups (more (then_fields group) rest) = λ i. counted_group group i + counted_groups rest i
 
-  pub counted_types : (ts : Tree ℕ (items type_name)) → types_constructor_count (mapped f g ts) ≡ types_constructor_count ts
+  pub counted_types : (ts : Tree ℕ (items type_definition)) → types_constructor_count (mapped_tree f g ts) ≡ types_constructor_count ts
   counted_types end = refl
   counted_types (more (declares_type x t) ts) = λ i. counted_type t i + counted_types ts i
 
-  pub counted_variables : (vs : Tree ℕ (items variable)) → variables_constructor_count (mapped f g vs) ≡ variables_constructor_count vs
+  pub counted_variables : (vs : Tree ℕ (items variable)) → variables_constructor_count (mapped_tree f g vs) ≡ variables_constructor_count vs
   counted_variables end = refl
   counted_variables (more (declares_variable ns t) vs) = λ i. counted_type t i + counted_variables vs i
 
-  pub counted_section : (s : Tree ℕ section) → constructor_count (section_type (mapped f g s)) ≡ constructor_count (section_type s)
+  pub counted_section : (s : Tree ℕ section) → constructor_count (section_type (mapped_tree f g s)) ≡ constructor_count (section_type s)
   counted_section (value_section ns t) = counted_type t
   counted_section (variable_section ns t) = counted_type t
 
-  pub counted_formals : (fs : Tree ℕ (items further_section)) → formals_constructor_count (mapped f g fs) ≡ formals_constructor_count fs
+  pub counted_formals : (fs : Tree ℕ (items further_section)) → formals_constructor_count (mapped_tree f g fs) ≡ formals_constructor_count fs
   counted_formals end = refl
   counted_formals (more (then_section s) fs) = λ i. counted_section s i + counted_formals fs i
 
-  pub sections_mapped : (fs : Tree ℕ (maybe formals)) → formal_sections (mapped f g fs) ≡ mapped f g (formal_sections fs)
+  pub sections_mapped : (fs : Tree ℕ (maybe formals)) → formal_sections (mapped_tree f g fs) ≡ mapped_tree f g (formal_sections fs)
   sections_mapped none = refl
   sections_mapped (one no_formals) = refl
   sections_mapped (one (some_formals s rest)) = refl
 
-  pub types_mapped : (ts : Tree ℕ (maybe type_names)) → section_types (mapped f g ts) ≡ mapped f g (section_types ts)
+  pub types_mapped : (ts : Tree ℕ (maybe type_definitions)) → section_types (mapped_tree f g ts) ≡ mapped_tree f g (section_types ts)
   types_mapped none = refl
   types_mapped (one (declares_types ts)) = refl
 
-  pub variables_mapped : (vs : Tree ℕ (maybe variables)) → section_variables (mapped f g vs) ≡ mapped f g (section_variables vs)
+  pub variables_mapped : (vs : Tree ℕ (maybe variables)) → section_variables (mapped_tree f g vs) ≡ mapped_tree f g (section_variables vs)
   variables_mapped none = refl
   variables_mapped (one (declares_variables vs)) = refl
 
-  pub counted_type_section : (ts : Tree ℕ (maybe type_names)) → types_constructor_count (section_types (mapped f g ts)) ≡ types_constructor_count (section_types ts)
+  pub counted_type_section : (ts : Tree ℕ (maybe type_definitions)) → types_constructor_count (section_types (mapped_tree f g ts)) ≡ types_constructor_count (section_types ts)
   counted_type_section ts = ap types_constructor_count (types_mapped ts) ∙ counted_types (section_types ts)
 
-  pub counted_variable_section : (vs : Tree ℕ (maybe variables)) → variables_constructor_count (section_variables (mapped f g vs)) ≡ variables_constructor_count (section_variables vs)
+  pub counted_variable_section : (vs : Tree ℕ (maybe variables)) → variables_constructor_count (section_variables (mapped_tree f g vs)) ≡ variables_constructor_count (section_variables vs)
   counted_variable_section vs = ap variables_constructor_count (variables_mapped vs) ∙ counted_variables (section_variables vs)
 
-  pub counted_formals_section : (fs : Tree ℕ (maybe formals)) → formals_constructor_count (formal_sections (mapped f g fs)) ≡ formals_constructor_count (formal_sections fs)
+  pub counted_formals_section : (fs : Tree ℕ (maybe formals)) → formals_constructor_count (formal_sections (mapped_tree f g fs)) ≡ formals_constructor_count (formal_sections fs)
   counted_formals_section fs = ap formals_constructor_count (sections_mapped fs) ∙ counted_formals (formal_sections fs)
 
   mutual
-    pub counted_block : (b : Tree ℕ block) → block_constructor_count (mapped f g b) ≡ block_constructor_count b
-    counted_block (has_body (declares cs ts vs ps) statements) = λ i. counted_type_section ts i + (counted_variable_section vs i + counted_procedures ps i)
+    pub counted_block : (b : Tree ℕ block) → block_constructor_count (mapped_tree f g b) ≡ block_constructor_count b
+    counted_block (forms_block (declares cs ts vs ps) statements) = λ i. counted_type_section ts i + (counted_variable_section vs i + counted_procedures ps i)
 
-    pub counted_procedures : (ps : Tree ℕ (items procedure)) → procedures_constructor_count (mapped f g ps) ≡ procedures_constructor_count ps
+    pub counted_procedures : (ps : Tree ℕ (items procedure)) → procedures_constructor_count (mapped_tree f g ps) ≡ procedures_constructor_count ps
     counted_procedures end = refl
     counted_procedures (more p ps) = λ i. counted_procedure p i + counted_procedures ps i
 
-    pub counted_procedure : (p : Tree ℕ (item procedure)) → procedure_constructor_count (mapped f g p) ≡ procedure_constructor_count p
+    pub counted_procedure : (p : Tree ℕ (item procedure)) → procedure_constructor_count (mapped_tree f g p) ≡ procedure_constructor_count p
     counted_procedure (declares_procedure x fs b closing) = λ i. counted_formals_section fs i + counted_block b i
 
 module _ (l : ℕ → Name → Name) (at : ℕ → Option ℕ) (text : ℕ → Name) (value : ℕ → ℕ) where
-  further-owners_in_tree : (r : ℕ) (ns : Tree ℕ (items further_name)) → AgreesWithOwnerList at (map (λ x. (x, Some r)) (further_names ns)) → map_names (λ x. x) (field_names_by_record l (Some r)) (mapped text value ns) ≡ mapped (λ j. field_names_by_record l (at j) (text j)) value ns
+  further-owners_in_tree : (r : ℕ) (ns : Tree ℕ (items further_name)) → AgreesWithOwnerList at (map (λ x. (x, Some r)) (further_names ns)) → map_names (λ x. x) (field_names_by_record l (Some r)) (mapped_tree text value ns) ≡ mapped_tree (λ j. field_names_by_record l (at j) (text j)) value ns
   further-owners_in_tree r end h = refl
   further-owners_in_tree r (more (then_name x) rest) h = λ i. more (then_name (field_names_by_record l (sym h.0 i) (text x))) (further-owners_in_tree r rest h.1 i)
 
-  names-owners_in_tree : (r : ℕ) (ns : Tree ℕ names) → AgreesWithOwnerList at (map (λ x. (x, Some r)) (names_in_list ns)) → map_names (λ x. x) (field_names_by_record l (Some r)) (mapped text value ns) ≡ mapped (λ j. field_names_by_record l (at j) (text j)) value ns
+  names-owners_in_tree : (r : ℕ) (ns : Tree ℕ names) → AgreesWithOwnerList at (map (λ x. (x, Some r)) (names_in_list ns)) → map_names (λ x. x) (field_names_by_record l (Some r)) (mapped_tree text value ns) ≡ mapped_tree (λ j. field_names_by_record l (at j) (text j)) value ns
   names-owners_in_tree r (listed x rest) h = λ i. listed (field_names_by_record l (sym h.0 i) (text x)) (further-owners_in_tree r rest h.1 i)
 
   mutual
-    pub type-owners_in_tree : (k : ℕ) (t : Tree ℕ written_type) → AgreesWithOwnerList at (owners_in_type k t) → rename_fields_in_type (field_names_by_record l) k (mapped text value t) ≡ mapped (λ j. field_names_by_record l (at j) (text j)) value t
+    pub type-owners_in_tree : (k : ℕ) (t : Tree ℕ written_type) → AgreesWithOwnerList at (owners_in_type k t) → rename_fields_in_type (field_names_by_record l) k (mapped_tree text value t) ≡ mapped_tree (λ j. field_names_by_record l (at j) (text j)) value t
     type-owners_in_tree k (named_type x) h = λ i. named_type (field_names_by_record l (sym h.0 i) (text x))
     type-owners_in_tree k (array_type e t) h =
         let p = owners_split at (identifiers_without_owners e) (owners_in_type (suc k) t) h in
@@ -94,45 +94,45 @@ module _ (l : ℕ → Name → Name) (at : ℕ → Option ℕ) (text : ℕ → N
     type-owners_in_tree k (record_type g rest) h =
         let p = owners_split at (owners_in_group k (suc k) g) (owners_in_groups k (suc k + group_constructor_count g) rest) h in
         λ i. record_type (group-owners_in_tree k (suc k) g p.0 i)
-        ((ap (λ n. rename_fields_in_groups (field_names_by_record l) k (suc k + n) (mapped text value rest)) (counted_group text value g) ∙ groups-owners_in_tree k (suc k + group_constructor_count g) rest p.1) i)
+        ((ap (λ n. rename_fields_in_groups (field_names_by_record l) k (suc k + n) (mapped_tree text value rest)) (counted_group text value g) ∙ groups-owners_in_tree k (suc k + group_constructor_count g) rest p.1) i)
 
-    group-owners_in_tree : (r k : ℕ) (g : Tree ℕ fields) → AgreesWithOwnerList at (owners_in_group r k g) → rename_fields_in_group (field_names_by_record l) r k (mapped text value g) ≡ mapped (λ j. field_names_by_record l (at j) (text j)) value g
+    group-owners_in_tree : (r k : ℕ) (g : Tree ℕ fields) → AgreesWithOwnerList at (owners_in_group r k g) → rename_fields_in_group (field_names_by_record l) r k (mapped_tree text value g) ≡ mapped_tree (λ j. field_names_by_record l (at j) (text j)) value g
     group-owners_in_tree r k no_fields h = refl
     group-owners_in_tree r k (some_fields ns t) h =
         let p = owners_split at (map (λ x. (x, Some r)) (names_in_list ns)) (owners_in_type k t) h in
         λ i. some_fields (names-owners_in_tree r ns p.0 i) (type-owners_in_tree k t p.1 i)
 
-    groups-owners_in_tree : (r k : ℕ) (gs : Tree ℕ (items further_fields)) → AgreesWithOwnerList at (owners_in_groups r k gs) → rename_fields_in_groups (field_names_by_record l) r k (mapped text value gs) ≡ mapped (λ j. field_names_by_record l (at j) (text j)) value gs
+    groups-owners_in_tree : (r k : ℕ) (gs : Tree ℕ (items further_fields)) → AgreesWithOwnerList at (owners_in_groups r k gs) → rename_fields_in_groups (field_names_by_record l) r k (mapped_tree text value gs) ≡ mapped_tree (λ j. field_names_by_record l (at j) (text j)) value gs
     groups-owners_in_tree r k end h = refl
     groups-owners_in_tree r k (more (then_fields g) rest) h =
         let p = owners_split at (owners_in_group r k g) (owners_in_groups r (k + group_constructor_count g) rest) h in
         λ i. more (then_fields (group-owners_in_tree r k g p.0 i))
-        ((ap (λ n. rename_fields_in_groups (field_names_by_record l) r (k + n) (mapped text value rest)) (counted_group text value g) ∙ groups-owners_in_tree r (k + group_constructor_count g) rest p.1) i)
+        ((ap (λ n. rename_fields_in_groups (field_names_by_record l) r (k + n) (mapped_tree text value rest)) (counted_group text value g) ∙ groups-owners_in_tree r (k + group_constructor_count g) rest p.1) i)
 
-  types-owners_in_tree : (k : ℕ) (ds : Tree ℕ (items type_name)) → AgreesWithOwnerList at (owners_in_types k ds) → rename_fields_in_types (field_names_by_record l) k (mapped text value ds) ≡ mapped (λ j. field_names_by_record l (at j) (text j)) value ds
+  types-owners_in_tree : (k : ℕ) (ds : Tree ℕ (items type_definition)) → AgreesWithOwnerList at (owners_in_types k ds) → rename_fields_in_types (field_names_by_record l) k (mapped_tree text value ds) ≡ mapped_tree (λ j. field_names_by_record l (at j) (text j)) value ds
   types-owners_in_tree k end h = refl
   types-owners_in_tree k (more (declares_type x u) ds) h =
       let p = owners_split at (owners_in_type k u) (owners_in_types (k + constructor_count u) ds) h.1 in
       λ i. more (declares_type (field_names_by_record l (sym h.0 i) (text x)) (type-owners_in_tree k u p.0 i))
-      ((ap (λ n. rename_fields_in_types (field_names_by_record l) (k + n) (mapped text value ds)) (counted_type text value u) ∙ types-owners_in_tree (k + constructor_count u) ds p.1) i)
+      ((ap (λ n. rename_fields_in_types (field_names_by_record l) (k + n) (mapped_tree text value ds)) (counted_type text value u) ∙ types-owners_in_tree (k + constructor_count u) ds p.1) i)
 
-  pub type_section-owners_in_tree : (k : ℕ) (ts : Tree ℕ (maybe type_names)) → AgreesWithOwnerList at (owners_in_type_section k ts) → rename_fields_in_type_section (field_names_by_record l) k (mapped text value ts) ≡ mapped (λ j. field_names_by_record l (at j) (text j)) value ts
+  pub type_section-owners_in_tree : (k : ℕ) (ts : Tree ℕ (maybe type_definitions)) → AgreesWithOwnerList at (owners_in_type_section k ts) → rename_fields_in_type_section (field_names_by_record l) k (mapped_tree text value ts) ≡ mapped_tree (λ j. field_names_by_record l (at j) (text j)) value ts
   type_section-owners_in_tree k none h = refl
   type_section-owners_in_tree k (one (declares_types ts)) h = λ i. one (declares_types (types-owners_in_tree k ts h i))
 
-  variables-owners_in_tree : (k : ℕ) (gs : Tree ℕ (items variable)) → AgreesWithOwnerList at (owners_in_variables k gs) → rename_fields_in_variables (field_names_by_record l) k (mapped text value gs) ≡ mapped (λ j. field_names_by_record l (at j) (text j)) value gs
+  variables-owners_in_tree : (k : ℕ) (gs : Tree ℕ (items variable)) → AgreesWithOwnerList at (owners_in_variables k gs) → rename_fields_in_variables (field_names_by_record l) k (mapped_tree text value gs) ≡ mapped_tree (λ j. field_names_by_record l (at j) (text j)) value gs
   variables-owners_in_tree k end h = refl
   variables-owners_in_tree k (more (declares_variable ns u) gs) h =
       let p = owners_split at (identifiers_without_owners ns ++ owners_in_type k u) (owners_in_variables (k + constructor_count u) gs) h in
       let q = owners_split at (identifiers_without_owners ns) (owners_in_type k u) p.0 in
       λ i. more (declares_variable (identifiers_without_owners-all l at text value ns q.0 i) (type-owners_in_tree k u q.1 i))
-      ((ap (λ n. rename_fields_in_variables (field_names_by_record l) (k + n) (mapped text value gs)) (counted_type text value u) ∙ variables-owners_in_tree (k + constructor_count u) gs p.1) i)
+      ((ap (λ n. rename_fields_in_variables (field_names_by_record l) (k + n) (mapped_tree text value gs)) (counted_type text value u) ∙ variables-owners_in_tree (k + constructor_count u) gs p.1) i)
 
-  pub variable_section-owners_in_tree : (k : ℕ) (vs : Tree ℕ (maybe variables)) → AgreesWithOwnerList at (owners_in_variable_section k vs) → rename_fields_in_variable_section (field_names_by_record l) k (mapped text value vs) ≡ mapped (λ j. field_names_by_record l (at j) (text j)) value vs
+  pub variable_section-owners_in_tree : (k : ℕ) (vs : Tree ℕ (maybe variables)) → AgreesWithOwnerList at (owners_in_variable_section k vs) → rename_fields_in_variable_section (field_names_by_record l) k (mapped_tree text value vs) ≡ mapped_tree (λ j. field_names_by_record l (at j) (text j)) value vs
   variable_section-owners_in_tree k none h = refl
   variable_section-owners_in_tree k (one (declares_variables vs)) h = λ i. one (declares_variables (variables-owners_in_tree k vs h i))
 
-  section-owners_in_tree : (k : ℕ) (f : Tree ℕ section) → AgreesWithOwnerList at (owners_in_section k f) → rename_fields_in_section (field_names_by_record l) k (mapped text value f) ≡ mapped (λ j. field_names_by_record l (at j) (text j)) value f
+  section-owners_in_tree : (k : ℕ) (f : Tree ℕ section) → AgreesWithOwnerList at (owners_in_section k f) → rename_fields_in_section (field_names_by_record l) k (mapped_tree text value f) ≡ mapped_tree (λ j. field_names_by_record l (at j) (text j)) value f
   section-owners_in_tree k (value_section ns u) h =
       let p = owners_split at (identifiers_without_owners ns) (owners_in_type k u) h in
       λ i. value_section (identifiers_without_owners-all l at text value ns p.0 i) (type-owners_in_tree k u p.1 i)
@@ -140,17 +140,17 @@ module _ (l : ℕ → Name → Name) (at : ℕ → Option ℕ) (text : ℕ → N
       let p = owners_split at (identifiers_without_owners ns) (owners_in_type k u) h in
       λ i. variable_section (identifiers_without_owners-all l at text value ns p.0 i) (type-owners_in_tree k u p.1 i)
 
-  sections-owners_in_tree : (k : ℕ) (fs : Tree ℕ (items further_section)) → AgreesWithOwnerList at (owners_in_sections k fs) → rename_fields_in_sections (field_names_by_record l) k (mapped text value fs) ≡ mapped (λ j. field_names_by_record l (at j) (text j)) value fs
+  sections-owners_in_tree : (k : ℕ) (fs : Tree ℕ (items further_section)) → AgreesWithOwnerList at (owners_in_sections k fs) → rename_fields_in_sections (field_names_by_record l) k (mapped_tree text value fs) ≡ mapped_tree (λ j. field_names_by_record l (at j) (text j)) value fs
   sections-owners_in_tree k end h = refl
   sections-owners_in_tree k (more (then_section f) fs) h =
       let p = owners_split at (owners_in_section k f) (owners_in_sections (k + constructor_count (section_type f)) fs) h in
       λ i. more (then_section (section-owners_in_tree k f p.0 i))
-      ((ap (λ n. rename_fields_in_sections (field_names_by_record l) (k + n) (mapped text value fs)) (counted_section text value f) ∙ sections-owners_in_tree (k + constructor_count (section_type f)) fs p.1) i)
+      ((ap (λ n. rename_fields_in_sections (field_names_by_record l) (k + n) (mapped_tree text value fs)) (counted_section text value f) ∙ sections-owners_in_tree (k + constructor_count (section_type f)) fs p.1) i)
 
-  pub formals-owners_in_tree : (k : ℕ) (fs : Tree ℕ (maybe formals)) → AgreesWithOwnerList at (owners_in_formals k fs) → rename_fields_in_formals (field_names_by_record l) k (mapped text value fs) ≡ mapped (λ j. field_names_by_record l (at j) (text j)) value fs
+  pub formals-owners_in_tree : (k : ℕ) (fs : Tree ℕ (maybe formals)) → AgreesWithOwnerList at (owners_in_formals k fs) → rename_fields_in_formals (field_names_by_record l) k (mapped_tree text value fs) ≡ mapped_tree (λ j. field_names_by_record l (at j) (text j)) value fs
   formals-owners_in_tree k none h = refl
   formals-owners_in_tree k (one no_formals) h = refl
   formals-owners_in_tree k (one (some_formals f fs)) h =
       let p = owners_split at (owners_in_section k f) (owners_in_sections (k + constructor_count (section_type f)) fs) h in
       λ i. one (some_formals (section-owners_in_tree k f p.0 i)
-      ((ap (λ n. rename_fields_in_sections (field_names_by_record l) (k + n) (mapped text value fs)) (counted_section text value f) ∙ sections-owners_in_tree (k + constructor_count (section_type f)) fs p.1) i))
+      ((ap (λ n. rename_fields_in_sections (field_names_by_record l) (k + n) (mapped_tree text value fs)) (counted_section text value f) ∙ sections-owners_in_tree (k + constructor_count (section_type f)) fs p.1) i))

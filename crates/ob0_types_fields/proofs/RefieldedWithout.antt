@@ -2,44 +2,44 @@
 use Rattle.std.proofs.Common.{◌≡◌, ℕ, zero, suc, ◌+◌, [], ◌∷◌, None, refl, sym, ap}
 use Rattle.ob0_language_fields.specs.Fields.{FieldRenaming, parameters_of, rename_fields, rename_fields_in_block, rename_fields_in_formals, rename_fields_in_procedure, rename_fields_in_procedures, rename_fields_in_type_section, rename_fields_in_variable_section, rename_fields_in_module, environment_after_heading, environment_after_procedures, environment_after_variables}
 use Rattle.ob0_language_names.specs.Names.{Name, naming_by_spelling}
-use Rattle.ob0_language_types.specs.Declarations.{constructor_after_formals, constructors_before_variables, constructor_after_variables, declare_first, procedure_constructor_count}
-use Rattle.ob0_language_types.specs.Environments.{meanings, outermost}
+use Rattle.ob0_language_types.specs.Declarations.{constructors_before_procedure_block, constructors_before_variables, constructors_before_procedures, declare_constants_and_types, procedure_constructor_count}
+use Rattle.ob0_language_types.specs.Environments.{meanings, outermost_environment}
 use Rattle.ob0_language_types.specs.WellTyped.{TypeEnvironment, bind_typed_parameters}
 use Rattle.ob0_scope_table.specs.BodyReplaced.{PathToBody, block_without, procedures_without, module_without_body}
-use Rattle.ob0_tree.specs.Tree.{Tree, block, declares, declares_procedure, end, has_body, is_module, item, items, module_text, more, procedure}
+use Rattle.ob0_tree.specs.Tree.{Tree, block, declares, declares_procedure, end, forms_block, is_module, item, items, module_text, more, procedure}
 use Rattle.ob0_types_fields.proofs.OwnedAround.{procedure_counted}
 
 -- Leaving out the statements of a procedure doesn't change the meanings of names after the procedures.
-same_after : (env : TypeEnvironment Name) (k j : ℕ) (way : PathToBody) (ps : Tree Name (items procedure)) → environment_after_procedures env k (procedures_without j way ps) ≡ environment_after_procedures env k ps
-same_after env k zero way end = refl
-same_after env k (suc j) way end = refl
-same_after env k zero way (more (declares_procedure x fs b closing) rest) =
+same_after : (env : TypeEnvironment Name) (k j : ℕ) (path : PathToBody) (ps : Tree Name (items procedure)) → environment_after_procedures env k (procedures_without j path ps) ≡ environment_after_procedures env k ps
+same_after env k zero path end = refl
+same_after env k (suc j) path end = refl
+same_after env k zero path (more (declares_procedure x fs b closing) rest) =
     let p : Tree Name (item procedure) = declares_procedure x fs b closing in
-    ap (λ n. environment_after_procedures (environment_after_heading env k p) (k + n) rest) (procedure_counted way p)
-same_after env k (suc j) way (more p rest) = same_after (environment_after_heading env k p) (k + procedure_constructor_count p) j way rest
+    ap (λ n. environment_after_procedures (environment_after_heading env k p) (k + n) rest) (procedure_counted path p)
+same_after env k (suc j) path (more p rest) = same_after (environment_after_heading env k p) (k + procedure_constructor_count p) j path rest
 
 module _ (l : FieldRenaming) where
   mutual
-    unfolding declare_first
+    unfolding declare_constants_and_types
 
-    block_refielded : (env : TypeEnvironment Name) (k : ℕ) (way : PathToBody) (b : Tree Name block) → block_without way (rename_fields_in_block l env k b) ≡ rename_fields_in_block l env k (block_without way b)
-    block_refielded env k [] (has_body (declares cs ts vs ps) statements) = refl
-    block_refielded env k (j ∷ way) (has_body (declares cs ts vs ps) statements) =
-        let b : Tree Name block = has_body (declares cs ts vs ps) statements in
+    block_refielded : (env : TypeEnvironment Name) (k : ℕ) (path : PathToBody) (b : Tree Name block) → block_without path (rename_fields_in_block l env k b) ≡ rename_fields_in_block l env k (block_without path b)
+    block_refielded env k [] (forms_block (declares cs ts vs ps) statements) = refl
+    block_refielded env k (j ∷ path) (forms_block (declares cs ts vs ps) statements) =
+        let b : Tree Name block = forms_block (declares cs ts vs ps) statements in
         let inner = environment_after_variables env k b in
-        let n = constructor_after_variables k b in
-        λ i. has_body (declares cs (rename_fields_in_type_section l k ts) (rename_fields_in_variable_section l (constructors_before_variables k b) vs) (procedures_refielded inner n j way ps i))
-        (rename_fields l (meanings naming_by_spelling (sym (same_after inner n j way ps) i)) None statements)
+        let n = constructors_before_procedures k b in
+        λ i. forms_block (declares cs (rename_fields_in_type_section l k ts) (rename_fields_in_variable_section l (constructors_before_variables k b) vs) (procedures_refielded inner n j path ps i))
+        (rename_fields l (meanings naming_by_spelling (sym (same_after inner n j path ps) i)) None statements)
 
-    procedures_refielded : (env : TypeEnvironment Name) (k j : ℕ) (way : PathToBody) (ps : Tree Name (items procedure)) → procedures_without j way (rename_fields_in_procedures l env k ps) ≡ rename_fields_in_procedures l env k (procedures_without j way ps)
-    procedures_refielded env k zero way end = refl
-    procedures_refielded env k (suc j) way end = refl
-    procedures_refielded env k zero way (more (declares_procedure x fs b closing) rest) =
+    procedures_refielded : (env : TypeEnvironment Name) (k j : ℕ) (path : PathToBody) (ps : Tree Name (items procedure)) → procedures_without j path (rename_fields_in_procedures l env k ps) ≡ rename_fields_in_procedures l env k (procedures_without j path ps)
+    procedures_refielded env k zero path end = refl
+    procedures_refielded env k (suc j) path end = refl
+    procedures_refielded env k zero path (more (declares_procedure x fs b closing) rest) =
         let p : Tree Name (item procedure) = declares_procedure x fs b closing in
-        λ i. more (declares_procedure x (rename_fields_in_formals l k fs) (block_refielded (bind_typed_parameters (parameters_of env k p) (environment_after_heading env k p)) (constructor_after_formals k p) way b i) closing)
-        (rename_fields_in_procedures l (environment_after_heading env k p) (k + sym (procedure_counted way p) i) rest)
-    procedures_refielded env k (suc j) way (more p rest) =
-        ap (more (rename_fields_in_procedure l (bind_typed_parameters (parameters_of env k p) (environment_after_heading env k p)) k p)) (procedures_refielded (environment_after_heading env k p) (k + procedure_constructor_count p) j way rest)
+        λ i. more (declares_procedure x (rename_fields_in_formals l k fs) (block_refielded (bind_typed_parameters (parameters_of env k p) (environment_after_heading env k p)) (constructors_before_procedure_block k p) path b i) closing)
+        (rename_fields_in_procedures l (environment_after_heading env k p) (k + sym (procedure_counted path p) i) rest)
+    procedures_refielded env k (suc j) path (more p rest) =
+        ap (more (rename_fields_in_procedure l (bind_typed_parameters (parameters_of env k p) (environment_after_heading env k p)) k p)) (procedures_refielded (environment_after_heading env k p) (k + procedure_constructor_count p) j path rest)
 
-  pub refielded_without : (way : PathToBody) (m : Tree Name module_text) → module_without_body way (rename_fields_in_module l m) ≡ rename_fields_in_module l (module_without_body way m)
-  refielded_without way (is_module x b closing) = ap (λ c. is_module x c closing) (block_refielded (outermost naming_by_spelling) 0 way b)
+  pub refielded_without : (path : PathToBody) (m : Tree Name module_text) → module_without_body path (rename_fields_in_module l m) ≡ rename_fields_in_module l (module_without_body path m)
+  refielded_without path (is_module x b closing) = ap (λ c. is_module x c closing) (block_refielded (outermost_environment naming_by_spelling) 0 path b)

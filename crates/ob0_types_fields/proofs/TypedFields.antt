@@ -9,18 +9,18 @@ use Rattle.std.proofs.lemmas.List.Elements.{All-weaker}
 use Rattle.std.proofs.lemmas.Slice.Eq.{bytes_eq-Decides}
 use Rattle.std.specs.List.{AllByRecursion}
 use Rattle.ob0_tree.specs.ParsedModule.{named_tree_of, tree_of}
-use Rattle.ob0_tree.specs.Places.{text_at, value_at}
-use Rattle.ob0_tree.specs.Tree.{Tree, array_type, block, declares, declares_procedure, declares_type, declares_types, declares_variable, declares_variables, end, fields, formals, further_fields, further_name, further_section, has_body, item, items, listed, mapped, maybe, module_text, more, named_type, names, no_fields, no_formals, none, one, procedure, record_type, some_fields, some_formals, then_fields, then_name, then_section, type_name, type_names, value_section, variable, variable_section, variables, written_type}
-use Rattle.ob0_language_names.specs.DeclaredOnce.{are_distinct, block_once, has_distinct_fields, formals_have_distinct_fields, group_fields, group_has_distinct_fields, further_group_fields, groups_have_distinct_fields, is_among, procedure_once, procedures_once, types_have_distinct_fields, variables_have_distinct_fields}
+use Rattle.ob0_tree.specs.Places.{token_text_at, token_value_at}
+use Rattle.ob0_tree.specs.Tree.{Tree, array_type, block, declares, declares_procedure, declares_type, declares_types, declares_variable, declares_variables, end, fields, formals, further_fields, further_name, further_section, forms_block, item, items, listed, mapped_tree, maybe, module_text, more, named_type, names, no_fields, no_formals, none, one, procedure, record_type, some_fields, some_formals, then_fields, then_name, then_section, type_definition, type_definitions, value_section, variable, variable_section, variables, written_type}
+use Rattle.ob0_language_names.specs.ConsistentNames.{are_distinct, block_has_consistent_names, has_distinct_fields, formals_have_distinct_fields, group_field_names, group_has_distinct_fields, further_field_names, groups_have_distinct_fields, is_among, procedure_has_consistent_names, procedures_have_consistent_names, types_have_distinct_fields, variables_have_distinct_fields}
 use Rattle.ob0_language_names.specs.Names.{Label, Name, naming_by_label, naming_by_spelling, label_text, same_name}
 use Rattle.ob0_language_names.specs.Parts.{formal_names, formal_sections, further_names, module_block, names_in_list, section_types, section_variables}
 use Rattle.ob0_scope_table.specs.Resolution.{IsResolution, Resolution, ordinal_in}
 use Rattle.ob0_language_names.specs.Scopes.{label_from_ordinal}
 use Rattle.ob0_language_names.proofs.NameEquality.{same_name-refl}
-use Rattle.ob0_language_types.specs.Declarations.{constructor_after_formals, constructors_before_variables, constructor_after_variables, block_constructor_count, formals_constructor_count, procedure_constructor_count, procedures_constructor_count, types_constructor_count, variables_constructor_count}
+use Rattle.ob0_language_types.specs.Declarations.{constructors_before_procedure_block, constructors_before_variables, constructors_before_procedures, block_constructor_count, formals_constructor_count, procedure_constructor_count, procedures_constructor_count, types_constructor_count, variables_constructor_count}
 use Rattle.ob0_language_types.specs.Environments.{meanings}
 use Rattle.ob0_scope_table.specs.LabelledTrees.{tree_with_labels, label_at_token}
-use Rattle.ob0_language_types.specs.Typing.{array_length, constant_value, constructor_count, denoted, denoted_group, denoted_groups, depth, element_type, group_constructor_count, groups_constructor_count, scalars, shape_of_field, type_of_object, prepend_fields, check_limits}
+use Rattle.ob0_language_types.specs.Typing.{array_length, constant_value, constructor_count, denoted_type, denoted_group_fields, denoted_further_fields, depth, element_type, group_constructor_count, groups_constructor_count, scalars, shape_of_field, type_of_object, prepend_fields, check_limits}
 use Rattle.ob0_language_types.specs.WellTyped.{TypeEnvironment, WellTyped}
 use Rattle.ob0_language_types.proofs.Literals.{some_inverse}
 use Rattle.ob0_language_types.proofs.TypedElsewhere.{then_some}
@@ -29,7 +29,7 @@ use Rattle.ob0_types_table.specs.declared.known.FieldId.{FieldId}
 use Rattle.ob0_language_values.specs.Values.{FieldShapes, Shape, array_shape, integer_shape, next_field_shape, no_field_shape, record_shape}
 use Rattle.ob0_types_fields.specs.FieldTypes.{FieldsHaveTypes, TypedField, constructed_types, typed_field_with_name, first_name_listed, typed_field}
 use Rattle.ob0_types_fields.specs.declared.field_name.FieldName.{FieldName}
-use Rattle.ob0_types_fields.specs.Identifiers.{declared_fields, declared_in_block, declared_in_procedure, declared_in_procedures, field_declaring_token, field_identifiers, first, belongs_to_field, tokens_of_field}
+use Rattle.ob0_types_fields.specs.Identifiers.{declared_fields, fields_declared_in_block, fields_declared_in_procedure, fields_declared_in_procedures, field_declaring_token, field_identifiers, first_token, belongs_to_field, tokens_of_field}
 use Rattle.ob0_types_fields.specs.Owned.{fields_in_group, fields_in_groups, fields_at_tokens, fields_in_sections, fields_in_type, fields_in_types, fields_in_variables}
 use Rattle.ob0_types_fields.proofs.DeclaredTypes.{BlockIsTyped, Denotes, FormalsAreTyped, ProcedureIsTyped, ProceduresAreTyped, TypesAreTyped, VariablesAreTyped, meaning, module-typed}
 use Rattle.ob0_types_fields.proofs.FieldLabels.{AllWritten, BlockPlain, GroupPlain, GroupsPlain, IsWritten, ProcedurePlain, ProceduresPlain, SectionsPlain, TypePlain, TypesPlain, VariablesPlain, numbered-plain}
@@ -123,7 +123,7 @@ module _ (r : Resolution) where
     groups-counted t (more (then_fields g) rest) =
         length-append (constructed_types (meaning r) t g) (constructed_types (meaning r) t rest) ∙ (λ i. group-counted t g i + groups-counted t rest i)
 
-  types-counted : (ds : Tree ℕ (items type_name)) → length (constructed_types (meaning r) None ds) ≡ types_constructor_count ds
+  types-counted : (ds : Tree ℕ (items type_definition)) → length (constructed_types (meaning r) None ds) ≡ types_constructor_count ds
   types-counted end = refl
   types-counted (more (declares_type x u) ds) =
       length-append (constructed_types (meaning r) None (declares_type x u)) (constructed_types (meaning r) None ds) ∙ (λ i. type-counted (type_of_object ((meaning r).object_for x)) u i + types-counted ds i)
@@ -140,7 +140,7 @@ module _ (r : Resolution) where
   sections-counted (more (then_section (variable_section ns u)) fs) =
       length-append (constructed_types (meaning r) None (variable_section ns u)) (constructed_types (meaning r) None fs) ∙ (λ i. type-counted (type_of_object ((meaning r).object_for (first_name_listed ns))) u i + sections-counted fs i)
 
-  type_section-counted : (ts : Tree ℕ (maybe type_names)) → length (constructed_types (meaning r) None ts) ≡ types_constructor_count (section_types ts)
+  type_section-counted : (ts : Tree ℕ (maybe type_definitions)) → length (constructed_types (meaning r) None ts) ≡ types_constructor_count (section_types ts)
   type_section-counted none = refl
   type_section-counted (one (declares_types ts)) = types-counted ts
 
@@ -156,7 +156,7 @@ module _ (r : Resolution) where
 
   mutual
     block-counted : (b : Tree ℕ block) → length (constructed_types (meaning r) None b) ≡ block_constructor_count b
-    block-counted (has_body (declares cs ts vs ps) statements) =
+    block-counted (forms_block (declares cs ts vs ps) statements) =
         length-append (constructed_types (meaning r) None ts) (constructed_types (meaning r) None vs ++ constructed_types (meaning r) None ps)
         ∙ ((λ i. type_section-counted ts i + length-append (constructed_types (meaning r) None vs) (constructed_types (meaning r) None ps) i)
         ∙ (λ i. types_constructor_count (section_types ts) + (variable_section-counted vs i + procedures-counted ps i)))
@@ -211,10 +211,10 @@ each-weaker P Q f (x ∷ xs) a = (f x a.0, each-weaker P Q f xs a.1)
 
 module _ (r : Resolution) where
   abbrev text : ℕ → Name
-  text x = text_at r.module_read.source x
+  text x = token_text_at r.module_read.source x
 
   abbrev value : ℕ → ℕ
-  value x = value_at r.module_read.source x
+  value x = token_value_at r.module_read.source x
 
   -- The spelling of a field's label is the spelling of its token.
   written-text : (x : ℕ) → IsWritten (label_at_token r x) → label_text (label_at_token r x) ≡ text x
@@ -224,11 +224,11 @@ module _ (r : Resolution) where
       go None h = refl
       go (Some k) h = absurd h
 
-  further-texts : (ns : Tree ℕ (items further_name)) → AllWritten (further_names (tree_with_labels r ns)) → map label_text (further_names (tree_with_labels r ns)) ≡ further_names (mapped text value ns)
+  further-texts : (ns : Tree ℕ (items further_name)) → AllWritten (further_names (tree_with_labels r ns)) → map label_text (further_names (tree_with_labels r ns)) ≡ further_names (mapped_tree text value ns)
   further-texts end h = refl
   further-texts (more (then_name x) rest) h = λ i. written-text x h.0 i ∷ further-texts rest h.1 i
 
-  texts : (ns : Tree ℕ names) → AllWritten (names_in_list (tree_with_labels r ns)) → map label_text (names_in_list (tree_with_labels r ns)) ≡ names_in_list (mapped text value ns)
+  texts : (ns : Tree ℕ names) → AllWritten (names_in_list (tree_with_labels r ns)) → map label_text (names_in_list (tree_with_labels r ns)) ≡ names_in_list (mapped_tree text value ns)
   texts (listed x rest) h = λ i. written-text x h.0 i ∷ further-texts rest h.1 i
 
   -- holds if the record of an identifier has a field with its name
@@ -276,18 +276,18 @@ module _ (r : Resolution) where
     own-names j k made [] h = tt
     own-names j k made (x ∷ xs) h = (inl (refl, h.0), own-names j k made xs h.1)
 
-    further-have : (ns : Tree ℕ (items further_name)) (before : List Name) (s : Shape) → ((y : Name) → is_among y (before ++ further_names (mapped text value ns)) ≡ true → shape_of_field all y ≡ Some s)
+    further-have : (ns : Tree ℕ (items further_name)) (before : List Name) (s : Shape) → ((y : Name) → is_among y (before ++ further_names (mapped_tree text value ns)) ≡ true → shape_of_field all y ≡ Some s)
         → AllByRecursion (λ x. is_some (typed_field_with_name (record_shape o all) (text x)) ≡ true) (further_names ns)
     further-have end before s has = tt
     further-have (more (then_name x) rest) before s has = (
-      name-typed (text x) s (has (text x) (among-right (text x) before (text x ∷ further_names (mapped text value rest)) (ap (λ b. b || is_among (text x) (further_names (mapped text value rest))) (same_name-refl (text x))))),
-      further-have rest [] s (λ y among. has y (among-right y before (text x ∷ further_names (mapped text value rest)) (or_right (same_name y (text x)) (is_among y (further_names (mapped text value rest))) among))),
+      name-typed (text x) s (has (text x) (among-right (text x) before (text x ∷ further_names (mapped_tree text value rest)) (ap (λ b. b || is_among (text x) (further_names (mapped_tree text value rest))) (same_name-refl (text x))))),
+      further-have rest [] s (λ y among. has y (among-right y before (text x ∷ further_names (mapped_tree text value rest)) (or_right (same_name y (text x)) (is_among y (further_names (mapped_tree text value rest))) among))),
     )
 
-    names-have : (ns : Tree ℕ names) (s : Shape) → ((y : Name) → is_among y (names_in_list (mapped text value ns)) ≡ true → shape_of_field all y ≡ Some s)
+    names-have : (ns : Tree ℕ names) (s : Shape) → ((y : Name) → is_among y (names_in_list (mapped_tree text value ns)) ≡ true → shape_of_field all y ≡ Some s)
         → AllByRecursion (λ x. is_some (typed_field_with_name (record_shape o all) (text x)) ≡ true) (names_in_list ns)
     names-have (listed x rest) s has = (
-      name-typed (text x) s (has (text x) (ap (λ b. b || is_among (text x) (further_names (mapped text value rest))) (same_name-refl (text x)))),
+      name-typed (text x) s (has (text x) (ap (λ b. b || is_among (text x) (further_names (mapped_tree text value rest))) (same_name-refl (text x)))),
       further-have rest (text x ∷ []) s has,
     )
 
@@ -296,38 +296,38 @@ module _ (r : Resolution) where
     Agree own fs = (y : Name) → is_among y own ≡ true → shape_of_field all y ≡ shape_of_field fs y
 
   -- A name that isn't in a group is found in the fields after the group.
-  following-group : (env : TypeEnvironment Label) (k : ℕ) (later fs : FieldShapes) (g : Tree ℕ fields) → denoted_group (meanings naming_by_label env) k later (tree_with_labels r g) ≡ Some fs → GroupPlain (tree_with_labels r g)
-      → (others : List Name) → are_distinct (group_fields (mapped text value g) ++ others) ≡ true → (y : Name) → is_among y others ≡ true → shape_of_field fs y ≡ shape_of_field later y
-  unfolding denoted
+  following-group : (env : TypeEnvironment Label) (k : ℕ) (later fs : FieldShapes) (g : Tree ℕ fields) → denoted_group_fields (meanings naming_by_label env) k later (tree_with_labels r g) ≡ Some fs → GroupPlain (tree_with_labels r g)
+      → (others : List Name) → are_distinct (group_field_names (mapped_tree text value g) ++ others) ≡ true → (y : Name) → is_among y others ≡ true → shape_of_field fs y ≡ shape_of_field later y
+  unfolding denoted_type
   following-group env k later fs no_fields h plain others distinct y among = ap (λ z. shape_of_field z y) (sym (some_inverse h))
   following-group env k later fs (some_fields ns t) h plain others distinct y among =
-      let one = then_some (denoted (meanings naming_by_label env) k (tree_with_labels r t)) (λ s. Some (prepend_fields (map label_text (names_in_list (tree_with_labels r ns))) s later)) fs h in
-      let own : List Name = names_in_list (mapped text value ns) in
+      let one = then_some (denoted_type (meanings naming_by_label env) k (tree_with_labels r t)) (λ s. Some (prepend_fields (map label_text (names_in_list (tree_with_labels r ns))) s later)) fs h in
+      let own : List Name = names_in_list (mapped_tree text value ns) in
       ap (λ z. shape_of_field z y) (sym (some_inverse one.2) ∙ ap (λ xs. prepend_fields xs one.0 later) (texts ns plain.0)) ∙ with-none y own one.0 later (distinct-apart y own others distinct among)
 
   mutual
-    unfolding denoted
+    unfolding denoted_type
 
-    type-have : (env : TypeEnvironment Label) (k : ℕ) (u : Tree ℕ written_type) (s : Shape) → denoted (meanings naming_by_label env) k (tree_with_labels r u) ≡ Some s → TypePlain (tree_with_labels r u) → has_distinct_fields (mapped text value u) ≡ true
+    type-have : (env : TypeEnvironment Label) (k : ℕ) (u : Tree ℕ written_type) (s : Shape) → denoted_type (meanings naming_by_label env) k (tree_with_labels r u) ≡ Some s → TypePlain (tree_with_labels r u) → has_distinct_fields (mapped_tree text value u) ≡ true
         → (j : ℕ) → AllByRecursion (HasField (constructed_types (meaning r) (Some s) u) j) (fields_in_type j u)
     type-have env k (named_type x) s h plain once j = tt
     type-have env k (array_type e t) s h plain once j =
-        let one = then_some (constant_value (meanings naming_by_label env) (tree_with_labels r e)) (λ v. option_and_then (λ n. option_and_then (λ a. check_limits (array_shape k n a)) (denoted (meanings naming_by_label env) (suc k) (tree_with_labels r t))) (array_length v)) s h in
-        let two = then_some (array_length one.0) (λ n. option_and_then (λ a. check_limits (array_shape k n a)) (denoted (meanings naming_by_label env) (suc k) (tree_with_labels r t))) s one.2 in
-        let three = then_some (denoted (meanings naming_by_label env) (suc k) (tree_with_labels r t)) (λ a. check_limits (array_shape k two.0 a)) s two.2 in
+        let one = then_some (constant_value (meanings naming_by_label env) (tree_with_labels r e)) (λ v. option_and_then (λ n. option_and_then (λ a. check_limits (array_shape k n a)) (denoted_type (meanings naming_by_label env) (suc k) (tree_with_labels r t))) (array_length v)) s h in
+        let two = then_some (array_length one.0) (λ n. option_and_then (λ a. check_limits (array_shape k n a)) (denoted_type (meanings naming_by_label env) (suc k) (tree_with_labels r t))) s one.2 in
+        let three = then_some (denoted_type (meanings naming_by_label env) (suc k) (tree_with_labels r t)) (λ a. check_limits (array_shape k two.0 a)) s two.2 in
         let inner : List (Option Shape) = constructed_types (meaning r) (Some three.0) t in
         subst (λ z. AllByRecursion (HasField (constructed_types (meaning r) (Some z) (array_type e t)) j) (fields_in_type (suc j) t)) (within-is (array_shape k two.0 three.0) s three.2)
         (each-weaker (HasField inner (suc j)) (HasField (Some (array_shape k two.0 three.0) ∷ inner) j) (λ x h. has-next (Some (array_shape k two.0 three.0)) inner j x.owner (text x.token) h) (fields_in_type (suc j) t) (type-have env (suc k) t three.0 three.1 plain once (suc j)))
     type-have env k (record_type g rest) s h plain once j =
         let n : ℕ = suc k + group_constructor_count (tree_with_labels r g) in
-        let own : List Name = group_fields (mapped text value g) in
-        let others : List Name = further_group_fields (mapped text value rest) in
-        let one = then_some (denoted_groups (meanings naming_by_label env) n (tree_with_labels r rest)) (λ later. option_and_then (λ fs. check_limits (record_shape k fs)) (denoted_group (meanings naming_by_label env) (suc k) later (tree_with_labels r g))) s h in
-        let two = then_some (denoted_group (meanings naming_by_label env) (suc k) one.0 (tree_with_labels r g)) (λ fs. check_limits (record_shape k fs)) s one.2 in
+        let own : List Name = group_field_names (mapped_tree text value g) in
+        let others : List Name = further_field_names (mapped_tree text value rest) in
+        let one = then_some (denoted_further_fields (meanings naming_by_label env) n (tree_with_labels r rest)) (λ later. option_and_then (λ fs. check_limits (record_shape k fs)) (denoted_group_fields (meanings naming_by_label env) (suc k) later (tree_with_labels r g))) s h in
+        let two = then_some (denoted_group_fields (meanings naming_by_label env) (suc k) one.0 (tree_with_labels r g)) (λ fs. check_limits (record_shape k fs)) s one.2 in
         let all : FieldShapes = two.0 in
         let z : Shape = record_shape k all in
-        let o1 = and_parts (are_distinct (own ++ others)) (group_has_distinct_fields (mapped text value g) && groups_have_distinct_fields (mapped text value rest)) once in
-        let o2 = and_parts (group_has_distinct_fields (mapped text value g)) (groups_have_distinct_fields (mapped text value rest)) o1.1 in
+        let o1 = and_parts (are_distinct (own ++ others)) (group_has_distinct_fields (mapped_tree text value g) && groups_have_distinct_fields (mapped_tree text value rest)) once in
+        let o2 = and_parts (group_has_distinct_fields (mapped_tree text value g)) (groups_have_distinct_fields (mapped_tree text value rest)) o1.1 in
         let first : List (Option Shape) = constructed_types (meaning r) (Some z) g in
         let later : List (Option Shape) = constructed_types (meaning r) (Some z) rest in
         let xs : List FieldName = fields_in_group j (suc j) g in
@@ -338,30 +338,30 @@ module _ (r : Resolution) where
         (group-has env (suc k) k all one.0 all g two.1 plain.0 o2.0 (λ y among. refl) j (suc j))
         (groups-all env n k all one.0 rest one.1 plain.1 o2.1 (distinct-right own others o1.0) (λ y among. following-group env (suc k) one.0 all g two.1 plain.0 others o1.0 y among) j (suc j + group_constructor_count g))))
 
-    group-has : (env : TypeEnvironment Label) (k o : ℕ) (all later fs : FieldShapes) (g : Tree ℕ fields) → denoted_group (meanings naming_by_label env) k later (tree_with_labels r g) ≡ Some fs → GroupPlain (tree_with_labels r g) → group_has_distinct_fields (mapped text value g) ≡ true
-        → Agree o all (group_fields (mapped text value g)) fs → (j n : ℕ) → AllByRecursion (InRecord (record_shape o all) j (constructed_types (meaning r) (Some (record_shape o all)) g) n) (fields_in_group j n g)
+    group-has : (env : TypeEnvironment Label) (k o : ℕ) (all later fs : FieldShapes) (g : Tree ℕ fields) → denoted_group_fields (meanings naming_by_label env) k later (tree_with_labels r g) ≡ Some fs → GroupPlain (tree_with_labels r g) → group_has_distinct_fields (mapped_tree text value g) ≡ true
+        → Agree o all (group_field_names (mapped_tree text value g)) fs → (j n : ℕ) → AllByRecursion (InRecord (record_shape o all) j (constructed_types (meaning r) (Some (record_shape o all)) g) n) (fields_in_group j n g)
     group-has env k o all later fs no_fields h plain once agree j n = tt
     group-has env k o all later fs (some_fields (listed x rest) t) h plain once agree j n =
         let ns : Tree ℕ names = listed x rest in
-        let own : List Name = names_in_list (mapped text value ns) in
-        let one = then_some (denoted (meanings naming_by_label env) k (tree_with_labels r t)) (λ s. Some (prepend_fields (map label_text (names_in_list (tree_with_labels r ns))) s later)) fs h in
+        let own : List Name = names_in_list (mapped_tree text value ns) in
+        let one = then_some (denoted_type (meanings naming_by_label env) k (tree_with_labels r t)) (λ s. Some (prepend_fields (map label_text (names_in_list (tree_with_labels r ns))) s later)) fs h in
         let is : fs ≡ prepend_fields own one.0 later = sym (some_inverse one.2) ∙ ap (λ xs. prepend_fields xs one.0 later) (texts ns plain.0) in
         let has : (y : Name) → is_among y own ≡ true → shape_of_field all y ≡ Some one.0 = λ y among. agree y among ∙ (ap (λ z. shape_of_field z y) is ∙ with-among y own one.0 later among) in
-        let first : shape_of_field all (text x) ≡ Some one.0 = has (text x) (ap (λ b. b || is_among (text x) (further_names (mapped text value rest))) (same_name-refl (text x))) in
+        let first : shape_of_field all (text x) ≡ Some one.0 = has (text x) (ap (λ b. b || is_among (text x) (further_names (mapped_tree text value rest))) (same_name-refl (text x))) in
         let made : List (Option Shape) = constructed_types (meaning r) (Some one.0) t in
         subst (λ z. AllByRecursion (InRecord (record_shape o all) j (constructed_types (meaning r) z t) n) (fields_at_tokens j (names_in_list ns) ++ fields_in_type n t)) (sym first)
         (each-both (InRecord (record_shape o all) j made n) (fields_at_tokens j (names_in_list ns)) (fields_in_type n t)
         (own-names o all j n made (names_in_list ns) (names-have o all ns one.0 has))
         (each-weaker (HasField made n) (InRecord (record_shape o all) j made n) (λ y e. inr e) (fields_in_type n t) (type-have env k t one.0 one.1 plain.1 once n)))
 
-    groups-all : (env : TypeEnvironment Label) (k o : ℕ) (all fs : FieldShapes) (gs : Tree ℕ (items further_fields)) → denoted_groups (meanings naming_by_label env) k (tree_with_labels r gs) ≡ Some fs → GroupsPlain (tree_with_labels r gs) → groups_have_distinct_fields (mapped text value gs) ≡ true
-        → are_distinct (further_group_fields (mapped text value gs)) ≡ true → Agree o all (further_group_fields (mapped text value gs)) fs → (j n : ℕ) → AllByRecursion (InRecord (record_shape o all) j (constructed_types (meaning r) (Some (record_shape o all)) gs) n) (fields_in_groups j n gs)
+    groups-all : (env : TypeEnvironment Label) (k o : ℕ) (all fs : FieldShapes) (gs : Tree ℕ (items further_fields)) → denoted_further_fields (meanings naming_by_label env) k (tree_with_labels r gs) ≡ Some fs → GroupsPlain (tree_with_labels r gs) → groups_have_distinct_fields (mapped_tree text value gs) ≡ true
+        → are_distinct (further_field_names (mapped_tree text value gs)) ≡ true → Agree o all (further_field_names (mapped_tree text value gs)) fs → (j n : ℕ) → AllByRecursion (InRecord (record_shape o all) j (constructed_types (meaning r) (Some (record_shape o all)) gs) n) (fields_in_groups j n gs)
     groups-all env k o all fs end h plain once distinct agree j n = tt
     groups-all env k o all fs (more (then_fields g) rest) h plain once distinct agree j n =
-        let own : List Name = group_fields (mapped text value g) in
-        let others : List Name = further_group_fields (mapped text value rest) in
-        let one = then_some (denoted_groups (meanings naming_by_label env) (k + group_constructor_count (tree_with_labels r g)) (tree_with_labels r rest)) (λ later. denoted_group (meanings naming_by_label env) k later (tree_with_labels r g)) fs h in
-        let o1 = and_parts (group_has_distinct_fields (mapped text value g)) (groups_have_distinct_fields (mapped text value rest)) once in
+        let own : List Name = group_field_names (mapped_tree text value g) in
+        let others : List Name = further_field_names (mapped_tree text value rest) in
+        let one = then_some (denoted_further_fields (meanings naming_by_label env) (k + group_constructor_count (tree_with_labels r g)) (tree_with_labels r rest)) (λ later. denoted_group_fields (meanings naming_by_label env) k later (tree_with_labels r g)) fs h in
+        let o1 = and_parts (group_has_distinct_fields (mapped_tree text value g)) (groups_have_distinct_fields (mapped_tree text value rest)) once in
         let z : Shape = record_shape o all in
         groups-have z j (constructed_types (meaning r) (Some z) g) (constructed_types (meaning r) (Some z) rest) n (n + group_constructor_count g) (fields_in_group j n g) (fields_in_groups j (n + group_constructor_count g) rest) (ap (λ c. n + c) (sym (group-counted r (Some z) g)))
         (group-has env k o all one.0 fs g one.2 plain.0 o1.0 (λ y among. agree y (among-left y own others among)) j n)
@@ -372,50 +372,50 @@ module _ (r : Resolution) where
 
   -- The fields that a declared type declares have types, because the declared type is the one that its written type
   -- denotes.
-  declared-have : (t : Option Shape) (u : Tree ℕ written_type) (s : Shape) → t ≡ Some s → Denotes r u s → TypePlain (tree_with_labels r u) → has_distinct_fields (mapped text value u) ≡ true → (k : ℕ) → AllByRecursion (HasField (constructed_types (meaning r) t u) k) (fields_in_type k u)
+  declared-have : (t : Option Shape) (u : Tree ℕ written_type) (s : Shape) → t ≡ Some s → Denotes r u s → TypePlain (tree_with_labels r u) → has_distinct_fields (mapped_tree text value u) ≡ true → (k : ℕ) → AllByRecursion (HasField (constructed_types (meaning r) t u) k) (fields_in_type k u)
   declared-have t u s is d plain once k =
       subst (λ z. AllByRecursion (HasField (constructed_types (meaning r) z u) k) (fields_in_type k u)) (sym is) (type-have d.env d.ordinal u s d.denotes plain once k)
 
-  types-have : (ds : Tree ℕ (items type_name)) → TypesAreTyped r ds → TypesPlain (tree_with_labels r ds) → types_have_distinct_fields (mapped text value ds) ≡ true → (k : ℕ) → AllByRecursion (HasField (constructed_types (meaning r) None ds) k) (fields_in_types k ds)
+  types-have : (ds : Tree ℕ (items type_definition)) → TypesAreTyped r ds → TypesPlain (tree_with_labels r ds) → types_have_distinct_fields (mapped_tree text value ds) ≡ true → (k : ℕ) → AllByRecursion (HasField (constructed_types (meaning r) None ds) k) (fields_in_types k ds)
   types-have end are_typed plain once k = tt
   types-have (more (declares_type x u) ds) are_typed plain once k =
-      let o = and_parts (has_distinct_fields (mapped text value u)) (types_have_distinct_fields (mapped text value ds)) once in
+      let o = and_parts (has_distinct_fields (mapped_tree text value u)) (types_have_distinct_fields (mapped_tree text value ds)) once in
       let t : Option Shape = type_of_object ((meaning r).object_for x) in
       parts-have (constructed_types (meaning r) t u) (constructed_types (meaning r) None ds) k (k + constructor_count u) (fields_in_type k u) (fields_in_types (k + constructor_count u) ds) (ap (λ c. k + c) (sym (type-counted r t u)))
       (declared-have t u are_typed.0.0 (ap type_of_object are_typed.0.1) are_typed.0.2 plain.0 o.0 k) (types-have ds are_typed.1 plain.1 o.1 (k + constructor_count u))
 
-  variables-have : (gs : Tree ℕ (items variable)) → VariablesAreTyped r gs → VariablesPlain (tree_with_labels r gs) → variables_have_distinct_fields (mapped text value gs) ≡ true → (k : ℕ) → AllByRecursion (HasField (constructed_types (meaning r) None gs) k) (fields_in_variables k gs)
+  variables-have : (gs : Tree ℕ (items variable)) → VariablesAreTyped r gs → VariablesPlain (tree_with_labels r gs) → variables_have_distinct_fields (mapped_tree text value gs) ≡ true → (k : ℕ) → AllByRecursion (HasField (constructed_types (meaning r) None gs) k) (fields_in_variables k gs)
   variables-have end are_typed plain once k = tt
   variables-have (more (declares_variable (listed x others) u) gs) are_typed plain once k =
-      let o = and_parts (has_distinct_fields (mapped text value u)) (variables_have_distinct_fields (mapped text value gs)) once in
+      let o = and_parts (has_distinct_fields (mapped_tree text value u)) (variables_have_distinct_fields (mapped_tree text value gs)) once in
       let t : Option Shape = type_of_object ((meaning r).object_for x) in
       parts-have (constructed_types (meaning r) t u) (constructed_types (meaning r) None gs) k (k + constructor_count u) (fields_in_type k u) (fields_in_variables (k + constructor_count u) gs) (ap (λ c. k + c) (sym (type-counted r t u)))
       (declared-have t u are_typed.0.0 (ap type_of_object are_typed.0.1) are_typed.0.2 plain.0 o.0 k) (variables-have gs are_typed.1 plain.1 o.1 (k + constructor_count u))
 
-  sections-have : (fs : Tree ℕ (items further_section)) → FormalsAreTyped r fs → SectionsPlain (tree_with_labels r fs) → formals_have_distinct_fields (mapped text value fs) ≡ true → (k : ℕ) → AllByRecursion (HasField (constructed_types (meaning r) None fs) k) (fields_in_sections k fs)
+  sections-have : (fs : Tree ℕ (items further_section)) → FormalsAreTyped r fs → SectionsPlain (tree_with_labels r fs) → formals_have_distinct_fields (mapped_tree text value fs) ≡ true → (k : ℕ) → AllByRecursion (HasField (constructed_types (meaning r) None fs) k) (fields_in_sections k fs)
   sections-have end are_typed plain once k = tt
   sections-have (more (then_section (value_section (listed x others) u)) fs) are_typed plain once k =
-      let o = and_parts (has_distinct_fields (mapped text value u)) (formals_have_distinct_fields (mapped text value fs)) once in
+      let o = and_parts (has_distinct_fields (mapped_tree text value u)) (formals_have_distinct_fields (mapped_tree text value fs)) once in
       let t : Option Shape = type_of_object ((meaning r).object_for x) in
       parts-have (constructed_types (meaning r) t u) (constructed_types (meaning r) None fs) k (k + constructor_count u) (fields_in_type k u) (fields_in_sections (k + constructor_count u) fs) (ap (λ c. k + c) (sym (type-counted r t u)))
       (declared-have t u are_typed.0.0 (ap type_of_object are_typed.0.1) are_typed.0.2 plain.0 o.0 k) (sections-have fs are_typed.1 plain.1 o.1 (k + constructor_count u))
   sections-have (more (then_section (variable_section (listed x others) u)) fs) are_typed plain once k =
-      let o = and_parts (has_distinct_fields (mapped text value u)) (formals_have_distinct_fields (mapped text value fs)) once in
+      let o = and_parts (has_distinct_fields (mapped_tree text value u)) (formals_have_distinct_fields (mapped_tree text value fs)) once in
       let t : Option Shape = type_of_object ((meaning r).object_for x) in
       parts-have (constructed_types (meaning r) t u) (constructed_types (meaning r) None fs) k (k + constructor_count u) (fields_in_type k u) (fields_in_sections (k + constructor_count u) fs) (ap (λ c. k + c) (sym (type-counted r t u)))
       (declared-have t u are_typed.0.0 (ap type_of_object are_typed.0.1) are_typed.0.2 plain.0 o.0 k) (sections-have fs are_typed.1 plain.1 o.1 (k + constructor_count u))
 
-  type_section-have : (ts : Tree ℕ (maybe type_names)) → TypesAreTyped r (section_types ts) → TypesPlain (section_types (tree_with_labels r ts)) → types_have_distinct_fields (section_types (mapped text value ts)) ≡ true → (k : ℕ)
+  type_section-have : (ts : Tree ℕ (maybe type_definitions)) → TypesAreTyped r (section_types ts) → TypesPlain (section_types (tree_with_labels r ts)) → types_have_distinct_fields (section_types (mapped_tree text value ts)) ≡ true → (k : ℕ)
       → AllByRecursion (HasField (constructed_types (meaning r) None ts) k) (fields_in_types k (section_types ts))
   type_section-have none are_typed plain once k = tt
   type_section-have (one (declares_types ts)) are_typed plain once k = types-have ts are_typed plain once k
 
-  variable_section-have : (vs : Tree ℕ (maybe variables)) → VariablesAreTyped r (section_variables vs) → VariablesPlain (section_variables (tree_with_labels r vs)) → variables_have_distinct_fields (section_variables (mapped text value vs)) ≡ true → (k : ℕ)
+  variable_section-have : (vs : Tree ℕ (maybe variables)) → VariablesAreTyped r (section_variables vs) → VariablesPlain (section_variables (tree_with_labels r vs)) → variables_have_distinct_fields (section_variables (mapped_tree text value vs)) ≡ true → (k : ℕ)
       → AllByRecursion (HasField (constructed_types (meaning r) None vs) k) (fields_in_variables k (section_variables vs))
   variable_section-have none are_typed plain once k = tt
   variable_section-have (one (declares_variables vs)) are_typed plain once k = variables-have vs are_typed plain once k
 
-  formal_section-have : (fs : Tree ℕ (maybe formals)) → FormalsAreTyped r (formal_sections fs) → SectionsPlain (formal_sections (tree_with_labels r fs)) → formals_have_distinct_fields (formal_sections (mapped text value fs)) ≡ true → (k : ℕ)
+  formal_section-have : (fs : Tree ℕ (maybe formals)) → FormalsAreTyped r (formal_sections fs) → SectionsPlain (formal_sections (tree_with_labels r fs)) → formals_have_distinct_fields (formal_sections (mapped_tree text value fs)) ≡ true → (k : ℕ)
       → AllByRecursion (HasField (constructed_types (meaning r) None fs) k) (fields_in_sections k (formal_sections fs))
   formal_section-have none are_typed plain once k = tt
   formal_section-have (one no_formals) are_typed plain once k = tt
@@ -423,39 +423,39 @@ module _ (r : Resolution) where
   formal_section-have (one (some_formals (variable_section ns u) fs)) are_typed plain once k = sections-have (more (then_section (variable_section ns u)) fs) are_typed plain once k
 
   mutual
-    block-has : (own : List Name) (b : Tree ℕ block) → BlockIsTyped r b → BlockPlain (tree_with_labels r b) → block_once own (mapped text value b) ≡ true → (k : ℕ) → AllByRecursion (HasField (constructed_types (meaning r) None b) k) (declared_in_block k b)
-    block-has own (has_body (declares cs ts vs ps) statements) are_typed plain once k =
-        let b : Tree ℕ block = has_body (declares cs ts vs ps) statements in
-        let T : Bool = types_have_distinct_fields (section_types (mapped text value ts)) in
-        let V : Bool = variables_have_distinct_fields (section_variables (mapped text value vs)) in
-        let P : Bool = procedures_once (mapped text value ps) in
+    block-has : (own : List Name) (b : Tree ℕ block) → BlockIsTyped r b → BlockPlain (tree_with_labels r b) → block_has_consistent_names own (mapped_tree text value b) ≡ true → (k : ℕ) → AllByRecursion (HasField (constructed_types (meaning r) None b) k) (fields_declared_in_block k b)
+    block-has own (forms_block (declares cs ts vs ps) statements) are_typed plain once k =
+        let b : Tree ℕ block = forms_block (declares cs ts vs ps) statements in
+        let T : Bool = types_have_distinct_fields (section_types (mapped_tree text value ts)) in
+        let V : Bool = variables_have_distinct_fields (section_variables (mapped_tree text value vs)) in
+        let P : Bool = procedures_have_consistent_names (mapped_tree text value ps) in
         let o1 = and_parts _ (T && (V && P)) once in
         let o2 = and_parts T (V && P) o1.1 in
         let o3 = and_parts V P o2.1 in
         parts-have (constructed_types (meaning r) None ts) (constructed_types (meaning r) None vs ++ constructed_types (meaning r) None ps) k (constructors_before_variables k b)
-        (fields_in_types k (section_types ts)) (fields_in_variables (constructors_before_variables k b) (section_variables vs) ++ declared_in_procedures (constructor_after_variables k b) ps) (ap (λ c. k + c) (sym (type_section-counted r ts)))
+        (fields_in_types k (section_types ts)) (fields_in_variables (constructors_before_variables k b) (section_variables vs) ++ fields_declared_in_procedures (constructors_before_procedures k b) ps) (ap (λ c. k + c) (sym (type_section-counted r ts)))
         (type_section-have ts are_typed.0.0 plain.0.0 o2.0 k)
-        (parts-have (constructed_types (meaning r) None vs) (constructed_types (meaning r) None ps) (constructors_before_variables k b) (constructor_after_variables k b)
-        (fields_in_variables (constructors_before_variables k b) (section_variables vs)) (declared_in_procedures (constructor_after_variables k b) ps) (ap (λ c. constructors_before_variables k b + c) (sym (variable_section-counted r vs)))
-        (variable_section-have vs are_typed.0.1 plain.0.1 o3.0 (constructors_before_variables k b)) (procedures-have ps are_typed.1 plain.1 o3.1 (constructor_after_variables k b)))
+        (parts-have (constructed_types (meaning r) None vs) (constructed_types (meaning r) None ps) (constructors_before_variables k b) (constructors_before_procedures k b)
+        (fields_in_variables (constructors_before_variables k b) (section_variables vs)) (fields_declared_in_procedures (constructors_before_procedures k b) ps) (ap (λ c. constructors_before_variables k b + c) (sym (variable_section-counted r vs)))
+        (variable_section-have vs are_typed.0.1 plain.0.1 o3.0 (constructors_before_variables k b)) (procedures-have ps are_typed.1 plain.1 o3.1 (constructors_before_procedures k b)))
 
-    procedures-have : (ps : Tree ℕ (items procedure)) → ProceduresAreTyped r ps → ProceduresPlain (tree_with_labels r ps) → procedures_once (mapped text value ps) ≡ true → (k : ℕ) → AllByRecursion (HasField (constructed_types (meaning r) None ps) k) (declared_in_procedures k ps)
+    procedures-have : (ps : Tree ℕ (items procedure)) → ProceduresAreTyped r ps → ProceduresPlain (tree_with_labels r ps) → procedures_have_consistent_names (mapped_tree text value ps) ≡ true → (k : ℕ) → AllByRecursion (HasField (constructed_types (meaning r) None ps) k) (fields_declared_in_procedures k ps)
     procedures-have end are_typed plain once k = tt
     procedures-have (more q rest) are_typed plain once k =
-        let o = and_parts (procedure_once (mapped text value q)) (procedures_once (mapped text value rest)) once in
+        let o = and_parts (procedure_has_consistent_names (mapped_tree text value q)) (procedures_have_consistent_names (mapped_tree text value rest)) once in
         parts-have (constructed_types (meaning r) None q) (constructed_types (meaning r) None rest) k (k + procedure_constructor_count q)
-        (declared_in_procedure k q) (declared_in_procedures (k + procedure_constructor_count q) rest) (ap (λ c. k + c) (sym (procedure-counted r q)))
+        (fields_declared_in_procedure k q) (fields_declared_in_procedures (k + procedure_constructor_count q) rest) (ap (λ c. k + c) (sym (procedure-counted r q)))
         (procedure-has q are_typed.0 plain.0 o.0 k) (procedures-have rest are_typed.1 plain.1 o.1 (k + procedure_constructor_count q))
 
-    procedure-has : (q : Tree ℕ (item procedure)) → ProcedureIsTyped r q → ProcedurePlain (tree_with_labels r q) → procedure_once (mapped text value q) ≡ true → (k : ℕ) → AllByRecursion (HasField (constructed_types (meaning r) None q) k) (declared_in_procedure k q)
+    procedure-has : (q : Tree ℕ (item procedure)) → ProcedureIsTyped r q → ProcedurePlain (tree_with_labels r q) → procedure_has_consistent_names (mapped_tree text value q) ≡ true → (k : ℕ) → AllByRecursion (HasField (constructed_types (meaning r) None q) k) (fields_declared_in_procedure k q)
     procedure-has (declares_procedure x fs b closing) are_typed plain once k =
-        let F : Bool = formals_have_distinct_fields (formal_sections (mapped text value fs)) in
-        let B : Bool = block_once (formal_names (formal_sections (mapped text value fs))) (mapped text value b) in
+        let F : Bool = formals_have_distinct_fields (formal_sections (mapped_tree text value fs)) in
+        let B : Bool = block_has_consistent_names (formal_names (formal_sections (mapped_tree text value fs))) (mapped_tree text value b) in
         let o1 = and_parts (same_name (text x) (text closing)) (F && B) once in
         let o2 = and_parts F B o1.1 in
-        let n : ℕ = constructor_after_formals k (declares_procedure x fs b closing) in
-        parts-have (constructed_types (meaning r) None fs) (constructed_types (meaning r) None b) k n (fields_in_sections k (formal_sections fs)) (declared_in_block n b) (ap (λ c. k + c) (sym (formal_section-counted r fs)))
-        (formal_section-have fs are_typed.0 plain.0 o2.0 k) (block-has (formal_names (formal_sections (mapped text value fs))) b are_typed.1 plain.1 o2.1 n)
+        let n : ℕ = constructors_before_procedure_block k (declares_procedure x fs b closing) in
+        parts-have (constructed_types (meaning r) None fs) (constructed_types (meaning r) None b) k n (fields_in_sections k (formal_sections fs)) (fields_declared_in_block n b) (ap (λ c. k + c) (sym (formal_section-counted r fs)))
+        (formal_section-have fs are_typed.0 plain.0 o2.0 k) (block-has (formal_names (formal_sections (mapped_tree text value fs))) b are_typed.1 plain.1 o2.1 n)
 
   -- returns all types that a module constructs
   abbrev made_in_module : List (Option Shape)
@@ -466,16 +466,16 @@ module _ (r : Resolution) where
   declared-typed is well =
       let b : Tree ℕ block = module_block (tree_of r.module_read) in
       let plain : BlockPlain (tree_with_labels r b) = subst (λ (z : Tree Label module_text). BlockPlain (module_block z)) is.numbering (numbered-plain (named_tree_of r.module_read)) in
-      let once = and_parts (same_name (text r.module_read.name) (text r.module_read.closing)) (block_once [] (mapped text value b)) well.0 in
+      let once = and_parts (same_name (text r.module_read.name) (text r.module_read.closing)) (block_has_consistent_names [] (mapped_tree text value b)) well.0 in
       block-has [] b (module-typed r is well) plain once.1 0
 
   -- If an identifier declares a field of a record, the record's type has this field.
-  declaring-has : (k : ℕ) (x : Name) (xs : List FieldName) → AllByRecursion (HasField made_in_module 0) xs → is_some (first (tokens_of_field r.module_read.source k x xs)) ≡ true → Has made_in_module 0 k x
+  declaring-has : (k : ℕ) (x : Name) (xs : List FieldName) → AllByRecursion (HasField made_in_module 0) xs → is_some (first_token (tokens_of_field r.module_read.source k x xs)) ≡ true → Has made_in_module 0 k x
   declaring-has k x [] all h = absurd (true≢false (sym h))
   declaring-has k x (y ∷ ys) all h = go (belongs_to_field r.module_read.source k x y) refl h (declaring-has k x ys all.1)
     where
-      go : (b : Bool) → belongs_to_field r.module_read.source k x y ≡ b → is_some (first (if b then y.token ∷ tokens_of_field r.module_read.source k x ys else tokens_of_field r.module_read.source k x ys)) ≡ true
-          → (is_some (first (tokens_of_field r.module_read.source k x ys)) ≡ true → Has made_in_module 0 k x) → Has made_in_module 0 k x
+      go : (b : Bool) → belongs_to_field r.module_read.source k x y ≡ b → is_some (first_token (if b then y.token ∷ tokens_of_field r.module_read.source k x ys else tokens_of_field r.module_read.source k x ys)) ≡ true
+          → (is_some (first_token (tokens_of_field r.module_read.source k x ys)) ≡ true → Has made_in_module 0 k x) → Has made_in_module 0 k x
       go true e found later =
           let parts = and_parts (y.owner == k) (same_name (text y.token) x) e in
           subst (λ n. Has made_in_module 0 n x) (eqb-true y.owner k parts.0) (subst (Has made_in_module 0 y.owner) ((bytes_eq-Decides (text y.token) x).0 parts.1) all.0)
@@ -488,6 +488,6 @@ module _ (r : Resolution) where
 
 pub fields_have_types-holds : FieldsHaveTypes
 fields_have_types-holds r is well =
-    All-weaker (λ x. is_some (field_declaring_token r.module_read x.owner (text_at r.module_read.source x.token)) ≡ true) (λ x. is_some (typed_field r x) ≡ true)
-    (λ x h. has-typed r x (declaring-has r x.owner (text_at r.module_read.source x.token) (declared_fields r.module_read) (declared-typed r is well) h))
+    All-weaker (λ x. is_some (field_declaring_token r.module_read x.owner (token_text_at r.module_read.source x.token)) ≡ true) (λ x. is_some (typed_field r x) ≡ true)
+    (λ x h. has-typed r x (declaring-has r x.owner (token_text_at r.module_read.source x.token) (declared_fields r.module_read) (declared-typed r is well) h))
     (field_identifiers r) (fields_are_declared-holds r is well)

@@ -2,9 +2,9 @@
 use Rattle.std.proofs.Common.{◌≡◌, ℕ, suc, ◌+◌, List, [], ◌∷◌, ◌++◌, map, Some, None, Option, option_and_then, refl, ap, ◌∙◌, append-nil}
 use Rattle.ob0_tree.specs.declared.tree.Role.{Role}
 use Rattle.ob0_tree.specs.declared.tree.Role.TheVariants as role
-use Rattle.ob0_tree.specs.Tree.{Sort, Tree, item, adds, array_type, assigns, begins, branches, calls, compares, declares, declares_constant, declares_constants, declares_procedure, declares_type, declares_types, declares_variable, declares_variables, designator, else_branch, elsif_branch, empty, end, field, has_body, identifiers, index, integer, is_module, listed, more, multiplies, named_type, negation, no_arguments, no_fields, no_formals, none, one, parenthesised, product, record_type, relates, repeat_loop, runs, some_arguments, some_fields, some_formals, sum, then_argument, then_fields, then_name, then_section, then_statement, value_section, variable_section, while_loop, block, written_type, fields, further_fields, section, further_section, formals, type_name, type_names, variable, variables, procedure, module_text, items, maybe, selector, Item}
+use Rattle.ob0_tree.specs.Tree.{Sort, Tree, item, adds, array_type, assigns, begins, branches, calls, compares, declares, declares_constant, declares_constants, declares_procedure, declares_type, declares_types, declares_variable, declares_variables, designator, else_branch, elsif_branch, empty, end, field, forms_block, identifiers, index, integer, is_module, listed, more, multiplies, named_type, negation, no_arguments, no_fields, no_formals, none, one, parenthesised, product, record_type, relates, repeat_loop, runs, some_arguments, some_fields, some_formals, sum, then_argument, then_fields, then_name, then_section, then_statement, value_section, variable_section, while_loop, block, written_type, fields, further_fields, section, further_section, formals, type_definition, type_definitions, variable, variables, procedure, module_text, items, maybe, selector, Item}
 use Rattle.ob0_language_names.specs.Parts.{formal_sections, names_in_list, section_type, section_types, section_variables}
-use Rattle.ob0_language_types.specs.Declarations.{constructor_after_formals, constructors_before_variables, constructor_after_variables, procedure_constructor_count}
+use Rattle.ob0_language_types.specs.Declarations.{constructors_before_procedure_block, constructors_before_variables, constructors_before_procedures, procedure_constructor_count}
 use Rattle.ob0_language_types.specs.Expressions.{Meanings}
 use Rattle.ob0_language_types.specs.Typing.{constructor_count, element_type, field_type, group_constructor_count, object_type}
 use Rattle.ob0_language_values.specs.Values.{Shape, integer_shape}
@@ -106,7 +106,7 @@ mutual
   fields_in_tree-fields m (declares_procedure a b c d) = none-among (identifiers role.Declaring (declares_procedure a b c d))
   fields_in_tree-fields m (declares a b c d) = none-among (identifiers role.Declaring (declares a b c d))
   fields_in_tree-fields m (begins a) = fields_in_tree-fields m a
-  fields_in_tree-fields m (has_body a b) = none-among (identifiers role.Declaring (has_body a b))
+  fields_in_tree-fields m (forms_block a b) = none-among (identifiers role.Declaring (forms_block a b))
   fields_in_tree-fields m (is_module a b c) = none-among (identifiers role.Declaring (is_module a b c))
 
   path-fields : {P : Type 0} (m : Meanings ℕ Shape P) (s : Option Shape) (path : Tree ℕ (items selector)) → fields_with_owners (owners_in_tree m s path) ≡ fields_in_path m s path
@@ -143,11 +143,11 @@ mutual
   groups-fields r k end = refl
   groups-fields r k (more (then_fields g) rest) = among-both (owners_in_group r k g) (owners_in_groups r (k + group_constructor_count g) rest) (group-fields r k g) (groups-fields r (k + group_constructor_count g) rest)
 
-types-fields : (k : ℕ) (ds : Tree ℕ (items type_name)) → fields_with_owners (owners_in_types k ds) ≡ fields_in_types k ds
+types-fields : (k : ℕ) (ds : Tree ℕ (items type_definition)) → fields_with_owners (owners_in_types k ds) ≡ fields_in_types k ds
 types-fields k end = refl
 types-fields k (more (declares_type x u) ds) = among-both (owners_in_type k u) (owners_in_types (k + constructor_count u) ds) (type-fields k u) (types-fields (k + constructor_count u) ds)
 
-type_section-fields : (k : ℕ) (ts : Tree ℕ (maybe type_names)) → fields_with_owners (owners_in_type_section k ts) ≡ fields_in_types k (section_types ts)
+type_section-fields : (k : ℕ) (ts : Tree ℕ (maybe type_definitions)) → fields_with_owners (owners_in_type_section k ts) ≡ fields_in_types k (section_types ts)
 type_section-fields k none = refl
 type_section-fields k (one (declares_types ts)) = types-fields k ts
 
@@ -175,13 +175,13 @@ formals-fields k (one (some_formals f fs)) = among-both (owners_in_section k f) 
 
 mutual
   block-fields : {P : Type 0} (m : Meanings ℕ Shape P) (k : ℕ) (b : Tree ℕ block) → fields_with_owners (owners_in_block m k b) ≡ fields_in_block m k b
-  block-fields m k (has_body (declares cs ts vs ps) st) =
-      let b : Tree ℕ block = has_body (declares cs ts vs ps) st in
+  block-fields m k (forms_block (declares cs ts vs ps) st) =
+      let b : Tree ℕ block = forms_block (declares cs ts vs ps) st in
       let V : List (ℕ × Option ℕ) = owners_in_variable_section (constructors_before_variables k b) vs in
-      let Q : List (ℕ × Option ℕ) = owners_in_procedures m (constructor_after_variables k b) ps in
+      let Q : List (ℕ × Option ℕ) = owners_in_procedures m (constructors_before_procedures k b) ps in
       among-both (identifiers_without_owners cs ++ (owners_in_type_section k ts ++ (V ++ Q))) (owners_in_tree m None st)
       (after-plain cs (owners_in_type_section k ts ++ (V ++ Q)) (among-both (owners_in_type_section k ts) (V ++ Q) (type_section-fields k ts)
-      (among-both V Q (variable_section-fields (constructors_before_variables k b) vs) (procedures-fields m (constructor_after_variables k b) ps))))
+      (among-both V Q (variable_section-fields (constructors_before_variables k b) vs) (procedures-fields m (constructors_before_procedures k b) ps))))
       (fields_in_tree-fields m st)
 
   procedures-fields : {P : Type 0} (m : Meanings ℕ Shape P) (k : ℕ) (ps : Tree ℕ (items procedure)) → fields_with_owners (owners_in_procedures m k ps) ≡ fields_in_procedures m k ps
@@ -190,8 +190,8 @@ mutual
       let p : Tree ℕ (item procedure) = declares_procedure x fs b closing in
       let last : List (ℕ × Option ℕ) = (closing, None) ∷ [] in
       among-both (owners_in_procedure m k p) (owners_in_procedures m (k + procedure_constructor_count p) rest)
-      (among-both (owners_in_formals k fs) (owners_in_block m (constructor_after_formals k p) b ++ last) (formals-fields k fs)
-      (among-both (owners_in_block m (constructor_after_formals k p) b) last (block-fields m (constructor_after_formals k p) b) refl ∙ append-nil (fields_in_block m (constructor_after_formals k p) b)))
+      (among-both (owners_in_formals k fs) (owners_in_block m (constructors_before_procedure_block k p) b ++ last) (formals-fields k fs)
+      (among-both (owners_in_block m (constructors_before_procedure_block k p) b) last (block-fields m (constructors_before_procedure_block k p) b) refl ∙ append-nil (fields_in_block m (constructors_before_procedure_block k p) b)))
       (procedures-fields m (k + procedure_constructor_count p) rest)
 
 pub module-fields : {P : Type 0} (m : Meanings ℕ Shape P) (t : Tree ℕ module_text) → fields_with_owners (owners_in_module m t) ≡ fields_in_module m t

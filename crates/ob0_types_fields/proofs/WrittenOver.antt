@@ -7,7 +7,7 @@ use Rattle.std.proofs.lemmas.List.{append_cancel_left, length-map, map-append, n
 use Rattle.std.specs.List.Sorted.{IsNonDecreasingBy, IsPartitionPoint}
 use Rattle.ob0_tree.specs.Order.{AreAscending}
 use Rattle.ob0_types_fields.specs.declared.field_name.FieldName.{FieldName}
-use Rattle.ob0_types_fields.specs.Identifiers.{tokens_of}
+use Rattle.ob0_types_fields.specs.Identifiers.{token_indexes}
 use Rattle.ob0_types_fields.specs.FieldLists.{HasSameTokensWith, overwritten_fields}
 
 pub past_end : (xs : List FieldName) (k : ℕ) (ys : List FieldName) → length xs ≤ k → overwritten_fields xs k ys ≡ xs
@@ -15,7 +15,7 @@ past_end xs k [] le = refl
 past_end xs k (y ∷ ys) le = ap (λ l. overwritten_fields l (k + 1) ys) (set_past xs k y le) ∙ past_end xs (k + 1) ys (omega (arith, le))
 
 -- Overwriting as many fields as there are after a prefix replaces exactly these fields.
-over_as_many : (before old others after : List FieldName) → length old ≡ length others → overwritten_fields (before ++ (old ++ after)) (length before) others ≡ before ++ (others ++ after)
+over_as_many : (before old others after : List FieldName) → length old ≡ length others → overwritten_fields (before ++ (replaced_fields ++ after)) (length before) others ≡ before ++ (others ++ after)
 over_as_many before [] [] after e = refl
 over_as_many before [] (y ∷ ys) after e = absurd (omega (arith, e))
 over_as_many before (x ∷ old) [] after e = absurd (omega (arith, e))
@@ -33,14 +33,14 @@ item_bounds [] low top i d h less = absurd (omega (arith, less))
 item_bounds (x ∷ xs) low top zero d h less = h.0
 item_bounds (x ∷ xs) low top (suc i) d h less = let later = item_bounds xs (x + 1) top i d h.1 (omega (arith, less)) in omega (arith, h.0, later)
 
-pub tokens_rise : (xs : List FieldName) (low top : ℕ) → AreAscending low (tokens_of xs) top → IsNonDecreasingBy (λ x. x.token) xs
+pub tokens_rise : (xs : List FieldName) (low top : ℕ) → AreAscending low (token_indexes xs) top → IsNonDecreasingBy (λ x. x.token) xs
 tokens_rise [] low top h i j d le less = absurd (omega (arith, less))
 tokens_rise (x ∷ xs) low top h zero zero d le less = omega arith
 tokens_rise (x ∷ xs) low top h (suc i) zero d le less = absurd (omega (arith, le))
 tokens_rise (x ∷ xs) low top h zero (suc j) d le less =
     let long = length-map xs (λ y. y.token) in
-    let later = item_bounds (tokens_of xs) (x.token + 1) top j d.token h.1 (omega (arith, less, long)) in
-    let here : get_or (tokens_of xs) j d.token ≡ (get_or xs j d).token = get_or-map (λ y. y.token) xs j d in
+    let later = item_bounds (token_indexes xs) (x.token + 1) top j d.token h.1 (omega (arith, less, long)) in
+    let here : get_or (token_indexes xs) j d.token ≡ (get_or xs j d).token = get_or-map (λ y. y.token) xs j d in
     omega (arith, later, here)
 tokens_rise (x ∷ xs) low top h (suc i) (suc j) d le less = tokens_rise xs (x.token + 1) top h.1 i j d (omega (arith, le)) (omega (arith, less))
 
@@ -61,59 +61,59 @@ at_seam (y ∷ before) x rest d = at_seam before x rest d
 -- ---- the position at which they are written
 
 module _ (all before others after : List FieldName) (h : HasSameTokensWith all before others after) where
-  parts_same : tokens_of h.old ++ tokens_of after ≡ tokens_of others ++ tokens_of after
+  parts_same : token_indexes h.replaced_fields ++ token_indexes after ≡ token_indexes others ++ token_indexes after
   parts_same =
-      append_cancel_left (tokens_of before) (tokens_of h.old ++ tokens_of after) (tokens_of others ++ tokens_of after)
-      (ap (λ l. tokens_of before ++ l) (sym (map-append (λ x. x.token) h.old after)) ∙ (sym (map-append (λ x. x.token) before (h.old ++ after))
-      ∙ (sym (ap tokens_of h.is) ∙ (h.same ∙ (map-append (λ x. x.token) before (others ++ after) ∙ ap (λ l. tokens_of before ++ l) (map-append (λ x. x.token) others after))))))
+      append_cancel_left (token_indexes before) (token_indexes h.replaced_fields ++ token_indexes after) (token_indexes others ++ token_indexes after)
+      (ap (λ l. token_indexes before ++ l) (sym (map-append (λ x. x.token) h.replaced_fields after)) ∙ (sym (map-append (λ x. x.token) before (h.replaced_fields ++ after))
+      ∙ (sym (ap token_indexes h.is_concatenation) ∙ (h.same ∙ (map-append (λ x. x.token) before (others ++ after) ∙ ap (λ l. token_indexes before ++ l) (map-append (λ x. x.token) others after))))))
 
-  as_many : length h.old ≡ length others
+  as_many : length h.replaced_fields ≡ length others
   as_many =
       let e = ap length parts_same in
-      omega (arith, e, length-append (tokens_of h.old) (tokens_of after), length-append (tokens_of others) (tokens_of after), length-map h.old (λ (x : FieldName). x.token), length-map others (λ (x : FieldName). x.token))
+      omega (arith, e, length-append (token_indexes h.replaced_fields) (token_indexes after), length-append (token_indexes others) (token_indexes after), length-map h.replaced_fields (λ (x : FieldName). x.token), length-map others (λ (x : FieldName). x.token))
 
   pub over_others : (k : ℕ) → k ≡ length before → overwritten_fields all k others ≡ before ++ (others ++ after)
-  over_others k e = (λ i. overwritten_fields (h.is i) (e i) others) ∙ over_as_many before h.old others after as_many
+  over_others k e = (λ i. overwritten_fields (h.is_concatenation i) (e i) others) ∙ over_as_many before h.replaced_fields others after as_many
 
   pub rise : IsNonDecreasingBy (λ x. x.token) all
-  rise = tokens_rise all 0 h.top h.in_order
+  rise = tokens_rise all 0 h.token_limit h.in_order
 
   -- If there are no fields to write, the list is unchanged.
   none_over : others ≡ [] → all ≡ before ++ (others ++ after)
   none_over none =
-      let empty : length h.old ≡ 0 = as_many ∙ ap length none in
-      h.is ∙ (λ i. before ++ ((nil_from_length h.old empty ∙ sym none) i ++ after))
+      let empty : length h.replaced_fields ≡ 0 = as_many ∙ ap length none in
+      h.is_concatenation ∙ (λ i. before ++ ((nil_from_length h.replaced_fields empty ∙ sym none) i ++ after))
 
   -- The number of fields whose tokens are below the first written token is the length of `before`. The reason is that
   -- exactly the fields in `before` have lower tokens.
   module _ (y : FieldName) (ys : List FieldName) (e : others ≡ y ∷ ys) where
-    tokens_are : tokens_of all ≡ tokens_of before ++ y.token ∷ (tokens_of ys ++ tokens_of after)
+    tokens_are : token_indexes all ≡ token_indexes before ++ y.token ∷ (token_indexes ys ++ token_indexes after)
     tokens_are =
-        h.same ∙ (map-append (λ x. x.token) before (others ++ after) ∙ ap (λ l. tokens_of before ++ l) (map-append (λ x. x.token) others after ∙ ap (λ l. tokens_of l ++ tokens_of after) e))
+        h.same ∙ (map-append (λ x. x.token) before (others ++ after) ∙ ap (λ l. token_indexes before ++ l) (map-append (λ x. x.token) others after ∙ ap (λ l. token_indexes l ++ token_indexes after) e))
 
-    in_order : AreAscending 0 (tokens_of before ++ y.token ∷ (tokens_of ys ++ tokens_of after)) h.top
-    in_order = subst (λ l. AreAscending 0 l h.top) tokens_are h.in_order
+    in_order : AreAscending 0 (token_indexes before ++ y.token ∷ (token_indexes ys ++ token_indexes after)) h.token_limit
+    in_order = subst (λ l. AreAscending 0 l h.token_limit) tokens_are h.in_order
 
-    token_there : (i : ℕ) (d : FieldName) → (get_or all i d).token ≡ get_or (tokens_of before ++ y.token ∷ (tokens_of ys ++ tokens_of after)) i d.token
+    token_there : (i : ℕ) (d : FieldName) → (get_or all i d).token ≡ get_or (token_indexes before ++ y.token ∷ (token_indexes ys ++ token_indexes after)) i d.token
     token_there i d = sym (get_or-map (λ x. x.token) all i d) ∙ ap (λ l. get_or l i d.token) tokens_are
 
     long : length before < length all
     long =
         let e = ap length tokens_are in
-        omega (arith, e, length-append (tokens_of before) (y.token ∷ (tokens_of ys ++ tokens_of after)), length-map all (λ (x : FieldName). x.token), length-map before (λ (x : FieldName). x.token))
+        omega (arith, e, length-append (token_indexes before) (y.token ∷ (token_indexes ys ++ token_indexes after)), length-map all (λ (x : FieldName). x.token), length-map before (λ (x : FieldName). x.token))
 
     before_first : (k : ℕ) → IsPartitionPoint (λ x. nat_lt x.token y.token ≡ true) (λ x. nat_lt x.token y.token ≡ false) all k → k ≡ length before
     before_first k point = ⊎_elim
         (λ less.
         -- otherwise the field at index `k` would come before the first written field
         let here = ltb-false (get_or all k y).token y.token (point.1 k y (omega arith) (omega (arith, less, long))) in
-        let there = below_seam (tokens_of before) y.token (tokens_of ys ++ tokens_of after) 0 h.top k y.token in_order (omega (arith, less, length-map before (λ (x : FieldName). x.token))) in
+        let there = below_seam (token_indexes before) y.token (token_indexes ys ++ token_indexes after) 0 h.token_limit k y.token in_order (omega (arith, less, length-map before (λ (x : FieldName). x.token))) in
         absurd (omega (arith, here, there, token_there k y)))
         (λ le. ⊎_elim
         (λ more.
         -- otherwise the first written field would come before itself
         let here = ltb-true (get_or all (length before) y).token y.token (point.0 (length before) y (omega arith) more) in
-        let there = ap (λ n. get_or (tokens_of before ++ y.token ∷ (tokens_of ys ++ tokens_of after)) n y.token) (sym (length-map before (λ (x : FieldName). x.token))) ∙ at_seam (tokens_of before) y.token (tokens_of ys ++ tokens_of after) y.token in
+        let there = ap (λ n. get_or (token_indexes before ++ y.token ∷ (token_indexes ys ++ token_indexes after)) n y.token) (sym (length-map before (λ (x : FieldName). x.token))) ∙ at_seam (token_indexes before) y.token (token_indexes ys ++ token_indexes after) y.token in
         absurd (omega (arith, here, there, token_there (length before) y)))
         (λ same. omega (arith, le, same)) (cases_lt (length before) k))
         (cases_lt k (length before))

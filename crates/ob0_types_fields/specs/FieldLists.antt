@@ -2,14 +2,14 @@
 -- Rule: none; for contracts: fields in lists.
 use Rattle.std.specs.Prelude.{◌≡◌, ◌==◌, ◌+◌, ◌-◌, ◌^◌, ℕ, List, [], ◌∷◌, ◌++◌, length, min, nat_le, nat_lt, set, if◌then◌else◌}
 use Rattle.std.specs.List.{filter}
-use Rattle.ob0_scan.specs.declared.tokens.SameTokens.{SameTokens}
+use Rattle.ob0_scan.specs.declared.tokens.SameParts.{SameParts}
 use Rattle.ob0_tree.specs.Order.{AreAscending}
 use Rattle.ob0_tree.specs.ParsedModule.{tree_of}
 use Rattle.ob0_scope_table.specs.BodyReplaced.{moved_token_index}
 use Rattle.ob0_scope_table.specs.Resolution.{Resolution}
 use Rattle.ob0_types_table.specs.KnownTables.{Tables, declared_object_in}
 use Rattle.ob0_types_fields.specs.declared.field_name.FieldName.{FieldName}
-use Rattle.ob0_types_fields.specs.Identifiers.{declared_fields, field_identifiers, tokens_of}
+use Rattle.ob0_types_fields.specs.Identifiers.{declared_fields, field_identifiers, token_indexes}
 use Rattle.ob0_types_fields.specs.Owned.{fields_in_module, meanings_by_token}
 
 -- two lists of field identifiers of a module: `declared` has the identifiers that declare a field,
@@ -47,11 +47,11 @@ overwritten_fields xs k (y ∷ ys) = overwritten_fields (set xs k y) (k + 1) ys
 -- in `others`, and then `after`. Also states that the tokens of `all` are in strictly ascending
 -- order.
 pub record HasSameTokensWith (all before others after : List FieldName) : Type 0 where
-  pub old : List FieldName
-  pub top : ℕ
-  pub in_order : AreAscending 0 (tokens_of all) top
-  pub is : all ≡ before ++ (old ++ after)
-  pub same : tokens_of all ≡ tokens_of (before ++ (others ++ after))
+  pub replaced_fields : List FieldName
+  pub token_limit : ℕ
+  pub in_order : AreAscending 0 (token_indexes all) token_limit
+  pub is_concatenation : all ≡ before ++ (replaced_fields ++ after)
+  pub same : token_indexes all ≡ token_indexes (before ++ (others ++ after))
 
 -- returns the fields of a list whose tokens come before the token with index `token`
 abbrev pub fields_before : ℕ → List FieldName → List FieldName
@@ -63,14 +63,14 @@ fields_from token xs = filter (λ x. nat_le token x.token) xs
 
 -- Returns the index of an unchanged token in the new text, given its index `i` in the old text. `s`
 -- specifies the unchanged tokens. The result is at most 2^64 - 1.
-abbrev pub new_token_index : SameTokens → ℕ → ℕ
+abbrev pub new_token_index : SameParts → ℕ → ℕ
 new_token_index s i = min (moved_token_index s i) (2 ^ 64 - 1)
 
 -- returns an old field identifier with the index that its token has in the new text
-abbrev pub moved_field : SameTokens → FieldName → FieldName
+abbrev pub moved_field : SameParts → FieldName → FieldName
 moved_field s x = record { token = new_token_index s x.token; owner = x.owner }
 
 -- returns the index in the old text of a token that lies after the changed tokens, given its index
 -- `i` in the new text; the result is at most 2^64 - 1
-abbrev pub old_token_index : SameTokens → ℕ → ℕ
+abbrev pub old_token_index : SameParts → ℕ → ℕ
 old_token_index s i = min (i - s.new_suffix + s.old_suffix) (2 ^ 64 - 1)

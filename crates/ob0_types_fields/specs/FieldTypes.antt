@@ -4,16 +4,16 @@
 -- docs/PROTOCOL.md, Requests on documents 4.
 use Rattle.std.specs.Prelude.{◌≡◌, ℕ, true, is_some, List, [], ◌∷◌, ◌++◌, get_or, Option, None, option_and_then, option_map}
 use Rattle.std.specs.List.{All}
-use Rattle.ob0_tree.specs.Tree.{Sort, Tree, names, array_type, declares, declares_procedure, declares_type, declares_types, declares_variable, declares_variables, end, has_body, is_module, listed, more, none, one, record_type, some_fields, some_formals, then_fields, then_section, value_section, variable_section}
+use Rattle.ob0_tree.specs.Tree.{Sort, Tree, names, array_type, declares, declares_procedure, declares_type, declares_types, declares_variable, declares_variables, end, forms_block, is_module, listed, more, none, one, record_type, some_fields, some_formals, then_fields, then_section, value_section, variable_section}
 use Rattle.ob0_tree.specs.ParsedModule.{named_tree_of, tree_of}
-use Rattle.ob0_tree.specs.Places.{text_at}
+use Rattle.ob0_tree.specs.Places.{token_text_at}
 use Rattle.ob0_language_names.specs.Names.{Name}
 use Rattle.ob0_scope_table.specs.Resolution.{IsResolution, Resolution}
 use Rattle.ob0_language_types.specs.Bindings.{declared_object}
 use Rattle.ob0_language_types.specs.Expressions.{Meanings, Object}
 use Rattle.ob0_language_types.specs.Typing.{element_type, field_type, type_of_object}
 use Rattle.ob0_language_types.specs.WellTyped.{Signature, WellTyped}
-use Rattle.ob0_types_table.specs.FieldPlaces.{field_selected}
+use Rattle.ob0_types_table.specs.FieldPlaces.{selected_field}
 use Rattle.ob0_types_table.specs.declared.known.FieldId.{FieldId}
 use Rattle.ob0_language_values.specs.Values.{Shape, integer_shape}
 use Rattle.ob0_types_fields.specs.declared.field_name.FieldName.{FieldName}
@@ -58,7 +58,7 @@ constructed_types m t (declares_variables vs) = constructed_types m t vs
 constructed_types m t (declares_procedure name fs b closing) = constructed_types m t fs ++ constructed_types m t b
 constructed_types m t (declares cs ts vs ps) =
     constructed_types m t ts ++ (constructed_types m t vs ++ constructed_types m t ps)
-constructed_types m t (has_body ds b) = constructed_types m t ds
+constructed_types m t (forms_block ds b) = constructed_types m t ds
 constructed_types m t (is_module name b closing) = constructed_types m t b
 constructed_types m t other = []
 
@@ -83,7 +83,7 @@ pub record TypedField : Type 0 where
 abbrev pub typed_field_with_name : Shape → Name → Option TypedField
 typed_field_with_name s x =
     option_and_then (λ f. option_map (λ t. record { field = f; shape = t }) (field_type s x))
-    (field_selected s x)
+    (selected_field s x)
 
 -- Returns the field that an identifier belongs to, with the field's type. The field is looked up in
 -- its RECORD. `objects` gives the object of each declaration, by the declaration's ordinal. Returns
@@ -93,7 +93,7 @@ abbrev pub typed_field_by_objects : (ℕ → Option (Object Shape Signature))
     → FieldName
     → Option TypedField
 typed_field_by_objects objects r x =
-    option_and_then (λ s. typed_field_with_name s (text_at r.module_read.source x.token))
+    option_and_then (λ s. typed_field_with_name s (token_text_at r.module_read.source x.token))
     (constructed_type_by_objects objects r x.owner)
 
 -- returns the field that an identifier of a module belongs to, with the field's type; None if the

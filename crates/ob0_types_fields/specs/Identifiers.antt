@@ -7,14 +7,14 @@ use Rattle.ob0_scan.specs.TextWithTokens.{TextWithTokens}
 use Rattle.ob0_tree.specs.declared.tree.Role.{Role}
 use Rattle.ob0_tree.specs.declared.tree.Role.TheVariants as role
 use Rattle.ob0_tree.specs.Order.{AreAscending}
-use Rattle.ob0_tree.specs.Tree.{Tree, block, declares, declares_procedure, end, has_body, identifiers, item, items, mapped, more, procedure}
+use Rattle.ob0_tree.specs.Tree.{Tree, block, declares, declares_procedure, end, forms_block, identifiers, item, items, mapped_tree, more, procedure}
 use Rattle.ob0_tree.specs.ParsedModule.{ParsedModule, named_tree_of, tree_of}
-use Rattle.ob0_tree.specs.Places.{text_at, value_at}
+use Rattle.ob0_tree.specs.Places.{token_text_at, token_value_at}
 use Rattle.ob0_language_names.specs.Names.{Name, same_name}
 use Rattle.ob0_language_names.specs.Parts.{formal_sections, module_block, section_types, section_variables}
 use Rattle.ob0_scope_table.specs.Resolution.{IsResolution, Resolution, span_at}
-use Rattle.ob0_scope_table.specs.Spans.{is_on}
-use Rattle.ob0_language_types.specs.Declarations.{constructor_after_formals, constructors_before_variables, constructor_after_variables, procedure_constructor_count}
+use Rattle.ob0_scope_table.specs.Spans.{is_on_span}
+use Rattle.ob0_language_types.specs.Declarations.{constructors_before_procedure_block, constructors_before_variables, constructors_before_procedures, procedure_constructor_count}
 use Rattle.ob0_language_types.specs.WellTyped.{WellTyped}
 use Rattle.ob0_types_fields.specs.declared.field_name.FieldName.{FieldName}
 use Rattle.ob0_types_fields.specs.Owned.{fields_with_owners, fields_in_sections, fields_in_types, fields_in_variables, owners_in_resolution}
@@ -27,7 +27,7 @@ field_identifiers r = fields_with_owners (owners_in_resolution r)
 -- returns whether the identifier `found` belongs to the field `x` of the record with ordinal `k`; a record's ordinal is
 -- the number of words ARRAY and RECORD before the record
 abbrev pub belongs_to_field : TextWithTokens → ℕ → Name → FieldName → Bool
-belongs_to_field source k x found = (found.owner == k) && same_name (text_at source found.token) x
+belongs_to_field source k x found = (found.owner == k) && same_name (token_text_at source found.token) x
 
 -- returns the token indexes of the identifiers in a list that belong to the field `x` of the record with ordinal `k`; a
 -- record's ordinal is the number of words ARRAY and RECORD before the record
@@ -47,16 +47,16 @@ field_tokens r k x = tokens_of_field r.module_read.source k x (field_identifiers
 abbrev pub field_at_offset : TextWithTokens → ℕ → List FieldName → Option FieldName
 field_at_offset source offset [] = None
 field_at_offset source offset (x ∷ xs) =
-    if is_on offset (span_at source x.token) then Some x else field_at_offset source offset xs
+    if is_on_span offset (span_at source x.token) then Some x else field_at_offset source offset xs
 
 -- returns the token index of each identifier in a list
-abbrev pub tokens_of : List FieldName → List ℕ
-tokens_of xs = map (λ x. x.token) xs
+abbrev pub token_indexes : List FieldName → List ℕ
+token_indexes xs = map (λ x. x.token) xs
 
 -- States that the token indexes of the listed identifiers are strictly ascending and less than the text's number of
 -- tokens.
 abbrev pub AreInTextOrder : TextWithTokens → List FieldName → Type 0
-AreInTextOrder source xs = AreAscending 0 (tokens_of xs) (length source.tokens)
+AreInTextOrder source xs = AreAscending 0 (token_indexes xs) (length source.tokens)
 
 -- returns the first field identifier of a module that contains the byte offset `offset` or ends there; None if there is
 -- none
@@ -68,39 +68,39 @@ field_at r offset = field_at_offset r.module_read.source offset (field_identifie
 abbrev mutual
   -- returns the fields that the declarations of a block declare, in text order; `k` is the ordinal of the block's first
   -- ARRAY or RECORD
-  pub declared_in_block : ℕ → Tree ℕ block → List FieldName
-  declared_in_block k (has_body (declares cs ts vs ps) statements) =
+  pub fields_declared_in_block : ℕ → Tree ℕ block → List FieldName
+  fields_declared_in_block k (forms_block (declares cs ts vs ps) statements) =
       fields_in_types k (section_types ts)
-      ++ (fields_in_variables (constructors_before_variables k (has_body (declares cs ts vs ps) statements))
+      ++ (fields_in_variables (constructors_before_variables k (forms_block (declares cs ts vs ps) statements))
       (section_variables vs)
-      ++ declared_in_procedures (constructor_after_variables k (has_body (declares cs ts vs ps) statements)) ps)
+      ++ fields_declared_in_procedures (constructors_before_procedures k (forms_block (declares cs ts vs ps) statements)) ps)
 
   -- returns the fields that procedures declare, in text order; `k` is the ordinal of their first ARRAY or RECORD
-  pub declared_in_procedures : ℕ → Tree ℕ (items procedure) → List FieldName
-  declared_in_procedures k end = []
-  declared_in_procedures k (more p rest) =
-      declared_in_procedure k p ++ declared_in_procedures (k + procedure_constructor_count p) rest
+  pub fields_declared_in_procedures : ℕ → Tree ℕ (items procedure) → List FieldName
+  fields_declared_in_procedures k end = []
+  fields_declared_in_procedures k (more p rest) =
+      fields_declared_in_procedure k p ++ fields_declared_in_procedures (k + procedure_constructor_count p) rest
 
   -- returns the fields that a procedure declares: its parameters' fields, then its block's fields; `k` is the ordinal
   -- of the procedure's first ARRAY or RECORD
-  pub declared_in_procedure : ℕ → Tree ℕ (item procedure) → List FieldName
-  declared_in_procedure k (declares_procedure x fs b closing) =
+  pub fields_declared_in_procedure : ℕ → Tree ℕ (item procedure) → List FieldName
+  fields_declared_in_procedure k (declares_procedure x fs b closing) =
       fields_in_sections k (formal_sections fs)
-      ++ declared_in_block (constructor_after_formals k (declares_procedure x fs b closing)) b
+      ++ fields_declared_in_block (constructors_before_procedure_block k (declares_procedure x fs b closing)) b
 
 -- returns the identifiers that declare a field in a module, in text order
 abbrev pub declared_fields : ParsedModule → List FieldName
-declared_fields m = declared_in_block 0 (module_block (tree_of m))
+declared_fields m = fields_declared_in_block 0 (module_block (tree_of m))
 
 -- returns the first token index of a list; None if the list is empty
-abbrev pub first : List ℕ → Option ℕ
-first [] = None
-first (token ∷ tokens) = Some token
+abbrev pub first_token : List ℕ → Option ℕ
+first_token [] = None
+first_token (token ∷ tokens) = Some token
 
 -- returns the index of the token that declares the field `x` of the record with ordinal `k`; None if the record has no
 -- such field
 abbrev pub field_declaring_token : ParsedModule → ℕ → Name → Option ℕ
-field_declaring_token m k x = first (tokens_of_field m.source k x (declared_fields m))
+field_declaring_token m k x = first_token (tokens_of_field m.source k x (declared_fields m))
 
 -- returns the token indexes of the field identifiers in a list that belong to the record with ordinal `k`
 abbrev pub field_tokens_of_record : ℕ → List FieldName → List ℕ
@@ -112,7 +112,7 @@ field_tokens_of_record k (found ∷ rest) =
 -- counted from 0; None if the record has no such field
 abbrev pub field_index_in_record : ParsedModule → ℕ → Name → Option ℕ
 field_index_in_record m k x =
-    position_from (λ token. same_name (text_at m.source token) x) 0
+    position_from (λ token. same_name (token_text_at m.source token) x) 0
     (field_tokens_of_record k (declared_fields m))
 
 -- ---- laws: renaming changes only a field's tokens, each field is declared, and the grammar determines the fields
@@ -125,9 +125,9 @@ RenamingChangesFieldTokens =
     → IsResolution r
     → WellTyped (named_tree_of r.module_read)
     → with_renamed_field (named_tree_of r.module_read) k f new
-    ≡ mapped (λ i. if list_any (λ token. i == token) (field_tokens r k f)
+    ≡ mapped_tree (λ i. if list_any (λ token. i == token) (field_tokens r k f)
     then new
-    else text_at r.module_read.source i) (value_at r.module_read.source) (tree_of r.module_read)
+    else token_text_at r.module_read.source i) (token_value_at r.module_read.source) (tree_of r.module_read)
 
 -- States that the new name `new` for the field `f` of a record is a duplicate exactly if two conditions hold: `new`
 -- differs from `f`, and a token declares a field `new` of the same record.
@@ -143,7 +143,7 @@ abbrev pub FieldsAreDeclared : Type 0
 FieldsAreDeclared =
     (r : Resolution) → IsResolution r → WellTyped (named_tree_of r.module_read)
     → All
-    (λ x. is_some (field_declaring_token r.module_read x.owner (text_at r.module_read.source x.token))
+    (λ x. is_some (field_declaring_token r.module_read x.owner (token_text_at r.module_read.source x.token))
     ≡ true) (field_identifiers r)
 
 -- returns the token indexes of the identifiers that have the role of a field name: they declare a field in a record, or
@@ -161,5 +161,5 @@ field_role_tokens ((role.ModuleName, token) ∷ rest) = field_role_tokens rest
 abbrev pub FieldsMatchGrammar : Type 0
 FieldsMatchGrammar =
     (r : Resolution) → IsResolution r → WellTyped (named_tree_of r.module_read)
-    → tokens_of (field_identifiers r)
+    → token_indexes (field_identifiers r)
     ≡ field_role_tokens (identifiers role.Declaring (tree_of r.module_read))

@@ -5,16 +5,16 @@
 use Rattle.std.specs.Prelude.{◌≡◌, ℕ, suc, ◌+◌, List, [], ◌∷◌, ◌++◌, map, Some, None, Option, option_and_then, option_map, length, replicate, set}
 use Rattle.ob0_tree.specs.declared.tree.Role.{Role}
 use Rattle.ob0_tree.specs.declared.tree.Role.TheVariants as role
-use Rattle.ob0_tree.specs.Tree.{Sort, Tree, Item, item, items, selector, maybe, adds, array_type, assigns, begins, block, branches, calls, compares, declares, declares_procedure, declares_type, declares_types, declares_variable, declares_variables, designator, else_branch, elsif_branch, empty, end, field, fields, formals, further_fields, further_section, has_body, identifiers, index, integer, is_module, module_text, more, multiplies, named_type, negation, no_arguments, no_fields, no_formals, none, one, parenthesised, procedure, product, record_type, relates, repeat_loop, runs, section, some_arguments, some_fields, some_formals, sum, then_argument, then_fields, then_section, then_statement, type_name, type_names, value_section, variable, variable_section, variables, while_loop, written_type}
+use Rattle.ob0_tree.specs.Tree.{Sort, Tree, Item, item, items, selector, maybe, adds, array_type, assigns, begins, block, branches, calls, compares, declares, declares_procedure, declares_type, declares_types, declares_variable, declares_variables, designator, else_branch, elsif_branch, empty, end, field, fields, formals, further_fields, further_section, forms_block, identifiers, index, integer, is_module, module_text, more, multiplies, named_type, negation, no_arguments, no_fields, no_formals, none, one, parenthesised, procedure, product, record_type, relates, repeat_loop, runs, section, some_arguments, some_fields, some_formals, sum, then_argument, then_fields, then_section, then_statement, type_definition, type_definitions, value_section, variable, variable_section, variables, while_loop, written_type}
 use Rattle.ob0_tree.specs.ParsedModule.{named_tree_of, tree_of}
-use Rattle.ob0_tree.specs.Places.{text_at}
+use Rattle.ob0_tree.specs.Places.{token_text_at}
 use Rattle.ob0_language_names.specs.Names.{Name}
 use Rattle.ob0_language_names.specs.Parts.{formal_sections, names_in_list, section_type, section_types, section_variables}
 use Rattle.ob0_scope_table.specs.Resolution.{IsResolution, Resolution, ordinal_in}
 use Rattle.ob0_language_types.specs.Bindings.{declared_object}
-use Rattle.ob0_language_types.specs.Declarations.{constructor_after_formals, constructors_before_variables, constructor_after_variables, procedure_constructor_count}
+use Rattle.ob0_language_types.specs.Declarations.{constructors_before_procedure_block, constructors_before_variables, constructors_before_procedures, procedure_constructor_count}
 use Rattle.ob0_language_types.specs.Expressions.{Meanings, Object}
-use Rattle.ob0_types_table.specs.FieldPlaces.{field_selected}
+use Rattle.ob0_types_table.specs.FieldPlaces.{selected_field}
 use Rattle.ob0_language_types.specs.Typing.{constructor_count, element_type, field_type, group_constructor_count, object_type}
 use Rattle.ob0_language_types.specs.WellTyped.{Signature, WellTyped}
 use Rattle.ob0_language_values.specs.Values.{Shape, integer_shape}
@@ -44,7 +44,7 @@ type_after_selector m s _ = s
 -- selector; returns None if that type is unknown or has no field `x`
 abbrev pub owner : Option Shape → Name → Option ℕ
 owner None x = None
-owner (Some s) x = option_map (λ f. f.ordinal) (field_selected s x)
+owner (Some s) x = option_map (λ f. f.ordinal) (selected_field s x)
 
 -- Returns the identifiers of a statement or a part of a statement, with their owners. If the part is a selector or a
 -- list of selectors, `s` is the type of the designator before this part.
@@ -113,14 +113,14 @@ abbrev mutual
 
 -- returns the identifiers of type declarations with their owners; `k` is the ordinal of their first
 -- ARRAY or RECORD
-abbrev pub owners_in_types : ℕ → Tree ℕ (items type_name) → List (ℕ × Option ℕ)
+abbrev pub owners_in_types : ℕ → Tree ℕ (items type_definition) → List (ℕ × Option ℕ)
 owners_in_types k end = []
 owners_in_types k (more (declares_type x u) ds) =
     (x, None) ∷ (owners_in_type k u ++ owners_in_types (k + constructor_count u) ds)
 
 -- returns the identifiers of a TYPE section with their owners; `k` is the ordinal of its first
 -- ARRAY or RECORD
-abbrev pub owners_in_type_section : ℕ → Tree ℕ (maybe type_names) → List (ℕ × Option ℕ)
+abbrev pub owners_in_type_section : ℕ → Tree ℕ (maybe type_definitions) → List (ℕ × Option ℕ)
 owners_in_type_section k none = []
 owners_in_type_section k (one (declares_types ts)) = owners_in_types k ts
 
@@ -164,10 +164,10 @@ abbrev mutual
   -- returns the identifiers of a block with their owners: first the identifiers in its declarations, then the
   -- identifiers in its statements
   pub owners_in_block : {P : Type 0} → Meanings ℕ Shape P → ℕ → Tree ℕ block → List (ℕ × Option ℕ)
-  owners_in_block m k (has_body (declares cs ts vs ps) statements) =
+  owners_in_block m k (forms_block (declares cs ts vs ps) statements) =
       (identifiers_without_owners cs ++ (owners_in_type_section k ts
-      ++ (owners_in_variable_section (constructors_before_variables k (has_body (declares cs ts vs ps) statements)) vs
-      ++ owners_in_procedures m (constructor_after_variables k (has_body (declares cs ts vs ps) statements)) ps)))
+      ++ (owners_in_variable_section (constructors_before_variables k (forms_block (declares cs ts vs ps) statements)) vs
+      ++ owners_in_procedures m (constructors_before_procedures k (forms_block (declares cs ts vs ps) statements)) ps)))
       ++ owners_in_tree m None statements
 
   -- returns the identifiers of the procedures of a block with their owners, in text order
@@ -190,7 +190,7 @@ abbrev mutual
   owners_in_procedure m k (declares_procedure x fs b closing) =
       (x, None)
       ∷ (owners_in_formals k fs
-      ++ (owners_in_block m (constructor_after_formals k (declares_procedure x fs b closing)) b
+      ++ (owners_in_block m (constructors_before_procedure_block k (declares_procedure x fs b closing)) b
       ++ ((closing, None) ∷ [])))
 
 -- returns the identifiers of a module with their owners, in text order
@@ -209,7 +209,7 @@ meanings_by_token objects r =
     record {
       object_for
           = λ token. option_and_then objects (ordinal_in r.ordinals token);
-      written = λ token. text_at r.module_read.source token;
+      written = λ token. token_text_at r.module_read.source token;
     }
 
 -- returns the identifiers of a resolved module with their owners, in text order
@@ -226,8 +226,8 @@ AgreesWithOwnerList table (x ∷ xs) = (table x.0 ≡ x.1) × AgreesWithOwnerLis
 -- States that a table has the owners of all fields of a well-typed module (`IsOwnerTable`) if it agrees with the list
 -- `owners_in_resolution`. For each identifier in the list, the table and the list must give the same owner. This holds
 -- because at each place a name means the object of its declaration.
-abbrev pub ListedOwnersAreComplete : Type 0
-ListedOwnersAreComplete =
+abbrev pub AgreeingTableIsOwnerTable : Type 0
+AgreeingTableIsOwnerTable =
     (r : Resolution) (owners : List (Option ℕ))
     → IsResolution r
     → WellTyped (named_tree_of r.module_read)
@@ -248,8 +248,8 @@ table_with_owners table (f ∷ fs) = table_with_owners (set table f.token (Some 
 
 -- States that a table has the owners of all fields of a well-typed module after the module's field identifiers are
 -- entered in it. Before that, the table has one entry for each token and no owners.
-abbrev pub FieldsGiveAllOwners : Type 0
-FieldsGiveAllOwners =
+abbrev pub EnteredFieldsCompleteOwnerTable : Type 0
+EnteredFieldsCompleteOwnerTable =
     (r : Resolution)
     → IsResolution r
     → WellTyped (named_tree_of r.module_read)
@@ -344,7 +344,7 @@ abbrev mutual
 
 -- returns the fields that type declarations declare; `k` is the ordinal of their first ARRAY or
 -- RECORD
-abbrev pub fields_in_types : ℕ → Tree ℕ (items type_name) → List FieldName
+abbrev pub fields_in_types : ℕ → Tree ℕ (items type_definition) → List FieldName
 fields_in_types k end = []
 fields_in_types k (more (declares_type x u) ds) =
     fields_in_type k u ++ fields_in_types (k + constructor_count u) ds
@@ -366,11 +366,11 @@ fields_in_sections k (more (then_section f) fs) =
 abbrev mutual
   -- returns the fields that a block declares and selects; `k` is the ordinal of the block's first ARRAY or RECORD
   pub fields_in_block : {P : Type 0} → Meanings ℕ Shape P → ℕ → Tree ℕ block → List FieldName
-  fields_in_block m k (has_body (declares cs ts vs ps) statements) =
+  fields_in_block m k (forms_block (declares cs ts vs ps) statements) =
       (fields_in_types k (section_types ts)
-      ++ (fields_in_variables (constructors_before_variables k (has_body (declares cs ts vs ps) statements))
+      ++ (fields_in_variables (constructors_before_variables k (forms_block (declares cs ts vs ps) statements))
       (section_variables vs)
-      ++ fields_in_procedures m (constructor_after_variables k (has_body (declares cs ts vs ps) statements)) ps))
+      ++ fields_in_procedures m (constructors_before_procedures k (forms_block (declares cs ts vs ps) statements)) ps))
       ++ fields_in_tree m statements
 
   -- returns the fields that procedures declare and select, in text order; `k` is the ordinal of
@@ -393,7 +393,7 @@ abbrev mutual
       → List FieldName
   fields_in_procedure m k (declares_procedure x fs b closing) =
       fields_in_sections k (formal_sections fs)
-      ++ fields_in_block m (constructor_after_formals k (declares_procedure x fs b closing)) b
+      ++ fields_in_block m (constructors_before_procedure_block k (declares_procedure x fs b closing)) b
 
 -- returns the field identifiers of a module that a walk over its tree finds, in text order
 abbrev pub fields_in_module : {P : Type 0} → Meanings ℕ Shape P → Tree ℕ module_text → List FieldName

@@ -3,9 +3,9 @@
 -- Rule: none; for contracts: which record a field's token belongs to.
 use Rattle.std.specs.Prelude.{◌≡◌, ℕ, Bool, ◌&&◌, List, Option, Some, None, if◌then◌else◌}
 use Rattle.ob0_scan.specs.TextWithTokens.{TextWithTokens}
-use Rattle.ob0_tree.specs.Tree.{mapped}
+use Rattle.ob0_tree.specs.Tree.{mapped_tree}
 use Rattle.ob0_tree.specs.ParsedModule.{ParsedModule, named_tree_of, tree_of}
-use Rattle.ob0_tree.specs.Places.{text_at, value_at}
+use Rattle.ob0_tree.specs.Places.{token_text_at, token_value_at}
 use Rattle.ob0_language_names.specs.Names.{Name, same_name}
 use Rattle.ob0_scope_table.specs.Resolution.{ordinal_in}
 use Rattle.ob0_language_names.specs.Scopes.{same_ordinal}
@@ -26,14 +26,14 @@ abbrev pub IsOwnerTable : ParsedModule → List (Option ℕ) → Type 0
 IsOwnerTable m owners =
     (l : ℕ → Name → Name)
     → rename_fields_in_module (field_names_by_record l) (named_tree_of m)
-    ≡ mapped (λ i. field_names_by_record l (ordinal_in owners i) (text_at m.source i)) (value_at m.source)
+    ≡ mapped_tree (λ i. field_names_by_record l (ordinal_in owners i) (token_text_at m.source i)) (token_value_at m.source)
     (tree_of m)
 
 -- returns whether the token with index `i` declares or selects the field `f` of the record with
 -- ordinal `r`, according to the table `owners`
 abbrev pub is_token_of_field : TextWithTokens → List (Option ℕ) → ℕ → Name → ℕ → Bool
 is_token_of_field source owners r f i =
-    same_ordinal (ordinal_in owners i) r && same_name (text_at source i) f
+    same_ordinal (ordinal_in owners i) r && same_name (token_text_at source i) f
 
 -- States that renaming the field `f` of the record with ordinal `r` to `new` changes only the
 -- identifiers at the field's tokens. These identifiers get the name `new`. The table `owners`
@@ -42,5 +42,5 @@ abbrev pub RenamingFollowsOwners : Type 0
 RenamingFollowsOwners =
     (m : ParsedModule) (owners : List (Option ℕ)) (r : ℕ) (f new : Name) → IsOwnerTable m owners
     → with_renamed_field (named_tree_of m) r f new
-    ≡ mapped (λ i. if is_token_of_field m.source owners r f i then new else text_at m.source i)
-    (value_at m.source) (tree_of m)
+    ≡ mapped_tree (λ i. if is_token_of_field m.source owners r f i then new else token_text_at m.source i)
+    (token_value_at m.source) (tree_of m)

@@ -19,46 +19,46 @@ use Rattle.ob0_types_fields.specs.Owned.{meanings_by_token}
 -- to skip
 pub data SearchState : Type 0 where
   is_found : Option Shape → SearchState
-  is_after : ℕ → SearchState
+  is_skipping : ℕ → SearchState
 
 -- returns the state of the search after one more ARRAY or RECORD; this word constructs the type `t`, or an unknown type
 -- if `t` is None
-abbrev pub after_constructor : SearchState → Option Shape → SearchState
-after_constructor (is_found found) t = is_found found
-after_constructor (is_after n) t = if n == 0 then is_found t else is_after (n - 1)
+abbrev pub state_after_constructor : SearchState → Option Shape → SearchState
+state_after_constructor (is_found found) t = is_found found
+state_after_constructor (is_skipping n) t = if n == 0 then is_found t else is_skipping (n - 1)
 
 -- returns the state of the search after several words ARRAY and RECORD; the list has the types that these words
 -- construct, with None for an unknown type
-abbrev pub after_constructors : SearchState → List (Option Shape) → SearchState
-after_constructors s [] = s
-after_constructors s (t ∷ ts) = after_constructors (after_constructor s t) ts
+abbrev pub state_after_constructors : SearchState → List (Option Shape) → SearchState
+state_after_constructors s [] = s
+state_after_constructors s (t ∷ ts) = state_after_constructors (state_after_constructor s t) ts
 
 -- returns the found type; None if the word isn't found yet or constructs an unknown type
 abbrev pub found_type : SearchState → Option Shape
 found_type (is_found found) = found
-found_type (is_after n) = None
+found_type (is_skipping n) = None
 
 -- returns the meanings of names according to the walk's table of declarations; each name is given by the index of its
 -- token
 abbrev pub constructor_walk_meanings : ConstructorWalk → Meanings ℕ Shape Signature
-constructor_walk_meanings w = meanings_by_token (declared_object_in w.known.now) w.resolved.now
+constructor_walk_meanings w = meanings_by_token (declared_object_in w.table.now) w.resolved.now
 
 -- returns the shape of a type in the walk's table of declarations; None if there is no type
 abbrev pub shape_in_walk : ConstructorWalk → Option TypeId → Option Shape
-shape_in_walk w of = option_map (type_shape (shapes_of w.known.now)) of
+shape_in_walk w of = option_map (type_shape (shapes_of w.table.now)) of
 
 -- converts a state of the code's search to a state of the definitions, given the shapes of the
 -- arrays and records
 abbrev pub search_view : List Shape → Search → SearchState
 search_view shapes (search.Found of) = is_found (option_map (type_shape shapes) of)
-search_view shapes (search.Before n) = is_after n
+search_view shapes (search.Skipping n) = is_skipping n
 
 -- converts a state of the code's search to a state of the definitions; the walk's table of declarations
 -- gives the shapes of arrays and records
 abbrev pub search_view_in_walk : ConstructorWalk → Search → SearchState
-search_view_in_walk w s = search_view (shapes_of w.known.now) s
+search_view_in_walk w s = search_view (shapes_of w.table.now) s
 
 -- converts a typed field of the code to a typed field of the definitions, given the shapes of the
 -- arrays and records
 abbrev pub typed_field_view : List Shape → code.TypedField → TypedField
-typed_field_view shapes f = record { field = f.field; shape = type_shape shapes f.of }
+typed_field_view shapes f = record { field = f.field; shape = type_shape shapes f.type_id }

@@ -16,11 +16,11 @@ use Rattle.ob0_types_fields.specs.Owned.{field_if_owned, fields_in_tree, owner, 
 -- returns the meanings of names according to the walk's table of declarations; each name is given
 -- by the index of its token
 abbrev pub field_walk_meanings : FieldWalk → Meanings ℕ Shape Signature
-field_walk_meanings w = meanings_by_token (declared_object_in w.known.now) w.resolved.now
+field_walk_meanings w = meanings_by_token (declared_object_in w.table.now) w.resolved.now
 
 -- returns the shape of a record type in the walk's table of declarations
 abbrev pub record_shape_in : FieldWalk → RecordShape → Shape
-record_shape_in w r = entry_shape (shapes_of w.known.now) (made.Record r)
+record_shape_in w r = entry_shape (shapes_of w.table.now) (made.Record r)
 
 -- returns the field identifiers in one selector: the selected field, or the fields in an index's
 -- expression; `s` is the type of the designator before the selector

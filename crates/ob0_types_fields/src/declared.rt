@@ -33,159 +33,159 @@ fn add_named_fields(
     Ok(())
 }
 
-/// Returns the ordinal of the next word ARRAY or RECORD: the old value of `made`, the number
-/// of such words so far. Then adds 1 to `made`. Returns an error if the sum doesn't fit in 64
+/// Returns the ordinal of the next word ARRAY or RECORD: the old value of `word_count`, the number
+/// of such words so far. Then adds 1 to `word_count`. Returns an error if the sum doesn't fit in 64
 /// bits. No text is long enough for that.
-fn take_next_ordinal(made: &mut usize) -> Result<usize, AllocError>
-    ensures { MatchResult result (λ n. (n ≡ made.old) × (made.new ≡ made.old + 1))
-        (λ _. 2 ^ 64 ≤ made.old + 1) }
+fn take_next_ordinal(word_count: &mut usize) -> Result<usize, AllocError>
+    ensures { MatchResult result (λ n. (n ≡ word_count.old) × (word_count.new ≡ word_count.old + 1))
+        (λ _. 2 ^ 64 ≤ word_count.old + 1) }
 {
-    let ordinal = *made;
+    let ordinal = *word_count;
     match ordinal.checked_add(1) {
         Some(more) => {
-            *made = more;
+            *word_count = more;
             Ok(ordinal)
         }
         None => Err(AllocError),
     }
 }
 
-/// Appends the fields that a written type declares. `made` counts the words ARRAY and RECORD
-/// that precede the type in the module. On return, `made` also counts the words in the type.
+/// Appends the fields that a written type declares. `word_count` counts the words ARRAY and RECORD
+/// that precede the type in the module. On return, `word_count` also counts the words in the type.
 #[cycle(types)]
 pub(crate) fn add_type_fields(
     found: &mut FieldNameList,
-    made: &mut usize,
+    word_count: &mut usize,
     t: &WrittenType,
 ) -> Result<(), AllocError>
     ensures found { IfOk result (λ _. found.new.items
-        ≡ found.old.items ++ fields_in_type made.old (type_of t.now)) }
-    ensures made { IfOk result
-        (λ _. made.new ≡ made.old + constructor_count (type_of t.now)) }
+        ≡ found.old.items ++ fields_in_type word_count.old (type_of t.now)) }
+    ensures word_count { IfOk result
+        (λ _. word_count.new ≡ word_count.old + constructor_count (type_of t.now)) }
 {
     match t {
         WrittenType::Named(_) => Ok(()),
         WrittenType::Array(a) => {
-            let _array = take_next_ordinal(made)?;
-            add_type_fields(found, made, &a.element)
+            let _array = take_next_ordinal(word_count)?;
+            add_type_fields(found, word_count, &a.element)
         }
-        WrittenType::Record(r) => add_record_fields(found, made, r),
+        WrittenType::Record(r) => add_record_fields(found, word_count, r),
     }
 }
 
 /// Appends the fields that a record type declares, including the fields of records inside it.
-/// `made` counts the words ARRAY and RECORD that precede the type in the module. On return,
-/// `made` also counts the words in the type.
+/// `word_count` counts the words ARRAY and RECORD that precede the type in the module. On return,
+/// `word_count` also counts the words in the type.
 #[cycle(types)]
 fn add_record_fields(
     found: &mut FieldNameList,
-    made: &mut usize,
+    word_count: &mut usize,
     r: &RecordType,
 ) -> Result<(), AllocError>
     ensures found { IfOk result (λ _. found.new.items
-        ≡ found.old.items ++ fields_in_type made.old (record_type_of r.now)) }
-    ensures made { IfOk result
-        (λ _. made.new ≡ made.old + constructor_count (record_type_of r.now)) }
+        ≡ found.old.items ++ fields_in_type word_count.old (record_type_of r.now)) }
+    ensures word_count { IfOk result
+        (λ _. word_count.new ≡ word_count.old + constructor_count (record_type_of r.now)) }
 {
-    let ordinal = take_next_ordinal(made)?;
+    let ordinal = take_next_ordinal(word_count)?;
     for group in &r.groups {
-        add_group_fields(found, made, ordinal, group)?;
+        add_group_fields(found, word_count, ordinal, group)?;
     }
     Ok(())
 }
 
 /// Appends the fields of one group (`x, y: T`), then the fields that the group's type declares.
-/// `owner` is the ordinal of the record that contains the group. `made` counts the words
-/// ARRAY and RECORD that precede the group in the module. On return, `made` also counts the
+/// `owner` is the ordinal of the record that contains the group. `word_count` counts the words
+/// ARRAY and RECORD that precede the group in the module. On return, `word_count` also counts the
 /// words in the group.
 #[cycle(types)]
 fn add_group_fields(
     found: &mut FieldNameList,
-    made: &mut usize,
+    word_count: &mut usize,
     owner: usize,
     f: &Fields,
 ) -> Result<(), AllocError>
     ensures found { IfOk result (λ _. found.new.items
-        ≡ found.old.items ++ fields_in_group owner made.old (fields_of f.now)) }
-    ensures made { IfOk result (λ _. made.new
-        ≡ made.old + group_constructor_count (fields_of f.now)) }
+        ≡ found.old.items ++ fields_in_group owner word_count.old (fields_of f.now)) }
+    ensures word_count { IfOk result (λ _. word_count.new
+        ≡ word_count.old + group_constructor_count (fields_of f.now)) }
 {
     match f {
         Fields::Empty => Ok(()),
         Fields::Listed(l) => {
             let l: &FieldGroup = l;
             add_named_fields(found, owner, &l.names)?;
-            add_type_fields(found, made, &l.written)
+            add_type_fields(found, word_count, &l.written)
         }
     }
 }
 
 /// Appends the fields that the TYPE section of a block declares. Appends nothing if the block has
-/// no such section. `made` counts the words ARRAY and RECORD that precede the section in the
-/// module. On return, `made` also counts the words in the section.
+/// no such section. `word_count` counts the words ARRAY and RECORD that precede the section in the
+/// module. On return, `word_count` also counts the words in the section.
 pub(crate) fn add_type_section_fields(
     found: &mut FieldNameList,
-    made: &mut usize,
+    word_count: &mut usize,
     listed: &Option<Vec<TypeDeclaration>>,
 ) -> Result<(), AllocError>
     ensures found { IfOk result (λ _. found.new.items
         ≡ found.old.items
-        ++ fields_in_types made.old (section_types (types_of listed.now))) }
-    ensures made { IfOk result (λ _. made.new
-        ≡ made.old + types_constructor_count (section_types (types_of listed.now))) }
+        ++ fields_in_types word_count.old (section_types (types_of listed.now))) }
+    ensures word_count { IfOk result (λ _. word_count.new
+        ≡ word_count.old + types_constructor_count (section_types (types_of listed.now))) }
 {
     let Some(listed) = listed else {
         return Ok(());
     };
     for d in listed {
-        add_type_fields(found, made, &d.written)?;
+        add_type_fields(found, word_count, &d.written)?;
     }
     Ok(())
 }
 
 /// Appends the fields that the VAR section of a block declares. Appends nothing if the block has no
-/// such section. `made` counts the words ARRAY and RECORD that precede the section in the
-/// module. On return, `made` also counts the words in the section.
+/// such section. `word_count` counts the words ARRAY and RECORD that precede the section in the
+/// module. On return, `word_count` also counts the words in the section.
 pub(crate) fn add_variable_section_fields(
     found: &mut FieldNameList,
-    made: &mut usize,
+    word_count: &mut usize,
     listed: &Option<Vec<VariableDeclaration>>,
 ) -> Result<(), AllocError>
     ensures found { IfOk result (λ _. found.new.items
         ≡ found.old.items
-        ++ fields_in_variables made.old (section_variables (variables_of listed.now))) }
-    ensures made { IfOk result (λ _. made.new
-        ≡ made.old
+        ++ fields_in_variables word_count.old (section_variables (variables_of listed.now))) }
+    ensures word_count { IfOk result (λ _. word_count.new
+        ≡ word_count.old
         + variables_constructor_count (section_variables (variables_of listed.now))) }
 {
     let Some(listed) = listed else {
         return Ok(());
     };
     for d in listed {
-        add_type_fields(found, made, &d.written)?;
+        add_type_fields(found, word_count, &d.written)?;
     }
     Ok(())
 }
 
 /// Appends the fields that the types of formal parameters declare. Appends nothing if there is no
-/// parameter list. `made` counts the words ARRAY and RECORD that precede the parameters in
-/// the module. On return, `made` also counts the words in the parameters.
+/// parameter list. `word_count` counts the words ARRAY and RECORD that precede the parameters in
+/// the module. On return, `word_count` also counts the words in the parameters.
 pub(crate) fn add_formal_fields(
     found: &mut FieldNameList,
-    made: &mut usize,
+    word_count: &mut usize,
     listed: &Option<Vec<ParameterSection>>,
 ) -> Result<(), AllocError>
     ensures found { IfOk result (λ _. found.new.items
         ≡ found.old.items
-        ++ fields_in_sections made.old (formal_sections (formals_of listed.now))) }
-    ensures made { IfOk result (λ _. made.new
-        ≡ made.old + formals_constructor_count (formal_sections (formals_of listed.now))) }
+        ++ fields_in_sections word_count.old (formal_sections (formals_of listed.now))) }
+    ensures word_count { IfOk result (λ _. word_count.new
+        ≡ word_count.old + formals_constructor_count (formal_sections (formals_of listed.now))) }
 {
     let Some(listed) = listed else {
         return Ok(());
     };
     for d in listed {
-        add_type_fields(found, made, &d.written)?;
+        add_type_fields(found, word_count, &d.written)?;
     }
     Ok(())
 }

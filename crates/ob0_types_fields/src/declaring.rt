@@ -3,49 +3,49 @@
 ghost use Rattle.std.specs.Prelude.{◌≡◌, ◌++◌, ◌+◌, IfOk};
 ghost use Rattle.ob0_tree.specs.View.{block_of, procedure_of};
 ghost use Rattle.ob0_language_types.specs.Declarations.{block_constructor_count, procedure_constructor_count};
-ghost use Rattle.ob0_types_fields.specs.Identifiers.{declared_in_block, declared_in_procedure};
+ghost use Rattle.ob0_types_fields.specs.Identifiers.{fields_declared_in_block, fields_declared_in_procedure};
 
 use crate::declared::{add_formal_fields, add_type_section_fields, add_variable_section_fields};
 use crate::field_name::FieldNameList;
 use ob0_tree::{Block, Procedure};
 use std::alloc::AllocError;
 
-/// Appends the fields that a block and its procedures declare. `made` counts the words ARRAY
-/// and RECORD that precede the block in the module. On return, `made` also counts the words
+/// Appends the fields that a block and its procedures declare. `word_count` counts the words ARRAY
+/// and RECORD that precede the block in the module. On return, `word_count` also counts the words
 /// in the block.
 #[cycle(blocks)]
 pub(crate) fn add_block_declared_fields(
     found: &mut FieldNameList,
-    made: &mut usize,
+    word_count: &mut usize,
     b: &Block,
 ) -> Result<(), AllocError>
     ensures found { IfOk result (λ _. found.new.items
-        ≡ found.old.items ++ declared_in_block made.old (block_of b.now)) }
-    ensures made { IfOk result
-        (λ _. made.new ≡ made.old + block_constructor_count (block_of b.now)) }
+        ≡ found.old.items ++ fields_declared_in_block word_count.old (block_of b.now)) }
+    ensures word_count { IfOk result
+        (λ _. word_count.new ≡ word_count.old + block_constructor_count (block_of b.now)) }
 {
-    add_type_section_fields(found, made, &b.types)?;
-    add_variable_section_fields(found, made, &b.variables)?;
+    add_type_section_fields(found, word_count, &b.types)?;
+    add_variable_section_fields(found, word_count, &b.variables)?;
     for p in &b.procedures {
-        add_procedure_declared_fields(found, made, p)?;
+        add_procedure_declared_fields(found, word_count, p)?;
     }
     Ok(())
 }
 
-/// Appends the fields that a procedure declares in its parameters and its block. `made`
+/// Appends the fields that a procedure declares in its parameters and its block. `word_count`
 /// counts the words ARRAY and RECORD that precede the procedure in the module. On return,
-/// `made` also counts the words in the procedure.
+/// `word_count` also counts the words in the procedure.
 #[cycle(blocks)]
 fn add_procedure_declared_fields(
     found: &mut FieldNameList,
-    made: &mut usize,
+    word_count: &mut usize,
     p: &Procedure,
 ) -> Result<(), AllocError>
     ensures found { IfOk result (λ _. found.new.items
-        ≡ found.old.items ++ declared_in_procedure made.old (procedure_of p.now)) }
-    ensures made { IfOk result (λ _. made.new
-        ≡ made.old + procedure_constructor_count (procedure_of p.now)) }
+        ≡ found.old.items ++ fields_declared_in_procedure word_count.old (procedure_of p.now)) }
+    ensures word_count { IfOk result (λ _. word_count.new
+        ≡ word_count.old + procedure_constructor_count (procedure_of p.now)) }
 {
-    add_formal_fields(found, made, &p.formals)?;
-    add_block_declared_fields(found, made, &p.block)
+    add_formal_fields(found, word_count, &p.formals)?;
+    add_block_declared_fields(found, word_count, &p.block)
 }

@@ -6,29 +6,29 @@
 //! walk over its declarations. The laws about fields require that the module is well-typed.
 //!
 //! If tokens of one body have changed, but not their kinds, the body's fields are found again
-//! (`FieldList::with_changed_body`). These fields are at the same tokens as before, because the
+//! (`ModuleFields::with_changed_body`). These fields are at the same tokens as before, because the
 //! grammar determines which identifiers are fields (`fields_match_grammar`). So each found field
 //! replaces an old one, and no other field moves.
 //!
 //! If the statements of one body were replaced, perhaps by a different number of tokens, the body's
-//! fields are also found again (`FieldList::with_replaced_body`). The fields before the body are
+//! fields are also found again (`ModuleFields::with_replaced_body`). The fields before the body are
 //! kept. The fields after the body get the new indexes of their tokens.
 //!
 //! A list doesn't contain its text, so a caller may use the list with another text. A token index
 //! that this text doesn't have gets the empty span at the text's start. So the contract of
-//! `FieldList::at` has a premise (`AreInTextOrder`). A module's fields satisfy this
+//! `ModuleFields::identifier_at` has a premise (`AreInTextOrder`). A module's fields satisfy this
 //! premise (`fields_ascend`).
 
 ghost use Rattle.std.specs.Prelude.{◌≡◌, ◌++◌, List, [], false, true, map, nat_lt, IfOk, OnOk};
 ghost use Rattle.std.specs.List.{position_from};
 ghost use Rattle.std.specs.List.Sorted.{IsNonDecreasingBy, IsPartitionPoint};
 ghost use Rattle.ob0_tree.specs.ParsedModule.{tree_of};
-ghost use Rattle.ob0_tree.specs.Places.{text_at};
+ghost use Rattle.ob0_tree.specs.Places.{token_text_at};
 ghost use Rattle.ob0_tree.specs.View.{body_of};
 ghost use Rattle.ob0_language_names.specs.Names.{same_name};
 ghost use Rattle.ob0_types_table.specs.KnownTables.{declared_object_in};
 ghost use Rattle.ob0_types_fields.specs.declared.field_name.FieldName.{FieldName};
-ghost use Rattle.ob0_types_fields.specs.Identifiers.{AreInTextOrder, declared_fields, field_at_offset, first, field_tokens_of_record, tokens_of_field};
+ghost use Rattle.ob0_types_fields.specs.Identifiers.{AreInTextOrder, declared_fields, field_at_offset, first_token, field_tokens_of_record, tokens_of_field};
 ghost use Rattle.ob0_types_fields.specs.FieldLists.{HasSameTokensWith, moved_field, fields_before, fields_from, all_if_declared, field_lists_of, old_token_index, new_token_index, overwritten_fields};
 ghost use Rattle.ob0_types_fields.specs.Owned.{fields_in_module, fields_in_tree, meanings_by_token};
 
@@ -38,7 +38,7 @@ use crate::field_lookups::{
 };
 use crate::field_name::{FieldName, FieldNameList};
 use crate::field_walk::FieldWalk;
-use ob0_scan::{SameTokens, Tokens};
+use ob0_scan::{SameParts, Tokens};
 use ob0_scope_table::{BodyPlace, Resolved};
 use ob0_tree::Statement;
 use ob0_types_table::DeclarationTable;
@@ -48,12 +48,12 @@ use std::marker::Model;
 /// Two lists of field identifiers of a module, each in text order. `declared` has the identifiers
 /// that declare a field. `all` also has the identifiers that select a field.
 #[derive(Drop)]
-pub struct FieldList {
+pub struct ModuleFields {
     declared: FieldNameList,
     all: FieldNameList,
 }
 
-impl Model for FieldList {
+impl Model for ModuleFields {
     ghost use Rattle.ob0_types_fields.specs.FieldLists.{FieldLists};
 
     ghost Value = { FieldLists };
@@ -61,30 +61,30 @@ impl Model for FieldList {
     ghost view = { λ f. record { declared = f.declared.items; all = f.all.items } };
 }
 
-impl FieldList {
+impl ModuleFields {
     /// Returns two empty lists.
-    pub fn empty(alloc: Global) -> FieldList
+    pub fn empty(alloc: Global) -> ModuleFields
         ensures { result.all ≡ [] }
     {
-        FieldList {
+        ModuleFields {
             declared: Vec::new(alloc),
             all: Vec::new(alloc),
         }
     }
 
-    /// Returns the two lists of a module's field identifiers. `known` is the table of the module's
+    /// Returns the two lists of a module's field identifiers. `table` is the table of the module's
     /// declarations. If no field is declared, both lists are empty, and the search for selected
     /// fields is skipped.
-    pub fn of<'a, 't>(
+    pub fn from_resolved<'a, 't>(
         alloc: Global,
-        known: &'a DeclarationTable,
+        table: &'a DeclarationTable,
         resolved: &'a Resolved<'t>,
-    ) -> Result<FieldList, AllocError>
-        ensures { IfOk result (λ f. f ≡ field_lists_of known.now resolved.now) }
+    ) -> Result<ModuleFields, AllocError>
+        ensures { IfOk result (λ f. f ≡ field_lists_of table.now resolved.now) }
     {
         let declared = declared_fields(alloc, resolved)?;
-        let all = all_fields(alloc, known, resolved, &declared)?;
-        Ok(FieldList { declared, all })
+        let all = all_fields(alloc, table, resolved, &declared)?;
+        Ok(ModuleFields { declared, all })
     }
 
     /// Returns the two lists for a changed text. In one body's statements some tokens differ from
@@ -93,24 +93,24 @@ impl FieldList {
     pub fn with_changed_body<'a, 't>(
         self,
         alloc: Global,
-        known: &'a DeclarationTable,
+        table: &'a DeclarationTable,
         resolved: &'a Resolved<'t>,
         statements: &Option<Vec<Statement>>,
-    ) -> Result<FieldList, AllocError>
+    ) -> Result<ModuleFields, AllocError>
         ensures declared { IfOk result (λ f. f.declared ≡ self.declared) }
         ensures all { IfOk result (λ f. (before after : List FieldName)
-            → HasSameTokensWith self.all before (fields_in_tree (meanings_by_token (declared_object_in known.now)
+            → HasSameTokensWith self.all before (fields_in_tree (meanings_by_token (declared_object_in table.now)
             resolved.now) (body_of statements.now)) after
             → f.all
-            ≡ before ++ (fields_in_tree (meanings_by_token (declared_object_in known.now) resolved.now)
+            ≡ before ++ (fields_in_tree (meanings_by_token (declared_object_in table.now) resolved.now)
             (body_of statements.now) ++ after)) }
     {
-        let FieldList { declared, mut all } = self;
-        let walk = FieldWalk { known, resolved };
+        let ModuleFields { declared, mut all } = self;
+        let walk = FieldWalk { table, resolved };
         let mut found = Vec::new(alloc);
         walk.add_body_fields(&mut found, statements)?;
         replace_at_tokens(&mut all, &found);
-        Ok(FieldList { declared, all })
+        Ok(ModuleFields { declared, all })
     }
 
     /// Returns the two lists for a changed text, in which the statements of one body were replaced.
@@ -121,38 +121,38 @@ impl FieldList {
     pub fn with_replaced_body<'a, 't>(
         self,
         alloc: Global,
-        known: &'a DeclarationTable,
+        table: &'a DeclarationTable,
         resolved: &'a Resolved<'t>,
         statements: &Option<Vec<Statement>>,
         place: BodyPlace,
-        same: SameTokens,
-    ) -> Result<FieldList, AllocError>
+        same: SameParts,
+    ) -> Result<ModuleFields, AllocError>
         ensures declared { IfOk result (λ f. f.declared ≡ map (moved_field same) self.declared) }
         ensures all { IfOk result (λ f. f.all
             ≡ fields_before place.first self.all
-            ++ (fields_in_tree (meanings_by_token (declared_object_in known.now) resolved.now)
+            ++ (fields_in_tree (meanings_by_token (declared_object_in table.now) resolved.now)
             (body_of statements.now)
             ++ map (moved_field same) (fields_from (old_token_index same place.closing) self.all))) }
     {
-        let walk = FieldWalk { known, resolved };
+        let walk = FieldWalk { table, resolved };
         let mut all = Vec::with_capacity(alloc, self.all.len())?;
-        add_before(&mut all, &self.all, place.first)?;
+        add_fields_before(&mut all, &self.all, place.first)?;
         walk.add_body_fields(&mut all, statements)?;
-        add_moved(
+        add_moved_fields(
             &mut all,
             &self.all,
             old_token_index(place.closing, same),
             same,
         )?;
         let mut declared = Vec::with_capacity(alloc, self.declared.len())?;
-        add_moved(&mut declared, &self.declared, 0, same)?;
-        Ok(FieldList { declared, all })
+        add_moved_fields(&mut declared, &self.declared, 0, same)?;
+        Ok(ModuleFields { declared, all })
     }
 
     /// Returns the first field identifier that contains the byte offset `offset` or ends there.
     /// Returns None if there is none. `tokens` must be the tokens of the text that has these
     /// fields.
-    pub fn at(&self, tokens: &Tokens, offset: usize) -> Option<FieldName>
+    pub fn identifier_at(&self, tokens: &Tokens, offset: usize) -> Option<FieldName>
         ensures { AreInTextOrder tokens.now self.now.all
             → result ≡ field_at_offset tokens.now offset self.now.all }
     {
@@ -180,7 +180,7 @@ impl FieldList {
     /// `owner`. A record's ordinal is the number of words ARRAY and RECORD before the record in the
     /// text. Returns None if the record has no such field.
     pub fn declaring_token_of(&self, tokens: &Tokens, owner: usize, name: &str) -> Option<usize>
-        ensures { result ≡ first (tokens_of_field tokens.now owner name.now self.now.declared) }
+        ensures { result ≡ first_token (tokens_of_field tokens.now owner name.now self.now.declared) }
     {
         first_token_of_field(tokens, &self.declared, owner, name)
     }
@@ -191,7 +191,7 @@ impl FieldList {
     /// field.
     pub fn index_in_record(&self, tokens: &Tokens, owner: usize, name: &str) -> Option<usize>
         ensures { result
-            ≡ position_from (λ token. same_name (text_at tokens.now token) name.now) 0
+            ≡ position_from (λ token. same_name (token_text_at tokens.now token) name.now) 0
             (field_tokens_of_record owner self.now.declared) }
     {
         position_in_record(tokens, &self.declared, owner, name)
@@ -207,7 +207,7 @@ fn replace_at_tokens(all: &mut FieldNameList, found: &[FieldName])
     match found.first() {
         None => (),
         Some(first) => {
-            let start = count_before(all, first.token);
+            let start = count_fields_before(all, first.token);
             overwrite_from(all, start, found);
         }
     }
@@ -215,7 +215,7 @@ fn replace_at_tokens(all: &mut FieldNameList, found: &[FieldName])
 
 /// Returns the number of fields in the list `all` whose tokens come before `token`. The list must
 /// be sorted by token.
-fn count_before(all: &[FieldName], token: usize) -> usize
+fn count_fields_before(all: &[FieldName], token: usize) -> usize
     ensures { IsNonDecreasingBy (λ x. x.token) all.now
         → IsPartitionPoint (λ x. nat_lt x.token token ≡ true)
         (λ x. nat_lt x.token token ≡ false) all.now result }
@@ -239,7 +239,7 @@ fn overwrite_from(all: &mut FieldNameList, start: usize, found: &[FieldName])
 
 /// Returns the index of an unchanged token in the new text, given its index `token` in the old
 /// text. `same` specifies the unchanged tokens. The result is at most 2^64 - 1.
-fn new_token_index(token: usize, same: SameTokens) -> usize
+fn new_token_index(token: usize, same: SameParts) -> usize
     ensures { result ≡ new_token_index same token }
 {
     if token < same.prefix {
@@ -253,7 +253,7 @@ fn new_token_index(token: usize, same: SameTokens) -> usize
 
 /// Returns the index in the old text of a token that lies after the changed tokens, given its index
 /// `token` in the new text. The result is at most 2^64 - 1.
-fn old_token_index(token: usize, same: SameTokens) -> usize
+fn old_token_index(token: usize, same: SameParts) -> usize
     ensures { result ≡ old_token_index same token }
 {
     token
@@ -262,7 +262,7 @@ fn old_token_index(token: usize, same: SameTokens) -> usize
 }
 
 /// Appends to `found` the items of the list `fields` whose tokens come before `token`.
-fn add_before(
+fn add_fields_before(
     found: &mut FieldNameList,
     fields: &[FieldName],
     token: usize,
@@ -280,11 +280,11 @@ fn add_before(
 /// Appends to `found` the items of the list `fields` whose tokens are at or after `token` in the
 /// old text. Each appended item gets the index of its token in the new text. `same` specifies the
 /// unchanged tokens.
-fn add_moved(
+fn add_moved_fields(
     found: &mut FieldNameList,
     fields: &[FieldName],
     token: usize,
-    same: SameTokens,
+    same: SameParts,
 ) -> Result<(), AllocError>
     ensures { OnOk result (found.new.items
         ≡ found.old.items ++ map (moved_field same) (fields_from token fields.now)) }
@@ -307,8 +307,8 @@ fn declared_fields(alloc: Global, resolved: &Resolved<'_>) -> Result<FieldNameLi
     ensures { IfOk result (λ found. found.items ≡ declared_fields resolved.now.module_read) }
 {
     let mut found = Vec::new(alloc);
-    let mut made = 0;
-    add_block_declared_fields(&mut found, &mut made, resolved.module().block())?;
+    let mut word_count = 0;
+    add_block_declared_fields(&mut found, &mut word_count, resolved.module().block())?;
     Ok(found)
 }
 
@@ -316,35 +316,35 @@ fn declared_fields(alloc: Global, resolved: &Resolved<'_>) -> Result<FieldNameLi
 /// declare a field. If `declared` is empty, returns an empty list without a walk over the module.
 fn all_fields<'a, 't>(
     alloc: Global,
-    known: &'a DeclarationTable,
+    table: &'a DeclarationTable,
     resolved: &'a Resolved<'t>,
     declared: &[FieldName],
 ) -> Result<FieldNameList, AllocError>
     ensures { IfOk result (λ found. found.items
         ≡ all_if_declared declared.now
-        (fields_in_module (meanings_by_token (declared_object_in known.now) resolved.now)
+        (fields_in_module (meanings_by_token (declared_object_in table.now) resolved.now)
         (tree_of resolved.now.module_read))) }
 {
     if declared.is_empty() {
         Ok(Vec::new(alloc))
     } else {
-        find_fields(alloc, known, resolved)
+        find_fields(alloc, table, resolved)
     }
 }
 
 /// Walks a module and returns all its field identifiers, in text order.
 fn find_fields<'a, 't>(
     alloc: Global,
-    known: &'a DeclarationTable,
+    table: &'a DeclarationTable,
     resolved: &'a Resolved<'t>,
 ) -> Result<FieldNameList, AllocError>
     ensures { IfOk result (λ found. found.items
-        ≡ fields_in_module (meanings_by_token (declared_object_in known.now) resolved.now)
+        ≡ fields_in_module (meanings_by_token (declared_object_in table.now) resolved.now)
         (tree_of resolved.now.module_read)) }
 {
-    let walk = FieldWalk { known, resolved };
+    let walk = FieldWalk { table, resolved };
     let mut found = Vec::new(alloc);
-    let mut made = 0;
-    walk.add_block_fields(&mut found, &mut made, resolved.module().block())?;
+    let mut word_count = 0;
+    walk.add_block_fields(&mut found, &mut word_count, resolved.module().block())?;
     Ok(found)
 }

@@ -3,11 +3,11 @@
 ghost use Rattle.std.specs.Prelude.{◌≡◌, ◌≤◌, IfOk, None, Some, false, if◌then◌else◌, length, nat_lt, true};
 ghost use Rattle.std.specs.List.{position_from};
 ghost use Rattle.std.specs.List.Sorted.{IsNonDecreasingBy, IsPartitionPoint};
-ghost use Rattle.ob0_tree.specs.Places.{text_at};
+ghost use Rattle.ob0_tree.specs.Places.{token_text_at};
 ghost use Rattle.ob0_language_names.specs.Names.{same_name};
 ghost use Rattle.ob0_scope_table.specs.Resolution.{span_at};
-ghost use Rattle.ob0_scope_table.specs.Spans.{is_on};
-ghost use Rattle.ob0_types_fields.specs.Identifiers.{AreInTextOrder, field_at_offset, first, belongs_to_field, field_tokens_of_record, tokens_of_field};
+ghost use Rattle.ob0_scope_table.specs.Spans.{is_on_span};
+ghost use Rattle.ob0_types_fields.specs.Identifiers.{AreInTextOrder, field_at_offset, first_token, belongs_to_field, field_tokens_of_record, tokens_of_field};
 
 use crate::field_name::FieldName;
 use ob0_scan::{Span, Tokens};
@@ -46,9 +46,9 @@ fn count_ended_before(tokens: &Tokens, offset: usize, found: &[FieldName]) -> us
 /// Returns the identifier `field` if it contains the byte offset `offset` or ends there, otherwise
 /// None.
 fn field_if_at_offset(tokens: &Tokens, offset: usize, field: FieldName) -> Option<FieldName>
-    ensures { result ≡ (if is_on offset (span_at tokens.now field.token) then Some field else None) }
+    ensures { result ≡ (if is_on_span offset (span_at tokens.now field.token) then Some field else None) }
 {
-    if is_on(offset, token_span(tokens, field.token)) {
+    if is_on_span(offset, token_span(tokens, field.token)) {
         Some(field)
     } else {
         None
@@ -56,8 +56,8 @@ fn field_if_at_offset(tokens: &Tokens, offset: usize, field: FieldName) -> Optio
 }
 
 /// Returns whether the byte offset `offset` lies within the span or at the span's end.
-fn is_on(offset: usize, span: Span) -> bool
-    ensures { result ≡ is_on offset span }
+fn is_on_span(offset: usize, span: Span) -> bool
+    ensures { result ≡ is_on_span offset span }
 {
     span.start as usize <= offset && offset <= span.end as usize
 }
@@ -72,7 +72,7 @@ pub(crate) fn position_in_record(
     name: &str,
 ) -> Option<usize>
     ensures { result
-        ≡ position_from (λ token. same_name (text_at tokens.now token) name.now) 0
+        ≡ position_from (λ token. same_name (token_text_at tokens.now token) name.now) 0
         (field_tokens_of_record owner fields.now) }
 {
     let mut place = 0;
@@ -118,7 +118,7 @@ pub(crate) fn first_token_of_field(
     owner: usize,
     name: &str,
 ) -> Option<usize>
-    ensures { result ≡ first (tokens_of_field tokens.now owner name.now fields.now) }
+    ensures { result ≡ first_token (tokens_of_field tokens.now owner name.now fields.now) }
 {
     for field in fields {
         if belongs_to_field(tokens, *field, owner, name) {

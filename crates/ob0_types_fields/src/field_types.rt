@@ -11,7 +11,7 @@
 //!
 //! Each function of the walk visits one part of the module. It takes the state of the search before
 //! this part and returns the state after this part (`Search`). So all the functions' contracts have
-//! the same form (`after_constructors`). When the type is found, the remaining procedures are
+//! the same form (`state_after_constructors`). When the type is found, the remaining procedures are
 //! skipped.
 
 ghost use Rattle.std.specs.Prelude.{◌≡◌, List, None, option_and_then, option_map};
@@ -21,13 +21,13 @@ ghost use Rattle.ob0_types_table.specs.KnownTables.{declared_object_in, shapes_o
 ghost use Rattle.ob0_types_table.specs.Tables.{type_shape};
 ghost use Rattle.ob0_language_values.specs.Values.{Shape, integer_shape};
 ghost use Rattle.ob0_types_fields.specs.FieldTypes.{constructed_types, constructed_type_by_objects, typed_field_by_objects};
-ghost use Rattle.ob0_types_fields.specs.Search.{after_constructors, after_constructor, constructor_walk_meanings, search_view, search_view_in_walk, shape_in_walk, typed_field_view};
+ghost use Rattle.ob0_types_fields.specs.Search.{state_after_constructors, state_after_constructor, constructor_walk_meanings, search_view, search_view_in_walk, shape_in_walk, typed_field_view};
 
 use crate::field_name::FieldName;
 use ob0_scope_table::Resolved;
 use ob0_tree::{
     Block, FieldGroup, Fields, ParameterSection, Procedure, RecordType, TypeDeclaration,
-    VariableDeclaration, WrittenType, text_at,
+    VariableDeclaration, WrittenType, token_text_at,
 };
 use ob0_types_table::{DeclarationTable, FieldId, TypeId};
 
@@ -35,42 +35,42 @@ use ob0_types_table::{DeclarationTable, FieldId, TypeId};
 #[derive(Clone, Copy)]
 pub struct TypedField {
     pub field: FieldId,
-    pub of: TypeId,
+    pub type_id: TypeId,
 }
 
 /// Returns the field that an identifier belongs to, with the field's type. Looks for the field in
-/// the record whose ordinal is `identifier.owner`. `known` is the table of the module's
+/// the record whose ordinal is `identifier.owner`. `table` is the table of the module's
 /// declarations. Returns None if this record or the field isn't found.
 pub fn typed_field<'a, 't>(
-    known: &'a DeclarationTable,
+    table: &'a DeclarationTable,
     resolved: &'a Resolved<'t>,
     identifier: FieldName,
 ) -> Option<TypedField>
-    ensures { option_map (typed_field_view (shapes_of known.now)) result
-        ≡ typed_field_by_objects (declared_object_in known.now) resolved.now identifier }
+    ensures { option_map (typed_field_view (shapes_of table.now)) result
+        ≡ typed_field_by_objects (declared_object_in table.now) resolved.now identifier }
 {
-    let base = constructed_type(known, resolved, identifier.owner)?;
-    let name = text_at(resolved.tokens(), identifier.token);
-    let field = known.field(base, name)?;
-    let of = known.field_type(base, name)?;
-    Some(TypedField { field, of })
+    let base = constructed_type(table, resolved, identifier.owner)?;
+    let name = token_text_at(resolved.tokens(), identifier.token);
+    let field = table.field(base, name)?;
+    let of = table.field_type(base, name)?;
+    Some(TypedField { field, type_id: of })
 }
 
 /// Returns the type that the ARRAY or RECORD with the ordinal `ordinal` constructs. The words ARRAY
 /// and RECORD of a module are numbered together from 0, in text order. Returns None if the module
 /// has no such word or the constructed type is unknown.
 fn constructed_type<'a, 't>(
-    known: &'a DeclarationTable,
+    table: &'a DeclarationTable,
     resolved: &'a Resolved<'t>,
     ordinal: usize,
 ) -> Option<TypeId>
-    ensures { option_map (type_shape (shapes_of known.now)) result
-        ≡ constructed_type_by_objects (declared_object_in known.now) resolved.now ordinal }
+    ensures { option_map (type_shape (shapes_of table.now)) result
+        ≡ constructed_type_by_objects (declared_object_in table.now) resolved.now ordinal }
 {
-    let walk = ConstructorWalk { known, resolved };
-    match walk.search_block(Search::Before(ordinal), resolved.module().block()) {
+    let walk = ConstructorWalk { table, resolved };
+    match walk.search_block(Search::Skipping(ordinal), resolved.module().block()) {
         Search::Found(of) => of,
-        Search::Before(_) => None,
+        Search::Skipping(_) => None,
     }
 }
 
@@ -78,7 +78,7 @@ fn constructed_type<'a, 't>(
 #[derive(Clone, Copy)]
 enum Search {
     /// The word isn't found yet: this many words ARRAY and RECORD must be skipped first.
-    Before(usize),
+    Skipping(usize),
     /// The word is found: the type that it constructs, or None if this type is unknown.
     Found(Option<TypeId>),
 }
@@ -89,15 +89,15 @@ impl Search {
     fn pass_constructor(self, of: Option<TypeId>) -> Search
         ensures { (shapes : List Shape)
             → search_view shapes result
-            ≡ after_constructor (search_view shapes self) (option_map (type_shape shapes) of) }
+            ≡ state_after_constructor (search_view shapes self) (option_map (type_shape shapes) of) }
     {
         match self {
             Search::Found(found) => Search::Found(found),
-            Search::Before(n) => {
+            Search::Skipping(n) => {
                 if n == 0 {
                     Search::Found(of)
                 } else {
-                    Search::Before(n - 1)
+                    Search::Skipping(n - 1)
                 }
             }
         }
@@ -107,7 +107,7 @@ impl Search {
 /// The module in which an ARRAY or RECORD is searched, with the table of the module's declarations.
 #[derive(Clone, Copy)]
 struct ConstructorWalk<'a, 't> {
-    known: &'a DeclarationTable,
+    table: &'a DeclarationTable,
     resolved: &'a Resolved<'t>,
 }
 
@@ -120,27 +120,27 @@ impl<'a, 't> ConstructorWalk<'a, 't> {
             ≡ type_of_object ((constructor_walk_meanings self.now).object_for token) }
     {
         let ordinal = self.resolved.ordinal_at(token)?;
-        self.known.declared_type(ordinal)
+        self.table.declared_type(ordinal)
     }
 
     /// Returns the element type of the array type `of`. Returns None if `of` isn't an array type.
-    fn element(&self, of: Option<TypeId>) -> Option<TypeId>
+    fn element_type_of(&self, of: Option<TypeId>) -> Option<TypeId>
         ensures { shape_in_walk self.now result
             ≡ option_and_then (λ a. element_type a integer_shape) (shape_in_walk self.now of) }
     {
-        self.known.element(of?)
+        self.table.element(of?)
     }
 
     /// Returns the type of a field in the record type `of`. The field's name is the identifier at
     /// token `name`. Returns None if `of` isn't a record type with such a field, or if the field's
     /// type is unknown.
-    fn field(&self, of: Option<TypeId>, name: usize) -> Option<TypeId>
+    fn field_type_of(&self, of: Option<TypeId>, name: usize) -> Option<TypeId>
         ensures { shape_in_walk self.now result
             ≡ option_and_then (λ r. field_type r ((constructor_walk_meanings self.now).written name))
             (shape_in_walk self.now of) }
     {
-        self.known
-            .field_type(of?, text_at(self.resolved.tokens(), name))
+        self.table
+            .field_type(of?, token_text_at(self.resolved.tokens(), name))
     }
 
     /// Returns the state of the search after the words ARRAY and RECORD of the written type `t`.
@@ -148,13 +148,17 @@ impl<'a, 't> ConstructorWalk<'a, 't> {
     #[cycle(types)]
     fn search_type(&self, search: Search, of: Option<TypeId>, t: &WrittenType) -> Search
         ensures { search_view_in_walk self.now result
-            ≡ after_constructors (search_view_in_walk self.now search)
+            ≡ state_after_constructors (search_view_in_walk self.now search)
             (constructed_types (constructor_walk_meanings self.now) (shape_in_walk self.now of) (type_of t.now)) }
     {
         match t {
             WrittenType::Named(_) => search,
             WrittenType::Array(a) => {
-                self.search_type(search.pass_constructor(of), self.element(of), &a.element)
+                self.search_type(
+                    search.pass_constructor(of),
+                    self.element_type_of(of),
+                    &a.element,
+                )
             }
             WrittenType::Record(r) => self.search_record(search, of, r),
         }
@@ -166,7 +170,7 @@ impl<'a, 't> ConstructorWalk<'a, 't> {
     #[cycle(types)]
     fn search_record(&self, search: Search, of: Option<TypeId>, r: &RecordType) -> Search
         ensures { search_view_in_walk self.now result
-            ≡ after_constructors (search_view_in_walk self.now search)
+            ≡ state_after_constructors (search_view_in_walk self.now search)
             (constructed_types (constructor_walk_meanings self.now) (shape_in_walk self.now of) (record_type_of r.now)) }
     {
         let mut search = search.pass_constructor(of);
@@ -181,21 +185,21 @@ impl<'a, 't> ConstructorWalk<'a, 't> {
     #[cycle(types)]
     fn search_group(&self, search: Search, of: Option<TypeId>, f: &Fields) -> Search
         ensures { search_view_in_walk self.now result
-            ≡ after_constructors (search_view_in_walk self.now search)
+            ≡ state_after_constructors (search_view_in_walk self.now search)
             (constructed_types (constructor_walk_meanings self.now) (shape_in_walk self.now of) (fields_of f.now)) }
     {
         match f {
             Fields::Empty => search,
             Fields::Listed(l) => {
                 let l: &FieldGroup = l;
-                self.search_type(search, self.field(of, l.names.first), &l.written)
+                self.search_type(search, self.field_type_of(of, l.names.first), &l.written)
             }
         }
     }
 
     fn search_type_section(&self, search: Search, declared: &Option<Vec<TypeDeclaration>>) -> Search
         ensures { search_view_in_walk self.now result
-            ≡ after_constructors (search_view_in_walk self.now search)
+            ≡ state_after_constructors (search_view_in_walk self.now search)
             (constructed_types (constructor_walk_meanings self.now) None (types_of declared.now)) }
     {
         let Some(declared) = declared else {
@@ -214,7 +218,7 @@ impl<'a, 't> ConstructorWalk<'a, 't> {
         declared: &Option<Vec<VariableDeclaration>>,
     ) -> Search
         ensures { search_view_in_walk self.now result
-            ≡ after_constructors (search_view_in_walk self.now search)
+            ≡ state_after_constructors (search_view_in_walk self.now search)
             (constructed_types (constructor_walk_meanings self.now) None (variables_of declared.now)) }
     {
         let Some(declared) = declared else {
@@ -229,7 +233,7 @@ impl<'a, 't> ConstructorWalk<'a, 't> {
 
     fn search_formals(&self, search: Search, sections: &Option<Vec<ParameterSection>>) -> Search
         ensures { search_view_in_walk self.now result
-            ≡ after_constructors (search_view_in_walk self.now search)
+            ≡ state_after_constructors (search_view_in_walk self.now search)
             (constructed_types (constructor_walk_meanings self.now) None (formals_of sections.now)) }
     {
         let Some(sections) = sections else {
@@ -245,7 +249,7 @@ impl<'a, 't> ConstructorWalk<'a, 't> {
     /// Returns the state of the search after the type of one section of parameters.
     fn search_section(&self, search: Search, s: &ParameterSection) -> Search
         ensures { search_view_in_walk self.now result
-            ≡ after_constructors (search_view_in_walk self.now search)
+            ≡ state_after_constructors (search_view_in_walk self.now search)
             (constructed_types (constructor_walk_meanings self.now) None (section_of s.now)) }
     {
         self.search_type(search, self.declared_type(s.names.first), &s.written)
@@ -255,7 +259,7 @@ impl<'a, 't> ConstructorWalk<'a, 't> {
     #[cycle(blocks)]
     fn search_block(&self, search: Search, b: &Block) -> Search
         ensures { search_view_in_walk self.now result
-            ≡ after_constructors (search_view_in_walk self.now search)
+            ≡ state_after_constructors (search_view_in_walk self.now search)
             (constructed_types (constructor_walk_meanings self.now) None (block_of b.now)) }
     {
         let mut search = self.search_type_section(search, &b.types);
@@ -269,12 +273,12 @@ impl<'a, 't> ConstructorWalk<'a, 't> {
     #[cycle(blocks)]
     fn search_procedure(&self, search: Search, p: &Procedure) -> Search
         ensures { search_view_in_walk self.now result
-            ≡ after_constructors (search_view_in_walk self.now search)
+            ≡ state_after_constructors (search_view_in_walk self.now search)
             (constructed_types (constructor_walk_meanings self.now) None (procedure_of p.now)) }
     {
         match search {
             Search::Found(of) => Search::Found(of),
-            Search::Before(_) => self.search_block(
+            Search::Skipping(_) => self.search_block(
                 self.search_formals(search, &p.formals),
                 &p.block,
             ),

@@ -25,7 +25,7 @@ use crate::field_name::{FieldName, FieldNameList};
 use ob0_scope_table::Resolved;
 use ob0_tree::{
     Assignment, Block, Call, CompoundExpression, Designator, Elsif, Expression, Factor, If,
-    Procedure, Repeat, Selector, SimpleExpression, Statement, Term, While, text_at,
+    Procedure, Repeat, Selector, SimpleExpression, Statement, Term, While, token_text_at,
 };
 use ob0_types_table::{DeclarationTable, Object, Parts, RecordShape, TypeId, scalar_type};
 use std::alloc::AllocError;
@@ -33,7 +33,7 @@ use std::alloc::AllocError;
 /// The module whose fields are collected, with the table of its declarations.
 #[derive(Clone, Copy)]
 pub(crate) struct FieldWalk<'a, 't> {
-    pub(crate) known: &'a DeclarationTable,
+    pub(crate) table: &'a DeclarationTable,
     pub(crate) resolved: &'a Resolved<'t>,
 }
 
@@ -42,11 +42,11 @@ impl<'a, 't> FieldWalk<'a, 't> {
     /// is bound to. Returns None if the name is unbound, bound to a constant with an error, or
     /// bound to anything else.
     fn value_type(&self, token: usize) -> Option<TypeId>
-        ensures { option_map (type_shape (shapes_of self.now.known.now)) result
+        ensures { option_map (type_shape (shapes_of self.now.table.now)) result
             ≡ object_type ((field_walk_meanings self.now).object_for token) }
     {
         let ordinal = self.resolved.ordinal_at(token)?;
-        match self.known.object(ordinal)? {
+        match self.table.object(ordinal)? {
             Object::Variable(of) => Some(*of),
             Object::Constant(value) => Some(scalar_type(*value)),
             Object::Named(_) => None,
@@ -68,17 +68,17 @@ impl<'a, 't> FieldWalk<'a, 't> {
         ensures found { IfOk result (λ _. found.new.items
             ≡ found.old.items
             ++ field_if_owned name
-            (owner (option_map (type_shape (shapes_of self.now.known.now)) base)
+            (owner (option_map (type_shape (shapes_of self.now.table.now)) base)
             ((field_walk_meanings self.now).written name))) }
         ensures following { IfOk result (λ t.
-            option_map (type_shape (shapes_of self.now.known.now)) t
+            option_map (type_shape (shapes_of self.now.table.now)) t
             ≡ option_and_then (λ z. field_type z ((field_walk_meanings self.now).written name))
-            (option_map (type_shape (shapes_of self.now.known.now)) base)) }
+            (option_map (type_shape (shapes_of self.now.table.now)) base)) }
     {
         let Some(base) = base else {
             return Ok(None);
         };
-        match self.known.parts(base) {
+        match self.table.parts(base) {
             Parts::Record(shape) => self.add_record_selection(found, shape, name),
             Parts::Integer => Ok(None),
             Parts::Boolean => Ok(None),
@@ -100,11 +100,14 @@ impl<'a, 't> FieldWalk<'a, 't> {
             ++ field_if_owned name (owner (Some (record_shape_in self.now shape.now))
             ((field_walk_meanings self.now).written name))) }
         ensures following { IfOk result (λ t.
-            option_map (type_shape (shapes_of self.now.known.now)) t
+            option_map (type_shape (shapes_of self.now.table.now)) t
             ≡ field_type (record_shape_in self.now shape.now)
             ((field_walk_meanings self.now).written name)) }
     {
-        match shape.fields.find(text_at(self.resolved.tokens(), name)) {
+        match shape
+            .fields
+            .find(token_text_at(self.resolved.tokens(), name))
+        {
             None => Ok(None),
             Some(of) => {
                 let owner = shape.ordinal;
@@ -116,14 +119,14 @@ impl<'a, 't> FieldWalk<'a, 't> {
 
     /// Returns the element type of the array type `base`. Returns None if `base` is unknown (None)
     /// or isn't an array type.
-    fn element(&self, base: Option<TypeId>) -> Option<TypeId>
-        ensures { option_map (type_shape (shapes_of self.now.known.now)) result
+    fn element_type_of(&self, base: Option<TypeId>) -> Option<TypeId>
+        ensures { option_map (type_shape (shapes_of self.now.table.now)) result
             ≡ option_and_then (λ z. element_type z integer_shape)
-            (option_map (type_shape (shapes_of self.now.known.now)) base) }
+            (option_map (type_shape (shapes_of self.now.table.now)) base) }
     {
         match base {
             None => None,
-            Some(base) => self.known.element(base),
+            Some(base) => self.table.element(base),
         }
     }
 
@@ -232,17 +235,17 @@ impl<'a, 't> FieldWalk<'a, 't> {
         ensures found { IfOk result (λ _. found.new.items
             ≡ found.old.items
             ++ fields_in_selector (field_walk_meanings self.now)
-            (option_map (type_shape (shapes_of self.now.known.now)) base) (selector_of s.now)) }
+            (option_map (type_shape (shapes_of self.now.table.now)) base) (selector_of s.now)) }
         ensures following { IfOk result (λ t.
-            option_map (type_shape (shapes_of self.now.known.now)) t
+            option_map (type_shape (shapes_of self.now.table.now)) t
             ≡ type_after_selector (field_walk_meanings self.now)
-            (option_map (type_shape (shapes_of self.now.known.now)) base) (selector_of s.now)) }
+            (option_map (type_shape (shapes_of self.now.table.now)) base) (selector_of s.now)) }
     {
         match s {
             Selector::Field(name) => self.add_selected_field(found, base, *name),
             Selector::Index(e) => {
                 self.add_expression_fields(found, e)?;
-                Ok(self.element(base))
+                Ok(self.element_type_of(base))
             }
         }
     }
@@ -373,48 +376,48 @@ impl<'a, 't> FieldWalk<'a, 't> {
     }
 
     /// Appends the field identifiers in a block: first the identifiers in its declarations and
-    /// procedures, then the identifiers in its statements. `made` counts the words ARRAY and
-    /// RECORD that precede the block in the module. On return, `made` also counts the words
+    /// procedures, then the identifiers in its statements. `word_count` counts the words ARRAY and
+    /// RECORD that precede the block in the module. On return, `word_count` also counts the words
     /// in the block.
     #[cycle(blocks)]
     pub(crate) fn add_block_fields(
         &self,
         found: &mut FieldNameList,
-        made: &mut usize,
+        word_count: &mut usize,
         b: &Block,
     ) -> Result<(), AllocError>
         ensures found { IfOk result (λ _. found.new.items
             ≡ found.old.items
-            ++ fields_in_block (field_walk_meanings self.now) made.old (block_of b.now)) }
-        ensures made { IfOk result (λ _. made.new
-            ≡ made.old + block_constructor_count (block_of b.now)) }
+            ++ fields_in_block (field_walk_meanings self.now) word_count.old (block_of b.now)) }
+        ensures word_count { IfOk result (λ _. word_count.new
+            ≡ word_count.old + block_constructor_count (block_of b.now)) }
     {
-        add_type_section_fields(found, made, &b.types)?;
-        add_variable_section_fields(found, made, &b.variables)?;
+        add_type_section_fields(found, word_count, &b.types)?;
+        add_variable_section_fields(found, word_count, &b.variables)?;
         for p in &b.procedures {
-            self.add_procedure_fields(found, made, p)?;
+            self.add_procedure_fields(found, word_count, p)?;
         }
         self.add_body_fields(found, &b.body)
     }
 
-    /// Appends the fields that a procedure declares and selects. `made` counts the words
-    /// ARRAY and RECORD that precede the procedure in the module. On return, `made` also
+    /// Appends the fields that a procedure declares and selects. `word_count` counts the words
+    /// ARRAY and RECORD that precede the procedure in the module. On return, `word_count` also
     /// counts the words in the procedure.
     #[cycle(blocks)]
     fn add_procedure_fields(
         &self,
         found: &mut FieldNameList,
-        made: &mut usize,
+        word_count: &mut usize,
         p: &Procedure,
     ) -> Result<(), AllocError>
         ensures found { IfOk result (λ _. found.new.items
             ≡ found.old.items
-            ++ fields_in_procedure (field_walk_meanings self.now) made.old
+            ++ fields_in_procedure (field_walk_meanings self.now) word_count.old
             (procedure_of p.now)) }
-        ensures made { IfOk result (λ _. made.new
-            ≡ made.old + procedure_constructor_count (procedure_of p.now)) }
+        ensures word_count { IfOk result (λ _. word_count.new
+            ≡ word_count.old + procedure_constructor_count (procedure_of p.now)) }
     {
-        add_formal_fields(found, made, &p.formals)?;
-        self.add_block_fields(found, made, &p.block)
+        add_formal_fields(found, word_count, &p.formals)?;
+        self.add_block_fields(found, word_count, &p.block)
     }
 }

@@ -5,21 +5,21 @@
 
 ghost use Rattle.ob0_types_fields.specs.FieldTypes.{FieldsHaveTypes};
 ghost use Rattle.ob0_types_fields.specs.Identifiers.{DuplicateHasDeclaringToken, FieldsAreDeclared, FieldsMatchGrammar, RenamingChangesFieldTokens};
-ghost use Rattle.ob0_types_fields.specs.Owned.{WalkFindsAllFields, ListedOwnersAreComplete, FieldsGiveAllOwners};
+ghost use Rattle.ob0_types_fields.specs.Owned.{WalkFindsAllFields, AgreeingTableIsOwnerTable, EnteredFieldsCompleteOwnerTable};
 ghost use Rattle.ob0_types_fields.specs.Owners.{RenamingFollowsOwners};
 
 /// Proves that a table is an owner table of a well-typed module if it agrees with the list
 /// `owners_in_resolution`. At the token of each identifier, the table and the list must give the
 /// same owner. The list is computed from the objects of declarations.
-pub fn listed_owners_are_complete()
-    ensures { ListedOwnersAreComplete }
+pub fn agreeing_table_is_owner_table()
+    ensures { AgreeingTableIsOwnerTable }
 {}
 
 /// Proves that a table is an owner table of a well-typed module once the owners of all its field
 /// identifiers are entered in the table. Before that, the table must have one entry for each token
 /// and no owners.
-pub fn fields_give_all_owners()
-    ensures { FieldsGiveAllOwners }
+pub fn entered_fields_complete_owner_table()
+    ensures { EnteredFieldsCompleteOwnerTable }
 {}
 
 /// Proves that the code's walk over a module finds exactly the identifiers that have an owner, in

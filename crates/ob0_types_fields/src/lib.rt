@@ -11,6 +11,6 @@ mod field_types;
 mod field_walk;
 pub mod laws;
 
-pub use field_lists::FieldList;
+pub use field_lists::ModuleFields;
 pub use field_name::FieldName;
 pub use field_types::{TypedField, typed_field};

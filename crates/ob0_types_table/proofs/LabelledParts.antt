@@ -33,7 +33,7 @@ further_listed : (r : Resolution) (es : List Expression) → further_arguments (
 further_listed r [] = refl
 further_listed r (e ∷ es) = ap (λ z. tree_with_labels r (expression_of e) ∷ z) (further_listed r es)
 
-pub all_listed : (r : Resolution) (es : List Expression) → arguments_listed (tree_with_labels r (one (view.arguments_listed es))) ≡ labelled_expressions r es
+pub all_listed : (r : Resolution) (es : List Expression) → arguments_listed (tree_with_labels r (one (view.arguments_of_list es))) ≡ labelled_expressions r es
 all_listed r [] = refl
 all_listed r (e ∷ es) = ap (λ z. tree_with_labels r (expression_of e) ∷ z) (further_listed r es)
 

@@ -10,13 +10,13 @@ use Rattle.ob0_scan.specs.declared.lexeme.LexemeKind.TheVariants as lexeme
 use Rattle.ob0_scan.specs.Classes.{IsLexemeOfKind}
 use Rattle.ob0_scan.specs.Lexed.{AreLexemes, Lexeme}
 use Rattle.ob0_scan.specs.TextWithTokens.{IsScan, TextWithTokens, span_from, token_at, tokens_from}
-use Rattle.ob0_tree.specs.Places.{value_at, token_value_or_zero, kind_value_or_zero}
+use Rattle.ob0_tree.specs.Places.{token_value_at, token_value_or_zero, kind_value_or_zero}
 
-pub value_at-read : (s : TextWithTokens) (i : ℕ) (d : Token) → i < length s.tokens → value_at s i ≡ kind_value_or_zero (get_or s.tokens i d).kind
-value_at-read s i d less = ap token_value_or_zero (slice_get-get_or s.tokens i d less)
+pub token_value_at-read : (s : TextWithTokens) (i : ℕ) (d : Token) → i < length s.tokens → token_value_at s i ≡ kind_value_or_zero (get_or s.tokens i d).kind
+token_value_at-read s i d less = ap token_value_or_zero (slice_get-get_or s.tokens i d less)
 
-pub value_at-past : (s : TextWithTokens) (i : ℕ) → length s.tokens ≤ i → value_at s i ≡ 0
-value_at-past s i past = ap token_value_or_zero (slice_get_past s.tokens i past)
+pub token_value_at-past : (s : TextWithTokens) (i : ℕ) → length s.tokens ≤ i → token_value_at s i ≡ 0
+token_value_at-past s i past = ap token_value_or_zero (slice_get_past s.tokens i past)
 
 small_kind : (kind : TokenKind) (text : List ℕ) → IsLexemeOfKind (lexeme.Token kind) text → kind_value_or_zero kind ≤ 2147483647
 small_kind token.Identifier text h = omega arith

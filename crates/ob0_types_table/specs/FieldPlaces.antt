@@ -13,9 +13,9 @@ position_of_field (next_field_shape y s rest) x =
 
 -- returns the field that the name `x` selects in a type: the record's ordinal, and the field's position in the record;
 -- None if the type is no record with such a field
-abbrev pub field_selected : Shape → Name → Option FieldId
-field_selected (record_shape k fs) x =
+abbrev pub selected_field : Shape → Name → Option FieldId
+selected_field (record_shape k fs) x =
     option_map (λ i. record { ordinal = k; index = i }) (position_of_field fs x)
-field_selected (array_shape k n s) x = None
-field_selected integer_shape x = None
-field_selected boolean_shape x = None
+selected_field (array_shape k n s) x = None
+selected_field integer_shape x = None
+selected_field boolean_shape x = None

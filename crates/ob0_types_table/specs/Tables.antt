@@ -15,7 +15,7 @@ use Rattle.ob0_types_table.specs.declared.known.StandardProcedure as standard
 use Rattle.ob0_types_table.specs.declared.known.StandardProcedure.TheVariants as standards
 use Rattle.ob0_types_table.specs.declared.known.Object as declaration
 use Rattle.ob0_types_table.specs.declared.known.Object.TheVariants as kind
-use Rattle.ob0_language_types.specs.Expressions.{Object, StandardProcedure, a_constant, a_procedure, a_standard, a_type, a_variable, reads, writes, writes_line}
+use Rattle.ob0_language_types.specs.Expressions.{Object, StandardProcedure, a_constant, a_procedure, a_standard, a_type, a_variable, read_procedure, write_procedure, write_line_procedure}
 use Rattle.ob0_language_types.specs.Typing.{depth, scalars}
 use Rattle.ob0_language_types.specs.WellTyped.{FormalParameter, Mode, Signature, by_place, by_value}
 
@@ -106,9 +106,9 @@ formal_view shapes f = record { mode = mode_of f.by_place; shape = type_shape sh
 
 -- converts a standard procedure of the code to a standard procedure of the definitions
 abbrev pub standard_of : standard.StandardProcedure → StandardProcedure
-standard_of standards.Read = reads
-standard_of standards.Write = writes
-standard_of standards.WriteLn = writes_line
+standard_of standards.Read = read_procedure
+standard_of standards.Write = write_procedure
+standard_of standards.WriteLn = write_line_procedure
 
 -- converts an object of the table to an object of the definitions; returns None for a constant with
 -- a fault

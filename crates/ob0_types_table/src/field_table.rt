@@ -29,7 +29,7 @@ struct FirstField {
 #[derive(Drop)]
 pub struct FieldTable {
     fields: Vec<Field>,
-    first_fields: BTreeMap<String, FirstField>,
+    first_field_by_name: BTreeMap<String, FirstField>,
 }
 
 impl Model for FieldTable {
@@ -42,12 +42,15 @@ impl Model for FieldTable {
 
     ghost view = { λ t. t.fields.items };
 
-    ghost invariant = { λ t. IsFieldIndex t.first_fields t.fields.items };
+    ghost invariant = { λ t. IsFieldIndex t.first_field_by_name t.fields.items };
 }
 
 /// Returns a map from each name to the first field with this name. The map is filled starting at
 /// the last field, so that an earlier field replaces a later one with the same name.
-fn first_fields(alloc: Global, fields: &[Field]) -> Result<BTreeMap<String, FirstField>, AllocError>
+fn first_field_by_name(
+    alloc: Global,
+    fields: &[Field],
+) -> Result<BTreeMap<String, FirstField>, AllocError>
     ensures { IfOk result (λ m. IsFieldIndex m fields.now) }
 {
     let mut first = BTreeMap::new(alloc);
@@ -69,10 +72,10 @@ impl FieldTable {
     pub fn new(fields: Vec<Field>) -> Result<FieldTable, AllocError>
         ensures { IfOk result (λ t. t ≡ fields.items) }
     {
-        let first = first_fields(*fields.allocator(), fields.as_slice())?;
+        let first = first_field_by_name(*fields.allocator(), fields.as_slice())?;
         Ok(FieldTable {
             fields,
-            first_fields: first,
+            first_field_by_name: first,
         })
     }
 
@@ -90,7 +93,7 @@ impl FieldTable {
             → option_map (type_shape shapes) result
             ≡ shape_of_field (field_shapes shapes self.now) name.now }
     {
-        match self.first_fields.get(name) {
+        match self.first_field_by_name.get(name) {
             None => None,
             Some(first) => Some(first.of),
         }
@@ -102,7 +105,7 @@ impl FieldTable {
         ensures { (shapes : List shape.Shape)
             → result ≡ position_of_field (field_shapes shapes self.now) name.now }
     {
-        match self.first_fields.get(name) {
+        match self.first_field_by_name.get(name) {
             None => None,
             Some(first) => Some(first.place),
         }

@@ -9,7 +9,7 @@
 
 ghost use Rattle.std.specs.Prelude.{◌≡◌, List, option_map};
 ghost use Rattle.ob0_language_values.specs.Values as shape;
-ghost use Rattle.ob0_types_table.specs.FieldPlaces.{field_selected};
+ghost use Rattle.ob0_types_table.specs.FieldPlaces.{selected_field};
 ghost use Rattle.ob0_types_table.specs.Tables.{field_shapes};
 
 use crate::field_table::FieldTable;
@@ -112,7 +112,7 @@ impl RecordShape {
     fn field(&self, name: &str) -> Option<FieldId>
         ensures { (shapes : List shape.Shape)
             → result
-            ≡ field_selected
+            ≡ selected_field
             (shape.record_shape self.now.ordinal (field_shapes shapes self.now.fields)) name.now }
     {
         match self.fields.index_of_name(name) {
@@ -269,7 +269,7 @@ impl DeclarationTable {
     /// Returns the first field with this name in a record type: the record's ordinal, and the
     /// field's position. Returns None if the type is no record with such a field.
     pub fn field(&self, base: TypeId, name: &str) -> Option<FieldId>
-        ensures { result ≡ field_selected (type_shape (shapes_of self.now) base) name.now }
+        ensures { result ≡ selected_field (type_shape (shapes_of self.now) base) name.now }
     {
         match base {
             TypeId::Record(i) => match self.entry(i)? {

@@ -1,7 +1,7 @@
 //! The values of integer tokens.
 
 ghost use Rattle.std.specs.Prelude.{◌≡◌, ◌≤◌, pos};
-ghost use Rattle.ob0_tree.specs.Places.{value_at, kind_value_or_zero};
+ghost use Rattle.ob0_tree.specs.Places.{token_value_at, kind_value_or_zero};
 ghost use Rattle.ob0_scan.specs.Classes.{max_integer};
 
 use ob0_scan::{TokenKind, Tokens};
@@ -9,7 +9,7 @@ use ob0_scan::{TokenKind, Tokens};
 /// Returns the value of an integer token. Returns 0 for any other token, or if there is no such
 /// token.
 pub fn number_at(tokens: &Tokens, token: usize) -> i32
-    ensures { result ≡ pos (value_at tokens.now token) }
+    ensures { result ≡ pos (token_value_at tokens.now token) }
 {
     // The proof needs this call: its contract states the tokens' invariant.
     let _scanned = tokens.text();

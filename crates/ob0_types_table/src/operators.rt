@@ -10,7 +10,7 @@ ghost use Rattle.ob0_language_types.specs.Typing.{outcome_value};
 
 use ob0_language_values::Scalar;
 use ob0_language_values::scalar::{
-    add, add_short_circuits, apply_sign, multiply, multiply_short_circuits, negate, relate,
+    add, add_short_circuits, apply_relation, apply_sign, multiply, multiply_short_circuits, negate,
 };
 use ob0_tree::{AddOperator, MultiplyOperator, Relation, Sign};
 
@@ -22,14 +22,14 @@ pub fn value_of_relation(
     right: Option<Scalar>,
 ) -> Option<Scalar>
     ensures { option_map scalar_value result
-        ≡ apply_to_both (λ x y. outcome_value (values.relate relation x y)) (option_map scalar_value left)
+        ≡ apply_to_both (λ x y. outcome_value (values.apply_relation relation x y)) (option_map scalar_value left)
         (option_map scalar_value right) }
 {
     match left {
         None => None,
         Some(left) => match right {
             None => None,
-            Some(right) => relate(relation, left, right).ok(),
+            Some(right) => apply_relation(relation, left, right).ok(),
         },
     }
 }

@@ -21,26 +21,26 @@ use Rattle.ob0_text.specs.declared.edits.Indent.{Indent}
 use Rattle.ob0_text.specs.declared.position_types.Position.{Position}
 use Rattle.ob0_text.specs.declared.position_types.Range.{Range}
 use Rattle.ob0_text.specs.declared.position_types.Unit.{Unit}
-use Rattle.ob0_text.specs.OpenDocuments.{OpenDocuments, Document, InStep, OutOfStep, DocumentEvent, Opened, Changed, Lost, Closed, TextChange, changed_text, text_of, document, document_at, documents_after_open, documents_after_change, changed_document}
+use Rattle.ob0_text.specs.OpenDocuments.{OpenDocuments, Document, InStep, OutOfStep, DocumentEvent, Opened, Changed, Lost, Closed, TextChange, changed_text, text_if_in_step, document_with_text, document_at, documents_after_open, documents_after_change, changed_document}
 use Rattle.ob0_text.specs.RefusalTexts.{refusal_text}
 use Rattle.ob0_text.specs.declared.refusals.EditRefusal.TheVariants.{TooLong}
 use Rattle.ob0_text.proofs.EntryLaws.{updated-some, updated-none}
 use Rattle.ob0_rpc.specs.Requesting.{code_action, request_by_method}
 use Rattle.ob0_rpc.specs.Faults.{minus}
-use Rattle.ob0_rpc.specs.Messages.{ReadsContent, meaning, meaning_of}
+use Rattle.ob0_rpc.specs.Messages.{ReadsContent, meaning_of_content, meaning_of}
 use Rattle.ob0_rpc.specs.Shapes.{result_message, error_message}
 use Rattle.ob0_rpc.specs.declared.clients.ClientFeatures.{ClientFeatures}
 use Rattle.ob0_edits.specs.Inlinings.{OffersInlining}
 use Rattle.ob0_session_answers.specs.Actions.{RequestedActions, ListsActions, allows_inlining, wants_inlining, actions_offset, actions_array}
 use Rattle.ob0_session_server.specs.Answers as answers_of
-use Rattle.ob0_session_server.specs.Answers.{ServerState, Reply, AreContentsOfReply, Sends, Reaction, react, apply_notification, react_to_notification, react_to_method, react_to_request as requested_in, react_to_known_request, react_about_document, lays_out, renames, offers_actions, publication_reply, Answers, AnswersInPhase, AnswersBeforeEnd, says}
-use Rattle.ob0_analysis.specs.Diagnosed.{Complaint, IsWellTypedModule, Reports, ReportsFaults, complaint_of_fault}
-use Rattle.ob0_session_answers.specs.Diagnostics.{Diagnoses, diagnostic_of}
+use Rattle.ob0_session_server.specs.Answers.{ServerState, Reply, AreContentsOfReply, Sends, Reaction, react, apply_notification, react_to_notification, react_to_method, react_to_request as requested_in, react_to_known_request, react_about_document, formats_text, renames, offers_actions, publication_reply, Answers, AnswersInPhase, AnswersBeforeEnd, says}
+use Rattle.ob0_analysis.specs.Diagnosed.{ReportedDiagnosis, IsWellTypedModule, Reports, ReportsFaults, reported_diagnosis_of_fault}
+use Rattle.ob0_session_answers.specs.Diagnostics.{AreDiagnosticsOf, diagnostic_of}
 use Rattle.ob0_analysis.specs.Texts.{utf8}
 use Rattle.ob0_session_answers.specs.Formatted.{AnswersFormatting}
 use Rattle.ob0_session_answers.specs.Renamed.{RequestedRename, AnswersRenaming}
 use Rattle.ob0_session_json.specs.Shapes.{Diagnostic, diagnostic_value, edit_value, edits_value, document_edit, workspace_edit, publication}
-use Rattle.ob0_world_rules.specs.Answers.{Inlining, Here, Everywhere}
+use Rattle.ob0_world_rules.specs.Answers.{Inlining, OneUse, Everywhere}
 use Rattle.ob0_session_server.specs.declared.session.Phase.TheVariants.{Running}
 use Rattle.ob0_world_editor.specs.MessagesToServer as heard_as
 use Rattle.ob0_world_editor.specs.MessagesToServer.{request_number, notification_for, HasVersionInRange, IsAsk, client_request_for}
@@ -69,34 +69,34 @@ pub going_on : (before after : ServerState) (content : List ℕ) (sent : List (L
 going_on before after content sent running h = subst (λ phase. AnswersInPhase phase before content sent after) running h
 
 -- A content with this meaning has the reaction to that meaning.
-pub reacts_so : (before after : ServerState) (content : List ℕ) (sent : List (List ℕ)) (d : Data) → AnswersBeforeEnd before content sent after → ReadsContent content (Some d) → (after ≡ (react before (meaning_of d)).after) × AreContentsOfReply (react before (meaning_of d)).say sent
+pub reacts_so : (before after : ServerState) (content : List ℕ) (sent : List (List ℕ)) (d : Data) → AnswersBeforeEnd before content sent after → ReadsContent content (Some d) → (after ≡ (react before (meaning_of d)).after) × AreContentsOfReply (react before (meaning_of d)).reply sent
 reacts_so before after content sent d (json, reads, answer) known =
-    subst (λ j. (after ≡ (react before (meaning j)).after) × AreContentsOfReply (react before (meaning j)).say sent) (same_json content json d reads known) answer
+    subst (λ j. (after ≡ (react before (meaning_of_content j)).after) × AreContentsOfReply (react before (meaning_of_content j)).reply sent) (same_json content json d reads known) answer
 
 -- ---- diagnostics
 
-empty_none : (shown : Complaint → Diagnostic) (reported : List Complaint) → reported ≡ [] → has_no_items (items_of (map diagnostic_value (map shown reported))) ≡ true
+empty_none : (shown : ReportedDiagnosis → Diagnostic) (reported : List ReportedDiagnosis) → reported ≡ [] → has_no_items (items_of (map diagnostic_value (map shown reported))) ≡ true
 empty_none shown [] none = refl
 empty_none shown (c ∷ cs) none = absurd (cc)
 
-none_empty : (shown : Complaint → Diagnostic) (reported : List Complaint) → has_no_items (items_of (map diagnostic_value (map shown reported))) ≡ true → reported ≡ []
+none_empty : (shown : ReportedDiagnosis → Diagnostic) (reported : List ReportedDiagnosis) → has_no_items (items_of (map diagnostic_value (map shown reported))) ≡ true → reported ≡ []
 none_empty shown [] h = refl
 none_empty shown (c ∷ cs) h = absurd (cc)
 
-some_reported : (text : List ℕ) (reported : List Complaint) → ReportsFaults text reported → reported ≡ [] → ⊥
+some_reported : (text : List ℕ) (reported : List ReportedDiagnosis) → ReportsFaults text reported → reported ≡ [] → ⊥
 some_reported text reported (inl lexemes) none = go lexemes.faults lexemes.of_text.some (sym lexemes.all ∙ none)
   where
-    go : (faults : _) → 0 < length faults → map complaint_of_fault faults ≡ [] → ⊥
+    go : (faults : _) → 0 < length faults → map reported_diagnosis_of_fault faults ≡ [] → ⊥
     go [] some none = omega (arith, some)
     go (f ∷ fs) some none = cc
 some_reported text reported (inr (inl parser)) none = let other : parser.complaint ∷ [] ≡ [] = sym parser.alone ∙ none in cc
 some_reported text reported (inr (inr types)) none = go types.faults types.some (sym types.all ∙ none)
   where
-    go : (faults : _) → 0 < length faults → map complaint_of_fault faults ≡ [] → ⊥
+    go : (faults : _) → 0 < length faults → map reported_diagnosis_of_fault faults ≡ [] → ⊥
     go [] some none = omega (arith, some)
     go (f ∷ fs) some none = cc
 
-reports_right : (unit : Unit) (text : List ℕ) (ds : List Diagnostic) → Diagnoses unit text ds → IsEmptyIfWellTyped text (has_no_items (items_of (map diagnostic_value ds)))
+reports_right : (unit : Unit) (text : List ℕ) (ds : List Diagnostic) → AreDiagnosticsOf unit text ds → IsEmptyIfWellTyped text (has_no_items (items_of (map diagnostic_value ds)))
 reports_right unit text ds (reported, reporting, is) =
     subst (λ ds. IsEmptyIfWellTyped text (has_no_items (items_of (map diagnostic_value ds)))) (sym is) (go reporting)
   where
@@ -160,12 +160,12 @@ rename_requested client id uri position name version =
 
 -- returns the ask to inline here or everywhere
 abbrev pub inlining_at : Inlining → Position → Ask
-inlining_at Here position = inline_here position
+inlining_at OneUse position = inline_here position
 inlining_at Everywhere position = inline_all position
 
 -- returns the one of two values that belongs to this kind of inlining
 abbrev pub requested_for : {A : Type 0} → Inlining → A → A → A
-requested_for Here here everywhere = here
+requested_for OneUse here everywhere = here
 requested_for Everywhere here everywhere = everywhere
 
 abbrev edits_offered : Option (Vec Edit Global) → List Replacement
@@ -175,20 +175,20 @@ edits_offered None = []
 -- The editor reads the edits of the action that it asked for from the list of offered actions.
 actions_read_back : (how : Inlining) (position : Position) (requested : RequestedActions) (here everywhere : Option (Vec Edit Global))
     → edits_for requested.uri (inlining_at how position) (result_message requested.id (actions_array requested here everywhere)) ≡ edits_offered (requested_for how here everywhere)
-actions_read_back Here position requested (Some edits) everywhere = ap (λ o. unwrap_or o []) (workspace_read_back requested.client requested.uri requested.version edits.items)
-actions_read_back Here position requested None (Some other) = refl
-actions_read_back Here position requested None None = refl
+actions_read_back OneUse position requested (Some edits) everywhere = ap (λ o. unwrap_or o []) (workspace_read_back requested.client requested.uri requested.version edits.items)
+actions_read_back OneUse position requested None (Some other) = refl
+actions_read_back OneUse position requested None None = refl
 actions_read_back Everywhere position requested (Some other) (Some edits) = ap (λ o. unwrap_or o []) (workspace_read_back requested.client requested.uri requested.version edits.items)
 actions_read_back Everywhere position requested None (Some edits) = ap (λ o. unwrap_or o []) (workspace_read_back requested.client requested.uri requested.version edits.items)
 actions_read_back Everywhere position requested (Some other) None = refl
 actions_read_back Everywhere position requested None None = refl
 
 pub none_read_back : (how : Inlining) (position : Position) (uri : List ℕ) (id : Data) → edits_for uri (inlining_at how position) (result_message id (array no_items)) ≡ []
-none_read_back Here position uri id = refl
+none_read_back OneUse position uri id = refl
 none_read_back Everywhere position uri id = refl
 
 -- An inlining that is offered, or not offered for a reason, is the answer to the ask.
-offered_here : (unit : Unit) (text : List ℕ) (position : Position) (o : Option (Vec Edit Global)) → OffersInlining Here unit text (position_offset unit text position) o → IsAnswerForText unit text (inline_here position) (edits_offered o)
+offered_here : (unit : Unit) (text : List ℕ) (position : Position) (o : Option (Vec Edit Global)) → OffersInlining OneUse unit text (position_offset unit text position) o → IsAnswerForText unit text (inline_here position) (edits_offered o)
 offered_here unit text position None refused = inr (inl refused, refl)
 offered_here unit text position (Some found) inlines = inl (found.items, (found, inlines, refl), refl)
 
@@ -203,9 +203,9 @@ least n = omega arith
 place_is : (unit : Unit) (text : List ℕ) (position : Position) → actions_offset unit text (empty_range_at position) ≡ position_offset unit text position
 place_is unit text position = least (position_offset unit text position)
 
-requested_offered : (how : Inlining) (unit : Unit) (text : List ℕ) (position : Position) (offset : ℕ) (here everywhere : Option (Vec Edit Global)) → offset ≡ position_offset unit text position → OffersInlining Here unit text offset here
+requested_offered : (how : Inlining) (unit : Unit) (text : List ℕ) (position : Position) (offset : ℕ) (here everywhere : Option (Vec Edit Global)) → offset ≡ position_offset unit text position → OffersInlining OneUse unit text offset here
     → OffersInlining Everywhere unit text offset everywhere → IsAnswerForText unit text (inlining_at how position) (edits_offered (requested_for how here everywhere))
-requested_offered Here unit text position offset here everywhere is one other = offered_here unit text position here (subst (λ place. OffersInlining Here unit text place here) is one)
+requested_offered OneUse unit text position offset here everywhere is one other = offered_here unit text position here (subst (λ place. OffersInlining OneUse unit text place here) is one)
 requested_offered Everywhere unit text position offset here everywhere is one other = offered_everywhere unit text position everywhere (subst (λ place. OffersInlining Everywhere unit text place everywhere) is other)
 
 -- returns the request for actions at a position, of all kinds, in the session's words
@@ -226,12 +226,12 @@ begun (inline_all position) s params id = refl
 begun (format indent) s params id = refl
 
 pub request_reaction : (id : Data) (uri : List ℕ) (ask : Ask) (before after : ServerState) (content : List ℕ) (sent : List (List ℕ)) → before.phase ≡ Running → (is : heard_as.IsRequestWithId id uri ask content) → Answers before content sent after
-    → (after ≡ (react_to_method before id (method_of ask) is.params).after) × AreContentsOfReply (react_to_method before id (method_of ask) is.params).say sent
+    → (after ≡ (react_to_method before id (method_of ask) is.params).after) × AreContentsOfReply (react_to_method before id (method_of ask) is.params).reply sent
 request_reaction id uri ask before after content sent running is h =
     let answer = reacts_so before after content sent is.json (going_on before after content sent running h) is.reads in
     let so : react before (meaning_of is.json) ≡ react_to_method before id (method_of ask) is.params =
     ap (react before) is.means ∙ ap (λ phase. requested_in phase before id (method_of ask) is.params) running ∙ begun ask before is.params id in
-    (answer.0 ∙ ap (λ (x : Reaction). x.after) so, subst (λ (x : Reaction). AreContentsOfReply x.say sent) so answer.1)
+    (answer.0 ∙ ap (λ (x : Reaction). x.after) so, subst (λ (x : Reaction). AreContentsOfReply x.reply sent) so answer.1)
 
 -- ---- what the editor reads
 
@@ -274,8 +274,8 @@ module _ (number_of : Data → Option ℕ) (requested : List SentAsk) where
         replies = (empty, reports_right held.unit text ds diagnoses, refl, ap (λ o. option_to_list (option_and_then (publication_with_text uri version empty) o)) at);
       }
 
-  publishes_now : (held : OpenDocuments) (uri : List ℕ) (version : ℤ) (t : Option (List ℕ)) (sent : List (List ℕ)) → document_at held uri ≡ Some (document version t) → as_i64 (of_integer version) ≡ Some version
-      → AreContentsOfReply (publication_reply held.unit uri (Some (document version t))) sent → Noted held uri (Some (document version t)) sent
+  publishes_now : (held : OpenDocuments) (uri : List ℕ) (version : ℤ) (t : Option (List ℕ)) (sent : List (List ℕ)) → document_at held uri ≡ Some (document_with_text version t) → as_i64 (of_integer version) ≡ Some version
+      → AreContentsOfReply (publication_reply held.unit uri (Some (document_with_text version t))) sent → Noted held uri (Some (document_with_text version t)) sent
   publishes_now held uri version (Some text) sent at fits saying = publishes_step held uri version text sent at fits saying
   publishes_now held uri version None sent at fits saying = record { said = []; message_to_server_in = heard_none sent saying; replies = (refl, refl) }
 
@@ -297,7 +297,7 @@ module _ (number_of : Data → Option ℕ) (requested : List SentAsk) where
     pub replies : Replies before.held m said (option_to_list (publication_in_first_message after.held said))
 
   -- The reaction to a notification sends the replies of the model's server.
-  note_served : (note : DocumentEvent) (before after : ServerState) (sent : List (List ℕ)) → before.phase ≡ Running → HasVersionInRange note → after ≡ (apply_notification before (notification_for note)).after → AreContentsOfReply (apply_notification before (notification_for note)).say sent
+  note_served : (note : DocumentEvent) (before after : ServerState) (sent : List (List ℕ)) → before.phase ≡ Running → HasVersionInRange note → after ≡ (apply_notification before (notification_for note)).after → AreContentsOfReply (apply_notification before (notification_for note)).reply sent
       → Served (notifies note) before after sent
   note_served (Opened uri version text) before after sent running fits is saying =
       let held : OpenDocuments = documents_after_open before.held uri version text in
@@ -314,8 +314,8 @@ module _ (number_of : Data → Option ℕ) (requested : List SentAsk) where
       go : (held : OpenDocuments) (o : Option Document) → document_at held uri ≡ option_map (changed_document before.held.unit version how) o → AreContentsOfReply (publication_reply held.unit uri (document_at held uri)) sent → Noted held uri (document_at held uri) sent
       go held None at saying = noted_at held uri None sent at (λ saying. record { said = []; message_to_server_in = heard_none sent saying; replies = (refl, refl) }) saying
       go held (Some d) at saying =
-          let t : Option (List ℕ) = fold (changed_text before.held.unit) (text_of d) how in
-          noted_at held uri (Some (document version t)) sent at (publishes_now held uri version t sent at fits) saying
+          let t : Option (List ℕ) = fold (changed_text before.held.unit) (text_if_in_step d) how in
+          noted_at held uri (Some (document_with_text version t)) sent at (publishes_now held uri version t sent at fits) saying
   note_served (Lost uri) before after sent running fits is saying =
       subst (λ a. Served (notifies (Lost uri)) before a sent) (sym is)
       (record { phase = running; client = refl; held = refl; said = []; message_to_server_in = heard_none sent saying; replies = (refl, refl) })
@@ -361,7 +361,7 @@ module _ (number_of : Data → Option ℕ) (requested : List SentAsk) where
       }
 
   formatted : (id : Data) (k : ℕ) (uri : List ℕ) (indent : Indent) (unit : Unit) (version : ℤ) (text : List ℕ) (sent : List (List ℕ)) → Asks id k uri (format indent)
-      → AreContentsOfReply (lays_out unit id (clamped_indent indent) text) sent → Answered k (format indent) unit (Some (InStep version text)) sent
+      → AreContentsOfReply (formats_text unit id (clamped_indent indent) text) sent → Answered k (format indent) unit (Some (InStep version text)) sent
   formatted id k uri indent unit version text sent of (message, how, sends) = go how
     where
       go : AnswersFormatting unit id (clamped_indent indent) text message → Answered k (format indent) unit (Some (InStep version text)) sent
@@ -445,7 +445,7 @@ module _ (number_of : Data → Option ℕ) (requested : List SentAsk) where
   -- An ask about a document is answered if its answer is known for the text of a document in step.
   about_document : (id : Data) (k : ℕ) (uri : List ℕ) (ask : Ask) (say : ℤ → List ℕ → Reply) (before after : ServerState) (sent : List (List ℕ)) → before.phase ≡ Running → Asks id k uri ask
       → ((version : ℤ) (text : List ℕ) → AreContentsOfReply (say version text) sent → Answered k ask before.held.unit (Some (InStep version text)) sent)
-      → (o : Option Document) → document_at before.held uri ≡ o → after ≡ (react_about_document before id o say).after → AreContentsOfReply (react_about_document before id o say).say sent → Served (requests k uri ask) before after sent
+      → (o : Option Document) → document_at before.held uri ≡ o → after ≡ (react_about_document before id o say).after → AreContentsOfReply (react_about_document before id o say).reply sent → Served (requests k uri ask) before after sent
   about_document id k uri ask say before after sent running of in_step None at same saying =
       asks_served k uri ask before after sent running same (refused id k uri ask before.held.unit (document_at before.held uri) (minus 32803) (codes "unopened") sent of saying (subst (λ o. IsAnswer before.held.unit o ask []) (sym at) refl))
   about_document id k uri ask say before after sent running of in_step (Some OutOfStep) at same saying =
@@ -455,43 +455,43 @@ module _ (number_of : Data → Option ℕ) (requested : List SentAsk) where
 
   -- A running session replies to a request of this editor as the model's server does.
   request_served : (id : Data) (k : ℕ) (uri : List ℕ) (ask : Ask) (params : Data) (before after : ServerState) (sent : List (List ℕ)) → before.phase ≡ Running → AcceptsEdits before.client ask → Asks id k uri ask → request_by_method (method_of ask) params ≡ Ok (client_request_for uri ask)
-      → after ≡ (react_to_method before id (method_of ask) params).after → AreContentsOfReply (react_to_method before id (method_of ask) params).say sent → Served (requests k uri ask) before after sent
+      → after ≡ (react_to_method before id (method_of ask) params).after → AreContentsOfReply (react_to_method before id (method_of ask) params).reply sent → Served (requests k uri ask) before after sent
   request_served id k uri (rename position name) params before after sent running takes of call is saying =
       let say : ℤ → List ℕ → Reply = λ version. renames before.held.unit (rename_requested before.client id uri position name version) in
       let so : react_to_method before id (method_of (rename position name)) params ≡ react_about_document before id (document_at before.held uri) say = ap (react_to_known_request before id) call in
       about_document id k uri (rename position name) say before after sent running of
       (λ version text. renamed id k uri position name before.client before.held.unit version text sent of) (document_at before.held uri) refl
-      (is ∙ ap (λ (x : Reaction). x.after) so) (subst (λ (x : Reaction). AreContentsOfReply x.say sent) so saying)
+      (is ∙ ap (λ (x : Reaction). x.after) so) (subst (λ (x : Reaction). AreContentsOfReply x.reply sent) so saying)
   request_served id k uri (inline_here position) params before after sent running takes of call is saying =
       let say : ℤ → List ℕ → Reply = λ version. offers_actions before.held.unit (actions_requested_at before.client id uri position version) in
       let so : react_to_method before id (method_of (inline_here position)) params ≡ react_about_document before id (document_at before.held uri) say = ap (react_to_known_request before id) call in
       about_document id k uri (inline_here position) say before after sent running of
-      (λ version text. inlined Here id k uri position before.client before.held.unit version text sent takes of) (document_at before.held uri) refl
-      (is ∙ ap (λ (x : Reaction). x.after) so) (subst (λ (x : Reaction). AreContentsOfReply x.say sent) so saying)
+      (λ version text. inlined OneUse id k uri position before.client before.held.unit version text sent takes of) (document_at before.held uri) refl
+      (is ∙ ap (λ (x : Reaction). x.after) so) (subst (λ (x : Reaction). AreContentsOfReply x.reply sent) so saying)
   request_served id k uri (inline_all position) params before after sent running takes of call is saying =
       let say : ℤ → List ℕ → Reply = λ version. offers_actions before.held.unit (actions_requested_at before.client id uri position version) in
       let so : react_to_method before id (method_of (inline_all position)) params ≡ react_about_document before id (document_at before.held uri) say = ap (react_to_known_request before id) call in
       about_document id k uri (inline_all position) say before after sent running of
       (λ version text. inlined Everywhere id k uri position before.client before.held.unit version text sent takes of) (document_at before.held uri) refl
-      (is ∙ ap (λ (x : Reaction). x.after) so) (subst (λ (x : Reaction). AreContentsOfReply x.say sent) so saying)
+      (is ∙ ap (λ (x : Reaction). x.after) so) (subst (λ (x : Reaction). AreContentsOfReply x.reply sent) so saying)
   request_served id k uri (format indent) params before after sent running takes of call is saying =
-      let say : ℤ → List ℕ → Reply = λ version. lays_out before.held.unit id (clamped_indent indent) in
+      let say : ℤ → List ℕ → Reply = λ version. formats_text before.held.unit id (clamped_indent indent) in
       let so : react_to_method before id (method_of (format indent)) params ≡ react_about_document before id (document_at before.held uri) say = ap (react_to_known_request before id) call in
       about_document id k uri (format indent) say before after sent running of
       (λ version text. formatted id k uri indent before.held.unit version text sent of) (document_at before.held uri) refl
-      (is ∙ ap (λ (x : Reaction). x.after) so) (subst (λ (x : Reaction). AreContentsOfReply x.say sent) so saying)
+      (is ∙ ap (λ (x : Reaction). x.after) so) (subst (λ (x : Reaction). AreContentsOfReply x.reply sent) so saying)
 
   -- A request for the actions in a range is answered as an inlining if the range and the position have the same offset.
   inline_served : (how : Inlining) (id : Data) (k : ℕ) (uri : List ℕ) (position : Position) (range : Range) (only : Option (List (List ℕ))) (params : Data) (before after : ServerState) (sent : List (List ℕ)) → before.phase ≡ Running → AcceptsActions before.client
       → Asks id k uri (inlining_at how position) → allows_inlining only ≡ true → ((unit : Unit) (text : List ℕ) → actions_offset unit text range ≡ position_offset unit text position) → request_by_method (codes "textDocument/codeAction") params ≡ Ok (code_action uri range only)
-      → after ≡ (react_to_method before id (codes "textDocument/codeAction") params).after → AreContentsOfReply (react_to_method before id (codes "textDocument/codeAction") params).say sent
+      → after ≡ (react_to_method before id (codes "textDocument/codeAction") params).after → AreContentsOfReply (react_to_method before id (codes "textDocument/codeAction") params).reply sent
       → Served (requests k uri (inlining_at how position)) before after sent
   inline_served how id k uri position range only params before after sent running takes of allowed place call is saying =
       let say : ℤ → List ℕ → Reply = λ version. offers_actions before.held.unit (actions_requested_in before.client id uri range only version) in
       let so : react_to_method before id (codes "textDocument/codeAction") params ≡ react_about_document before id (document_at before.held uri) say = ap (react_to_known_request before id) call in
       about_document id k uri (inlining_at how position) say before after sent running of
       (λ version text. inlined_in how id k uri position range only before.client before.held.unit version text sent takes allowed (place before.held.unit text) of) (document_at before.held uri) refl
-      (is ∙ ap (λ (x : Reaction). x.after) so) (subst (λ (x : Reaction). AreContentsOfReply x.say sent) so saying)
+      (is ∙ ap (λ (x : Reaction). x.after) so) (subst (λ (x : Reaction). AreContentsOfReply x.reply sent) so saying)
 
   -- ---- contents
 
@@ -501,7 +501,7 @@ module _ (number_of : Data → Option ℕ) (requested : List SentAsk) where
       let answer = reacts_so before after content sent is.json (going_on before after content sent running h) is.reads in
       let so : react before (meaning_of is.json) ≡ apply_notification before (notification_for note) =
       ap (react before) is.means ∙ ap (λ phase. react_to_notification phase before is.method is.params) running ∙ ap (apply_notification before) is.reported in
-      note_served note before after sent running is.fits (answer.0 ∙ ap (λ (x : Reaction). x.after) so) (subst (λ (x : Reaction). AreContentsOfReply x.say sent) so answer.1)
+      note_served note before after sent running is.fits (answer.0 ∙ ap (λ (x : Reaction). x.after) so) (subst (λ (x : Reaction). AreContentsOfReply x.reply sent) so answer.1)
 
   -- A running session replies to an ask as the model's server does.
   pub ask_answered : (id : Data) (k : ℕ) (uri : List ℕ) (ask : Ask) (before after : ServerState) (content : List ℕ) (sent : List (List ℕ)) → before.phase ≡ Running → AcceptsEdits before.client ask → number_of id ≡ Some k → IsAsk requested k uri ask
@@ -518,7 +518,7 @@ module _ (number_of : Data → Option ℕ) (requested : List SentAsk) where
       let so : react before (meaning_of is.json) ≡ react_to_method before id (codes "textDocument/codeAction") is.params =
       ap (react before) is.means ∙ ap (λ phase. requested_in phase before id (codes "textDocument/codeAction") is.params) running in
       inline_served how id k uri position is.range is.only is.params before after sent running takes (record { numbered = numbered; is = of }) is.allowed (place_of_range is.range position is.from is.ordered) is.calls
-      (answer.0 ∙ ap (λ (x : Reaction). x.after) so) (subst (λ (x : Reaction). AreContentsOfReply x.say sent) so answer.1)
+      (answer.0 ∙ ap (λ (x : Reaction). x.after) so) (subst (λ (x : Reaction). AreContentsOfReply x.reply sent) so answer.1)
 
 -- ---- the model's editor
 

@@ -8,14 +8,14 @@ use Rattle.std.proofs.lemmas.List.{map-append, take_more, append-nil, append_ass
 use Rattle.ob0_text.specs.declared.position_types.Unit.{Unit}
 use Rattle.ob0_rpc.specs.declared.clients.ClientFeatures.{ClientFeatures}
 use Rattle.ob0_session_server.specs.Answers as server
-use Rattle.ob0_session_server.specs.Answers.{ServerState, begins, Conversation}
+use Rattle.ob0_session_server.specs.Answers.{ServerState, state_after_initialize, Conversation}
 use Rattle.ob0_world.proofs.Conversing.{conversation_then, answered_once}
 use Rattle.ob0_world_editor.specs.InitializeRequest.{client_for}
 use Rattle.ob0_world.specs.declared.events.Event as event
 use Rattle.ob0_world.specs.declared.faults.PlayFault.{PlayFault}
 use Rattle.ob0_world.specs.declared.played.Played as played
 use Rattle.ob0_world_rules.specs.ClientAndServer.{ClientAndServer, start}
-use Rattle.ob0_world_rules.specs.Happens.{Event, does, serve, take_message, Course}
+use Rattle.ob0_world_rules.specs.Happens.{Event, editor_acts, serve, take_message, Course}
 use Rattle.ob0_world_rules.specs.Headline.{Headline}
 use Rattle.ob0_world_rules.specs.PublicationsInOrder.{AreMadeInOrder}
 use Rattle.ob0_world_rules.proofs.ModelEditor.{holds_in_every_interleaving, publications_in_order}
@@ -68,16 +68,16 @@ pub written_conversed : (wire : Wire) (contents : List (List ℕ)) → Conversed
 unfolding Conversed
 written_conversed wire contents h = h
 
-pub initialized_conversed : (client : ClientFeatures) (taken got : List (List ℕ)) → Conversation server.start taken got (begins client) → Conversed (record { session = begins client; taken = taken; to_server = []; got = got; to_editor = [] })
+pub initialized_conversed : (client : ClientFeatures) (taken got : List (List ℕ)) → Conversation server.start taken got (state_after_initialize client) → Conversed (record { session = state_after_initialize client; taken = taken; to_server = []; got = got; to_editor = [] })
 unfolding Conversed
-initialized_conversed client taken got h = subst (λ sent. Conversation server.start taken sent (begins client)) (sym (append-nil got)) h
+initialized_conversed client taken got h = subst (λ sent. Conversation server.start taken sent (state_after_initialize client)) (sym (append-nil got)) h
 
 pub as_conversation : (wire : Wire) → Conversed wire → Conversation server.start wire.taken (wire.got ++ wire.to_editor) wire.session
 unfolding Conversed
 as_conversation wire h = h
 
 moved_conversed : (e : Event) (old new : Wire) → MovesWire e old new → Conversed old → Conversed new
-moved_conversed (does act) old new moves h = writes_conversed old new moves h
+moved_conversed (editor_acts act) old new moves h = writes_conversed old new moves h
 moved_conversed serve old new moves h = takes_conversed old.to_server old new moves h
 moved_conversed take_message old new moves h = gets_conversed old.to_editor old new refl moves h
 
@@ -85,7 +85,7 @@ begins_conversed : (unit : Unit) (w : Connection) → Begins unit w → Converse
 unfolding Conversed
 begins_conversed unit w b =
     subst Conversed (sym b.wire)
-    (subst (λ x. Conversation server.start (b.content ∷ []) x (begins (client_for unit))) (sym (append-nil b.replies)) (answered_once server.start b.content b.replies (begins (client_for unit)) b.answers))
+    (subst (λ x. Conversation server.start (b.content ∷ []) x (state_after_initialize (client_for unit))) (sym (append-nil b.replies)) (answered_once server.start b.content b.replies (state_after_initialize (client_for unit)) b.answers))
 
 course_conversed : (begin : Connection) (events : List Event) (end : Connection) → ConnectionCourse begin events end → Conversed begin.wire → Conversed end.wire
 course_conversed begin [] end is h = subst (λ (w : Connection). Conversed w.wire) (sym is) h
@@ -94,15 +94,15 @@ course_conversed begin (e ∷ events) end (between, step, rest) h = course_conve
 -- ---- the results of a course
 
 headline : (unit : Unit) (events : List event.Event) (w : ClientAndServer) (p : played.Played) → Course (start unit) (map event_of events) w → ResultsMatch w p → Headline unit (map event_of events) (played_edits p) (played_publications p)
-headline unit events w p course come =
+headline unit events w p course results_match =
     record {
       end = w;
       course = course;
       only = λ other also. course_is_determined (start unit) (map event_of events) other w also course;
-      applied_are = come.0;
-      made_are = come.1;
+      applied_at_end = results_match.0;
+      made_at_end = results_match.1;
       holds = holds_in_every_interleaving unit (map event_of events) w course;
-      publication_in_message = subst (AreMadeInOrder unit (map event_of events)) (sym come.1) (publications_in_order unit (map event_of events) w course);
+      made_in_order = subst (AreMadeInOrder unit (map event_of events)) (sym results_match.1) (publications_in_order unit (map event_of events) w course);
     }
 
 course_begun : (unit : Unit) (begin : Connection) (events : List Event) (end : Connection) → Begins unit begin → ConnectionCourse begin events end → Course (start unit) events end.model
@@ -110,20 +110,20 @@ course_begun unit begin events end begun course = subst (λ w. Course w events e
 
 conversation_of : (w : Wire) (p : played.Played) → ContentsMatch w p → Conversed w → (after : ServerState) × Conversation server.start (map (λ v. v.items) p.taken.items) (map (λ v. v.items) p.got.items ++ map (λ v. v.items) p.unread.items) after
 unfolding Conversed
-conversation_of w p passed h =
-    (w.session, subst (λ (x : Wire). Conversation server.start x.taken (x.got ++ x.to_editor) w.session) (λ i. record w { taken = sym passed.0 i; got = sym passed.1 i; to_editor = sym passed.2 i }) h)
+conversation_of w p contents_match h =
+    (w.session, subst (λ (x : Wire). Conversation server.start x.taken (x.got ++ x.to_editor) w.session) (λ i. record w { taken = sym contents_match.0 i; got = sym contents_match.1 i; to_editor = sym contents_match.2 i }) h)
 
 pub plays : (unit : Unit) (events : List event.Event) (begin end : Connection) (p : played.Played) → Begins unit begin → ConnectionCourse begin (map event_of events) end → ResultsMatch end.model p → ContentsMatch end.wire p → Plays unit events p
-plays unit events begin end p begun course come passed =
-    let talked = conversation_of end.wire p passed (course_conversed begin (map event_of events) end course (begins_conversed unit begin begun)) in
+plays unit events begin end p begun course results_match contents_match =
+    let talked = conversation_of end.wire p contents_match (course_conversed begin (map event_of events) end course (begins_conversed unit begin begun)) in
     record {
-      headline = headline unit events end.model p (course_begun unit begin (map event_of events) end begun course) come;
+      headline = headline unit events end.model p (course_begun unit begin (map event_of events) end begun course) results_match;
       begin = begin;
       begins = begun;
       end = end;
       course = course;
-      come = come;
-      passed = passed;
+      results_match = results_match;
+      contents_match = contents_match;
       after = talked.0;
       conversation = talked.1;
     }
@@ -134,13 +134,13 @@ pub plays_nothing : (unit : Unit) (events : List event.Event) (fault : PlayFault
 plays_nothing unit events fault none applied made taken got unread = inr (record { none = none; headline = headline unit [] (start unit) fault.played refl (applied, made); taken = taken; got = got; unread = unread })
 
 pub come_before : (old new : Connection) (p : played.Played) → SameHistory old new → ResultsMatch new.model p → ResultsMatch old.model p
-come_before old new p same come = (come.0 ∙ same.applied, come.1 ∙ same.made)
+come_before old new p same results_match = (results_match.0 ∙ same.applied, results_match.1 ∙ same.made)
 
 pub passed_before : (old new : Connection) (p : played.Played) → SameHistory old new → ContentsMatch new.wire p → ContentsMatch old.wire p
-passed_before old new p same passed = (passed.0 ∙ same.taken, passed.1 ∙ same.got, passed.2 ∙ same.unread)
+passed_before old new p same contents_match = (contents_match.0 ∙ same.taken, contents_match.1 ∙ same.got, contents_match.2 ∙ same.unread)
 
 -- If memory runs out at the event with this index, the code returns the results of the events before it.
 pub plays_before : (unit : Unit) (events : List event.Event) (i : ℕ) (begin w : Connection) (fault : PlayFault) → fault.steps ≡ i → i < length events → Begins unit begin → ConnectionCourse begin (map event_of (take i events)) w → ResultsMatch w.model fault.played → ContentsMatch w.wire fault.played
     → PlaysPrefix unit events fault
-plays_before unit events i begin w fault counted within begun course come passed =
-    inl (subst (λ n. (n < length events) × Plays unit (take n events) fault.played) (sym counted) (within, plays unit (take i events) begin w fault.played begun course come passed))
+plays_before unit events i begin w fault counted within begun course results_match contents_match =
+    inl (subst (λ n. (n < length events) × Plays unit (take n events) fault.played) (sym counted) (within, plays unit (take i events) begin w fault.played begun course results_match contents_match))

@@ -22,7 +22,7 @@ shuts id before after content sent running is h =
     ap (react before) is.means ∙ ap (λ phase. react_to_request phase before id (codes "shutdown") is.params) running in
     let now : after ≡ record before { phase = ShutDown } = answer.0 ∙ ap (λ (x : Reaction). x.after) so in
     record {
-      answer = subst (λ (x : Reaction). AreContentsOfReply x.say sent) so answer.1;
+      answer = subst (λ (x : Reaction). AreContentsOfReply x.reply sent) so answer.1;
       phase = ap (λ (s : ServerState). s.phase) now;
       held = ap (λ (s : ServerState). s.held) now;
     }
@@ -34,7 +34,7 @@ exits before after content sent shut is h =
     let so : react before (meaning_of is.json) ≡ react_to_exit before =
     ap (react before) is.means ∙ ap (λ phase. react_to_notification phase before (codes "exit") is.params) shut in
     let now : after ≡ (react_to_exit before).after = answer.0 ∙ ap (λ (x : Reaction). x.after) so in
-    (subst (λ (x : Reaction). AreContentsOfReply x.say sent) so answer.1, now ∙ ap (λ status. record before { phase = Ended status }) (ap end_status shut))
+    (subst (λ (x : Reaction). AreContentsOfReply x.reply sent) so answer.1, now ∙ ap (λ status. record before { phase = Ended status }) (ap end_status shut))
 
 pub ends_well : (id : Data) (before : ServerState) (shutdown exit : List ℕ) (sent : List (List ℕ)) (end : ServerState) → before.phase ≡ Running → IsShutdown id shutdown → IsExit exit → Conversation before (shutdown ∷ exit ∷ []) sent end → EndsSession id before sent end
 ends_well id before shutdown exit sent end running is_shutdown is_exit h =

@@ -10,7 +10,7 @@ use Rattle.ob0_rpc.specs.Messages.{request}
 use Rattle.ob0_rpc.specs.Requesting as asked
 use Rattle.ob0_rpc.specs.Requesting.{request_by_method}
 use Rattle.ob0_session_server.specs.Answers as server
-use Rattle.ob0_session_server.specs.Answers.{begins}
+use Rattle.ob0_session_server.specs.Answers.{state_after_initialize}
 use Rattle.ob0_session_server.specs.Units.{unit_for}
 use Rattle.ob0_world_editor.specs.InitializeRequest.{client_for}
 use Rattle.ob0_world_editor.specs.MessagesToServer.{request_number, client_request_for, IsRequestWithId, IsMessageToServer}
@@ -18,10 +18,10 @@ use Rattle.ob0_world_editor.specs.Shapes.{method_of, empty_range_at}
 use Rattle.ob0_world_editor.specs.MessagesToEditor.{message_to_editor_in, message_to_editor_by}
 use Rattle.ob0_world_rules.specs.Asks.{Ask, rename, inline_here, inline_all, format}
 use Rattle.ob0_world_rules.specs.ClientAndServer.{SentAsk, Editor, request_numbered, MessageToServer, notifies, requests, MessageToEditor, publishes, answers, Applied, ClientAndServer, start}
-use Rattle.ob0_world_rules.specs.EditorActs.{Act, ActResult, unchanged_result, act_result, reads}
-use Rattle.ob0_world_rules.specs.Happens.{Event, does, serve, take_message, after_editor_takes, ServerTakes}
-use Rattle.ob0_world_rules.specs.EveryEditor.{Turn, editor_does, server_takes, editor_takes}
-use Rattle.ob0_world_rules.specs.PublicationsInOrder.{AnnouncedDocument, announced_in}
+use Rattle.ob0_world_rules.specs.EditorActs.{Act, ActResult, unchanged_result, act_result, after_reading}
+use Rattle.ob0_world_rules.specs.Happens.{Event, editor_acts, serve, take_message, after_editor_takes, ServerTakes}
+use Rattle.ob0_world_rules.specs.EveryEditor.{Turn, editor_moves, server_takes, editor_takes}
+use Rattle.ob0_world_rules.specs.PublicationsInOrder.{AnnouncedDocument, documents_announced_in}
 use Rattle.ob0_world_rules.proofs.ModelEditor.{IsMove, act_may, knows_event}
 use Rattle.ob0_world.specs.Worlds.{Wire, Connection, SessionTakesFirst, EditorGetsFirst, MovesWire, AreMessagesToServer, ConnectionStep, ConnectionCourse}
 use Rattle.ob0_world.specs.Exchanges.{SentRequestId, number_id, ask_of_request_id, ask_number_by_id, AssignsAskIds, Exchange, BeginsExchange, IsActionsRequest, IsRequestFor, AcceptsActions, AcceptsEdits, IsMessageToSession, AreMessagesToSession, message_to_editor_by_ids, after_reading_if_any, EditorReadsFirst, with_contents, ExchangeCourse, ACourseIsAnExchange}
@@ -196,7 +196,7 @@ got_running [] old new is running = subst (λ (v : Wire). RunsWithEditor v.sessi
 got_running (c ∷ rest) old new is running = subst (λ (v : Wire). RunsWithEditor v.session) (sym is) running
 
 event_running : (event : Event) (old new : Connection) → Goes old → MovesWire event old.wire new.wire → RunsWithEditor new.wire.session
-event_running (does act) old new goes (content, is) = subst (λ (v : Wire). RunsWithEditor v.session) (sym is) goes.running
+event_running (editor_acts act) old new goes (content, is) = subst (λ (v : Wire). RunsWithEditor v.session) (sym is) goes.running
 event_running serve old new goes takes = taken_running old.model.editor.requested old.model.to_server old.wire.to_server old.wire new.wire goes.says takes goes.running
 event_running take_message old new goes gets = got_running old.wire.to_editor old.wire new.wire gets goes.running
 
@@ -233,11 +233,11 @@ module _ (c : Connection) (announced : List AnnouncedDocument) (goes : Goes c) w
       go (inl is) = still contents (act_result c.model.editor act) is say
       go (inr (move, may)) =
           let done : ActResult = act_result c.model.editor act in
-          let more : List AnnouncedDocument = announced_in done.editor done.sent in
+          let more : List AnnouncedDocument = documents_announced_in done.editor done.sent in
           let ids : List SentRequestId = ids_from 1 done.editor.requested in
           let y : Exchange = record { editor = done.editor; ids = ids; wire = with_contents c.wire contents; announced = announced ++ more; applied = c.model.applied ++ done.applied } in
           record {
-            turns = editor_does move ∷ [];
+            turns = editor_moves move ∷ [];
             announced = announced ++ more;
             leads = (
               y,
@@ -259,7 +259,7 @@ serve_same : (w : ClientAndServer) (queue : List MessageToServer) (new : ClientA
 serve_same w [] new is = (ap (λ (v : ClientAndServer). v.editor) is, ap (λ (v : ClientAndServer). v.applied) is)
 serve_same w (m ∷ rest) new (said, made, replies, is) = (ap (λ (v : ClientAndServer). v.editor) is, ap (λ (v : ClientAndServer). v.applied) is)
 
-reads_asks : (e : Editor) (m : MessageToEditor) → (reads e m).requested ≡ e.requested
+reads_asks : (e : Editor) (m : MessageToEditor) → (after_reading e m).requested ≡ e.requested
 reads_asks e (publishes uri version empty) = refl
 reads_asks e (answers k []) = refl
 reads_asks e (answers k (edit ∷ edits)) = refl
@@ -277,7 +277,7 @@ take_comes c announced wire (m ∷ queue) (content ∷ rest) waits means is =
     let first : message_to_editor_in e.requested content ≡ Some m = ap (λ os. get_or os 0 None) means in
     let so : message_to_editor_by_ids (ids_from 1 e.requested) e.requested content ≡ Some m = read_so_too e.requested content m first in
     let x : Exchange = exchange_of c announced in
-    let y : Exchange = record { editor = reads e m; ids = ids_from 1 (reads e m).requested; wire = wire; announced = announced; applied = c.model.applied } in
+    let y : Exchange = record { editor = after_reading e m; ids = ids_from 1 (after_reading e m).requested; wire = wire; announced = announced; applied = c.model.applied } in
     let gets : EditorReadsFirst (content ∷ rest) x y = λ i. record x { editor = after_reading_if_any x.editor (sym so i); ids = ids_from 1 (reads_asks e m i); wire = is i } in
     record {
       turns = editor_takes ∷ [];
@@ -288,7 +288,7 @@ take_comes c announced wire [] (content ∷ rest) waits means is = absurd (cc)
 take_comes c announced wire (m ∷ queue) [] waits means is = absurd (cc)
 
 event_comes : (event : Event) (old new : Connection) (announced : List AnnouncedDocument) → Goes old → ConnectionStep old event new → ComesTo (exchange_of old announced) new.model.editor new.wire new.model.applied
-event_comes (does act) old new announced goes step =
+event_comes (editor_acts act) old new announced goes step =
     let (content, is) = step.moves in
     let done : ActResult = act_result old.model.editor act in
     let contents : List (List ℕ) = option_to_list content in
@@ -333,7 +333,7 @@ same_unit Utf8 = refl
 
 pub a_course_is_an_exchange : ACourseIsAnExchange
 a_course_is_an_exchange unit begin end events b course =
-    let wire : Wire = record { session = begins (client_for unit); taken = b.content ∷ []; to_server = []; got = b.replies; to_editor = [] } in
+    let wire : Wire = record { session = state_after_initialize (client_for unit); taken = b.content ∷ []; to_server = []; got = b.replies; to_editor = [] } in
     let first_goes : Goes (record { model = start unit; wire = wire }) = record { says = tt; means = refl; running = (refl, refl, refl); knows = knows_first unit } in
     let goes : Goes begin = subst Goes (λ i. record { model = sym b.model i; wire = sym b.wire i }) first_goes in
     let c : ComesTo (exchange_of begin []) end.model.editor end.wire end.model.applied = course_comes events begin end [] goes course in
@@ -344,7 +344,7 @@ a_course_is_an_exchange unit begin end events b course =
       counts = same_unit unit;
       taken = b.content ∷ [];
       got = b.replies;
-      initialized = answered_once server.start b.content b.replies (begins (client_for unit)) b.answers;
+      initialized = answered_once server.start b.content b.replies (state_after_initialize (client_for unit)) b.answers;
       is = λ i. record { editor = (b.model i).editor; ids = ids_from 1 (b.model i).editor.requested; wire = b.wire i; announced = []; applied = (b.model i).applied };
     } in
     (exchange_of begin [], c.turns, last, first, c.leads, refl, refl, refl)

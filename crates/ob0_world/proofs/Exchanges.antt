@@ -22,19 +22,19 @@ use Rattle.ob0_rpc.specs.Notifications.{other}
 use Rattle.ob0_rpc.specs.Requesting as asked
 use Rattle.ob0_rpc.specs.Requesting.{DocumentPlace, ClientRequest, request_by_method}
 use Rattle.ob0_rpc.specs.Shapes.{result_message, error_message}
-use Rattle.ob0_session_answers.specs.Questions.{NameQuestion, hover_asked, definition_asked, references_asked, renaming_asked}
+use Rattle.ob0_session_answers.specs.Questions.{NameQuestion, hover_question, definition_question, references_question, prepare_rename_question}
 use Rattle.ob0_session_answers.specs.Actions.{RequestedActions}
 use Rattle.ob0_session_json.specs.Shapes.{edits_value, workspace_edit}
-use Rattle.ob0_session_server.specs.Answers.{ServerState, Reply, AreContentsOfReply, Sends, Reaction, react, react_to_request, react_to_notification, apply_notification, react_to_known_request, react_to_method, react_about_document, answers_name, react_to_question, renames, offers_actions, lays_out, react_with_error, Answers}
+use Rattle.ob0_session_server.specs.Answers.{ServerState, Reply, AreContentsOfReply, Sends, Reaction, react, react_to_request, react_to_notification, apply_notification, react_to_known_request, react_to_method, react_about_document, answers_question, react_to_question, renames, offers_actions, formats_text, react_with_error, Answers}
 use Rattle.ob0_world_editor.specs.MessagesToServer.{request_number, sent_request, message_of_notification, message_to_server_of, message_to_server_in}
 use Rattle.ob0_world_editor.specs.MessagesToEditor.{message_to_editor_in, publication_of_notification, answer_of_response, message_to_editor_of, message_to_editor_by, answer_to, edits_for}
 use Rattle.ob0_world_editor.proofs.Hearing.{said, says_heard, read_as}
 use Rattle.ob0_world_rules.specs.Asks.{Ask, rename, inline_here, inline_all, format}
-use Rattle.ob0_world_rules.specs.ClientAndServer.{OpenDocument, SentAsk, Editor, request_numbered, MessageToServer, notifies, requests, MessageToEditor, publishes, answers, Made, after_message}
-use Rattle.ob0_world_rules.specs.EditorActs.{ActResult, reads, without_answer}
+use Rattle.ob0_world_rules.specs.ClientAndServer.{OpenDocument, SentAsk, Editor, request_numbered, MessageToServer, notifies, requests, MessageToEditor, publishes, answers, PublicationWithText, after_message}
+use Rattle.ob0_world_rules.specs.EditorActs.{ActResult, after_reading, without_answer}
 use Rattle.ob0_world_rules.specs.Editors.{Revision, Move, to_open, to_revise, to_close, to_ask, to_apply, to_drop, revised_document, with_document, Revises, IsAllowedMove}
-use Rattle.ob0_world_rules.specs.EveryEditor.{EditorAndServer, initial_editor_and_server, modeled_messages, notifications_among, Turn, editor_does, editor_sends_unmodeled, server_takes, editor_takes, MayHappen, MayLeadTo, HoldsWithEditor}
-use Rattle.ob0_world_rules.specs.Answers.{Here, Everywhere, IsEmptyIfWellTyped}
+use Rattle.ob0_world_rules.specs.EveryEditor.{EditorAndServer, initial_editor_and_server, modeled_messages, notifications_among, Turn, editor_moves, editor_sends_unmodeled, server_takes, editor_takes, MayHappen, MayLeadTo, HoldsWithEditor}
+use Rattle.ob0_world_rules.specs.Answers.{OneUse, Everywhere, IsEmptyIfWellTyped}
 use Rattle.ob0_world_rules.specs.Serving.{Publishes, Replies}
 use Rattle.ob0_world_rules.specs.Headline.{IsCorrectPublication, last_publication}
 use Rattle.ob0_world_rules.specs.PublicationsInOrder.{AnnouncedDocument, AreMadeForDocuments, versions_announced_by, versions_announced_in}
@@ -43,7 +43,7 @@ use Rattle.ob0_world_rules.proofs.EveryEditor.{holds_for_every_editor}
 use Rattle.ob0_world.specs.Worlds.{Wire, SessionTakesFirst}
 use Rattle.ob0_session_server.specs.declared.session.Phase.TheVariants.{Running}
 use Rattle.ob0_world.specs.Queues.{publication_in_first_message}
-use Rattle.ob0_world.specs.Exchanges.{RequestId, id_of_value, same_id, SentRequestId, ask_of_request_id, ask_number_by_id, AssignsAskIds, with_non_ask_id, IsNonAskId, Exchange, BeginsExchange, IsMessageToSession, IsRequestFor, IsReadOnlyRequest, IsUnmodeledMessage, IsUnmodeledContent, message_to_editor_by_ids, after_reading_if_any, EditorReadsFirst, with_contents, Exchanges, ExchangeCourse, AreMessagesToSession, AreMessagesToEditor, EveryExchangeFollowsModel, VersionedPublication, versioned_publication, published_in, AreCorrectFor, last_published, notifications_in, HoldsForEveryExchange}
+use Rattle.ob0_world.specs.Exchanges.{RequestId, id_of_value, same_id, SentRequestId, ask_of_request_id, ask_number_by_id, AssignsAskIds, with_non_ask_id, IsNonAskId, Exchange, BeginsExchange, IsMessageToSession, IsRequestFor, IsReadOnlyRequest, IsUnmodeledMessage, IsUnmodeledContent, message_to_editor_by_ids, after_reading_if_any, EditorReadsFirst, with_contents, Exchanges, ExchangeCourse, AreMessagesToSession, AreMessagesToEditor, EveryExchangeFollowsModel, VersionedPublication, versioned_publication, publications_in, AreCorrectFor, last_publication_of, notifications_in, HoldsForEveryExchange}
 use Rattle.ob0_world.proofs.Answering.{Served, note_answered, ask_answered, actions_answered, going_on, reacts_so}
 use Rattle.ob0_world.proofs.Waiting.{read_still}
 use Rattle.ob0_world.proofs.Ending.{ends_well}
@@ -220,12 +220,12 @@ module _ (ids : List SentRequestId) (requested : List SentAsk) (before after : S
 
   -- A request about a document changes nothing and gets one reply or a refusal.
   about_served : (id : Data) (say : ℤ → List ℕ → Reply) → IsNonAskId ids (id_of_value id) → ((version : ℤ) (text : List ℕ) → AreContentsOfReply (say version text) sent → Replied id) → (o : Option Document)
-      → after ≡ (react_about_document before id o say).after → AreContentsOfReply (react_about_document before id o say).say sent → OtherServed ids requested before after sent
+      → after ≡ (react_about_document before id o say).after → AreContentsOfReply (react_about_document before id o say).reply sent → OtherServed ids requested before after sent
   about_served id say own in_step None same saying = refused_other id (minus 32803) (codes "unopened") own same saying
   about_served id say own in_step (Some OutOfStep) same saying = refused_other id (minus 32803) (codes "out of step") own same saying
   about_served id say own in_step (Some (InStep version text)) same saying = reply_is_determined id own same (in_step version text saying)
 
-  named_replied : (unit : Unit) (id : Data) (at : DocumentPlace) (question : NameQuestion) (text : List ℕ) → AreContentsOfReply (answers_name unit id at question text) sent → Replied id
+  named_replied : (unit : Unit) (id : Data) (at : DocumentPlace) (question : NameQuestion) (text : List ℕ) → AreContentsOfReply (answers_question unit id at question text) sent → Replied id
   named_replied unit id at question text (value, answers_it, sends) = (result_message id value, sends, (refl, refl))
 
   rename_replied : (unit : Unit) (r : RequestedRename) (text : List ℕ) → AreContentsOfReply (renames unit r text) sent → Replied r.id
@@ -236,23 +236,23 @@ module _ (ids : List SentRequestId) (requested : List SentAsk) (before after : S
   actions_replied : (unit : Unit) (r : RequestedActions) (text : List ℕ) → AreContentsOfReply (offers_actions unit r text) sent → Replied r.id
   actions_replied unit r text (message, (value, how, is), sends) = (result_message r.id value, subst (λ m. Sends m sent) is sends, (refl, refl))
 
-  layout_replied : (unit : Unit) (id : Data) (indent : Indent) (text : List ℕ) → AreContentsOfReply (lays_out unit id indent text) sent → Replied id
+  layout_replied : (unit : Unit) (id : Data) (indent : Indent) (text : List ℕ) → AreContentsOfReply (formats_text unit id indent text) sent → Replied id
   layout_replied unit id indent text (message, inl (edits, laid, is), sends) = (result_message id (edits_value edits), subst (λ m. Sends m sent) is sends, (refl, refl))
   layout_replied unit id indent text (message, inr (inl (long, is)), sends) = (error_message id (minus 32803) (refusal_text TooLong), subst (λ m. Sends m sent) is sends, (refl, refl))
   layout_replied unit id indent text (message, inr (inr (unfit, is)), sends) = (error_message id (minus 32803) (codes "ill-typed"), subst (λ m. Sends m sent) is sends, (refl, refl))
 
   -- A question about the name at a position changes nothing and gets one reply or a refusal.
-  name_served : (id : Data) (at : DocumentPlace) (question : NameQuestion) → IsNonAskId ids (id_of_value id) → after ≡ (react_to_question before id at question).after → AreContentsOfReply (react_to_question before id at question).say sent → OtherServed ids requested before after sent
+  name_served : (id : Data) (at : DocumentPlace) (question : NameQuestion) → IsNonAskId ids (id_of_value id) → after ≡ (react_to_question before id at question).after → AreContentsOfReply (react_to_question before id at question).reply sent → OtherServed ids requested before after sent
   name_served id at question own same saying =
-      about_served id (λ version. answers_name before.held.unit id at question) own (λ version text. named_replied before.held.unit id at question text) (document_at before.held at.uri) same saying
+      about_served id (λ version. answers_question before.held.unit id at question) own (λ version text. named_replied before.held.unit id at question text) (document_at before.held at.uri) same saying
 
-  question_served : (id : Data) → IsNonAskId ids (id_of_value id) → (q : Result ClientRequest RpcFault) → IsReadOnlyRequest q → after ≡ (react_to_known_request before id q).after → AreContentsOfReply (react_to_known_request before id q).say sent → OtherServed ids requested before after sent
+  question_served : (id : Data) → IsNonAskId ids (id_of_value id) → (q : Result ClientRequest RpcFault) → IsReadOnlyRequest q → after ≡ (react_to_known_request before id q).after → AreContentsOfReply (react_to_known_request before id q).reply sent → OtherServed ids requested before after sent
   question_served id own (Ok (asked.initialize client)) h same saying = absurd h
   question_served id own (Ok asked.shutdown) h same saying = absurd h
-  question_served id own (Ok (asked.hover at)) h same saying = name_served id at hover_asked own same saying
-  question_served id own (Ok (asked.definition at)) h same saying = name_served id at definition_asked own same saying
-  question_served id own (Ok (asked.references at include)) h same saying = name_served id at (references_asked include) own same saying
-  question_served id own (Ok (asked.prepare_rename at)) h same saying = name_served id at renaming_asked own same saying
+  question_served id own (Ok (asked.hover at)) h same saying = name_served id at hover_question own same saying
+  question_served id own (Ok (asked.definition at)) h same saying = name_served id at definition_question own same saying
+  question_served id own (Ok (asked.references at include)) h same saying = name_served id at (references_question include) own same saying
+  question_served id own (Ok (asked.prepare_rename at)) h same saying = name_served id at prepare_rename_question own same saying
   question_served id own (Ok (asked.rename at name)) h same saying =
       about_served id (λ version. renames before.held.unit (record { id = id; client = before.client; at = at; version = version; new = name })) own
       (λ version text. rename_replied before.held.unit (record { id = id; client = before.client; at = at; version = version; new = name }) text) (document_at before.held at.uri) same saying
@@ -260,10 +260,10 @@ module _ (ids : List SentRequestId) (requested : List SentAsk) (before after : S
       about_served id (λ version. offers_actions before.held.unit (record { id = id; client = before.client; uri = uri; version = version; range = range; only = only })) own
       (λ version text. actions_replied before.held.unit (record { id = id; client = before.client; uri = uri; version = version; range = range; only = only }) text) (document_at before.held uri) same saying
   question_served id own (Ok (asked.formatting uri indent)) h same saying =
-      about_served id (λ version. lays_out before.held.unit id indent) own (λ version text. layout_replied before.held.unit id indent text) (document_at before.held uri) same saying
+      about_served id (λ version. formats_text before.held.unit id indent) own (λ version text. layout_replied before.held.unit id indent text) (document_at before.held uri) same saying
   question_served id own (Err fault) h same saying = refused_other id (error_code fault) (error_text fault) own same saying
 
-  message_served : before.phase ≡ Running → (m : MessageMeaning) → IsUnmodeledMessage ids m → after ≡ (react before m).after → AreContentsOfReply (react before m).say sent → OtherServed ids requested before after sent
+  message_served : before.phase ≡ Running → (m : MessageMeaning) → IsUnmodeledMessage ids m → after ≡ (react before m).after → AreContentsOfReply (react before m).reply sent → OtherServed ids requested before after sent
   message_served running not_json h same saying = absurd h
   message_served running not_a_message h same saying = refused_other null (error_code NotAMessage) (error_text NotAMessage) tt same saying
   message_served running response h same saying = no_reply same saying
@@ -272,11 +272,11 @@ module _ (ids : List SentRequestId) (requested : List SentAsk) (before after : S
       ap (λ phase. react_to_request phase before id method params) running
       ∙ ap (λ b. cond b (react_with_error before id (minus 32600) (codes "already initialized")) (react_to_method before id method params)) first in
       question_served id own (request_by_method method params) question
-      (same ∙ ap (λ (x : Reaction). x.after) so) (subst (λ (x : Reaction). AreContentsOfReply x.say sent) so saying)
+      (same ∙ ap (λ (x : Reaction). x.after) so) (subst (λ (x : Reaction). AreContentsOfReply x.reply sent) so saying)
   message_served running (notice method params) h same saying =
       let so : react before (notice method params) ≡ apply_notification before other =
       ap (λ phase. react_to_notification phase before method params) running ∙ ap (apply_notification before) h in
-      no_reply (same ∙ ap (λ (x : Reaction). x.after) so) (subst (λ (x : Reaction). AreContentsOfReply x.say sent) so saying)
+      no_reply (same ∙ ap (λ (x : Reaction). x.after) so) (subst (λ (x : Reaction). AreContentsOfReply x.reply sent) so saying)
 
   other_served : (content : List ℕ) → before.phase ≡ Running → IsUnmodeledContent ids content → Answers before content sent after → OtherServed ids requested before after sent
   other_served content running (json, reads_so, is) h =
@@ -314,7 +314,7 @@ abbrev versions : List (Option MessageToEditor) → List VersionedPublication
 versions [] = []
 versions (o ∷ r) = versioned_publication o ++ versions r
 
-means_published : (ids : List SentRequestId) (requested : List SentAsk) (r : List (Option MessageToEditor)) (contents : List (List ℕ)) → AreMessagesToEditor ids requested r contents → published_in contents ≡ versions r
+means_published : (ids : List SentRequestId) (requested : List SentAsk) (r : List (Option MessageToEditor)) (contents : List (List ℕ)) → AreMessagesToEditor ids requested r contents → publications_in contents ≡ versions r
 means_published ids requested [] [] h = refl
 means_published ids requested (Some m ∷ r) (c ∷ contents) h = λ i. (sym (any_published (ask_number_by_id ids) requested c) ∙ ap versioned_publication h.0) i ++ means_published ids requested r contents h.1 i
 means_published ids requested (None ∷ r) (c ∷ contents) h =
@@ -323,9 +323,9 @@ means_published ids requested [] (c ∷ contents) h = absurd h
 means_published ids requested (Some m ∷ r) [] h = absurd h
 means_published ids requested (None ∷ r) [] h = absurd h
 
-published_append : (xs ys : List (List ℕ)) → published_in (xs ++ ys) ≡ published_in xs ++ published_in ys
+published_append : (xs ys : List (List ℕ)) → publications_in (xs ++ ys) ≡ publications_in xs ++ publications_in ys
 published_append [] ys = refl
-published_append (c ∷ xs) ys = ap (λ ps. versioned_publication (message_to_editor_in [] c) ++ ps) (published_append xs ys) ∙ sym (append_assoc (versioned_publication (message_to_editor_in [] c)) (published_in xs) (published_in ys))
+published_append (c ∷ xs) ys = ap (λ ps. versioned_publication (message_to_editor_in [] c) ++ ps) (published_append xs ys) ∙ sym (append_assoc (versioned_publication (message_to_editor_in [] c)) (publications_in xs) (publications_in ys))
 
 others_published : (said : List (Option MessageToEditor)) → modeled_messages said ≡ [] → versions said ≡ []
 others_published [] none = refl
@@ -333,15 +333,15 @@ others_published (None ∷ said) none = others_published said none
 others_published (Some m ∷ said) none = absurd (cc)
 
 -- returns the sent parts of a publication of the model: its uri, its version and whether it is empty
-abbrev named : Made → VersionedPublication
-named m = record { uri = m.uri; version = m.version; empty = m.empty }
+abbrev named : PublicationWithText → VersionedPublication
+named m = record { uri = m.uri; version = m.version; no_diagnostics = m.no_diagnostics }
 
-publishes_named : (uri : List ℕ) (o : Option Document) (said : List MessageToEditor) (made : List Made) → Publishes uri o said made → versions (map Some said) ≡ map named made
+publishes_named : (uri : List ℕ) (o : Option Document) (said : List MessageToEditor) (made : List PublicationWithText) → Publishes uri o said made → versions (map Some said) ≡ map named made
 publishes_named uri (Some (InStep version text)) said made (empty, right, is_said, is_made) = ap (λ ms. versions (map Some ms)) is_said ∙ sym (ap (map named) is_made)
 publishes_named uri (Some OutOfStep) said made h = ap (λ ms. versions (map Some ms)) h.0 ∙ sym (ap (map named) h.1)
 publishes_named uri None said made h = ap (λ ms. versions (map Some ms)) h.0 ∙ sym (ap (map named) h.1)
 
-replies_named : (held : OpenDocuments) (m : MessageToServer) (said : List MessageToEditor) (made : List Made) → Replies held m said made → versions (map Some said) ≡ map named made
+replies_named : (held : OpenDocuments) (m : MessageToServer) (said : List MessageToEditor) (made : List PublicationWithText) → Replies held m said made → versions (map Some said) ≡ map named made
 replies_named held (notifies (Opened uri version text)) said made h = publishes_named uri (document_at (after_event held (Opened uri version text)) uri) said made h
 replies_named held (notifies (Changed uri version how)) said made h = publishes_named uri (document_at (after_event held (Changed uri version how)) uri) said made h
 replies_named held (notifies (Lost uri)) said made h = ap (λ ms. versions (map Some ms)) h.0 ∙ sym (ap (map named) h.1)
@@ -353,15 +353,15 @@ replies_named held (notifies (Closed uri)) said made h = ap (λ ms. versions (ma
 replies_named held (requests k uri ask) said made (edits, may, is_said, is_made) = ap (λ ms. versions (map Some ms)) is_said ∙ sym (ap (map named) is_made)
 
 -- states that the contents sent since `got` publish exactly the publications that were made
-record Shown (got : List (List ℕ)) (wire : Wire) (made : List Made) : Type 0 where
+record Shown (got : List (List ℕ)) (wire : Wire) (made : List PublicationWithText) : Type 0 where
   since : List (List ℕ)
   sent : wire.got ++ wire.to_editor ≡ got ++ since
-  published : published_in since ≡ map named made
+  published : publications_in since ≡ map named made
 
-shown_written : (got contents : List (List ℕ)) (wire : Wire) (made : List Made) → Shown got wire made → Shown got (with_contents wire contents) made
+shown_written : (got contents : List (List ℕ)) (wire : Wire) (made : List PublicationWithText) → Shown got wire made → Shown got (with_contents wire contents) made
 shown_written got contents wire made h = record { since = h.since; sent = h.sent; published = h.published }
 
-shown_served : (got more taken rest : List (List ℕ)) (wire : Wire) (after : ServerState) (made these : List Made) → Shown got wire made → published_in more ≡ map named these
+shown_served : (got more taken rest : List (List ℕ)) (wire : Wire) (after : ServerState) (made these : List PublicationWithText) → Shown got wire made → publications_in more ≡ map named these
     → Shown got (record wire { session = after; taken = taken; to_server = rest; to_editor = wire.to_editor ++ more }) (made ++ these)
 shown_served got more taken rest wire after made these h new =
     record {
@@ -370,7 +370,7 @@ shown_served got more taken rest wire after made these h new =
       published = published_append h.since more ∙ (λ i. h.published i ++ new i) ∙ sym (map-append named made these);
     }
 
-shown_got : (got rest : List (List ℕ)) (content : List ℕ) (wire : Wire) (made : List Made) → wire.to_editor ≡ content ∷ rest → Shown got wire made → Shown got (record wire { got = wire.got ++ content ∷ []; to_editor = rest }) made
+shown_got : (got rest : List (List ℕ)) (content : List ℕ) (wire : Wire) (made : List PublicationWithText) → wire.to_editor ≡ content ∷ rest → Shown got wire made → Shown got (record wire { got = wire.got ++ content ∷ []; to_editor = rest }) made
 shown_got got rest content wire made waits h =
     record { since = h.since; sent = append_assoc wire.got (content ∷ []) rest ∙ ap (λ xs. wire.got ++ xs) (sym waits) ∙ h.sent; published = h.published }
 
@@ -382,7 +382,7 @@ session_served ids requested (notifies note) before after content sent running i
 session_served ids requested (requests k uri (rename position name)) before after content sent running (id, is, of, takes) answered =
     ask_answered (ask_number_by_id ids) requested id k uri (rename position name) before after content sent running takes of.numbered of.is is answered
 session_served ids requested (requests k uri (inline_here position)) before after content sent running (id, is, of, takes) answered =
-    actions_answered (ask_number_by_id ids) requested Here id k uri position before after content sent running takes of.numbered of.is is answered
+    actions_answered (ask_number_by_id ids) requested OneUse id k uri position before after content sent running takes of.numbered of.is is answered
 session_served ids requested (requests k uri (inline_all position)) before after content sent running (id, is, of, takes) answered =
     actions_answered (ask_number_by_id ids) requested Everywhere id k uri position before after content sent running takes of.numbered of.is is answered
 session_served ids requested (requests k uri (format indent)) before after content sent running (id, is, of, takes) answered =
@@ -391,7 +391,7 @@ session_served ids requested (requests k uri (format indent)) before after conte
 -- ---- turn by turn
 
 -- returns the model's state of an exchange, with these messages in its queues
-abbrev model_of : Exchange → List (Option MessageToServer) → List (Option MessageToEditor) → List Made → EditorAndServer
+abbrev model_of : Exchange → List (Option MessageToServer) → List (Option MessageToEditor) → List PublicationWithText → EditorAndServer
 model_of x q r made =
     record {
       editor = x.editor;
@@ -403,7 +403,7 @@ model_of x q r made =
       made = made;
     }
 
-record Tied (got : List (List ℕ)) (x : Exchange) (q : List (Option MessageToServer)) (r : List (Option MessageToEditor)) (made : List Made) : Type 0 where
+record Tied (got : List (List ℕ)) (x : Exchange) (q : List (Option MessageToServer)) (r : List (Option MessageToEditor)) (made : List PublicationWithText) : Type 0 where
   says : AreMessagesToSession x.wire.session.client x.ids x.editor.requested q x.wire.to_server
   means : AreMessagesToEditor x.ids x.editor.requested r x.wire.to_editor
   running : x.wire.session.phase ≡ Running
@@ -413,18 +413,18 @@ record Tied (got : List (List ℕ)) (x : Exchange) (q : List (Option MessageToSe
 record Step (got : List (List ℕ)) (w : EditorAndServer) (turn : Turn) (y : Exchange) : Type 0 where
   q : List (Option MessageToServer)
   r : List (Option MessageToEditor)
-  made : List Made
+  made : List PublicationWithText
   happens : MayHappen w turn (model_of y q r made)
   tied : Tied got y q r made
 
-module _ (got : List (List ℕ)) (x : Exchange) (made : List Made) where
-  does_step : (q : List (Option MessageToServer)) (r : List (Option MessageToEditor)) (move : Move) (y : Exchange) → Tied got x q r made → Exchanges x (editor_does move) y → Step got (model_of x q r made) (editor_does move) y
+module _ (got : List (List ℕ)) (x : Exchange) (made : List PublicationWithText) where
+  does_step : (q : List (Option MessageToServer)) (r : List (Option MessageToEditor)) (move : Move) (y : Exchange) → Tied got x q r made → Exchanges x (editor_moves move) y → Step got (model_of x q r made) (editor_moves move) y
   does_step q r move y tied (done, announced, ids, contents, may, names, say, is) =
       let client : ClientFeatures = x.wire.session.client in
       let known : List SentAsk = x.editor.requested in
       let more : AsksMore x.editor done = asks_more x.editor move done announced may in
       let later : (later : List SentRequestId) × (ids ≡ x.ids ++ later) = names_more x.ids done.sent ids names in
-      subst (Step got (model_of x q r made) (editor_does move)) (sym is)
+      subst (Step got (model_of x q r made) (editor_moves move)) (sym is)
       (record {
         q = q ++ map Some done.sent;
         r = r;
@@ -483,7 +483,7 @@ module _ (got : List (List ℕ)) (x : Exchange) (made : List Made) where
       let says : AreMessagesToSession client x.ids known (Some m ∷ q) (c ∷ rest) = subst (AreMessagesToSession client x.ids known (Some m ∷ q)) waits tied.says in
       let s : Served (ask_number_by_id x.ids) known m x.wire.session after sent = session_served x.ids known m x.wire.session after c sent tied.running says.0 answered in
       let now : Wire = record x.wire { session = after; taken = x.wire.taken ++ c ∷ []; to_server = rest; to_editor = x.wire.to_editor ++ sent } in
-      let more : List Made = option_to_list (publication_in_first_message after.held s.said) in
+      let more : List PublicationWithText = option_to_list (publication_in_first_message after.held s.said) in
       let means : AreMessagesToEditor x.ids known (map Some s.said) sent = subst (λ ms. AreMessagesToEditor x.ids known (map Some ms) sent) s.message_to_server_in.all (each_means client x.ids known sent s.message_to_server_in.each) in
       let y : Exchange = record x { wire = now } in
       subst (λ v. Step got (model_of x (Some m ∷ q) r made) server_takes (record x { wire = v })) (sym is)
@@ -527,7 +527,7 @@ module _ (got : List (List ℕ)) (x : Exchange) (made : List Made) where
   serve_step (Some m ∷ q) r [] wire waits tied takes = absurd (subst (AreMessagesToSession x.wire.session.client x.ids x.editor.requested (Some m ∷ q)) waits tied.says)
   serve_step (None ∷ q) r [] wire waits tied takes = absurd (subst (AreMessagesToSession x.wire.session.client x.ids x.editor.requested (None ∷ q)) waits tied.says)
 
-  reads_asks : (e : Editor) (m : MessageToEditor) → (reads e m).requested ≡ e.requested
+  reads_asks : (e : Editor) (m : MessageToEditor) → (after_reading e m).requested ≡ e.requested
   reads_asks e (publishes uri version empty) = refl
   reads_asks e (answers k []) = refl
   reads_asks e (answers k (edit ∷ edits)) = refl
@@ -551,7 +551,7 @@ module _ (got : List (List ℕ)) (x : Exchange) (made : List Made) where
       let means : AreMessagesToEditor x.ids x.editor.requested (Some m ∷ r) (c ∷ rest) = subst (AreMessagesToEditor x.ids x.editor.requested (Some m ∷ r)) waits tied.means in
       let now : Wire = record x.wire { got = x.wire.got ++ c ∷ []; to_editor = rest } in
       subst (Step got (model_of x q (Some m ∷ r) made) editor_takes) (sym (is ∙ (λ i. record x { editor = after_reading_if_any x.editor (means.0 i); wire = now })))
-      (record { q = q; r = r; made = made; happens = refl; tied = got_so q (Some m ∷ r) r c rest (reads x.editor m) waits tied (reads_asks x.editor m) means.1 })
+      (record { q = q; r = r; made = made; happens = refl; tied = got_so q (Some m ∷ r) r c rest (after_reading x.editor m) waits tied (reads_asks x.editor m) means.1 })
   get_step q (None ∷ r) (c ∷ rest) y waits tied is =
       let means : AreMessagesToEditor x.ids x.editor.requested (None ∷ r) (c ∷ rest) = subst (AreMessagesToEditor x.ids x.editor.requested (None ∷ r)) waits tied.means in
       let now : Wire = record x.wire { got = x.wire.got ++ c ∷ []; to_editor = rest } in
@@ -563,7 +563,7 @@ module _ (got : List (List ℕ)) (x : Exchange) (made : List Made) where
   get_step q (None ∷ r) [] y waits tied is = absurd (subst (AreMessagesToEditor x.ids x.editor.requested (None ∷ r)) waits tied.means)
 
   turn_step : (q : List (Option MessageToServer)) (r : List (Option MessageToEditor)) (turn : Turn) (y : Exchange) → Tied got x q r made → Exchanges x turn y → Step got (model_of x q r made) turn y
-  turn_step q r (editor_does move) y tied h = does_step q r move y tied h
+  turn_step q r (editor_moves move) y tied h = does_step q r move y tied h
   turn_step q r editor_sends_unmodeled y tied h = says_step q r y tied h
   turn_step q r server_takes y tied (wire, takes, is) = subst (Step got (model_of x q r made) server_takes) (sym is) (serve_step q r x.wire.to_server wire refl tied takes)
   turn_step q r editor_takes y tied h = get_step q r x.wire.to_editor y refl tied h
@@ -573,11 +573,11 @@ module _ (got : List (List ℕ)) (x : Exchange) (made : List Made) where
 record Led (got : List (List ℕ)) (w : EditorAndServer) (turns : List Turn) (y : Exchange) : Type 0 where
   q : List (Option MessageToServer)
   r : List (Option MessageToEditor)
-  made : List Made
+  made : List PublicationWithText
   leads : MayLeadTo w turns (model_of y q r made)
   tied : Tied got y q r made
 
-turns_lead : (got : List (List ℕ)) (turns : List Turn) (x y : Exchange) (q : List (Option MessageToServer)) (r : List (Option MessageToEditor)) (made : List Made) → Tied got x q r made → ExchangeCourse x turns y → Led got (model_of x q r made) turns y
+turns_lead : (got : List (List ℕ)) (turns : List Turn) (x y : Exchange) (q : List (Option MessageToServer)) (r : List (Option MessageToEditor)) (made : List PublicationWithText) → Tied got x q r made → ExchangeCourse x turns y → Led got (model_of x q r made) turns y
 turns_lead got [] x y q r made tied is = record { q = q; r = r; made = made; leads = ap (λ v. model_of v q r made) is; tied = subst (λ v. Tied got v q r made) (sym is) tied }
 turns_lead got (turn ∷ turns) x y q r made tied (between, exchanges, rest) =
     let step : Step got (model_of x q r made) turn between = turn_step got x made q r turn between tied exchanges in
@@ -617,26 +617,26 @@ every_exchange_follows_model unit begin now turns b leads =
 -- ---- the headline of an exchange
 
 -- Publications that are right and made for these documents are right of them when sent.
-right_of : (made : List Made) (announced : List AnnouncedDocument) → All IsCorrectPublication made → AreMadeForDocuments made announced → AreCorrectFor (map named made) announced
+right_of : (made : List PublicationWithText) (announced : List AnnouncedDocument) → All IsCorrectPublication made → AreMadeForDocuments made announced → AreCorrectFor (map named made) announced
 right_of [] [] all h = tt
 right_of (m ∷ made) (t ∷ announced) all ((uri_is, version_is, text_is), rest) = (
   uri_is,
   version_is,
-  subst (λ text. IsEmptyIfWellTyped text m.empty) text_is (All-head IsCorrectPublication m made all),
+  subst (λ text. IsEmptyIfWellTyped text m.no_diagnostics) text_is (All-head IsCorrectPublication m made all),
   right_of made announced (All-tail IsCorrectPublication m made all) rest,
 )
 right_of [] (t ∷ announced) all h = absurd h
 right_of (m ∷ made) [] all h = absurd h
 
 -- The sent parts of the last publication for a uri are the last sent parts for that uri.
-last_named : (uri : List ℕ) (last : Option Made) (made : List Made)
+last_named : (uri : List ℕ) (last : Option PublicationWithText) (made : List PublicationWithText)
     → fold (λ last p. cond (bytes_eq p.uri uri) (Some p) last) (option_map named last) (map named made) ≡ option_map named (fold (λ last m. cond (bytes_eq m.uri uri) (Some m) last) last made)
 last_named uri last [] = refl
 last_named uri last (m ∷ made) =
     ap (λ o. fold (λ last p. cond (bytes_eq p.uri uri) (Some p) last) o (map named made)) (sym (mapped_choice named (bytes_eq m.uri uri) (Some m) last)) ∙ last_named uri (cond (bytes_eq m.uri uri) (Some m) last) made
 
 -- If all publications are right, the last one for a uri is right.
-last_right : (uri : List ℕ) (last : Option Made) (made : List Made) → MatchOption last ⊤ IsCorrectPublication → All IsCorrectPublication made → MatchOption (fold (λ last m. cond (bytes_eq m.uri uri) (Some m) last) last made) ⊤ IsCorrectPublication
+last_right : (uri : List ℕ) (last : Option PublicationWithText) (made : List PublicationWithText) → MatchOption last ⊤ IsCorrectPublication → All IsCorrectPublication made → MatchOption (fold (λ last m. cond (bytes_eq m.uri uri) (Some m) last) last made) ⊤ IsCorrectPublication
 last_right uri last [] h all = h
 last_right uri last (m ∷ made) h all = last_right uri (cond (bytes_eq m.uri uri) (Some m) last) made (go (bytes_eq m.uri uri)) (All-tail IsCorrectPublication m made all)
   where
@@ -644,10 +644,10 @@ last_right uri last (m ∷ made) h all = last_right uri (cond (bytes_eq m.uri ur
     go true = All-head IsCorrectPublication m made all
     go false = h
 
-latest_right : (d : OpenDocument) (o : Option Made) → MatchOption o ⊥ (λ m. (m.version ≡ d.version) × (m.text ≡ d.text)) → MatchOption o ⊤ IsCorrectPublication
-    → MatchOption (option_map named o) ⊥ (λ p. (p.version ≡ d.version) × IsEmptyIfWellTyped d.text p.empty)
+latest_right : (d : OpenDocument) (o : Option PublicationWithText) → MatchOption o ⊥ (λ m. (m.version ≡ d.version) × (m.text ≡ d.text)) → MatchOption o ⊤ IsCorrectPublication
+    → MatchOption (option_map named o) ⊥ (λ p. (p.version ≡ d.version) × IsEmptyIfWellTyped d.text p.no_diagnostics)
 latest_right d None h right = h
-latest_right d (Some m) h right = (h.0, subst (λ text. IsEmptyIfWellTyped text m.empty) h.1 right)
+latest_right d (Some m) h right = (h.0, subst (λ text. IsEmptyIfWellTyped text m.no_diagnostics) h.1 right)
 
 -- ---- the meaning of waiting contents
 
@@ -712,13 +712,13 @@ holds_for_every_exchange unit begin now turns b leads =
       applied = holds.holds.applied;
       since = shown.since;
       sent = shown.sent;
-      published_of = holds.published;
-      not_yet = holds.waiting;
+      published_documents = holds.published;
+      unpublished_documents = holds.waiting;
       announced = holds.all;
-      right = subst (λ ps. AreCorrectFor ps holds.published) (sym shown.published) (right_of led.made holds.published holds.holds.made holds.made_of);
+      right = subst (λ ps. AreCorrectFor ps holds.published) (sym shown.published) (right_of led.made holds.published holds.holds.made holds.are_made_for_documents);
       still_wait = holds.still_wait ∙ notes_named waiting ∙ ap versions_announced_in (sym notes);
       latest = λ quiet uri d at.
-          subst (λ o. MatchOption o ⊥ (λ p. (p.version ≡ d.version) × IsEmptyIfWellTyped d.text p.empty)) (sym (ap (last_published uri) shown.published ∙ last_named uri None led.made))
+          subst (λ o. MatchOption o ⊥ (λ p. (p.version ≡ d.version) × IsEmptyIfWellTyped d.text p.no_diagnostics)) (sym (ap (last_publication_of uri) shown.published ∙ last_named uri None led.made))
           (latest_right d (last_publication uri led.made)
           (holds.latest (sym notes ∙ quiet) uri d at)
           (last_right uri None led.made tt holds.holds.made));

@@ -17,14 +17,14 @@ use Rattle.ob0_world_editor.proofs.Hearing.{says_heard}
 use Rattle.ob0_world_rules.specs.Edited.{Replacement, text_after_changes}
 use Rattle.ob0_world_rules.specs.Asks.{Ask}
 use Rattle.ob0_world_rules.specs.ClientAndServer.{OpenDocument, SentAsk, Editor, open_at, MessageToServer, MessageToEditor, publishes, answers, ClientAndServer}
-use Rattle.ob0_world_rules.specs.EditorActs.{Act, open_document, change_document, close_document, ask_about, apply, discard, ActResult, unchanged_result, opening_result, rewriting_result, closing_result, asks, edits_of_answer, without_answer, act_result, reads}
-use Rattle.ob0_world_rules.specs.Happens.{does, take_message, after_act, after_editor_takes, Happens}
+use Rattle.ob0_world_rules.specs.EditorActs.{Act, open_document, change_document, close_document, ask_about, apply, discard, ActResult, unchanged_result, opening_result, rewriting_result, closing_result, asking_result, edits_of_answer, without_answer, act_result, after_reading}
+use Rattle.ob0_world_rules.specs.Happens.{editor_acts, take_message, after_act, after_editor_takes, Happens}
 use Rattle.ob0_world_rules.proofs.PerformsAct.{of_each}
 use Rattle.ob0_world.specs.declared.events.Seen as seen
 use Rattle.ob0_world.specs.declared.played.Made as made
 use Rattle.ob0_world.specs.Seen.{Seen, nothing, applies, drops, report_if_any, send_report, act_report, take_report, report_of, HappensWithReport}
 use Rattle.ob0_world.specs.Seen as seen_as
-use Rattle.ob0_world.specs.Queues.{Contents, content_bytes, all_messages_to_server, all_messages_to_editor, HasMessageToServer, HasMessageToEditor, Sound, model_from, wire_from, QueuesContent, MovesFirst}
+use Rattle.ob0_world.specs.Queues.{Contents, content_bytes, all_messages_to_server, all_messages_to_editor, HasMessageToServer, HasMessageToEditor, ConnectionInvariant, model_from, wire_from, QueuesContent, MovesFirst}
 use Rattle.ob0_world.specs.Worlds.{WritesContent}
 use Rattle.ob0_world.proofs.Waiting.{all_heard_still, all_understood_still, heard_still, understood_same, said_push, said_first}
 
@@ -49,26 +49,26 @@ grown e new done (more, grows) is = (more, ap (λ (x : Editor). x.requested) is 
 
 -- ---- waiting contents are still messages
 
-pub grown_sound : (e new : Editor) (q r : Contents) (s : ServerState) → Grows e new → Sound e.requested q r s → Sound new.requested q r s
+pub grown_sound : (e new : Editor) (q r : Contents) (s : ServerState) → Grows e new → ConnectionInvariant e.requested q r s → ConnectionInvariant new.requested q r s
 grown_sound e new q r s (more, is) sound =
-    subst (λ requested. Sound requested q r s) (sym is)
-    (record { heard_all = all_heard_still e.requested more q sound.heard_all; understood_all = all_understood_still e.requested more r sound.understood_all; running = sound.running })
+    subst (λ requested. ConnectionInvariant requested q r s) (sym is)
+    (record { to_server_are_messages = all_heard_still e.requested more q sound.to_server_are_messages; to_editor_are_messages = all_understood_still e.requested more r sound.to_editor_are_messages; running = sound.running })
 
-pub same_sound : (e new : Editor) (q r : Contents) (s : ServerState) → new.requested ≡ e.requested → Sound e.requested q r s → Sound new.requested q r s
-same_sound e new q r s is sound = subst (λ requested. Sound requested q r s) (sym is) sound
+pub same_sound : (e new : Editor) (q r : Contents) (s : ServerState) → new.requested ≡ e.requested → ConnectionInvariant e.requested q r s → ConnectionInvariant new.requested q r s
+same_sound e new q r s is sound = subst (λ requested. ConnectionInvariant requested q r s) (sym is) sound
 
-pushed_sound : (requested : List SentAsk) (q r : Contents) (s : ServerState) (c : Vec ℕ Global) (m : MessageToServer) → IsMessageToServer requested m c.items → Sound requested q r s → Sound requested (q ++ c ∷ []) r s
+pushed_sound : (requested : List SentAsk) (q r : Contents) (s : ServerState) (c : Vec ℕ Global) (m : MessageToServer) → IsMessageToServer requested m c.items → ConnectionInvariant requested q r s → ConnectionInvariant requested (q ++ c ∷ []) r s
 pushed_sound requested q r s c m says sound =
-    record { heard_all = All-push (HasMessageToServer requested) q c sound.heard_all (m, says); understood_all = sound.understood_all; running = sound.running }
+    record { to_server_are_messages = All-push (HasMessageToServer requested) q c sound.to_server_are_messages (m, says); to_editor_are_messages = sound.to_editor_are_messages; running = sound.running }
 
 -- After an act the waiting contents are still messages, including the content of that act.
-pub acted_sound : (e new : Editor) (done : ActResult) (content : Option (Vec ℕ Global)) (q q' r : Contents) (s : ServerState) → Grows e done.editor → PerformsAct done content new → q' ≡ q ++ option_to_list content → Sound e.requested q r s → Sound new.requested q' r s
+pub acted_sound : (e new : Editor) (done : ActResult) (content : Option (Vec ℕ Global)) (q q' r : Contents) (s : ServerState) → Grows e done.editor → PerformsAct done content new → q' ≡ q ++ option_to_list content → ConnectionInvariant e.requested q r s → ConnectionInvariant new.requested q' r s
 acted_sound e new done content q q' r s grows acts is sound =
-    let still : Sound new.requested q r s = grown_sound e new q r s (grown e new done grows acts.0) sound in
-    subst (λ x. Sound new.requested x r s) (sym is) (go done.sent content acts.1 still)
+    let still : ConnectionInvariant new.requested q r s = grown_sound e new q r s (grown e new done grows acts.0) sound in
+    subst (λ x. ConnectionInvariant new.requested x r s) (sym is) (go done.sent content acts.1 still)
   where
-    go : (sent : List MessageToServer) (content : Option (Vec ℕ Global)) → IsSentContent new.requested sent content → Sound new.requested q r s → Sound new.requested (q ++ option_to_list content) r s
-    go [] None says still = subst (λ x. Sound new.requested x r s) (sym (append-nil q)) still
+    go : (sent : List MessageToServer) (content : Option (Vec ℕ Global)) → IsSentContent new.requested sent content → ConnectionInvariant new.requested q r s → ConnectionInvariant new.requested (q ++ option_to_list content) r s
+    go [] None says still = subst (λ x. ConnectionInvariant new.requested x r s) (sym (append-nil q)) still
     go [] (Some c) says still = absurd says
     go (m ∷ more) None says still = absurd says
     go (m ∷ more) (Some c) says still = pushed_sound new.requested q r s c m says.0 still
@@ -83,16 +83,16 @@ heard_acted requested (m ∷ more) (Some c) q says =
 
 -- After an act of the code, the stored state is the model's state after that act.
 pub acted : (e new : Editor) (done : ActResult) (content : Option (Vec ℕ Global)) (q q' r : Contents) (s : ServerState) (ap_list ap_new : List applied.Applied) (md : List made.Made) → Grows e done.editor → PerformsAct done content new → q' ≡ q ++ option_to_list content
-    → map applied_of ap_new ≡ map applied_of ap_list ++ done.applied → Sound e.requested q r s → model_from new q' s r ap_new md ≡ after_act (model_from e q s r ap_list md) done
+    → map applied_of ap_new ≡ map applied_of ap_list ++ done.applied → ConnectionInvariant e.requested q r s → model_from new q' s r ap_new md ≡ after_act (model_from e q s r ap_list md) done
 acted e new done content q q' r s ap_list ap_new md grows acts is more sound =
     let (since, grew) = grown e new done grows acts.0 in
     let waits : all_messages_to_server new.requested q' ≡ all_messages_to_server e.requested q ++ done.sent =
     ap (all_messages_to_server new.requested) is ∙ heard_acted new.requested done.sent content q acts.1
-    ∙ ap (λ ms. ms ++ done.sent) (ap (λ requested. all_messages_to_server requested q) grew ∙ heard_still e.requested since q sound.heard_all) in
+    ∙ ap (λ ms. ms ++ done.sent) (ap (λ requested. all_messages_to_server requested q) grew ∙ heard_still e.requested since q sound.to_server_are_messages) in
     (λ i. record (model_from e q s r ap_list md) {
       editor = acts.0 i;
       to_server = waits i;
-      to_editor = (ap (λ requested. all_messages_to_editor requested r) grew ∙ understood_same e.requested since r sound.understood_all) i;
+      to_editor = (ap (λ requested. all_messages_to_editor requested r) grew ∙ understood_same e.requested since r sound.to_editor_are_messages) i;
       applied = more i;
     })
 
@@ -133,7 +133,7 @@ close_applies e uri = go (is_some (open_at e uri))
 pub ask_applies : (e : Editor) (uri : List ℕ) (ask : Ask) → (act_result e (ask_about uri ask)).applied ≡ []
 ask_applies e uri ask = go (open_at e uri)
   where
-    go : (o : Option OpenDocument) → (unwrap_or (option_and_then (λ d. Some (asks e uri ask d)) o) (unchanged_result e)).applied ≡ []
+    go : (o : Option OpenDocument) → (unwrap_or (option_and_then (λ d. Some (asking_result e uri ask d)) o) (unchanged_result e)).applied ≡ []
     go None = refl
     go (Some d) = refl
 
@@ -149,16 +149,16 @@ change_applies e uri how = go (open_at e uri)
     go (Some d) = of_text d (text_after_changes e.unit (Some d.text) how)
 
 pub sent_sound : {X : Type 0} (act : Act) (e new : Editor) (content : Option (Vec ℕ Global)) (q q' r : Contents) (s : ServerState) (result : Result seen.Seen X) → PerformsAct (act_result e act) content new
-    → IfOk result (λ shown. QueuesContent q content shown q') → OnErr result (q' ≡ q) → Sound e.requested q r s → Sound new.requested q' r s
+    → IfOk result (λ shown. QueuesContent q content shown q') → OnErr result (q' ≡ q) → ConnectionInvariant e.requested q r s → ConnectionInvariant new.requested q' r s
 sent_sound act e new content q q' r s (Ok shown) acts sent none sound = acted_sound e new (act_result e act) content q q' r s (act_grows e act) acts (put q q' content shown sent) sound
 sent_sound act e new content q q' r s (Err x) acts sent none sound =
-    subst (λ x. Sound new.requested x r s) (sym none) (grown_sound e new q r s (grown e new (act_result e act) (act_grows e act) acts.0) sound)
+    subst (λ x. ConnectionInvariant new.requested x r s) (sym none) (grown_sound e new q r s (grown e new (act_result e act) (act_grows e act) acts.0) sound)
 
 pub sent_shows : {X : Type 0} (act : Act) (old : ClientAndServer) (e new : Editor) (content : Option (Vec ℕ Global)) (q q' r : Contents) (s : ServerState) (ap_list : List applied.Applied) (md : List made.Made) (result : Result seen.Seen X)
-    → model_from e q s r ap_list md ≡ old → (act_result e act).applied ≡ [] → act_report e act ≡ send_report (act_result e act) → PerformsAct (act_result e act) content new → IfOk result (λ shown. QueuesContent q content shown q') → Sound e.requested q r s
-    → IfOk result (λ shown. HappensWithReport old (does act) (report_of shown) (model_from new q' s r ap_list md))
+    → model_from e q s r ap_list md ≡ old → (act_result e act).applied ≡ [] → act_report e act ≡ send_report (act_result e act) → PerformsAct (act_result e act) content new → IfOk result (λ shown. QueuesContent q content shown q') → ConnectionInvariant e.requested q r s
+    → IfOk result (λ shown. HappensWithReport old (editor_acts act) (report_of shown) (model_from new q' s r ap_list md))
 sent_shows act old e new content q q' r s ap_list md (Ok shown) was none as_sent acts sent sound =
-    subst (λ (w : ClientAndServer). HappensWithReport w (does act) (report_of shown) (model_from new q' s r ap_list md)) was (
+    subst (λ (w : ClientAndServer). HappensWithReport w (editor_acts act) (report_of shown) (model_from new q' s r ap_list md)) was (
       acted e new (act_result e act) content q q' r s ap_list ap_list md (act_grows e act) acts (put q q' content shown sent) (sym (append-nil (map applied_of ap_list)) ∙ ap (λ x. map applied_of ap_list ++ x) (sym none)) sound,
       seen_sent (act_result e act) new.requested q q' content shown acts.1 sent ∙ sym as_sent,
     )
@@ -170,8 +170,8 @@ sent_shows act old e new content q q' r s ap_list md (Err x) was none as_sent ac
 pub silent_acts : (done : ActResult) (new : Editor) → IsSilent done new → PerformsAct done None new
 silent_acts done new (is, nothing_sent, none) = (is, subst (λ ms. IsSentContent new.requested ms None) (sym nothing_sent) tt)
 
-pub silent_shows : (act : Act) (e new : Editor) (q r : Contents) (s : ServerState) (ap_list : List applied.Applied) (md : List made.Made) → IsSilent (act_result e act) new → Sound e.requested q r s
-    → Happens (model_from e q s r ap_list md) (does act) (model_from new q s r ap_list md)
+pub silent_shows : (act : Act) (e new : Editor) (q r : Contents) (s : ServerState) (ap_list : List applied.Applied) (md : List made.Made) → IsSilent (act_result e act) new → ConnectionInvariant e.requested q r s
+    → Happens (model_from e q s r ap_list md) (editor_acts act) (model_from new q s r ap_list md)
 silent_shows act e new q r s ap_list md silent sound =
     acted e new (act_result e act) None q q r s ap_list ap_list md (act_grows e act) (silent_acts (act_result e act) new silent) (sym (append-nil q)) (sym (append-nil (map applied_of ap_list)) ∙ ap (λ x. map applied_of ap_list ++ x) (sym silent.2)) sound
 
@@ -194,7 +194,7 @@ apply_requested e new k applying.TheVariants.Dropped comes = comes.0.0
 apply_requested e new k (applying.TheVariants.Made a c) comes = comes.0.0
 
 -- After an answer was applied or dropped, the waiting contents are still messages.
-pub applied_sound : (e new : Editor) (k : ℕ) (outcome : applying.ApplyOutcome) (q r : Contents) (s : ServerState) → IsApplyOutcome (act_result e (apply k)) (is_some (edits_of_answer k e.answers)) outcome new → Sound e.requested q r s → Sound new.requested q r s
+pub applied_sound : (e new : Editor) (k : ℕ) (outcome : applying.ApplyOutcome) (q r : Contents) (s : ServerState) → IsApplyOutcome (act_result e (apply k)) (is_some (edits_of_answer k e.answers)) outcome new → ConnectionInvariant e.requested q r s → ConnectionInvariant new.requested q r s
 applied_sound e new k outcome q r s comes sound = grown_sound e new q r s (grown e new (act_result e (apply k)) (act_grows e (apply k)) (apply_requested e new k outcome comes)) sound
 
 -- The content that tells of an applied edit is a message to the server.
@@ -206,33 +206,33 @@ made_says e new k a c comes = go (act_result e (apply k)).sent comes.0.1
     go (m ∷ more) says = (m, says.0)
 
 pub made_happens : (e new : Editor) (k : ℕ) (a : applied.Applied) (c : Vec ℕ Global) (q q' r : Contents) (s : ServerState) (ap_list ap_new : List applied.Applied) (md : List made.Made) → IsApplyOutcome (act_result e (apply k)) (is_some (edits_of_answer k e.answers)) (applying.TheVariants.Made a c) new
-    → q' ≡ q ++ c ∷ [] → ap_new ≡ ap_list ++ a ∷ [] → Sound e.requested q r s → HappensWithReport (model_from e q s r ap_list md) (does (apply k)) (applies k) (model_from new q' s r ap_new md)
+    → q' ≡ q ++ c ∷ [] → ap_new ≡ ap_list ++ a ∷ [] → ConnectionInvariant e.requested q r s → HappensWithReport (model_from e q s r ap_list md) (editor_acts (apply k)) (applies k) (model_from new q' s r ap_new md)
 made_happens e new k a c q q' r s ap_list ap_new md comes is_q is_ap sound = (
   acted e new (act_result e (apply k)) (Some c) q q' r s ap_list ap_new md (act_grows e (apply k)) comes.0 is_q
       (ap (map applied_of) is_ap ∙ map-append applied_of ap_list (a ∷ []) ∙ ap (λ x. map applied_of ap_list ++ x) (sym comes.1)) sound,
   apply_seen_so e new k (applying.TheVariants.Made a c) comes,
 )
 
-pub dropped_happens : (e new : Editor) (k : ℕ) (q r : Contents) (s : ServerState) (ap_list : List applied.Applied) (md : List made.Made) → IsApplyOutcome (act_result e (apply k)) (is_some (edits_of_answer k e.answers)) applying.TheVariants.Dropped new → Sound e.requested q r s
-    → HappensWithReport (model_from e q s r ap_list md) (does (apply k)) (drops k) (model_from new q s r ap_list md)
+pub dropped_happens : (e new : Editor) (k : ℕ) (q r : Contents) (s : ServerState) (ap_list : List applied.Applied) (md : List made.Made) → IsApplyOutcome (act_result e (apply k)) (is_some (edits_of_answer k e.answers)) applying.TheVariants.Dropped new → ConnectionInvariant e.requested q r s
+    → HappensWithReport (model_from e q s r ap_list md) (editor_acts (apply k)) (drops k) (model_from new q s r ap_list md)
 dropped_happens e new k q r s ap_list md comes sound = (silent_shows (apply k) e new q r s ap_list md comes.0 sound, apply_seen_so e new k applying.TheVariants.Dropped comes)
 
-pub not_held_happens : (e new : Editor) (k : ℕ) (q r : Contents) (s : ServerState) (ap_list : List applied.Applied) (md : List made.Made) → IsApplyOutcome (act_result e (apply k)) (is_some (edits_of_answer k e.answers)) applying.TheVariants.NotHeld new → Sound e.requested q r s
-    → HappensWithReport (model_from e q s r ap_list md) (does (apply k)) nothing (model_from new q s r ap_list md)
+pub not_held_happens : (e new : Editor) (k : ℕ) (q r : Contents) (s : ServerState) (ap_list : List applied.Applied) (md : List made.Made) → IsApplyOutcome (act_result e (apply k)) (is_some (edits_of_answer k e.answers)) applying.TheVariants.NotHeld new → ConnectionInvariant e.requested q r s
+    → HappensWithReport (model_from e q s r ap_list md) (editor_acts (apply k)) nothing (model_from new q s r ap_list md)
 not_held_happens e new k q r s ap_list md comes sound = (silent_shows (apply k) e new q r s ap_list md comes.0 sound, apply_seen_so e new k applying.TheVariants.NotHeld comes)
 
 -- ---- taking
 
-pub keep_asks : (e : Editor) (number : ℕ) (edits : List Replacement) → (reads e (answers number edits)).requested ≡ e.requested
+pub keep_asks : (e : Editor) (number : ℕ) (edits : List Replacement) → (after_reading e (answers number edits)).requested ≡ e.requested
 keep_asks e number [] = refl
 keep_asks e number (edit ∷ edits) = refl
 
-pub read_asks : (e : Editor) (m : MessageToEditor) → (reads e m).requested ≡ e.requested
+pub read_asks : (e : Editor) (m : MessageToEditor) → (after_reading e m).requested ≡ e.requested
 read_asks e (publishes uri version empty) = refl
 read_asks e (answers number edits) = keep_asks e number edits
 
 -- When the editor has read the first waiting content, the model's editor has taken the message that it says.
-pub taken_happens : (e new : Editor) (q r rest : Contents) (s : ServerState) (ap_list : List applied.Applied) (md : List made.Made) (c : Vec ℕ Global) (m : MessageToEditor) → r ≡ c ∷ rest → message_to_editor_in e.requested c.items ≡ Some m → new ≡ reads e m
+pub taken_happens : (e new : Editor) (q r rest : Contents) (s : ServerState) (ap_list : List applied.Applied) (md : List made.Made) (c : Vec ℕ Global) (m : MessageToEditor) → r ≡ c ∷ rest → message_to_editor_in e.requested c.items ≡ Some m → new ≡ after_reading e m
     → HappensWithReport (model_from e q s r ap_list md) take_message (take_report (m ∷ [])) (model_from new q s rest ap_list md)
 taken_happens e new q r rest s ap_list md c m first means is =
     let waits : all_messages_to_editor e.requested r ≡ m ∷ all_messages_to_editor e.requested rest = ap (all_messages_to_editor e.requested) first ∙ said_first (message_to_editor_in e.requested) c rest m means in
@@ -260,9 +260,9 @@ module _ (s : ServerState) (tk q gt r : Contents) where
   writes_sent q' None (Ok shown) sent = subst (λ x. WritesContent (wire_from s tk q gt r) (wire_from s tk x gt r)) (sym sent.1) writes_none
   writes_sent q' (Some c) (Ok shown) sent = writes_one q' c sent.1
 
-pub taken_sound : (requested : List SentAsk) (q r rest : Contents) (s : ServerState) (c : Vec ℕ Global) → r ≡ c ∷ rest → Sound requested q r s → Sound requested q rest s
+pub taken_sound : (requested : List SentAsk) (q r rest : Contents) (s : ServerState) (c : Vec ℕ Global) → r ≡ c ∷ rest → ConnectionInvariant requested q r s → ConnectionInvariant requested q rest s
 taken_sound requested q r rest s c is sound =
-    record { heard_all = sound.heard_all; understood_all = All-tail (HasMessageToEditor requested) c rest (subst (All (HasMessageToEditor requested)) is sound.understood_all); running = sound.running }
+    record { to_server_are_messages = sound.to_server_are_messages; to_editor_are_messages = All-tail (HasMessageToEditor requested) c rest (subst (All (HasMessageToEditor requested)) is sound.to_editor_are_messages); running = sound.running }
 
 -- A queue that isn't empty is its first content and the rest.
 pub first_of : (r : Contents) (c : Vec ℕ Global) → 0 < length r → c ≡ slice_index_or r 0 c → (rest : Contents) × (r ≡ c ∷ rest)
@@ -274,18 +274,18 @@ pub moved_first : (r r' gt gt' : Contents) (c : Vec ℕ Global) (rest : Contents
 moved_first r r' gt gt' c rest is moves = subst (λ x. MovesFirst x gt r' gt') is moves
 
 -- A content that waits for the editor is a message to it.
-pub taken_says : (requested : List SentAsk) (q r rest : Contents) (s : ServerState) (c : Vec ℕ Global) → r ≡ c ∷ rest → Sound requested q r s → message_to_editor_in requested c.items ≡ None → ⊥
+pub taken_says : (requested : List SentAsk) (q r rest : Contents) (s : ServerState) (c : Vec ℕ Global) → r ≡ c ∷ rest → ConnectionInvariant requested q r s → message_to_editor_in requested c.items ≡ None → ⊥
 taken_says requested q r rest s c is sound silent =
-    let says : HasMessageToEditor requested c = All-head (HasMessageToEditor requested) c rest (subst (All (HasMessageToEditor requested)) is sound.understood_all) in
+    let says : HasMessageToEditor requested c = All-head (HasMessageToEditor requested) c rest (subst (All (HasMessageToEditor requested)) is sound.to_editor_are_messages) in
     let clash : Some says.0 ≡ None = sym says.1 ∙ silent in
     cc
 
 -- The waiting contents are still messages after a message was put at the end, or not.
-pub maybe_pushed : (requested : List SentAsk) (q q' r : Contents) (s : ServerState) (c : Vec ℕ Global) (b : Bool) → q' ≡ cond b (q ++ c ∷ []) q → HasMessageToServer requested c → Sound requested q r s → Sound requested q' r s
-maybe_pushed requested q q' r s c true is says sound = subst (λ x. Sound requested x r s) (sym is) (pushed_sound requested q r s c says.0 says.1 sound)
-maybe_pushed requested q q' r s c false is says sound = subst (λ x. Sound requested x r s) (sym is) sound
+pub maybe_pushed : (requested : List SentAsk) (q q' r : Contents) (s : ServerState) (c : Vec ℕ Global) (b : Bool) → q' ≡ cond b (q ++ c ∷ []) q → HasMessageToServer requested c → ConnectionInvariant requested q r s → ConnectionInvariant requested q' r s
+maybe_pushed requested q q' r s c true is says sound = subst (λ x. ConnectionInvariant requested x r s) (sym is) (pushed_sound requested q r s c says.0 says.1 sound)
+maybe_pushed requested q q' r s c false is says sound = subst (λ x. ConnectionInvariant requested x r s) (sym is) sound
 
-pub discard_shows : (e new : Editor) (k : ℕ) (q r : Contents) (s : ServerState) (ap_list : List applied.Applied) (md : List made.Made) (held : Bool) → held ≡ is_some (edits_of_answer k e.answers) → new ≡ without_answer e k → Sound e.requested q r s
-    → HappensWithReport (model_from e q s r ap_list md) (does (discard k)) (cond held (drops k) nothing) (model_from new q s r ap_list md)
+pub discard_shows : (e new : Editor) (k : ℕ) (q r : Contents) (s : ServerState) (ap_list : List applied.Applied) (md : List made.Made) (held : Bool) → held ≡ is_some (edits_of_answer k e.answers) → new ≡ without_answer e k → ConnectionInvariant e.requested q r s
+    → HappensWithReport (model_from e q s r ap_list md) (editor_acts (discard k)) (cond held (drops k) nothing) (model_from new q s r ap_list md)
 discard_shows e new k q r s ap_list md held is after sound =
     (silent_shows (discard k) e new q r s ap_list md (after, refl, refl) sound, ap (λ b. cond b (drops k) nothing) is)

@@ -7,7 +7,7 @@ use Rattle.std.proofs.lemmas.List.{length-append}
 use Rattle.ob0_text.specs.declared.position_types.Position.{Position}
 use Rattle.ob0_text.specs.declared.position_types.Range.{Range}
 use Rattle.ob0_text.specs.declared.position_types.Unit.{Unit}
-use Rattle.ob0_text.specs.Texts.{Line, lines, joined, body_at, fitting, before, byte_len, offset_of}
+use Rattle.ob0_text.specs.Texts.{Line, lines, text_of_lines, line_body, fitting_prefix, text_before, byte_len, offset_of}
 use Rattle.ob0_text.specs.Units.{width_of}
 use Rattle.ob0_session_answers.specs.Actions.{actions_offset}
 use Rattle.ob0_world_rules.specs.Answers.{position_offset}
@@ -24,59 +24,59 @@ len-cons c xs ys h =
 
 module _ (width : ℕ → ℕ) where
   -- More units fit at least as many bytes.
-  more_fits : (cs : List ℕ) (n m : ℕ) → n ≤ m → byte_len (fitting width n cs) ≤ byte_len (fitting width m cs)
-  unfolding fitting
+  more_fits : (cs : List ℕ) (n m : ℕ) → n ≤ m → byte_len (fitting_prefix width n cs) ≤ byte_len (fitting_prefix width m cs)
+  unfolding fitting_prefix
   more_fits [] n m h = omega arith
   more_fits (c ∷ cs) n m h = go (nat_le (width c) n) (nat_le (width c) m) refl refl (more_fits cs (n - width c) (m - width c) (omega arith))
     where
-      go : (a b : Bool) → nat_le (width c) n ≡ a → nat_le (width c) m ≡ b → byte_len (fitting width (n - width c) cs) ≤ byte_len (fitting width (m - width c) cs)
-          → byte_len (cond a (c ∷ fitting width (n - width c) cs) []) ≤ byte_len (cond b (c ∷ fitting width (m - width c) cs) [])
-      go true true one other more = len-cons c (fitting width (n - width c) cs) (fitting width (m - width c) cs) more
+      go : (a b : Bool) → nat_le (width c) n ≡ a → nat_le (width c) m ≡ b → byte_len (fitting_prefix width (n - width c) cs) ≤ byte_len (fitting_prefix width (m - width c) cs)
+          → byte_len (cond a (c ∷ fitting_prefix width (n - width c) cs) []) ≤ byte_len (cond b (c ∷ fitting_prefix width (m - width c) cs) [])
+      go true true one other more = len-cons c (fitting_prefix width (n - width c) cs) (fitting_prefix width (m - width c) cs) more
       go true false one other more =
           let low : width c ≤ n = leb-true (width c) n one in
           let high : m < width c = leb-false (width c) m other in absurd (omega arith)
       go false b one other more = omega arith
 
-  all_fits : (cs : List ℕ) (n : ℕ) → byte_len (fitting width n cs) ≤ byte_len cs
-  unfolding fitting
+  all_fits : (cs : List ℕ) (n : ℕ) → byte_len (fitting_prefix width n cs) ≤ byte_len cs
+  unfolding fitting_prefix
   all_fits [] n = omega arith
   all_fits (c ∷ cs) n = go (nat_le (width c) n) (all_fits cs (n - width c))
     where
-      go : (b : Bool) → byte_len (fitting width (n - width c) cs) ≤ byte_len cs → byte_len (cond b (c ∷ fitting width (n - width c) cs) []) ≤ byte_len (c ∷ cs)
-      go true more = len-cons c (fitting width (n - width c) cs) cs more
+      go : (b : Bool) → byte_len (fitting_prefix width (n - width c) cs) ≤ byte_len cs → byte_len (cond b (c ∷ fitting_prefix width (n - width c) cs) []) ≤ byte_len (c ∷ cs)
+      go true more = len-cons c (fitting_prefix width (n - width c) cs) cs more
       go false more = omega arith
 
   up_to : List Line → ℕ → ℕ → List ℕ
-  up_to ls line n = joined (take line ls) ++ fitting width n (body_at ls line)
+  up_to ls line n = text_of_lines (take line ls) ++ fitting_prefix width n (line_body ls line)
 
   take_none : (k : ℕ) → take {A = Line} k [] ≡ []
   take_none zero = refl
   take_none (suc k) = refl
 
   none_before : (line n : ℕ) → up_to [] line n ≡ []
-  unfolding up_to joined body_at fitting
-  none_before line n = ap (λ ls. joined ls ++ []) (take_none line)
+  unfolding up_to text_of_lines line_body fitting_prefix
+  none_before line n = ap (λ ls. text_of_lines ls ++ []) (take_none line)
 
   further : (ls : List Line) (a b n m : ℕ) → (a < b) ⊎ ((a ≡ b) × (n ≤ m)) → byte_len (up_to ls a n) ≤ byte_len (up_to ls b m)
-  unfolding up_to joined body_at fitting
+  unfolding up_to text_of_lines line_body fitting_prefix
   further [] a b n m h =
       let one : byte_len (up_to [] a n) ≡ 0 = ap byte_len (none_before a n) in omega (arith, one)
   further (l ∷ ls) zero zero n m (inl less) = absurd (omega arith)
   further (l ∷ ls) zero zero n m (inr (same, more)) = more_fits l.body n m more
   further (l ∷ ls) zero (suc b) n m h =
-      let fits : byte_len (fitting width n l.body) ≤ byte_len l.body = all_fits l.body n in
-      let rest : List ℕ = l.ending ++ joined (take b ls) in
-      let parts : byte_len ((l.body ++ rest) ++ fitting width m (body_at ls b)) ≡ byte_len (l.body ++ rest) + byte_len (fitting width m (body_at ls b)) = len-append (l.body ++ rest) (fitting width m (body_at ls b)) in
+      let fits : byte_len (fitting_prefix width n l.body) ≤ byte_len l.body = all_fits l.body n in
+      let rest : List ℕ = l.ending ++ text_of_lines (take b ls) in
+      let parts : byte_len ((l.body ++ rest) ++ fitting_prefix width m (line_body ls b)) ≡ byte_len (l.body ++ rest) + byte_len (fitting_prefix width m (line_body ls b)) = len-append (l.body ++ rest) (fitting_prefix width m (line_body ls b)) in
       let first : byte_len (l.body ++ rest) ≡ byte_len l.body + byte_len rest = len-append l.body rest in
       omega (arith, fits, parts, first)
   further (l ∷ ls) (suc a) zero n m (inl less) = absurd (omega arith)
   further (l ∷ ls) (suc a) zero n m (inr (same, more)) = absurd (omega arith)
   further (l ∷ ls) (suc a) (suc b) n m h =
       let more : byte_len (up_to ls a n) ≤ byte_len (up_to ls b m) = further ls a b n m (lower h) in
-      let one : byte_len ((l.body ++ (l.ending ++ joined (take a ls))) ++ fitting width n (body_at ls a)) ≡ byte_len (l.body ++ l.ending) + byte_len (up_to ls a n) =
-      split l.body l.ending (joined (take a ls)) (fitting width n (body_at ls a)) in
-      let other : byte_len ((l.body ++ (l.ending ++ joined (take b ls))) ++ fitting width m (body_at ls b)) ≡ byte_len (l.body ++ l.ending) + byte_len (up_to ls b m) =
-      split l.body l.ending (joined (take b ls)) (fitting width m (body_at ls b)) in
+      let one : byte_len ((l.body ++ (l.ending ++ text_of_lines (take a ls))) ++ fitting_prefix width n (line_body ls a)) ≡ byte_len (l.body ++ l.ending) + byte_len (up_to ls a n) =
+      split l.body l.ending (text_of_lines (take a ls)) (fitting_prefix width n (line_body ls a)) in
+      let other : byte_len ((l.body ++ (l.ending ++ text_of_lines (take b ls))) ++ fitting_prefix width m (line_body ls b)) ≡ byte_len (l.body ++ l.ending) + byte_len (up_to ls b m) =
+      split l.body l.ending (text_of_lines (take b ls)) (fitting_prefix width m (line_body ls b)) in
       omega (arith, more, one, other)
     where
       lower : (suc a < suc b) ⊎ ((suc a ≡ suc b) × (n ≤ m)) → (a < b) ⊎ ((a ≡ b) × (n ≤ m))
@@ -87,8 +87,8 @@ module _ (width : ℕ → ℕ) where
       split x y z w =
           ap (λ v. byte_len (v ++ w)) (sym (append_assoc x y z)) ∙ ap byte_len (append_assoc (x ++ y) z w) ∙ len-append (x ++ y) (z ++ w)
 
-  before_up_to : (text : List ℕ) (p : Position) → before width text p ≡ up_to (lines text) p.line p.character
-  unfolding before up_to
+  before_up_to : (text : List ℕ) (p : Position) → text_before width text p ≡ up_to (lines text) p.line p.character
+  unfolding text_before up_to
   before_up_to text p = refl
 
   pub place_further : (text : List ℕ) (p q : Position) → IsAtOrBefore p q → offset_of width text p ≤ offset_of width text q

@@ -11,13 +11,13 @@ use Rattle.ob0_world_editor.specs.MessagesToServer.{request_number, message_to_s
 use Rattle.ob0_world_editor.specs.MessagesToEditor.{message_to_editor_in}
 use Rattle.ob0_world_editor.specs.declared.applied.Applied as applied
 use Rattle.ob0_world_editor.proofs.Hearing.{says_heard}
-use Rattle.ob0_world_rules.specs.ClientAndServer.{SentAsk, Editor, MessageToServer, MessageToEditor, Made, ClientAndServer}
+use Rattle.ob0_world_rules.specs.ClientAndServer.{SentAsk, Editor, MessageToServer, MessageToEditor, PublicationWithText, ClientAndServer}
 use Rattle.ob0_world_rules.specs.Happens.{serve, ServerTakes}
 use Rattle.ob0_world.specs.Seen as seen
 use Rattle.ob0_world.specs.Seen.{serve_report, HappensWithReport}
 use Rattle.ob0_world.specs.declared.played.Made as made
 use Rattle.ob0_world.specs.Code.{publication_of}
-use Rattle.ob0_world.specs.Queues.{Contents, content_bytes, all_messages_to_server, all_messages_to_editor, HasMessageToServer, HasMessageToEditor, Sound, RunsWithEditor, RunsWithEditorOrFailed, model_from, wire_from, publication_in_first_message, publication_in_message, publication_in_first_content}
+use Rattle.ob0_world.specs.Queues.{Contents, content_bytes, all_messages_to_server, all_messages_to_editor, HasMessageToServer, HasMessageToEditor, ConnectionInvariant, RunsWithEditor, RunsWithEditorOrFailed, model_from, wire_from, publication_in_first_message, publication_in_message, publication_in_first_content}
 use Rattle.ob0_world.specs.Worlds.{EditorGetsFirst, SessionTakesFirst}
 use Rattle.ob0_world.proofs.Answering.{Served, served, runs_on}
 use Rattle.ob0_world.proofs.Waiting.{said_append, said_first, all_appended}
@@ -48,9 +48,9 @@ pub record Turn (e : Editor) (q rest : Contents) (s s' : ServerState) (content :
   pub served_so : Served request_number e.requested message s s' (content_bytes sent)
   pub running : RunsWithEditor s'
 
-pub turn : (e : Editor) (q rest r : Contents) (s s' : ServerState) (content : Vec ℕ Global) (sent : Contents) → q ≡ content ∷ rest → Sound e.requested q r s → Answers s content.items (content_bytes sent) s' → Turn e q rest s s' content sent
+pub turn : (e : Editor) (q rest r : Contents) (s s' : ServerState) (content : Vec ℕ Global) (sent : Contents) → q ≡ content ∷ rest → ConnectionInvariant e.requested q r s → Answers s content.items (content_bytes sent) s' → Turn e q rest s s' content sent
 turn e q rest r s s' content sent first sound h =
-    let heard_first : HasMessageToServer e.requested content = All-head (HasMessageToServer e.requested) content rest (subst (All (HasMessageToServer e.requested)) first sound.heard_all) in
+    let heard_first : HasMessageToServer e.requested content = All-head (HasMessageToServer e.requested) content rest (subst (All (HasMessageToServer e.requested)) first sound.to_server_are_messages) in
     let running : RunsWithEditor s = not_failed s s' content.items (content_bytes sent) sound.running h in
     let so : Served request_number e.requested heard_first.0 s s' (content_bytes sent) = served e.requested heard_first.0 s s' content.items (content_bytes sent) running heard_first.1 h in
     record {
@@ -60,23 +60,23 @@ turn e q rest r s s' content sent first sound h =
       running = runs_on e.requested heard_first.0 s s' (content_bytes sent) running so;
     }
 
-pub rest_sound : (requested : List SentAsk) (q rest r : Contents) (s s' : ServerState) (content : Vec ℕ Global) → q ≡ content ∷ rest → Sound requested q r s → RunsWithEditorOrFailed s' → Sound requested rest r s'
+pub rest_sound : (requested : List SentAsk) (q rest r : Contents) (s s' : ServerState) (content : Vec ℕ Global) → q ≡ content ∷ rest → ConnectionInvariant requested q r s → RunsWithEditorOrFailed s' → ConnectionInvariant requested rest r s'
 rest_sound requested q rest r s s' content first sound running =
-    record { heard_all = All-tail (HasMessageToServer requested) content rest (subst (All (HasMessageToServer requested)) first sound.heard_all); understood_all = sound.understood_all; running = running }
+    record { to_server_are_messages = All-tail (HasMessageToServer requested) content rest (subst (All (HasMessageToServer requested)) first sound.to_server_are_messages); to_editor_are_messages = sound.to_editor_are_messages; running = running }
 
 pub turn_running : (e : Editor) (q rest : Contents) (s s' : ServerState) (content : Vec ℕ Global) (sent : Contents) → Turn e q rest s s' content sent → RunsWithEditorOrFailed s'
 turn_running e q rest s s' content sent t = inl t.running
 
-pub turn_sound : (e : Editor) (q rest r r' : Contents) (s s' : ServerState) (content : Vec ℕ Global) (sent : Contents) (b : Bool) → q ≡ content ∷ rest → Sound e.requested q r s → Turn e q rest s s' content sent → r' ≡ cond b (r ++ sent) r → Sound e.requested rest r' s'
+pub turn_sound : (e : Editor) (q rest r r' : Contents) (s s' : ServerState) (content : Vec ℕ Global) (sent : Contents) (b : Bool) → q ≡ content ∷ rest → ConnectionInvariant e.requested q r s → Turn e q rest s s' content sent → r' ≡ cond b (r ++ sent) r → ConnectionInvariant e.requested rest r' s'
 turn_sound e q rest r r' s s' content sent b first sound t grown =
-    let rested : Sound e.requested rest r s' = rest_sound e.requested q rest r s s' content first sound (turn_running e q rest s s' content sent t) in
+    let rested : ConnectionInvariant e.requested rest r s' = rest_sound e.requested q rest r s s' content first sound (turn_running e q rest s s' content sent t) in
     record {
-      heard_all = rested.heard_all;
-      understood_all = all_appended (HasMessageToEditor e.requested) r r' sent b grown sound.understood_all (each_understood e.requested sent t.served_so.message_to_server_in.each);
+      to_server_are_messages = rested.to_server_are_messages;
+      to_editor_are_messages = all_appended (HasMessageToEditor e.requested) r r' sent b grown sound.to_editor_are_messages (each_understood e.requested sent t.served_so.message_to_server_in.each);
       running = rested.running;
     }
 
-as_list : (o : Option made.Made) (p : Option Made) → option_map publication_of o ≡ p → map publication_of (option_to_list o) ≡ option_to_list p
+as_list : (o : Option made.Made) (p : Option PublicationWithText) → option_map publication_of o ≡ p → map publication_of (option_to_list o) ≡ option_to_list p
 as_list None p is = ap option_to_list is
 as_list (Some m) p is = ap option_to_list is
 
@@ -87,9 +87,9 @@ turn_happens e q rest r r' s s' ap_list md md' content sent held o n first t her
     let w : ClientAndServer = model_from e q s r ap_list md in
     let said : List MessageToEditor = t.served_so.said in
     let all : all_messages_to_editor e.requested sent ≡ said = t.served_so.message_to_server_in.all in
-    let understood_all : All (HasMessageToEditor e.requested) sent = each_understood e.requested sent t.served_so.message_to_server_in.each in
+    let to_editor_are_messages : All (HasMessageToEditor e.requested) sent = each_understood e.requested sent t.served_so.message_to_server_in.each in
     let is_first : option_map publication_of o ≡ publication_in_first_message s'.held said =
-    is_made ∙ made_as_sent held e.requested sent understood_all ∙ (λ i. publication_in_first_message (here i) (all i)) in
+    is_made ∙ made_as_sent held e.requested sent to_editor_are_messages ∙ (λ i. publication_in_first_message (here i) (all i)) in
     let waits : all_messages_to_server e.requested q ≡ t.message ∷ all_messages_to_server e.requested rest =
     ap (all_messages_to_server e.requested) first ∙ said_first (message_to_server_in e.requested) content rest t.message (says_heard e.requested t.message content.items t.says) in
     let grew : all_messages_to_editor e.requested r' ≡ all_messages_to_editor e.requested r ++ said =

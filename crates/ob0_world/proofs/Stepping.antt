@@ -15,8 +15,8 @@ use Rattle.ob0_world.specs.declared.faults.WorldFault.TheVariants.{Memory, Ended
 
 pub made_step : (w old : World) (event : Event) (seen : Seen) (new : World) → w ≡ old → w.ended ≡ false → HappensWithReport w.connection.model event seen new.connection.model → MovesWire event w.connection.wire new.connection.wire → QueuesMatch new.connection
     → new.steps ≡ w.steps + 1 → new.ended ≡ false → WorldSteps old event seen new
-made_step w old event seen new same on shows moves tied counted goes_on =
-    subst (λ (x : World). WorldSteps x event seen new) same (subst (λ b. StepsUnlessEnded b w event seen new) (sym on) (record { made = record { happens = shows.0; moves = moves; tied = tied }; shown = shows.1; counted = counted; goes_on = goes_on }))
+made_step w old event seen new same on shows moves tied counted has_not_ended =
+    subst (λ (x : World). WorldSteps x event seen new) same (subst (λ b. StepsUnlessEnded b w event seen new) (sym on) (record { made = record { happens = shows.0; moves = moves; tied = tied }; shown = shows.1; counted = counted; has_not_ended = has_not_ended }))
 
 -- A step of a world that hasn't ended is a step that is made and counted.
 pub step_made : (old : World) (event : Event) (seen : Seen) (new : World) → old.ended ≡ false → WorldSteps old event seen new → StepsUnlessEnded false old event seen new

@@ -9,7 +9,7 @@ use Rattle.ob0_world_editor.specs.declared.applied.Applied as applied
 use Rattle.ob0_world_editor.proofs.Hearing.{says_heard}
 use Rattle.ob0_world_rules.specs.ClientAndServer.{SentAsk, Editor}
 use Rattle.ob0_world.specs.declared.played.Made as made
-use Rattle.ob0_world.specs.Queues.{Contents, content_bytes, all_messages_to_server, all_messages_to_editor, HasMessageToServer, HasMessageToEditor, Sound, connection_from}
+use Rattle.ob0_world.specs.Queues.{Contents, content_bytes, all_messages_to_server, all_messages_to_editor, HasMessageToServer, HasMessageToEditor, ConnectionInvariant, connection_from}
 use Rattle.ob0_world.specs.Worlds.{AreMessagesToServer, QueuesMatch}
 use Rattle.ob0_world.proofs.Waiting.{said_first}
 
@@ -26,6 +26,6 @@ all_mean requested (c ∷ r) all =
     let h : HasMessageToEditor requested c = All-head (HasMessageToEditor requested) c r all in
     (λ i. h.1 i ∷ all_mean requested r (All-tail (HasMessageToEditor requested) c r all) i) ∙ ap (map Some) (sym (said_first (message_to_editor_in requested) c r h.0 h.1))
 
-pub tied : (e : Editor) (q : Contents) (s : ServerState) (r : Contents) (ap_list : List applied.Applied) (md : List made.Made) (tk gt : Contents) → Sound e.requested q r s → QueuesMatch (connection_from e q s r ap_list md tk gt)
+pub tied : (e : Editor) (q : Contents) (s : ServerState) (r : Contents) (ap_list : List applied.Applied) (md : List made.Made) (tk gt : Contents) → ConnectionInvariant e.requested q r s → QueuesMatch (connection_from e q s r ap_list md tk gt)
 tied e q s r ap_list md tk gt sound =
-    record { says = all_say e.requested q sound.heard_all; means = all_mean e.requested r sound.understood_all; documents = refl }
+    record { says = all_say e.requested q sound.to_server_are_messages; means = all_mean e.requested r sound.to_editor_are_messages; documents = refl }

@@ -27,18 +27,18 @@ use Rattle.ob0_session_answers.specs.Formatted.{AnswersFormatting}
 use Rattle.ob0_session_answers.specs.Renamed.{RequestedRename, AnswersRenaming}
 use Rattle.ob0_session_json.specs.Shapes.{document_edit, edits_value, workspace_edit, publication}
 use Rattle.ob0_session_server.specs.Answers as answers_of
-use Rattle.ob0_session_server.specs.Answers.{ServerState, Reply, AreContentsOfReply, Sends, Reaction, begins, react, apply_notification, react_to_notification, react_to_method, react_to_known_request, react_about_document, lays_out, renames, offers_actions, publication_reply, Answers, AnswersInPhase, AnswersBeforeEnd, says}
+use Rattle.ob0_session_server.specs.Answers.{ServerState, Reply, AreContentsOfReply, Sends, Reaction, state_after_initialize, react, apply_notification, react_to_notification, react_to_method, react_to_known_request, react_about_document, formats_text, renames, offers_actions, publication_reply, Answers, AnswersInPhase, AnswersBeforeEnd, says}
 use Rattle.ob0_session_server.specs.Units.{unit_for}
 use Rattle.ob0_world_editor.specs.InitializeRequest.{client_for}
 use Rattle.ob0_world_editor.specs.MessagesToServer.{IsMessageToServer, IsAsk, notification_for, client_request_for, request_number}
 use Rattle.ob0_world_editor.specs.Shapes.{method_of}
 use Rattle.ob0_world_editor.specs.MessagesToEditor.{edits_for}
-use Rattle.ob0_world_rules.specs.Answers.{Inlining, Here, Everywhere}
+use Rattle.ob0_world_rules.specs.Answers.{Inlining, OneUse, Everywhere}
 use Rattle.ob0_world_rules.specs.Asks.{Ask, rename, inline_here, inline_all, format, clamped_indent}
-use Rattle.ob0_world_rules.specs.Edited.{edited, whole_text_change}
+use Rattle.ob0_world_rules.specs.Edited.{text_after_edits, whole_text_change}
 use Rattle.ob0_world_rules.specs.EditorActs.{Act, ActResult, next_version, same_version, act_result, rewriting_result, if_unchanged_since}
 use Rattle.ob0_world_rules.specs.ClientAndServer.{OpenDocument, SentAsk, request_numbered, open_at, MessageToServer, notifies, requests, MessageToEditor, publishes, answers, ClientAndServer, start, after_message}
-use Rattle.ob0_world_rules.specs.Happens.{Event, does, serve, take_message, after_editor_takes, ServerTakes}
+use Rattle.ob0_world_rules.specs.Happens.{Event, editor_acts, serve, take_message, after_editor_takes, ServerTakes}
 use Rattle.ob0_world_rules.specs.Mirror.{in_step_document, Mirrors}
 use Rattle.ob0_world_rules.proofs.PerformsAct.{of_each}
 use Rattle.ob0_world_rules.proofs.Asked.{numbered_push, slice_get_last}
@@ -151,7 +151,7 @@ published_names requested unit uri (Some (InStep version text)) sent (ds, diagno
 published_names requested unit uri (Some OutOfStep) sent saying = sent_none requested sent saying
 published_names requested unit uri None sent saying = sent_none requested sent saying
 
-note_names : (requested : List SentAsk) (note : DocumentEvent) (before : ServerState) (sent : List (List ℕ)) → AreContentsOfReply (apply_notification before (notification_for note)).say sent → All (MentionsDocumentOfAsk requested) sent
+note_names : (requested : List SentAsk) (note : DocumentEvent) (before : ServerState) (sent : List (List ℕ)) → AreContentsOfReply (apply_notification before (notification_for note)).reply sent → All (MentionsDocumentOfAsk requested) sent
 note_names requested (Opened uri version text) before sent saying =
     published_names requested before.held.unit uri (document_at (documents_after_open before.held uri version text) uri) sent saying
 note_names requested (Changed uri version how) before sent saying =
@@ -220,9 +220,9 @@ module _ (requested : List SentAsk) (k : ℕ) (uri : List ℕ) (sent : List (Lis
       names_edit edits = edit_names client uri of.sent.version edits takes
 
       offered : (how : Inlining) (here everywhere : Option (Vec Edit Global)) → NamesFor (inlining_at how position) uri of.sent.version (result_message (number (unsigned k)) (actions_array request here everywhere))
-      offered Here (Some edits) everywhere = inl (names_edit edits.items)
-      offered Here None (Some other) = inr (inl refl)
-      offered Here None None = inr (inl refl)
+      offered OneUse (Some edits) everywhere = inl (names_edit edits.items)
+      offered OneUse None (Some other) = inr (inl refl)
+      offered OneUse None None = inr (inl refl)
       offered Everywhere (Some other) (Some edits) = inl (names_edit edits.items)
       offered Everywhere None (Some edits) = inl (names_edit edits.items)
       offered Everywhere (Some other) None = inr (inl refl)
@@ -235,7 +235,7 @@ module _ (requested : List SentAsk) (k : ℕ) (uri : List ℕ) (sent : List (Lis
       go (inl h) = with_value (actions_array request h.here h.everywhere) h.listed (offered how h.here h.everywhere)
       go (inr (why, none)) = with_value (array no_items) none (inr (inl (none_read_back how position uri (number (unsigned k)))))
 
-  layout_names : (indent : Indent) (of : IsAsk requested k uri (format indent)) (unit : Unit) (text : List ℕ) → AreContentsOfReply (lays_out unit (number (unsigned k)) (clamped_indent indent) text) sent → All (MentionsDocumentOfAsk requested) sent
+  layout_names : (indent : Indent) (of : IsAsk requested k uri (format indent)) (unit : Unit) (text : List ℕ) → AreContentsOfReply (formats_text unit (number (unsigned k)) (clamped_indent indent) text) sent → All (MentionsDocumentOfAsk requested) sent
   layout_names indent of unit text (message, how, sends) = go how
     where
       go : AnswersFormatting unit (number (unsigned k)) (clamped_indent indent) text message → All (MentionsDocumentOfAsk requested) sent
@@ -245,27 +245,27 @@ module _ (requested : List SentAsk) (k : ℕ) (uri : List ℕ) (sent : List (Lis
 
   -- `MentionsDocumentOfAsk` holds of the answer of a running session to a request about a document in step.
   request_names : (ask : Ask) (of : IsAsk requested k uri ask) (params : Data) (before : ServerState) (text : List ℕ) → RunsWithEditor before → document_at before.held uri ≡ Some (InStep of.sent.version text) → request_by_method (method_of ask) params ≡ Ok (client_request_for uri ask)
-      → AreContentsOfReply (react_to_method before (number (unsigned k)) (method_of ask) params).say sent → All (MentionsDocumentOfAsk requested) sent
+      → AreContentsOfReply (react_to_method before (number (unsigned k)) (method_of ask) params).reply sent → All (MentionsDocumentOfAsk requested) sent
   request_names (rename position name) of params before text running holds call saying =
       let id : Data = number (unsigned k) in
       let say : ℤ → List ℕ → Reply = λ version. renames before.held.unit (record { id = id; client = before.client; at = record { uri = uri; position = position }; version = version; new = name }) in
       let so : react_to_method before id (method_of (rename position name)) params ≡ react_about_document before id (document_at before.held uri) say = ap (react_to_known_request before id) call in
-      rename_names position name of before.client before.held.unit text running.1 (subst (λ (x : Reaction). AreContentsOfReply x.say sent) (so ∙ ap (λ o. react_about_document before id o say) holds) saying)
+      rename_names position name of before.client before.held.unit text running.1 (subst (λ (x : Reaction). AreContentsOfReply x.reply sent) (so ∙ ap (λ o. react_about_document before id o say) holds) saying)
   request_names (inline_here position) of params before text running holds call saying =
       let id : Data = number (unsigned k) in
       let say : ℤ → List ℕ → Reply = λ version. offers_actions before.held.unit (actions_requested_at before.client (number (unsigned k)) uri position version) in
       let so : react_to_method before id (method_of (inline_here position)) params ≡ react_about_document before id (document_at before.held uri) say = ap (react_to_known_request before id) call in
-      inline_names Here position of before.client before.held.unit text running.1 (subst (λ (x : Reaction). AreContentsOfReply x.say sent) (so ∙ ap (λ o. react_about_document before id o say) holds) saying)
+      inline_names OneUse position of before.client before.held.unit text running.1 (subst (λ (x : Reaction). AreContentsOfReply x.reply sent) (so ∙ ap (λ o. react_about_document before id o say) holds) saying)
   request_names (inline_all position) of params before text running holds call saying =
       let id : Data = number (unsigned k) in
       let say : ℤ → List ℕ → Reply = λ version. offers_actions before.held.unit (actions_requested_at before.client (number (unsigned k)) uri position version) in
       let so : react_to_method before id (method_of (inline_all position)) params ≡ react_about_document before id (document_at before.held uri) say = ap (react_to_known_request before id) call in
-      inline_names Everywhere position of before.client before.held.unit text running.1 (subst (λ (x : Reaction). AreContentsOfReply x.say sent) (so ∙ ap (λ o. react_about_document before id o say) holds) saying)
+      inline_names Everywhere position of before.client before.held.unit text running.1 (subst (λ (x : Reaction). AreContentsOfReply x.reply sent) (so ∙ ap (λ o. react_about_document before id o say) holds) saying)
   request_names (format indent) of params before text running holds call saying =
       let id : Data = number (unsigned k) in
-      let say : ℤ → List ℕ → Reply = λ version. lays_out before.held.unit id (clamped_indent indent) in
+      let say : ℤ → List ℕ → Reply = λ version. formats_text before.held.unit id (clamped_indent indent) in
       let so : react_to_method before id (method_of (format indent)) params ≡ react_about_document before id (document_at before.held uri) say = ap (react_to_known_request before id) call in
-      layout_names indent of before.held.unit text (subst (λ (x : Reaction). AreContentsOfReply x.say sent) (so ∙ ap (λ o. react_about_document before id o say) holds) saying)
+      layout_names indent of before.held.unit text (subst (λ (x : Reaction). AreContentsOfReply x.reply sent) (so ∙ ap (λ o. react_about_document before id o say) holds) saying)
 
 -- `MentionsDocumentOfAsk` holds of the replies to each message.
 content_names : (requested : List SentAsk) (m : MessageToServer) (before after : ServerState) (content : List ℕ) (sent : List (List ℕ)) → RunsWithEditor before → IsMessageToServer requested m content → Answers before content sent after → AsksHeld requested before.held (m ∷ []) → All (MentionsDocumentOfAsk requested) sent
@@ -274,7 +274,7 @@ content_names requested (notifies note) before after content sent running is h m
     let answer = reacts_so before after content sent is.json going is.reads in
     let so : react before (meaning_of is.json) ≡ apply_notification before (notification_for note) =
     ap (react before) is.means ∙ ap (λ phase. react_to_notification phase before is.method is.params) running.0 ∙ ap (apply_notification before) is.reported in
-    note_names requested note before sent (subst (λ (x : Reaction). AreContentsOfReply x.say sent) so answer.1)
+    note_names requested note before sent (subst (λ (x : Reaction). AreContentsOfReply x.reply sent) so answer.1)
 content_names requested (requests k uri ask) before after content sent running (is, of) h (meets, none) =
     let answer = request_reaction (number (unsigned k)) uri ask before after content sent running.0 is h in
     let same : meets.sent ≡ of.sent = same_Some meets.sent of.sent (sym meets.is ∙ of.is) in
@@ -335,10 +335,10 @@ gets_session [] old new is = ap (λ (x : Wire). x.session) is
 gets_session (content ∷ rest) old new is = ap (λ (x : Wire). x.session) is
 
 step_known : (old : Connection) (event : Event) (new : Connection) → Known old → ConnectionStep old event new → Known new
-step_known old (does act) new k step =
+step_known old (editor_acts act) new k step =
     let keeps : Keeps old.model old.wire.to_editor (act_result old.model.editor act) = act_keeps old.model old.wire.to_editor (reached_mirrors old.model k.reached) k.asks k.named act in
     record {
-      reached = reached_more old.model (does act) new.model k.reached step.happens;
+      reached = reached_more old.model (editor_acts act) new.model k.reached step.happens;
       tied = step.tied;
       running = subst RunsWithEditor (sym (ap (λ (x : Wire). x.session) step.moves.1)) k.running;
       asks = subst AsksOf (sym step.happens) keeps.0;
@@ -371,7 +371,7 @@ begin_known unit begin b = subst Known (λ i. record { model = sym b.model i; wi
     this : Connection
     this = record {
       model = start unit;
-      wire = record { session = begins (client_for unit); taken = b.content ∷ []; to_server = []; got = b.replies; to_editor = [] };
+      wire = record { session = state_after_initialize (client_for unit); taken = b.content ∷ []; to_server = []; got = b.replies; to_editor = [] };
     }
 
     first : Known this
@@ -395,16 +395,16 @@ versions_suffice e k a edits numbered not_reopened = go (open_at e a.uri) refl �
     makes uri d text = Some (rewriting_result e uri d text (whole_text_change text ∷ []) (record { uri = uri; before = d.text; after = text } ∷ []))
 
     then_open : (uri : List ℕ) → OpenDocument → Option ActResult
-    then_open uri d = option_and_then (makes uri d) (edited e.unit d.text edits)
+    then_open uri d = option_and_then (makes uri d) (text_after_edits e.unit d.text edits)
 
     then_asked : SentAsk → Option ActResult
     then_asked x = option_and_then (then_open x.uri) (option_and_then (if_unchanged_since x) (open_at e x.uri))
 
-    of_version : (d : OpenDocument) (b : Bool) → option_and_then (makes a.uri d) (cond b (edited e.unit d.text edits) None) ≡ option_and_then (then_open a.uri) (cond b (Some d) None)
+    of_version : (d : OpenDocument) (b : Bool) → option_and_then (makes a.uri d) (cond b (text_after_edits e.unit d.text edits) None) ≡ option_and_then (then_open a.uri) (cond b (Some d) None)
     of_version d true = refl
     of_version d false = refl
 
-    go : (o : Option OpenDocument) → open_at e a.uri ≡ o → option_and_then (λ d. option_and_then (makes a.uri d) (cond (same_version d.version a.version) (edited e.unit d.text edits) None)) o ≡ option_and_then (then_open a.uri) (option_and_then (if_unchanged_since a) o)
+    go : (o : Option OpenDocument) → open_at e a.uri ≡ o → option_and_then (λ d. option_and_then (makes a.uri d) (cond (same_version d.version a.version) (text_after_edits e.unit d.text edits) None)) o ≡ option_and_then (then_open a.uri) (option_and_then (if_unchanged_since a) o)
     go None is = refl
     go (Some d) is =
         of_version d (same_version d.version a.version)

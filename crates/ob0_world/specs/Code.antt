@@ -1,5 +1,5 @@
--- Defines the model's events, publications and applied edits for those of the code. The model is
--- `ClientAndServer`.
+-- Converts events, publications and applied edits of the code to events, publications and applied
+-- edits of the model (`ClientAndServer`).
 -- Rule: none; for contracts: what values of the code mean.
 use Rattle.std.specs.Prelude.{ℕ, List, map, string_bytes, Vec}
 use Rattle.std.specs.Str.{chars}
@@ -9,31 +9,31 @@ use Rattle.ob0_world_editor.specs.Code.{ask_of, applied_of}
 use Rattle.ob0_world.specs.declared.events.Event as event
 use Rattle.ob0_world.specs.declared.played.Made as made
 use Rattle.ob0_world.specs.declared.played.Played as played
-use Rattle.ob0_world_rules.specs.ClientAndServer.{Applied, Made}
+use Rattle.ob0_world_rules.specs.ClientAndServer.{Applied, PublicationWithText}
 use Rattle.ob0_world_rules.specs.EditorActs.{open_document, change_document, close_document, ask_about, apply, discard}
-use Rattle.ob0_world_rules.specs.Happens.{Event, does, serve, take_message}
+use Rattle.ob0_world_rules.specs.Happens.{Event, editor_acts, serve, take_message}
 
 -- returns the model's event for a value of the code's type `Event`
 abbrev pub event_of : event.Event → Event
 event_of (event.TheVariants.OpenDoc uri text) =
-    does (open_document (string_bytes uri) (chars (string_bytes text)))
+    editor_acts (open_document (string_bytes uri) (chars (string_bytes text)))
 event_of (event.TheVariants.ChangeDoc uri changes) =
-    does (change_document (string_bytes uri) (map text_change_of changes.items))
-event_of (event.TheVariants.CloseDoc uri) = does (close_document (string_bytes uri))
-event_of (event.TheVariants.Ask uri ask) = does (ask_about (string_bytes uri) (ask_of ask))
+    editor_acts (change_document (string_bytes uri) (map text_change_of changes.items))
+event_of (event.TheVariants.CloseDoc uri) = editor_acts (close_document (string_bytes uri))
+event_of (event.TheVariants.Ask uri ask) = editor_acts (ask_about (string_bytes uri) (ask_of ask))
 event_of event.TheVariants.Serve = serve
 event_of event.TheVariants.Take = take_message
-event_of (event.TheVariants.Apply k) = does (apply k)
-event_of (event.TheVariants.Discard k) = does (discard k)
+event_of (event.TheVariants.Apply k) = editor_acts (apply k)
+event_of (event.TheVariants.Discard k) = editor_acts (discard k)
 
 -- returns the model's publication for a value of the code's type `Made`
-abbrev pub publication_of : made.Made → Made
+abbrev pub publication_of : made.Made → PublicationWithText
 publication_of m =
     record {
       uri = string_bytes m.uri;
       version = m.version;
       text = chars (string_bytes m.text);
-      empty = m.empty;
+      no_diagnostics = m.empty;
     }
 
 -- returns these contents as lists of bytes, in order
@@ -45,5 +45,5 @@ abbrev pub played_edits : played.Played → List Applied
 played_edits p = map applied_of p.applied.items
 
 -- returns the publications in `p`, the results that the code returns
-abbrev pub played_publications : played.Played → List Made
+abbrev pub played_publications : played.Played → List PublicationWithText
 played_publications p = map publication_of p.made.items

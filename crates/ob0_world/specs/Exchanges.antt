@@ -19,16 +19,16 @@ use Rattle.ob0_rpc.specs.Requesting as asked
 use Rattle.ob0_rpc.specs.Requesting.{ClientRequest, request_by_method}
 use Rattle.ob0_session_answers.specs.Actions.{allows_inlining}
 use Rattle.ob0_session_server.specs.Answers as server
-use Rattle.ob0_session_server.specs.Answers.{ServerState, begins, Sends, Conversation}
+use Rattle.ob0_session_server.specs.Answers.{ServerState, state_after_initialize, Sends, Conversation}
 use Rattle.ob0_session_server.specs.declared.session.Phase.TheVariants.{Ended}
 use Rattle.ob0_session_server.specs.Units.{unit_for}
 use Rattle.ob0_world_editor.specs.MessagesToServer.{message_to_server_in, IsNotificationFor, IsRequestWithId, IsAsk}
 use Rattle.ob0_world_editor.specs.MessagesToEditor.{message_to_editor_in, message_to_editor_by}
 use Rattle.ob0_world_rules.specs.Asks.{Ask, rename, inline_here, inline_all, format}
 use Rattle.ob0_world_rules.specs.ClientAndServer.{OpenDocument, SentAsk, Editor, new_editor, open_at, MessageToServer, notifies, requests, MessageToEditor, publishes, answers, Applied, after_message}
-use Rattle.ob0_world_rules.specs.EditorActs.{ActResult, reads}
+use Rattle.ob0_world_rules.specs.EditorActs.{ActResult, after_reading}
 use Rattle.ob0_world_rules.specs.Editors.{IsAllowedMove}
-use Rattle.ob0_world_rules.specs.EveryEditor.{EditorAndServer, initial_editor_and_server, Turn, editor_does, editor_sends_unmodeled, server_takes, editor_takes, MayLeadTo, HoldsWithEditor}
+use Rattle.ob0_world_rules.specs.EveryEditor.{EditorAndServer, initial_editor_and_server, Turn, editor_moves, editor_sends_unmodeled, server_takes, editor_takes, MayLeadTo, HoldsWithEditor}
 use Rattle.ob0_world_rules.specs.Answers.{IsEmptyIfWellTyped}
 use Rattle.ob0_world_rules.specs.Headline.{KeepsTheRun}
 use Rattle.ob0_world_rules.specs.Mirror.{in_step_document}
@@ -119,13 +119,13 @@ pub record BeginsExchange (unit : Unit) (x : Exchange) : Type 0 where
   pub counts : unit_for client ≡ unit
   pub taken : List (List ℕ)
   pub got : List (List ℕ)
-  pub initialized : Conversation server.start taken got (begins client)
+  pub initialized : Conversation server.start taken got (state_after_initialize client)
   pub is : x
       ≡ record {
         editor = new_editor unit;
         ids = [];
         wire = record {
-          session = begins client;
+          session = state_after_initialize client;
           taken = taken;
           to_server = [];
           got = got;
@@ -267,7 +267,7 @@ message_to_editor_by_ids ids requested content = message_to_editor_by (ask_numbe
 -- of its asks, and nothing else. For None (no message), the editor is unchanged.
 abbrev pub after_reading_if_any : Editor → Option MessageToEditor → Editor
 after_reading_if_any e None = e
-after_reading_if_any e (Some message) = reads e message
+after_reading_if_any e (Some message) = after_reading e message
 
 -- States that the editor takes the first content that waits for it, and reads the message in this
 -- content. If no content waits for the editor, nothing changes.
@@ -286,7 +286,7 @@ with_contents wire contents = record wire { to_server = wire.to_server ++ conten
 
 -- states that this turn (`Turn`) may lead from the exchange `old` to the exchange `new`
 abbrev pub Exchanges : Exchange → Turn → Exchange → Type 0
-Exchanges old (editor_does move) new =
+Exchanges old (editor_moves move) new =
     (done : ActResult)
     × (announced : List AnnouncedDocument)
     × (ids : List SentRequestId)
@@ -407,21 +407,21 @@ pub record EndsSession (id : Data) (before : ServerState) (sent : List (List ℕ
 pub record VersionedPublication : Type 0 where
   pub uri : List ℕ
   pub version : ℤ
-  pub empty : Bool
+  pub no_diagnostics : Bool
 
 -- returns a list of one publication if the message publishes diagnostics with a version, otherwise
 -- an empty list
 abbrev pub versioned_publication : Option MessageToEditor → List VersionedPublication
 versioned_publication (Some (publishes uri (Some version) empty)) =
-    record { uri = uri; version = version; empty = empty } ∷ []
+    record { uri = uri; version = version; no_diagnostics = empty } ∷ []
 versioned_publication (Some (publishes uri None empty)) = []
 versioned_publication (Some (answers k edits)) = []
 versioned_publication None = []
 
 -- returns the publications with a version in these contents, in order
-abbrev pub published_in : List (List ℕ) → List VersionedPublication
-published_in [] = []
-published_in (content ∷ contents) = versioned_publication (message_to_editor_in [] content) ++ published_in contents
+abbrev pub publications_in : List (List ℕ) → List VersionedPublication
+publications_in [] = []
+publications_in (content ∷ contents) = versioned_publication (message_to_editor_in [] content) ++ publications_in contents
 
 -- States that there are as many lists of diagnostics as documents. The n-th list has the uri and
 -- version of the n-th document, and is empty exactly when that document's text is a well-typed
@@ -431,15 +431,15 @@ AreCorrectFor [] [] = ⊤
 AreCorrectFor (p ∷ published) (t ∷ announced) =
     (p.uri ≡ t.uri)
     × (p.version ≡ t.document.version)
-    × IsEmptyIfWellTyped t.document.text p.empty
+    × IsEmptyIfWellTyped t.document.text p.no_diagnostics
     × AreCorrectFor published announced
 AreCorrectFor [] (t ∷ announced) = ⊥
 AreCorrectFor (p ∷ published) [] = ⊥
 
 -- Returns the last list of diagnostics for the document with this uri. None if there is no list for
 -- this document.
-abbrev pub last_published : List ℕ → List VersionedPublication → Option VersionedPublication
-last_published uri published =
+abbrev pub last_publication_of : List ℕ → List VersionedPublication → Option VersionedPublication
+last_publication_of uri published =
     fold (λ last p. if bytes_eq p.uri uri then Some p else last) None published
 
 -- Returns the notifications in these contents that open, change or close documents.
@@ -456,18 +456,18 @@ pub record HoldsOfExchange (begin now : Exchange) : Type 0 where
   -- that the session has sent after `begin`.
   pub since : List (List ℕ)
   pub sent : now.wire.got ++ now.wire.to_editor ≡ begin.wire.got ++ since
-  pub published_of : List AnnouncedDocument
-  pub not_yet : List AnnouncedDocument
-  pub announced : now.announced ≡ published_of ++ not_yet
-  pub right : AreCorrectFor (published_in since) published_of
-  -- the contents that still wait for the session announce the other documents, `not_yet`
-  pub still_wait : map versioned_uri not_yet ≡ versions_announced_in (notifications_in now.wire.to_server)
+  pub published_documents : List AnnouncedDocument
+  pub unpublished_documents : List AnnouncedDocument
+  pub announced : now.announced ≡ published_documents ++ unpublished_documents
+  pub right : AreCorrectFor (publications_in since) published_documents
+  -- the contents that still wait for the session announce the other documents, `unpublished_documents`
+  pub still_wait : map versioned_uri unpublished_documents ≡ versions_announced_in (notifications_in now.wire.to_server)
   -- If no waiting content opens, changes or closes a document, the latest list of diagnostics of
   -- each open document is for the document's present version and text.
   pub latest : notifications_in now.wire.to_server ≡ [] → (uri : List ℕ) (d : OpenDocument)
       → open_at now.editor uri ≡ Some d
-      → MatchOption (last_published uri (published_in since)) ⊥
-      (λ p. (p.version ≡ d.version) × IsEmptyIfWellTyped d.text p.empty)
+      → MatchOption (last_publication_of uri (publications_in since)) ⊥
+      (λ p. (p.version ≡ d.version) × IsEmptyIfWellTyped d.text p.no_diagnostics)
   -- once the session has taken the waiting contents, the session's documents are the editor's
   pub mirrors : (uri : List ℕ)
       → document_at (fold after_message now.wire.session.held (notifications_in now.wire.to_server)) uri

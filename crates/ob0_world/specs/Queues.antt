@@ -17,7 +17,7 @@ use Rattle.ob0_world_editor.specs.MessagesToServer.{message_to_server_in, IsMess
 use Rattle.ob0_world_editor.specs.MessagesToEditor.{message_to_editor_in}
 use Rattle.ob0_world_editor.specs.Code.{applied_of}
 use Rattle.ob0_world_editor.specs.declared.applied.Applied as applied
-use Rattle.ob0_world_rules.specs.ClientAndServer.{OpenDocument, SentAsk, Editor, open_at, MessageToServer, MessageToEditor, publishes, answers, Made, ClientAndServer, start}
+use Rattle.ob0_world_rules.specs.ClientAndServer.{OpenDocument, SentAsk, Editor, open_at, MessageToServer, MessageToEditor, publishes, answers, PublicationWithText, ClientAndServer, start}
 use Rattle.ob0_world_rules.specs.EditorActs.{version_number}
 use Rattle.ob0_world_rules.specs.Happens.{Event, Course}
 use Rattle.ob0_world.specs.declared.events.Seen as seen
@@ -66,14 +66,14 @@ RunsWithEditorOrFailed s = RunsWithEditor s ⊎ (s.phase ≡ Failed)
 
 -- Returns the publication with these parts and the text of this document, for which the diagnostics
 -- were made. None if the document is out of step.
-abbrev pub publication_with_text : List ℕ → ℤ → Bool → Document → Option Made
+abbrev pub publication_with_text : List ℕ → ℤ → Bool → Document → Option PublicationWithText
 publication_with_text uri version empty (InStep held text) =
-    Some (record { uri = uri; version = version; text = text; empty = empty })
+    Some (record { uri = uri; version = version; text = text; no_diagnostics = empty })
 publication_with_text uri version empty OutOfStep = None
 
 -- Returns the publication in a message, with the text that its document has in `held`. None if the
 -- message isn't a publication with a version, or if the document isn't open or is out of step.
-abbrev pub publication_in_message : OpenDocuments → MessageToEditor → Option Made
+abbrev pub publication_in_message : OpenDocuments → MessageToEditor → Option PublicationWithText
 publication_in_message held (publishes uri (Some version) empty) =
     option_and_then (publication_with_text uri version empty) (document_at held uri)
 publication_in_message held (publishes uri None empty) = None
@@ -82,7 +82,7 @@ publication_in_message held (answers k edits) = None
 -- Returns the publication in the first message (`publication_in_message`). None if there is no
 -- message, or if the first one has no such publication. The first message is enough, because the
 -- server sends at most one reply.
-abbrev pub publication_in_first_message : OpenDocuments → List MessageToEditor → Option Made
+abbrev pub publication_in_first_message : OpenDocuments → List MessageToEditor → Option PublicationWithText
 publication_in_first_message held [] = None
 publication_in_first_message held (m ∷ ms) = publication_in_message held m
 
@@ -90,10 +90,10 @@ publication_in_first_message held (m ∷ ms) = publication_in_message held m
 
 -- states that each waiting content is a message to its receiver, and that the session is running
 -- (`RunsWithEditor`) or has failed
-pub record Sound (requested : List SentAsk) (to_server to_editor : Contents)
+pub record ConnectionInvariant (requested : List SentAsk) (to_server to_editor : Contents)
     (session : ServerState) : Type 0 where
-  pub heard_all : All (HasMessageToServer requested) to_server
-  pub understood_all : All (HasMessageToEditor requested) to_editor
+  pub to_server_are_messages : All (HasMessageToServer requested) to_server
+  pub to_editor_are_messages : All (HasMessageToEditor requested) to_editor
   pub running : RunsWithEditorOrFailed session
 
 -- returns the model's client and server, made of the parts that the code stores
@@ -146,7 +146,7 @@ connection_from e to_server session to_editor applied made taken got =
 
 -- states that the editor has opened documents at most `n` times and sent at most `n` asks, and that
 -- the version of each open document is at most `n`
-pub record Within (n : ℕ) (e : Editor) : Type 0 where
+pub record CountsAtMost (n : ℕ) (e : Editor) : Type 0 where
   pub openings : e.openings ≤ n
   pub asks : length e.requested ≤ n
   pub versions : (uri : List ℕ) (d : OpenDocument) → open_at e uri ≡ Some d → version_number d.version ≤ n
@@ -159,7 +159,7 @@ IsReachable w = (unit : Unit) × (events : List Event) × Course (start unit) ev
 
 -- Returns the publication in the first of these contents (`publication_in_message`). None if there
 -- is no content, or if the first one has no such publication.
-abbrev pub publication_in_first_content : OpenDocuments → List SentAsk → Contents → Option Made
+abbrev pub publication_in_first_content : OpenDocuments → List SentAsk → Contents → Option PublicationWithText
 publication_in_first_content held requested [] = None
 publication_in_first_content held requested (content ∷ contents) =
     option_and_then (publication_in_message held) (message_to_editor_in requested content.items)

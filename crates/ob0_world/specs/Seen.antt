@@ -5,7 +5,7 @@ use Rattle.ob0_world.specs.declared.events.Seen as seen
 use Rattle.ob0_world_editor.specs.Moves.{has_edits}
 use Rattle.ob0_world_rules.specs.ClientAndServer.{Editor, MessageToServer, MessageToEditor, publishes, answers, ClientAndServer}
 use Rattle.ob0_world_rules.specs.EditorActs.{Act, open_document, change_document, close_document, ask_about, apply, discard, ActResult, act_result, edits_of_answer}
-use Rattle.ob0_world_rules.specs.Happens.{Event, does, serve, take_message, Happens}
+use Rattle.ob0_world_rules.specs.Happens.{Event, editor_acts, serve, take_message, Happens}
 
 -- a report on an event: it says what happened
 pub data Seen : Type 0 where
@@ -45,8 +45,8 @@ act_report e (discard k) = if is_some (edits_of_answer k e.answers) then drops k
 -- for the server, the report has the number of messages that the server sent. If no message waited,
 -- the report is `nothing`.
 abbrev pub serve_report : List MessageToServer → List MessageToEditor → List MessageToEditor → Seen
-serve_report [] before after = nothing
-serve_report (message ∷ rest) before after = served (length after - length before)
+serve_report [] queue_before queue_after = nothing
+serve_report (message ∷ rest) queue_before queue_after = served (length queue_after - length queue_before)
 
 -- Returns the report on the event in which the editor takes the first message of this queue. If the
 -- queue is empty, the report is `nothing`.
@@ -57,7 +57,7 @@ take_report (answers k edits ∷ rest) = answered k (has_edits edits)
 
 -- returns the report on an event that leads from the state `old` to the state `new`
 abbrev pub event_report : ClientAndServer → Event → ClientAndServer → Seen
-event_report old (does act) new = act_report old.editor act
+event_report old (editor_acts act) new = act_report old.editor act
 event_report old serve new = serve_report old.to_server old.to_editor new.to_editor
 event_report old take_message new = take_report old.to_editor
 

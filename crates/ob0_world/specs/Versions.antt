@@ -12,7 +12,7 @@ use Rattle.ob0_rpc.specs.Messages.{ReadsContent}
 use Rattle.ob0_world_editor.specs.MessagesToServer.{request_number}
 use Rattle.ob0_world_editor.specs.MessagesToEditor.{titled_action, edits_for}
 use Rattle.ob0_world_rules.specs.Asks.{Ask, rename, inline_here, inline_all, format}
-use Rattle.ob0_world_rules.specs.Edited.{Replacement, edited, whole_text_change}
+use Rattle.ob0_world_rules.specs.Edited.{Replacement, text_after_edits, whole_text_change}
 use Rattle.ob0_world_rules.specs.EditorActs.{ActResult, same_version, rewriting_result, applying_result}
 use Rattle.ob0_world_rules.specs.ClientAndServer.{OpenDocument, SentAsk, Editor, request_numbered, open_at}
 use Rattle.ob0_world_rules.specs.Happens.{Event}
@@ -106,7 +106,7 @@ apply_result_by_version e uri version edits =
     (λ d. option_and_then
     (λ text. Some (rewriting_result e uri d text (whole_text_change text ∷ [])
     (record { uri = uri; before = d.text; after = text } ∷ [])))
-    (if has_version version d then edited e.unit d.text edits else None))
+    (if has_version version d then text_after_edits e.unit d.text edits else None))
     (open_at e uri)
 
 -- States that the request's document hasn't been opened again since the request: it is closed, or

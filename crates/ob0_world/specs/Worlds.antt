@@ -6,12 +6,12 @@ use Rattle.std.specs.Option.{option_to_list}
 use Rattle.ob0_text.specs.declared.position_types.Unit.{Unit}
 use Rattle.ob0_rpc.specs.Messages.{ReadsContent}
 use Rattle.ob0_session_server.specs.Answers as server
-use Rattle.ob0_session_server.specs.Answers.{ServerState, begins, Answers, Conversation}
+use Rattle.ob0_session_server.specs.Answers.{ServerState, state_after_initialize, Answers, Conversation}
 use Rattle.ob0_world_editor.specs.InitializeRequest.{client_for, initialize_message}
 use Rattle.ob0_world_editor.specs.MessagesToServer.{IsMessageToServer}
 use Rattle.ob0_world_editor.specs.MessagesToEditor.{message_to_editor_in}
 use Rattle.ob0_world_rules.specs.ClientAndServer.{SentAsk, MessageToServer, ClientAndServer, start}
-use Rattle.ob0_world_rules.specs.Happens.{Event, does, serve, take_message, Happens}
+use Rattle.ob0_world_rules.specs.Happens.{Event, editor_acts, serve, take_message, Happens}
 use Rattle.ob0_world_rules.specs.Headline.{Headline}
 use Rattle.ob0_world.specs.Code.{event_of, content_bytes, played_edits, played_publications}
 use Rattle.ob0_world.specs.Seen.{Seen, event_report}
@@ -46,11 +46,11 @@ pub record Begins (unit : Unit) (w : Connection) : Type 0 where
   pub content : List ℕ
   pub replies : List (List ℕ)
   pub initializes : ReadsContent content (Some (initialize_message unit))
-  pub answers : Answers server.start content replies (begins (client_for unit))
+  pub answers : Answers server.start content replies (state_after_initialize (client_for unit))
   pub model : w.model ≡ start unit
   pub wire : w.wire
       ≡ record {
-        session = begins (client_for unit);
+        session = state_after_initialize (client_for unit);
         taken = content ∷ [];
         to_server = [];
         got = replies;
@@ -89,7 +89,7 @@ WritesContent old new =
 -- `serve` changes the session. No waiting content is lost, changed or moved to another place in its
 -- queue.
 abbrev pub MovesWire : Event → Wire → Wire → Type 0
-MovesWire (does act) old new = WritesContent old new
+MovesWire (editor_acts act) old new = WritesContent old new
 MovesWire serve old new = SessionTakesFirst old.to_server old new
 MovesWire take_message old new = EditorGetsFirst old.to_editor old new
 
@@ -147,8 +147,8 @@ pub record Plays (unit : Unit) (events : List event.Event) (p : played.Played) :
   pub begins : Begins unit begin
   pub end : Connection
   pub course : ConnectionCourse begin (map event_of events) end
-  pub come : ResultsMatch end.model p
-  pub passed : ContentsMatch end.wire p
+  pub results_match : ResultsMatch end.model p
+  pub contents_match : ContentsMatch end.wire p
   pub after : ServerState
   pub conversation : Conversation server.start (content_bytes p.taken.items)
       (content_bytes p.got.items ++ content_bytes p.unread.items) after
@@ -183,7 +183,7 @@ pub record World : Type 0 where
 pub record IsNew (unit : Unit) (w : World) : Type 0 where
   pub begins : Begins unit w.connection
   pub none : w.steps ≡ 0
-  pub goes_on : w.ended ≡ false
+  pub has_not_ended : w.ended ≡ false
 
 -- states that the event happens, is reported and is counted as a step, and that the world hasn't
 -- ended
@@ -191,7 +191,7 @@ pub record MakesStep (old : World) (event : Event) (seen : Seen) (new : World) :
   pub made : ConnectionStep old.connection event new.connection
   pub shown : seen ≡ event_report old.connection.model event new.connection.model
   pub counted : new.steps ≡ old.steps + 1
-  pub goes_on : new.ended ≡ false
+  pub has_not_ended : new.ended ≡ false
 
 -- States that the world makes this step. The first argument is true if the world had ended before
 -- the step. An ended world makes no step.

@@ -8,12 +8,12 @@ ghost use Rattle.ob0_text.specs.OpenDocuments.{text_change_of, document_at};
 ghost use Rattle.ob0_session_server.specs.Answers.{Answers};
 ghost use Rattle.ob0_session_server.specs.declared.session.Phase.TheVariants.{Failed};
 ghost use Rattle.ob0_world_editor.specs.Code.{ask_of};
-ghost use Rattle.ob0_world_editor.specs.Moves.{AreFew};
+ghost use Rattle.ob0_world_editor.specs.Moves.{CountsCanGrow};
 ghost use Rattle.ob0_world_editor.specs.MessagesToEditor.{message_to_editor_in};
 ghost use Rattle.ob0_world_rules.specs.EditorActs as acts;
 ghost use Rattle.ob0_world_rules.specs.EditorActs.{open_document, change_document, close_document, ask_about};
 ghost use Rattle.ob0_world_rules.specs.Happens as events;
-ghost use Rattle.ob0_world_rules.specs.Happens.{does, take_message};
+ghost use Rattle.ob0_world_rules.specs.Happens.{editor_acts, take_message};
 ghost use Rattle.ob0_world.specs.Code.{event_of, publication_of};
 ghost use Rattle.ob0_world.specs.Seen.{report_of, HappensWithReport};
 ghost use Rattle.ob0_world.specs.Queues.{content_bytes, QueuesContent, MovesFirst, publication_in_message, publication_with_text, publication_in_first_content};
@@ -47,20 +47,20 @@ pub struct Connection<T: TextStore> {
 
 impl<T: TextStore> Model for Connection<T> {
     ghost use Rattle.std.specs.Coded.{codes};
-    ghost use Rattle.ob0_text.specs.OpenDocuments.{documents_code};
+    ghost use Rattle.ob0_text.specs.OpenDocuments.{coded_open_documents};
     ghost use Rattle.ob0_world_editor.specs.Entries.{open_documents_code};
-    ghost use Rattle.ob0_world.specs.Queues.{Sound, connection_from};
+    ghost use Rattle.ob0_world.specs.Queues.{ConnectionInvariant, connection_from};
     ghost use Rattle.ob0_world.specs.Worlds.{Connection};
 
     ghost Value = { Connection };
 
-    ghost coded = { Prim.hlevel (codes, documents_code, open_documents_code) };
+    ghost coded = { Prim.hlevel (codes, coded_open_documents, open_documents_code) };
 
     ghost view = { λ w. connection_from w.editor w.to_server.items w.session w.to_editor.items
         w.applied.items w.made.items w.taken.items w.got.items };
 
     ghost invariant = { λ w.
-        Sound w.editor.requested w.to_server.items w.to_editor.items w.session };
+        ConnectionInvariant w.editor.requested w.to_server.items w.to_editor.items w.session };
 }
 
 impl<T: TextStore> Connection<T> {
@@ -71,7 +71,7 @@ impl<T: TextStore> Connection<T> {
     {
         let mut session = Session::new(alloc);
         let content = initialize(alloc, unit)?;
-        let got = answer(&mut session, content.as_slice())?;
+        let got = serve_content(&mut session, content.as_slice())?;
         let mut taken = Vec::new(alloc);
         taken.push(content)?;
         Ok(Connection {
@@ -100,8 +100,8 @@ impl<T: TextStore> Connection<T> {
     /// Returns the applied edits, the publications, the contents that each side has taken, and the
     /// contents that wait for the editor.
     pub fn into_played(self) -> Played
-        ensures come { ResultsMatch self.model result }
-        ensures passed { ContentsMatch self.wire result }
+        ensures results_match { ResultsMatch self.model result }
+        ensures contents_match { ContentsMatch self.wire result }
     {
         Played {
             applied: self.applied,
@@ -115,7 +115,7 @@ impl<T: TextStore> Connection<T> {
     /// Makes an event happen and returns the report on it. If an allocation fails, the results and
     /// the exchanged contents are unchanged (`SameHistory`).
     pub fn perform_event(&mut self, event: &Event) -> Result<Seen, AllocError>
-        requires { AreFew self.old.model.editor }
+        requires { CountsCanGrow self.old.model.editor }
         ensures ok { IfOk result
             (λ seen. HappensWithReport self.old.model (event_of event.now) (report_of seen) self.new.model) }
         ensures wire { OnOk result (MovesWire (event_of event.now) self.old.wire self.new.wire) }
@@ -134,9 +134,9 @@ impl<T: TextStore> Connection<T> {
     }
 
     fn open(&mut self, uri: &str, text: &str) -> Result<Seen, AllocError>
-        requires { AreFew self.old.model.editor }
+        requires { CountsCanGrow self.old.model.editor }
         ensures ok { IfOk result (λ seen. HappensWithReport self.old.model
-            (does (open_document uri.now (chars text.now))) (report_of seen) self.new.model) }
+            (editor_acts (open_document uri.now (chars text.now))) (report_of seen) self.new.model) }
         ensures wire { OnOk result (WritesContent self.old.wire self.new.wire) }
         ensures err { OnErr result (SameHistory self.old self.new) }
     {
@@ -145,9 +145,9 @@ impl<T: TextStore> Connection<T> {
     }
 
     fn change(&mut self, uri: &str, changes: &[Change]) -> Result<Seen, AllocError>
-        requires { AreFew self.old.model.editor }
+        requires { CountsCanGrow self.old.model.editor }
         ensures ok { IfOk result (λ seen. HappensWithReport self.old.model
-            (does (change_document uri.now (map text_change_of changes.now))) (report_of seen)
+            (editor_acts (change_document uri.now (map text_change_of changes.now))) (report_of seen)
             self.new.model) }
         ensures wire { OnOk result (WritesContent self.old.wire self.new.wire) }
         ensures err { OnErr result (SameHistory self.old self.new) }
@@ -158,7 +158,7 @@ impl<T: TextStore> Connection<T> {
 
     fn close(&mut self, uri: &str) -> Result<Seen, AllocError>
         ensures ok { IfOk result (λ seen. HappensWithReport self.old.model
-            (does (close_document uri.now)) (report_of seen) self.new.model) }
+            (editor_acts (close_document uri.now)) (report_of seen) self.new.model) }
         ensures wire { OnOk result (WritesContent self.old.wire self.new.wire) }
         ensures err { OnErr result (SameHistory self.old self.new) }
     {
@@ -167,9 +167,9 @@ impl<T: TextStore> Connection<T> {
     }
 
     fn ask(&mut self, uri: &str, ask: &Ask) -> Result<Seen, AllocError>
-        requires { AreFew self.old.model.editor }
+        requires { CountsCanGrow self.old.model.editor }
         ensures ok { IfOk result (λ seen. HappensWithReport self.old.model
-            (does (ask_about uri.now (ask_of ask.now))) (report_of seen) self.new.model) }
+            (editor_acts (ask_about uri.now (ask_of ask.now))) (report_of seen) self.new.model) }
         ensures wire { OnOk result (WritesContent self.old.wire self.new.wire) }
         ensures err { OnErr result (SameHistory self.old self.new) }
     {
@@ -191,7 +191,7 @@ impl<T: TextStore> Connection<T> {
         let Some(content) = self.to_server.pop_front() else {
             return Ok(Seen::Nothing);
         };
-        let sent = answer(&mut self.session, content.as_slice())?;
+        let sent = serve_content(&mut self.session, content.as_slice())?;
         let made = first_publication(
             self.alloc,
             &self.editor,
@@ -241,9 +241,9 @@ impl<T: TextStore> Connection<T> {
     }
 
     fn apply(&mut self, k: u64) -> Result<Seen, AllocError>
-        requires { AreFew self.old.model.editor }
+        requires { CountsCanGrow self.old.model.editor }
         ensures ok { IfOk result
-            (λ seen. HappensWithReport self.old.model (does (acts.apply k)) (report_of seen) self.new.model) }
+            (λ seen. HappensWithReport self.old.model (editor_acts (acts.apply k)) (report_of seen) self.new.model) }
         ensures wire { OnOk result (WritesContent self.old.wire self.new.wire) }
         ensures err { OnErr result (SameHistory self.old self.new) }
     {
@@ -259,7 +259,7 @@ impl<T: TextStore> Connection<T> {
     }
 
     fn discard(&mut self, k: u64) -> Seen
-        ensures ok { HappensWithReport self.old.model (does (acts.discard k)) (report_of result) self.new.model }
+        ensures ok { HappensWithReport self.old.model (editor_acts (acts.discard k)) (report_of result) self.new.model }
         ensures wire { WritesContent self.old.wire self.new.wire }
     {
         if self.editor.discard(k) {
@@ -298,7 +298,7 @@ fn send(queue: &mut VecDeque<Vec<u8>>, content: Option<Vec<u8>>) -> Result<Seen,
 
 /// Lets the session take a content, and returns the contents of the session's replies. If an
 /// allocation fails, the session has failed for good.
-fn answer<T: TextStore>(
+fn serve_content<T: TextStore>(
     session: &mut Session<T>,
     content: &[u8],
 ) -> Result<Vec<Vec<u8>>, AllocError>

@@ -43,20 +43,20 @@ pub struct World<T: TextStore> {
 impl<T: TextStore> Model for World<T> {
     ghost use Rattle.std.specs.Prelude.{◌≡◌, false};
     ghost use Rattle.std.specs.Coded.{codes};
-    ghost use Rattle.ob0_text.specs.OpenDocuments.{documents_code};
+    ghost use Rattle.ob0_text.specs.OpenDocuments.{coded_open_documents};
     ghost use Rattle.ob0_world_editor.specs.Entries.{open_documents_code};
     ghost use Rattle.ob0_world.specs.Worlds as worlds;
-    ghost use Rattle.ob0_world.specs.Queues.{Within, IsReachable};
+    ghost use Rattle.ob0_world.specs.Queues.{CountsAtMost, IsReachable};
 
     ghost Value = { worlds.World };
 
-    ghost coded = { Prim.hlevel (codes, documents_code, open_documents_code) };
+    ghost coded = { Prim.hlevel (codes, coded_open_documents, open_documents_code) };
 
     ghost view = { λ w.
         record { connection = w.connection; steps = w.steps; ended = w.has_ended } };
 
     ghost invariant = { λ w. w.has_ended ≡ false
-        → Within w.steps w.connection.model.editor × IsReachable w.connection.model };
+        → CountsAtMost w.steps w.connection.model.editor × IsReachable w.connection.model };
 }
 
 impl<T: TextStore> World<T> {
@@ -123,8 +123,8 @@ impl<T: TextStore> World<T> {
     /// Returns the applied edits, the publications and the exchanged contents, up to the last step
     /// that returned Ok.
     pub fn into_played(self) -> Played
-        ensures come { ResultsMatch self.connection.model result }
-        ensures passed { ContentsMatch self.connection.wire result }
+        ensures results_match { ResultsMatch self.connection.model result }
+        ensures contents_match { ContentsMatch self.connection.wire result }
     {
         self.connection.into_played()
     }

@@ -7,7 +7,7 @@ use Rattle.ob0_module_values.proofs.ModuleValues.{OneTree}
 use Rattle.ob0_rename_answers.specs.RenameAnswers.{RenamingHasAnswers}
 use Rattle.ob0_world_rules.specs.Asks.{Ask, format, inline_all, inline_here, rename}
 use Rattle.ob0_world_rules.specs.EditorActs.{apply, ask_about, change_document, close_document, discard, open_document}
-use Rattle.ob0_world_rules.specs.Happens.{Event, does, serve, take_message}
+use Rattle.ob0_world_rules.specs.Happens.{Event, editor_acts, serve, take_message}
 use Rattle.ob0_world_rules.specs.Laws.{CourseExists, HasAnswers, IsAnswerable}
 use Rattle.ob0_world_worked.specs.Formatting.{FormattingHasAnswers}
 use Rattle.ob0_world_answers.specs.Answering.{EachAskHasAnswers, EachEventListHasACourse}
@@ -20,12 +20,12 @@ each_ask_answered tree formats renames here everywhere (inline_all position) = e
 each_ask_answered tree formats renames here everywhere (format indent) = formats indent
 
 event_answered : EachAskHasAnswers → (event : Event) → IsAnswerable event
-event_answered answered (does (open_document uri text)) = tt
-event_answered answered (does (change_document uri how)) = tt
-event_answered answered (does (close_document uri)) = tt
-event_answered answered (does (ask_about uri ask)) = answered ask
-event_answered answered (does (apply k)) = tt
-event_answered answered (does (discard k)) = tt
+event_answered answered (editor_acts (open_document uri text)) = tt
+event_answered answered (editor_acts (change_document uri how)) = tt
+event_answered answered (editor_acts (close_document uri)) = tt
+event_answered answered (editor_acts (ask_about uri ask)) = answered ask
+event_answered answered (editor_acts (apply k)) = tt
+event_answered answered (editor_acts (discard k)) = tt
 event_answered answered serve = tt
 event_answered answered take_message = tt
 

@@ -6,13 +6,13 @@ use Rattle.ob0_tree.specs.Tree.{Tree, module_text}
 use Rattle.ob0_language_types.specs.WellTyped.{WellTyped}
 use Rattle.ob0_scope_table.specs.Resolution.{Resolution}
 use Rattle.ob0_types.specs.CheckedModules.{IsWellTyped}
-use Rattle.ob0_analysis.specs.Analysed.{IsModuleIn, IsReadAs}
+use Rattle.ob0_analysis.specs.Analysed.{IsResolvedWellTypedModule, IsParsedWellTypedModule}
 use Rattle.ob0_analysis.specs.Texts.{utf8}
 use Rattle.ob0_module_values.proofs.ModuleValues.{OneTree, parsed_of, resolution_of}
 use Rattle.ob0_world_rules.specs.Language.{WellTypedText}
 use Rattle.ob0_world_rules.proofs.ModuleTexts.{well_typed_module}
 
-pub each_is_read : OneTree → (text : List ℕ) → WellTypedText text → (m : ParsedModule) × IsReadAs (utf8 text) m
+pub each_is_read : OneTree → (text : List ℕ) → WellTypedText text → (m : ParsedModule) × IsParsedWellTypedModule (utf8 text) m
 each_is_read tree_is_unique text h =
     let m = well_typed_module text h in
     let p = parsed_of tree_is_unique m.text_of.scanned m.text_of.scan.scan m.tree m.text_of.module_of in (
@@ -24,10 +24,10 @@ each_is_read tree_is_unique text h =
       },
     )
 
-bound : (text : List ℕ) (m : ParsedModule) (read : IsReadAs text m) (r : Resolution) → r.module_read ≡ m → (IsWellTyped r) → IsModuleIn text r
+bound : (text : List ℕ) (m : ParsedModule) (read : IsParsedWellTypedModule text m) (r : Resolution) → r.module_read ≡ m → (IsWellTyped r) → IsResolvedWellTypedModule text r
 bound text m read r same well = record { scan = subst (λ (x : ParsedModule). IsScanOf text x.source) (sym same) read.scan; well_typed = well }
 
-pub each_has_names : OneTree → (text : List ℕ) → WellTypedText text → (names : Resolution) × IsModuleIn (utf8 text) names
+pub each_has_names : OneTree → (text : List ℕ) → WellTypedText text → (names : Resolution) × IsResolvedWellTypedModule (utf8 text) names
 each_has_names tree_is_unique text h =
     let m = each_is_read tree_is_unique text h in
     let r = resolution_of m.0 m.1.parsed in (

@@ -7,7 +7,7 @@ use Rattle.std.proofs.lemmas.List.{append_cancel_left}
 use Rattle.ob0_frame.specs.Frames.{frame}
 use Rattle.ob0_frame.specs.FramerState.{StreamRest, Open, Broken, Feeds}
 use Rattle.ob0_session_server.specs.Answers.{ServerState, start, Conversation}
-use Rattle.ob0_session.specs.Serving.{Served}
+use Rattle.ob0_session.specs.Serving.{HasServed}
 use Rattle.ob0_session.specs.declared.serving.ServeFault.{ServeFault}
 use Rattle.ob0_session.specs.declared.serving.ServeFault.TheVariants.{BadHead, Truncated, Read, Write, Memory, TooManyReads}
 use Rattle.ob0_world_determined.specs.Determined.{MayServe, ConversationIsDetermined, OutputIsDetermined}
@@ -26,7 +26,7 @@ record Part (taken put : List ℕ) : Type 0 where
   pub frames : flat_map frame sent ≡ put ++ unwritten
 
 module _ (one : ConversationIsDetermined) (feeds : OneFeed) (taken : List ℕ) where
-  part_of_served : (waiting : Contents) (rest : StreamRest) (after : ServerState) (put unwritten : List ℕ) → Served taken waiting rest after (put ++ unwritten) → Part taken put
+  part_of_served : (waiting : Contents) (rest : StreamRest) (after : ServerState) (put unwritten : List ℕ) → HasServed taken waiting rest after (put ++ unwritten) → Part taken put
   part_of_served waiting rest after put unwritten h = record {
     answered = h.answered;
     sent = h.sent;
@@ -37,8 +37,8 @@ module _ (one : ConversationIsDetermined) (feeds : OneFeed) (taken : List ℕ) w
     frames = sym h.frames;
   }
 
-  whole : (waiting : Contents) (rest : StreamRest) (after : ServerState) (put : List ℕ) → Served taken waiting rest after put → Part taken put
-  whole waiting rest after put h = part_of_served waiting rest after put [] (subst (λ p. Served taken waiting rest after p) (sym (append-nil put)) h)
+  whole : (waiting : Contents) (rest : StreamRest) (after : ServerState) (put : List ℕ) → HasServed taken waiting rest after put → Part taken put
+  whole waiting rest after put h = part_of_served waiting rest after put [] (subst (λ p. HasServed taken waiting rest after p) (sym (append-nil put)) h)
 
   part_of : (result : Result ℕ ServeFault) (put : List ℕ) → MayServe result taken put → Part taken put
   part_of (Ok status) put (r, w, (inl (ends, over), none)) = whole ends.waiting ends.rest ends.after put ends.served

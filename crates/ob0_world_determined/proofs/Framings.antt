@@ -2,18 +2,18 @@
 -- message.
 use Rattle.std.proofs.Common.{◌≡◌, ◌∙◌, ◌<◌, ◌+◌, ℕ, zero, suc, List, [], ◌∷◌, ◌++◌, length, refl, ap, arith}
 use Rattle.std.proofs.lemmas.List.{length-append}
-use Rattle.ob0_frame.specs.Frames.{BeginsWith, Frames}
+use Rattle.ob0_frame.specs.Frames.{BeginsWithMessage, Frames}
 use Rattle.ob0_frame.proofs.Heads.{end_takes_room}
 use Rattle.ob0_world_determined.specs.Determined.{FramingExists}
 
 -- A head has at least one byte.
-head_is_some : (bytes head content more : List ℕ) → BeginsWith bytes head content more → 0 < length head
+head_is_some : (bytes head content more : List ℕ) → BeginsWithMessage bytes head content more → 0 < length head
 head_is_some bytes head content more b =
     let ends = b.announces.whole.ends in
     omega (arith, end_takes_room ends.end, ap length ends.empty ∙ length-append ends.lines _)
 
 -- The bytes after a message are fewer than the whole stream.
-shorter : (bytes head content more : List ℕ) → BeginsWith bytes head content more → length more < length bytes
+shorter : (bytes head content more : List ℕ) → BeginsWithMessage bytes head content more → length more < length bytes
 shorter bytes head content more b =
     let some : 0 < length head = head_is_some bytes head content more b in
     let long : length bytes ≡ length head + length (content ++ more) = ap length b.joined ∙ length-append head (content ++ more) in

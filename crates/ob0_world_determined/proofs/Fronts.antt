@@ -8,7 +8,7 @@ use Rattle.std.proofs.Common.{◌≡◌, ◌∙◌, ◌⊎◌, ◌<◌, ◌≤�
 use Rattle.std.proofs.lemmas.List.{append_assoc, append_cancel_left, length-append, take_all, take_at, take-append-drop, take-append-le, take-take}
 use Rattle.std.proofs.lemmas.Bool.{cases_lt}
 use Rattle.ob0_frame.specs.Head.{EndsInEmptyLine, HasNoEmptyLine, IsHead}
-use Rattle.ob0_frame.specs.Frames.{BeginsWith, Frames, CannotBeginMessage}
+use Rattle.ob0_frame.specs.Frames.{BeginsWithMessage, Frames, CannotBeginMessage}
 use Rattle.ob0_frame.specs.FramerState.{StreamRest, Open, Broken, Feeds}
 use Rattle.ob0_frame.proofs.Heads.{no_line_front}
 use Rattle.ob0_frame.proofs.InTurn.{bad_more, fed_in_turn, fed_once, fed_split}
@@ -79,7 +79,7 @@ front_frames : (first second : List ℕ) (e : Contents) (q : List ℕ) → Frame
 front_frames first second [] q all is = record {
   contents = [];
   left = first;
-  frames = (refl, λ h c m begins. all.1 h c (m ++ second) (subst (λ (xs : List ℕ). BeginsWith xs h c (m ++ second)) all.0 (message_more first h c m second begins)));
+  frames = (refl, λ h c m begins. all.1 h c (m ++ second) (subst (λ (xs : List ℕ). BeginsWithMessage xs h c (m ++ second)) all.0 (message_more first h c m second begins)));
   bad = elim is [
     | inl bad ↦ bad_or_not first second (subst CannotBeginMessage (sym all.0) bad)
     | inr not ↦ inr (λ bad. not (subst CannotBeginMessage all.0 (bad_more first second bad)))

@@ -6,7 +6,7 @@ use Rattle.serde_json.specs.Data.{Data, array}
 use Rattle.serde_json.specs.View.{items_of}
 use Rattle.ob0_scan.specs.TextWithTokens.{TextWithTokens}
 use Rattle.ob0_text.specs.declared.position_types.Unit.{Unit}
-use Rattle.ob0_tree.specs.Places.{tree_with_names, text_at}
+use Rattle.ob0_tree.specs.Places.{tree_with_names, token_text_at}
 use Rattle.ob0_tree.specs.Tree.{Tree, identifiers, module_text}
 use Rattle.ob0_tree.specs.declared.tree.Role.TheVariants as role
 use Rattle.ob0_language_names.specs.Parts.{module_block}
@@ -21,16 +21,16 @@ use Rattle.ob0_types.specs.declared.meant.IdentifierMeaning.{IdentifierMeaning}
 use Rattle.ob0_types.specs.declared.meant.IdentifierMeaning.TheVariants.{Name, Field}
 use Rattle.ob0_types_fields.specs.FieldTypes.{constructed_types, typed_field_with_name}
 use Rattle.ob0_types_fields.specs.declared.field_name.FieldName.{FieldName}
-use Rattle.ob0_types_fields.specs.Identifiers.{declared_in_block, field_identifiers, field_at_offset, first, tokens_of_field}
+use Rattle.ob0_types_fields.specs.Identifiers.{fields_declared_in_block, field_identifiers, field_at_offset, first_token, tokens_of_field}
 use Rattle.ob0_refs.specs.Declarations.{object_hover}
 use Rattle.ob0_refs.specs.Hovers.{field_text, predeclared_text, type_text}
-use Rattle.ob0_refs.specs.Questions.{definition_of_identified, definition_at, field_reference_tokens, hover_at_place, hover_of_identified, references_of_optional, references_of_identified, other_tokens, references_at, renamable_span_at, renamable_span_of_identified}
+use Rattle.ob0_refs.specs.Questions.{definition_of_identifier, definition_at, field_reference_tokens, hover_at_offset, hover_of_identifier, references_of_optional_identifier, references_of_identifier, tokens_without, references_at, renamable_span_at, renamable_span_of_identifier}
 use Rattle.ob0_refs.specs.Shown.{HoverText}
 use Rattle.ob0_rpc.specs.Requesting.{DocumentPlace}
-use Rattle.ob0_analysis.specs.Analysed.{IsModuleIn}
+use Rattle.ob0_analysis.specs.Analysed.{IsResolvedWellTypedModule}
 use Rattle.ob0_analysis.specs.Diagnosed.{IsWellTypedModule}
 use Rattle.ob0_analysis.specs.Texts.{utf8}
-use Rattle.ob0_session_answers.specs.Questions.{AnswersInModule, AnswersQuestion, NameQuestion, definition_asked, hover_asked, hover_with_range, span_location, value_or_null, offset_in, span_range, references_asked, renaming_asked}
+use Rattle.ob0_session_answers.specs.Questions.{AnswersInModule, AnswersQuestion, NameQuestion, definition_question, hover_question, hover_with_range, span_location, value_or_null, offset_in, span_range, references_question, prepare_rename_question}
 use Rattle.ob0_world_rules.proofs.OneFields.{one_list_of_fields}
 use Rattle.ob0_world_rules.proofs.OneModule.{Same, same_module, one_name, identifiers_of}
 use Rattle.ob0_world_determined.specs.Determined.{TableIsDetermined}
@@ -39,12 +39,12 @@ use Rattle.ob0_world_determined.specs.Determined.{TableIsDetermined}
 abbrev hover_in_tree : TextWithTokens → Tree ℕ module_text → Named → Option HoverText
 hover_in_tree s t n =
     option_map (λ text. record { span = span_at s n.token; text = text })
-    (if nat_lt n.ordinal 7 then Some (predeclared_text (text_at s n.token))
-    else option_and_then (object_hover (text_at s n.token) (map (text_at s) (drop (n.ordinal + 1 - 7) (declaring_names (identifiers role.Declaring t))))) (declared_object (tree_with_names s t) n.ordinal))
+    (if nat_lt n.ordinal 7 then Some (predeclared_text (token_text_at s n.token))
+    else option_and_then (object_hover (token_text_at s n.token) (map (token_text_at s) (drop (n.ordinal + 1 - 7) (declaring_names (identifiers role.Declaring t))))) (declared_object (tree_with_names s t) n.ordinal))
 
 -- returns the hover of a field's identifier, whose type is this one
 abbrev hover_of_shape : TextWithTokens → ℕ → Shape → HoverText
-hover_of_shape s token of = record { span = span_at s token; text = field_text (text_at s token) (type_text of) }
+hover_of_shape s token of = record { span = span_at s token; text = field_text (token_text_at s token) (type_text of) }
 
 module _ (r q : Resolution) (e : Same r.module_read q.module_read) (fields : field_identifiers r ≡ field_identifiers q) (tables : (token : ℕ) → ordinal_in r.ordinals token ≡ ordinal_in q.ordinals token) (offset : ℕ) where
   same_meant : identifier_meaning_at r offset ≡ identifier_meaning_at q offset
@@ -52,21 +52,21 @@ module _ (r q : Resolution) (e : Same r.module_read q.module_read) (fields : fie
 
   -- ---- its hover text
 
-  one_hover : (token : ℕ) (x : IdentifierMeaning) → hover_of_identified r token x ≡ hover_of_identified q token x
+  one_hover : (token : ℕ) (x : IdentifierMeaning) → hover_of_identifier r token x ≡ hover_of_identifier q token x
   one_hover token (Name ordinal) = λ i. hover_in_tree (e.source i) (e.tree i) (record { token = token; ordinal = ordinal })
   one_hover token (Field k) = λ i.
       option_map (λ f. hover_of_shape (e.source i) token f.shape)
-      (option_and_then (λ s. typed_field_with_name s (text_at (e.source i) token))
-      (get_or (constructed_types (record { object_for = λ t. option_and_then (declared_object (tree_with_names (e.source i) (e.tree i))) (tables t i); written = λ t. text_at (e.source i) t }) None (e.tree i)) k None))
+      (option_and_then (λ s. typed_field_with_name s (token_text_at (e.source i) token))
+      (get_or (constructed_types (record { object_for = λ t. option_and_then (declared_object (tree_with_names (e.source i) (e.tree i))) (tables t i); written = λ t. token_text_at (e.source i) t }) None (e.tree i)) k None))
 
-  same_hover : hover_at_place r offset ≡ hover_at_place q offset
+  same_hover : hover_at_offset r offset ≡ hover_at_offset q offset
   same_hover = λ i. option_and_then (λ (x : ResolvedIdentifier). one_hover x.token x.means i) (same_meant i)
 
   -- ---- the place of its declaration
 
-  one_declaration : (token : ℕ) (x : IdentifierMeaning) → definition_of_identified r.module_read token x ≡ definition_of_identified q.module_read token x
+  one_declaration : (token : ℕ) (x : IdentifierMeaning) → definition_of_identifier r.module_read token x ≡ definition_of_identifier q.module_read token x
   one_declaration token (Name ordinal) = λ i. option_map (span_at (e.source i)) (declaration_token (declaring_names (identifiers role.Declaring (e.tree i))) ordinal)
-  one_declaration token (Field k) = λ i. option_map (span_at (e.source i)) (first (tokens_of_field (e.source i) k (text_at (e.source i) token) (declared_in_block 0 (module_block (e.tree i)))))
+  one_declaration token (Field k) = λ i. option_map (span_at (e.source i)) (first_token (tokens_of_field (e.source i) k (token_text_at (e.source i) token) (fields_declared_in_block 0 (module_block (e.tree i)))))
 
   same_definition : definition_at r offset ≡ definition_at q offset
   same_definition = λ i. option_and_then (λ (x : ResolvedIdentifier). one_declaration x.token x.means i) (same_meant i)
@@ -74,24 +74,24 @@ module _ (r q : Resolution) (e : Same r.module_read q.module_read) (fields : fie
   -- ---- the places of its uses
 
   field_referred : (x : FieldName) (include : Bool) → field_reference_tokens r x include ≡ field_reference_tokens q x include
-  field_referred x true = λ i. tokens_of_field (e.source i) x.owner (text_at (e.source i) x.token) (fields i)
+  field_referred x true = λ i. tokens_of_field (e.source i) x.owner (token_text_at (e.source i) x.token) (fields i)
   field_referred x false = λ i.
-      other_tokens (first (tokens_of_field (e.source i) x.owner (text_at (e.source i) x.token) (declared_in_block 0 (module_block (e.tree i))))) (tokens_of_field (e.source i) x.owner (text_at (e.source i) x.token) (fields i))
+      tokens_without (first_token (tokens_of_field (e.source i) x.owner (token_text_at (e.source i) x.token) (fields_declared_in_block 0 (module_block (e.tree i))))) (tokens_of_field (e.source i) x.owner (token_text_at (e.source i) x.token) (fields i))
 
-  named_one : (include : Bool) (token : ℕ) (x : IdentifierMeaning) → references_of_identified r include token x ≡ references_of_identified q include token x
+  named_one : (include : Bool) (token : ℕ) (x : IdentifierMeaning) → references_of_identifier r include token x ≡ references_of_identifier q include token x
   named_one include token (Name ordinal) = λ i. map (span_at (e.source i)) (map (λ s. s.0.1) (filter (is_bound_to include ordinal) (identifiers_of (e.source i) (e.tree i))))
   named_one include token (Field k) = λ i. map (span_at (e.source i)) (field_referred (record { token = token; owner = k }) include i)
 
-  named_in_one : (include : Bool) (found : Option ResolvedIdentifier) → references_of_optional r include found ≡ references_of_optional q include found
+  named_in_one : (include : Bool) (found : Option ResolvedIdentifier) → references_of_optional_identifier r include found ≡ references_of_optional_identifier q include found
   named_in_one include None = refl
   named_in_one include (Some x) = named_one include x.token x.means
 
   same_references : (include : Bool) → references_at r offset include ≡ references_at q offset include
-  same_references include = named_in_one include (identifier_meaning_at r offset) ∙ ap (references_of_optional q include) same_meant
+  same_references include = named_in_one include (identifier_meaning_at r offset) ∙ ap (references_of_optional_identifier q include) same_meant
 
   -- ---- the range to rename
 
-  one_renamable : (token : ℕ) (x : IdentifierMeaning) → renamable_span_of_identified r.module_read token x ≡ renamable_span_of_identified q.module_read token x
+  one_renamable : (token : ℕ) (x : IdentifierMeaning) → renamable_span_of_identifier r.module_read token x ≡ renamable_span_of_identifier q.module_read token x
   one_renamable token (Name ordinal) = λ i. if nat_lt ordinal 7 then None else Some (span_at (e.source i) token)
   one_renamable token (Field k) = λ i. Some (span_at (e.source i) token)
 
@@ -101,7 +101,7 @@ module _ (r q : Resolution) (e : Same r.module_read q.module_read) (fields : fie
 -- ---- values
 
 module _ (tables : TableIsDetermined) (unit : Unit) (text : List ℕ) (at : DocumentPlace) where
-  in_one : (question : NameQuestion) (r q : Resolution) (value other : Data) → IsModuleIn (utf8 text) r → IsModuleIn (utf8 text) q → AnswersInModule unit text at question r value → AnswersInModule unit text at question q other → value ≡ other
+  in_one : (question : NameQuestion) (r q : Resolution) (value other : Data) → IsResolvedWellTypedModule (utf8 text) r → IsResolvedWellTypedModule (utf8 text) q → AnswersInModule unit text at question r value → AnswersInModule unit text at question q other → value ≡ other
   in_one question r q value other read again = go question
     where
       e : Same r.module_read q.module_read
@@ -114,15 +114,15 @@ module _ (tables : TableIsDetermined) (unit : Unit) (text : List ℕ) (at : Docu
       table = tables r q read.well_typed.resolved again.well_typed.resolved (e.source, e.tree)
 
       go : (question : NameQuestion) → AnswersInModule unit text at question r value → AnswersInModule unit text at question q other → value ≡ other
-      go hover_asked h k = h ∙ ap (λ o. value_or_null (option_map (hover_with_range unit text) o)) (same_hover r q e fields table (offset_in unit text at)) ∙ sym k
-      go definition_asked h k = h ∙ ap (λ o. value_or_null (option_map (span_location unit at.uri text) o)) (same_definition r q e fields table (offset_in unit text at)) ∙ sym k
-      go (references_asked include) (spans, are, is) (others, are_too, is_too) =
+      go hover_question h k = h ∙ ap (λ o. value_or_null (option_map (hover_with_range unit text) o)) (same_hover r q e fields table (offset_in unit text at)) ∙ sym k
+      go definition_question h k = h ∙ ap (λ o. value_or_null (option_map (span_location unit at.uri text) o)) (same_definition r q e fields table (offset_in unit text at)) ∙ sym k
+      go (references_question include) (spans, are, is) (others, are_too, is_too) =
           let same : spans ≡ others = are ∙ same_references r q e fields table (offset_in unit text at) include ∙ sym are_too in
           is ∙ ap (λ xs. array (items_of (map (span_location unit at.uri text) xs))) same ∙ sym is_too
-      go renaming_asked h k = h ∙ ap (λ o. value_or_null (option_map (span_range unit text) o)) (same_renamable r q e fields table (offset_in unit text at)) ∙ sym k
+      go prepare_rename_question h k = h ∙ ap (λ o. value_or_null (option_map (span_range unit text) o)) (same_renamable r q e fields table (offset_in unit text at)) ∙ sym k
 
   -- A text that has a module is the text of a well-typed module.
-  is_module : (r : Resolution) → IsModuleIn (utf8 text) r → IsWellTypedModule (utf8 text)
+  is_module : (r : Resolution) → IsResolvedWellTypedModule (utf8 text) r → IsWellTypedModule (utf8 text)
   is_module r h =
       record { tree = _; text_of = record { scanned = r.module_read.source; scan = h.scan; module_of = h.well_typed.resolved.parsed.module_of }; well_typed = h.well_typed.well_typed }
 

@@ -12,22 +12,22 @@ use Rattle.ob0_text.specs.declared.edits.Indent.{Indent}
 use Rattle.ob0_text.specs.declared.position_types.Range.{Range}
 use Rattle.ob0_text.specs.declared.position_types.Unit.{Unit}
 use Rattle.ob0_text.specs.declared.refusals.EditRefusal.{EditRefusal}
-use Rattle.ob0_edits_tokens.specs.Replaced.{parts}
+use Rattle.ob0_edits_tokens.specs.Replaced.{range_and_text}
 use Rattle.ob0_layout.specs.Gaps.{EditContent, edit_content}
 use Rattle.ob0_rpc.specs.declared.clients.ClientFeatures.{ClientFeatures}
 use Rattle.ob0_rpc.specs.Shapes.{range_value, result_message, text as text_value}
-use Rattle.ob0_edits.specs.Renamings.{IsRefusedIn}
+use Rattle.ob0_edits.specs.Renamings.{IsRenameRefusedIn}
 use Rattle.ob0_analysis.specs.Diagnosed.{IsWellTypedModule}
 use Rattle.ob0_analysis.specs.Texts.{utf8}
 use Rattle.ob0_edits.specs.Inlinings.{OffersInlining}
 use Rattle.ob0_edits.specs.declared.inlinings.Inlining.{Inlining}
-use Rattle.ob0_edits.specs.declared.inlinings.Inlining.TheVariants.{Here, Everywhere}
+use Rattle.ob0_edits.specs.declared.inlinings.Inlining.TheVariants.{OneUse, Everywhere}
 use Rattle.ob0_session_answers.specs.Actions.{RequestedActions, ListsActions, action_values, actions_offset, title, wants_inlining}
 use Rattle.ob0_session_answers.specs.Diagnostics.{diagnostic_of}
 use Rattle.ob0_session_answers.specs.Formatted.{AnswersFormatting}
 use Rattle.ob0_session_answers.specs.Renamed.{AnswersRenaming, RequestedRename, edits_for_client}
 use Rattle.ob0_session_json.specs.Shapes.{action_value, edit_refusal, edit_value, publication, versioned_document}
-use Rattle.ob0_session_server.specs.Answers.{Sends, diagnoses, answers_name, lays_out, nothing, offers_actions, renames, says}
+use Rattle.ob0_session_server.specs.Answers.{Sends, diagnoses, answers_question, formats_text, nothing, offers_actions, renames, says}
 use Rattle.ob0_world_rules.proofs.OneInlining.{inlines_or_refused, inlines_parts}
 use Rattle.ob0_world_rules.proofs.OneLayout.{lays_out_or_long, lays_out_said}
 use Rattle.ob0_world_rules.proofs.OneRenaming.{refuses_one, renames_or_refused, renames_parts}
@@ -46,8 +46,8 @@ value_of_parts p = object (member (codes "newText") (text_value p.1) (member (co
 abbrev value_of_said : EditContent → Data
 value_of_said s = object (member (codes "newText") (text_value s.text) (member (codes "range") (range_value s.range.start s.range.end) no_members))
 
-values_by_parts : (xs ys : List Edit) → map parts xs ≡ map parts ys → map edit_value xs ≡ map edit_value ys
-values_by_parts xs ys same = sym (map-map value_of_parts parts xs) ∙ (ap (map value_of_parts) same ∙ map-map value_of_parts parts ys)
+values_by_parts : (xs ys : List Edit) → map range_and_text xs ≡ map range_and_text ys → map edit_value xs ≡ map edit_value ys
+values_by_parts xs ys same = sym (map-map value_of_parts range_and_text xs) ∙ (ap (map value_of_parts) same ∙ map-map value_of_parts range_and_text ys)
 
 values_by_said : (xs ys : List Edit) → map edit_content xs ≡ map edit_content ys → map edit_value xs ≡ map edit_value ys
 values_by_said xs ys same = sym (map-map value_of_said edit_content xs) ∙ (ap (map value_of_said) same ∙ map-map value_of_said edit_content ys)
@@ -79,7 +79,7 @@ formats_one unit id indent text message another (inr (inr (unfit, is))) (inr (in
 -- ---- new names
 
 module _ (unit : Unit) (requested : RequestedRename) (text : List ℕ) where
-  fits_refused : (refusal : EditRefusal) → IsRefusedIn unit text requested.at.position requested.new refusal → IsWellTypedModule (utf8 text)
+  fits_refused : (refusal : EditRefusal) → IsRenameRefusedIn unit text requested.at.position requested.new refusal → IsWellTypedModule (utf8 text)
   fits_refused refusal h =
       record { tree = _; text_of = record { scanned = h.names.module_read.source; scan = h.read.scan; module_of = h.read.well_typed.resolved.parsed.module_of }; well_typed = h.read.well_typed.well_typed }
 
@@ -123,12 +123,12 @@ module _ (unit : Unit) (requested : RequestedActions) (text : List ℕ) where
   lists_one : (value other : Data) → ListsActions unit requested text value → ListsActions unit requested text other → value ≡ other
   lists_one value other (inl h) (inl k) =
       h.listed
-      ∙ (λ i. array (items_of (offered_one Here h.here k.here h.offers_here k.offers_here i ++ offered_one Everywhere h.everywhere k.everywhere h.offers_everywhere k.offers_everywhere i)))
+      ∙ (λ i. array (items_of (offered_one OneUse h.here k.here h.offers_here k.offers_here i ++ offered_one Everywhere h.everywhere k.everywhere h.offers_everywhere k.offers_everywhere i)))
       ∙ sym k.listed
   lists_one value other (inl h) (inr (inl unwanted, too)) = apart h.wanted unwanted
-  lists_one value other (inl h) (inr (inr unfit, too)) = absurd (unfit (fits_offered Here h.here h.offers_here))
+  lists_one value other (inl h) (inr (inr unfit, too)) = absurd (unfit (fits_offered OneUse h.here h.offers_here))
   lists_one value other (inr (inl unwanted, is)) (inl k) = apart k.wanted unwanted
-  lists_one value other (inr (inr unfit, is)) (inl k) = absurd (unfit (fits_offered Here k.here k.offers_here))
+  lists_one value other (inr (inr unfit, is)) (inl k) = absurd (unfit (fits_offered OneUse k.here k.offers_here))
   lists_one value other (inr (why, is)) (inr (other_why, too)) = is ∙ sym too
 
 -- ---- everything
@@ -139,8 +139,8 @@ reply_is_determined reports tables (says message) sent other h k = sends_one mes
 reply_is_determined reports tables (diagnoses unit uri version text) sent other (ds, (list, reports_list, is), sends) (es, (more, reports_too, too), sends_too) =
     let same : ds ≡ es = is ∙ ap (map (diagnostic_of unit text)) (reports (utf8 text) list more reports_list reports_too) ∙ sym too in
     sends_one _ _ sent other (ap (publication uri (Some version)) same) sends sends_too
-reply_is_determined reports tables (lays_out unit id indent text) sent other (message, h, sends) (another, k, sends_too) = sends_one message another sent other (formats_one unit id indent text message another h k) sends sends_too
-reply_is_determined reports tables (answers_name unit id at question text) sent other (value, h, sends) (another, k, sends_too) =
+reply_is_determined reports tables (formats_text unit id indent text) sent other (message, h, sends) (another, k, sends_too) = sends_one message another sent other (formats_one unit id indent text message another h k) sends sends_too
+reply_is_determined reports tables (answers_question unit id at question text) sent other (value, h, sends) (another, k, sends_too) =
     sends_one _ _ sent other (ap (result_message id) (name_one tables unit text at question value another h k)) sends sends_too
 reply_is_determined reports tables (renames unit requested text) sent other (message, h, sends) (another, k, sends_too) = sends_one message another sent other (renaming_one unit requested text message another h k) sends sends_too
 reply_is_determined reports tables (offers_actions unit requested text) sent other (message, (value, h, is), sends) (another, (more, k, too), sends_too) =

@@ -32,9 +32,9 @@ use Rattle.ob0_scope_table.specs.Resolution.{Resolution, IsResolution, declaring
 use Rattle.ob0_tree.specs.declared.tree.Role.TheVariants as role
 use Rattle.ob0_tree.specs.Tree.{identifiers}
 use Rattle.ob0_types.specs.FaultOrder.{AreFirstFaults, code_number, fault_cmp, faults_in, place_cmp}
-use Rattle.ob0_types_check.specs.DeclarationFaults.{reported_module, reported_block}
+use Rattle.ob0_types_check.specs.DeclarationFaults.{module_faults, reported_block}
 use Rattle.ob0_types_check.specs.KnownDeclarations.{state_at_start, predeclared_meanings}
-use Rattle.ob0_analysis.specs.Diagnosed.{Complaint, ReportsRefusal, RefusalIsUnique, Reports, ReportsFaults, ReportsLexemes, ReportsParser, ReportsTypes, complaint_of_fault}
+use Rattle.ob0_analysis.specs.Diagnosed.{ReportedDiagnosis, ReportsRefusal, RefusalIsUnique, Reports, ReportsFaults, ReportsLexemes, ReportsParser, ReportsTypes, reported_diagnosis_of_fault}
 use Rattle.ob0_world_rules.proofs.OneModule.{Same, same_module}
 use Rattle.ob0_world_determined.specs.Determined.{DiagnosesAreDetermined, TableIsDetermined}
 use Rattle.ob0_world_determined.proofs.SameTables.{Like, block_like}
@@ -56,7 +56,7 @@ none s i tree h is =
     let all : List (Terminal (List ℕ)) = terminals_of_text s ++ (EndOfText ∷ []) in
     h tree (drop (i + 1) all) is.shallow (ap (λ (w : List (Terminal (List ℕ))). w ++ (EndOfText ∷ [])) (sym is.spelled) ∙ sym (take-append-drop (i + 1) all))
 
-not_refused : (s : TextWithTokens) (why : ParseRefusal) (c : Complaint) (tree : Tree (List ℕ) module_text) → IsRightParseRefusal s why → ReportsRefusal s why c → ModuleOf s tree → ⊥
+not_refused : (s : TextWithTokens) (why : ParseRefusal) (c : ReportedDiagnosis) (tree : Tree (List ℕ) module_text) → IsRightParseRefusal s why → ReportsRefusal s why c → ModuleOf s tree → ⊥
 not_refused s (Syntax i expected) c tree by is module_is = none s i tree by.1 module_is
 not_refused s (TooDeep i) c tree by is module_is = none s i tree by.1 module_is
 not_refused s Memory c tree by is module_is = is
@@ -192,8 +192,8 @@ module _ (r q : Resolution) (h : IsResolution r) (k : IsResolution q) (e : Same 
   same_of_names =
       h.reported.by_kind ∙ (λ i. tree_declaration_faults (e.source i) (e.tree i) ++ undeclared_faults_by_labels (e.source i) (occurrences (e.tree i)) (bindings (tree_with_names (e.source i) (e.tree i)))) ∙ sym k.reported.by_kind
 
-  same_reported : reported_module r ≡ reported_module q
-  unfolding reported_module
+  same_reported : module_faults r ≡ module_faults q
+  unfolding module_faults
   same_reported =
       let found : (reported_block (state_at_start r) (module_block (tree_of r.module_read))).faults ≡ (reported_block (state_at_start q) (module_block (tree_of q.module_read))).faults =
       (block_like (state_at_start r) (state_at_start q) (module_block (tree_of r.module_read)) first_like).faults ∙ ap (λ t. (reported_block (state_at_start q) (module_block t)).faults) e.tree in
@@ -204,10 +204,10 @@ module _ (r q : Resolution) (h : IsResolution r) (k : IsResolution q) (e : Same 
       let found : faults_in r ≡ faults_in q = λ i. same_reported i ++ filter is_declaration_fault (same_of_names i) in
       a.first ∙ ap (take 100) (sorted_one _ a.all b.all (subst (λ fs. IsPermutation fs a.all) found a.joined) b.joined a.in_order b.in_order) ∙ sym b.first
 
-types_one : (text : List ℕ) (list other : List Complaint) → TableIsDetermined → ReportsTypes text list → ReportsTypes text other → list ≡ other
+types_one : (text : List ℕ) (list other : List ReportedDiagnosis) → TableIsDetermined → ReportsTypes text list → ReportsTypes text other → list ≡ other
 types_one text list other tables a b =
     let e : Same a.names.module_read b.names.module_read = same_module text a.names.module_read b.names.module_read a.scan a.resolved.parsed b.scan b.resolved.parsed in
-    a.all ∙ ap (map complaint_of_fault) (same_faults a.names b.names a.resolved b.resolved e tables a.faults b.faults a.first b.first) ∙ sym b.all
+    a.all ∙ ap (map reported_diagnosis_of_fault) (same_faults a.names b.names a.resolved b.resolved e tables a.faults b.faults a.first b.first) ∙ sym b.all
 
 -- ---- every text
 
@@ -215,16 +215,16 @@ module _ (scans : OneScan) (reports : OneScanReport) (refusals : RefusalIsUnique
   one_source : (s t : TextWithTokens) → IsScanOf text s → IsScanOf text t → s ≡ t
   one_source s t p q = scans s t p.scan q.scan (p.of ∙ sym q.of)
 
-  lexemes_only : {A : Type 0} (list : List Complaint) (s : TextWithTokens) → ReportsLexemes text list → IsScanOf text s → A
+  lexemes_only : {A : Type 0} (list : List ReportedDiagnosis) (s : TextWithTokens) → ReportsLexemes text list → IsScanOf text s → A
   lexemes_only list s h scan = absurd (h.unscannable (scannable text s scan))
 
-  parser_only : {A : Type 0} (list other : List Complaint) → ReportsParser text list → ReportsTypes text other → A
+  parser_only : {A : Type 0} (list other : List ReportedDiagnosis) → ReportsParser text list → ReportsTypes text other → A
   parser_only list other h k =
       let same : k.names.module_read.source ≡ h.scanned = one_source k.names.module_read.source h.scanned k.scan h.scan in
-      absurd (not_refused h.scanned h.refusal h.complaint (named_tree_of k.names.module_read) h.refused h.says (subst (λ s. ModuleOf s (named_tree_of k.names.module_read)) same k.resolved.parsed.module_of))
+      absurd (not_refused h.scanned h.refusal h.complaint (named_tree_of k.names.module_read) h.refused h.reports_refusal (subst (λ s. ModuleOf s (named_tree_of k.names.module_read)) same k.resolved.parsed.module_of))
 
-  faults_one : (list other : List Complaint) → ReportsFaults text list → ReportsFaults text other → list ≡ other
-  faults_one list other (inl a) (inl b) = a.all ∙ ap (map complaint_of_fault) (reports text a.faults b.faults a.of_text.reported b.of_text.reported) ∙ sym b.all
+  faults_one : (list other : List ReportedDiagnosis) → ReportsFaults text list → ReportsFaults text other → list ≡ other
+  faults_one list other (inl a) (inl b) = a.all ∙ ap (map reported_diagnosis_of_fault) (reports text a.faults b.faults a.of_text.reported b.of_text.reported) ∙ sym b.all
   faults_one list other (inl a) (inr (inl b)) = lexemes_only list b.scanned a b.scan
   faults_one list other (inl a) (inr (inr b)) = lexemes_only list b.names.module_read.source a b.scan
   faults_one list other (inr (inl a)) (inl b) = lexemes_only other a.scanned b a.scan
@@ -234,7 +234,7 @@ module _ (scans : OneScan) (reports : OneScanReport) (refusals : RefusalIsUnique
   faults_one list other (inr (inr a)) (inr (inl b)) = parser_only other list b a
   faults_one list other (inr (inr a)) (inr (inr b)) = types_one text list other tables a b
 
-  report_one : (list other : List Complaint) → Reports text list → Reports text other → list ≡ other
+  report_one : (list other : List ReportedDiagnosis) → Reports text list → Reports text other → list ≡ other
   report_one list other (inl (fits, a)) (inl (fits_too, b)) = a ∙ sym b
   report_one list other (inl (fits, a)) (inr (unfit, b)) = absurd (unfit fits)
   report_one list other (inr (unfit, a)) (inl (fits, b)) = absurd (unfit fits)

@@ -7,14 +7,14 @@ use Rattle.ob0_language_values.specs.Values.{Value}
 use Rattle.ob0_language_names.specs.Parts.{formal_sections, names_in_list, section_constants, section_types, section_variables}
 use Rattle.ob0_scope_table.specs.Resolution.{ordinal_in}
 use Rattle.ob0_types_table.specs.declared.types.TypeId.{TypeId}
-use Rattle.ob0_tree.specs.Places.{text_at}
-use Rattle.ob0_tree.specs.Tree.{Tree, array_type, begins, block, body, constant, declares, declares_constant, declares_procedure, declares_type, declares_variable, end, fields, further_fields, further_section, has_body, item, items, maybe, more, named_type, names, no_fields, none, one, procedure, record_type, some_fields, then_fields, then_section, type_name, value_section, variable, variable_section, written_type}
-use Rattle.ob0_types_check.specs.DeclarationFaults.{KnownHeading, state_after_heading, constant_declared, reported_constants, reported_block, reported_body, reported_parameters, reported_procedure, reported_procedures, reported_section, reported_sections, reported_types, reported_variables, type_declared, variables_declared, with_parameters}
+use Rattle.ob0_tree.specs.Places.{token_text_at}
+use Rattle.ob0_tree.specs.Tree.{Tree, array_type, begins, block, body, constant, declares, declares_constant, declares_procedure, declares_type, declares_variable, end, fields, further_fields, further_section, forms_block, item, items, maybe, more, named_type, names, no_fields, none, one, procedure, record_type, some_fields, then_fields, then_section, type_definition, value_section, variable, variable_section, written_type}
+use Rattle.ob0_types_check.specs.DeclarationFaults.{KnownHeading, state_after_heading, reported_constant_declaration, reported_constants, reported_block, reported_body, reported_parameters, reported_procedure, reported_procedures, reported_section, reported_sections, reported_types, reported_variables, reported_type_declaration, reported_variable_group, with_parameters}
 use Rattle.ob0_types_check.specs.ExpressionFaults.{reported_expression}
 use Rattle.ob0_types_check.specs.Known.{Facts, Meaning, Operand, Reported, a_constant, a_procedure, a_type, a_variable}
 use Rattle.ob0_types_check.specs.Operations.{fault_at_token, without_fault, token_before}
-use Rattle.ob0_types_check.specs.KnownDeclarations.{PartTypes, Size, KnownDeclarations, TypeWithState, define, define_all, facts_at, is_within_limits, made, make_type, of_elements, of_fields, size_at, type_too_large, type_at_index, types_so_far, with_meaning}
-use Rattle.ob0_types_check.specs.StatementFaults.{reported_sequence}
+use Rattle.ob0_types_check.specs.KnownDeclarations.{PartTypes, Size, KnownDeclarations, TypeWithState, define, define_all, facts_at, is_within_limits, append_composite, make_type, of_elements, of_fields, size_at, type_too_large, type_at_index, types_so_far, with_meaning}
+use Rattle.ob0_types_check.specs.StatementFaults.{sequence_faults}
 use Rattle.ob0_types_check.specs.TypeFaults.{length_of, reported_constant, type_named_at}
 use Rattle.ob0_types_check.specs.WrittenTypeFaults.{KnownFields, made_array_type, array_size, sum_of_sizes, with_field_group, no_known_fields, next_type_ordinal, made_record_type, record_size, record_keyword, reported_fields, reported_groups, reported_type, with_known_field, with_known_fields, token_before_group}
 
@@ -79,7 +79,7 @@ define_all_like p q m (x ∷ xs) like = define_all_like (define p m x) (define q
 
 -- ---- types
 
-made_like : (p q : KnownDeclarations) (k l : ℕ) (parts : PartTypes) (size : Size) → k ≡ l → Like p q → TypedLike (made p k parts size) (made q l parts size)
+made_like : (p q : KnownDeclarations) (k l : ℕ) (parts : PartTypes) (size : Size) → k ≡ l → Like p q → TypedLike (append_composite p k parts size) (append_composite q l parts size)
 made_like p q k l parts size same like = record {
   of = ap (λ ms. type_at_index parts (length ms)) like.made;
   following = record { source = like.source; ordinals = like.ordinals; declared = like.declared; made = λ i. like.made i ++ record { ordinal = same i; parts = parts; size = size } ∷ [] };
@@ -88,8 +88,8 @@ made_like p q k l parts size same like = record {
 make_like : (p q : KnownDeclarations) (word k l : ℕ) (parts : PartTypes) (size : Size) → k ≡ l → Like p q → Both TypedLike (make_type p word k parts size) (make_type q word l parts size)
 make_like p q word k l parts size same like = go (is_within_limits size)
   where
-    go : (b : Bool) → Both TypedLike (cond b (without_fault (made p k parts size)) (type_too_large p word)) (cond b (without_fault (made q l parts size)) (type_too_large q word))
-    go true = right_both TypedLike (made p k parts size) (made q l parts size) (made_like p q k l parts size same like)
+    go : (b : Bool) → Both TypedLike (cond b (without_fault (append_composite p k parts size)) (type_too_large p word)) (cond b (without_fault (append_composite q l parts size)) (type_too_large q word))
+    go true = right_both TypedLike (append_composite p k parts size) (append_composite q l parts size) (made_like p q k l parts size same like)
     go false = record { known = record { of = refl; following = like }; faults = ap (λ (f : Facts TypeId). fault_at_token f code.TypeTooLarge word) (same_facts p q false like) }
 
 array_like : (k l : ℕ) (o : Operand TypeId) (n : Option ℕ) (t u : TypeWithState) → k ≡ l → TypedLike t u → Both TypedLike (made_array_type k o n t) (made_array_type l o n u)
@@ -107,7 +107,7 @@ arrays_like k l o p n m t u here same sized like =
 
 name_like : (t u : TypeId) (g h : KnownFields) (token : ℕ) → t ≡ u → GatheredLike g h → GatheredLike (with_known_field t g token) (with_known_field u h token)
 name_like t u g h token same like = record {
-  fields = λ i. like.fields i ++ record { name = text_at (like.following.source i) token; of = same i } ∷ [];
+  fields = λ i. like.fields i ++ record { name = token_text_at (like.following.source i) token; of = same i } ∷ [];
   size = λ i. sum_of_sizes (like.size i) (size_at (like.following.made i) (same i));
   following = like.following;
 }
@@ -175,8 +175,8 @@ variables_defined : (xs : List ℕ) (t u : TypeWithState) → TypedLike t u → 
 variables_defined xs t u typed =
     subst (λ z. Like (define_all t.following (a_variable t.of) xs) (define_all u.following (a_variable z) xs)) typed.of (define_all_like t.following u.following (a_variable t.of) xs typed.following)
 
-constant_like : (p q : KnownDeclarations) (d : Tree ℕ (item constant)) → Like p q → Both Like (constant_declared p d) (constant_declared q d)
-unfolding constant_declared
+constant_like : (p q : KnownDeclarations) (d : Tree ℕ (item constant)) → Like p q → Both Like (reported_constant_declaration p d) (reported_constant_declaration q d)
+unfolding reported_constant_declaration
 constant_like p q (declares_constant x e) like =
     let same : reported_constant (facts_at p true) e ≡ reported_constant (facts_at q true) e = ap (λ (f : Facts TypeId). reported_constant f e) (same_facts p q true like) in
     after (ap (λ (r : Reported (Option Value)). r.faults) same) (right_both Like _ _ (constant_defined p q x _ _ (ap (λ (r : Reported (Option Value)). r.known) same) like))
@@ -185,24 +185,24 @@ constants_like : (p q : KnownDeclarations) (ds : Tree ℕ (items constant)) → 
 unfolding reported_constants
 constants_like p q end like = right_both Like p q like
 constants_like p q (more d rest) like =
-    let next : Both Like (constant_declared p d) (constant_declared q d) = constant_like p q d like in
-    after next.faults (constants_like (constant_declared p d).known (constant_declared q d).known rest next.known)
+    let next : Both Like (reported_constant_declaration p d) (reported_constant_declaration q d) = constant_like p q d like in
+    after next.faults (constants_like (reported_constant_declaration p d).known (reported_constant_declaration q d).known rest next.known)
 
-type_declared_like : (p q : KnownDeclarations) (d : Tree ℕ (item type_name)) → Like p q → Both Like (type_declared p d) (type_declared q d)
-unfolding type_declared
+type_declared_like : (p q : KnownDeclarations) (d : Tree ℕ (item type_definition)) → Like p q → Both Like (reported_type_declaration p d) (reported_type_declaration q d)
+unfolding reported_type_declaration
 type_declared_like p q (declares_type x t) like =
     let typed : Both TypedLike (reported_type 0 p t) (reported_type 0 q t) = type_like 0 p q t like in
     after typed.faults (right_both Like _ _ (type_defined x _ _ typed.known))
 
-types_like : (p q : KnownDeclarations) (ds : Tree ℕ (items type_name)) → Like p q → Both Like (reported_types p ds) (reported_types q ds)
+types_like : (p q : KnownDeclarations) (ds : Tree ℕ (items type_definition)) → Like p q → Both Like (reported_types p ds) (reported_types q ds)
 unfolding reported_types
 types_like p q end like = right_both Like p q like
 types_like p q (more d rest) like =
-    let next : Both Like (type_declared p d) (type_declared q d) = type_declared_like p q d like in
-    after next.faults (types_like (type_declared p d).known (type_declared q d).known rest next.known)
+    let next : Both Like (reported_type_declaration p d) (reported_type_declaration q d) = type_declared_like p q d like in
+    after next.faults (types_like (reported_type_declaration p d).known (reported_type_declaration q d).known rest next.known)
 
-variables_declared_like : (p q : KnownDeclarations) (d : Tree ℕ (item variable)) → Like p q → Both Like (variables_declared p d) (variables_declared q d)
-unfolding variables_declared
+variables_declared_like : (p q : KnownDeclarations) (d : Tree ℕ (item variable)) → Like p q → Both Like (reported_variable_group p d) (reported_variable_group q d)
+unfolding reported_variable_group
 variables_declared_like p q (declares_variable ns t) like =
     let typed : Both TypedLike (reported_type 0 p t) (reported_type 0 q t) = type_like 0 p q t like in
     after typed.faults (right_both Like _ _ (variables_defined (names_in_list ns) _ _ typed.known))
@@ -211,8 +211,8 @@ variables_like : (p q : KnownDeclarations) (ds : Tree ℕ (items variable)) → 
 unfolding reported_variables
 variables_like p q end like = right_both Like p q like
 variables_like p q (more d rest) like =
-    let next : Both Like (variables_declared p d) (variables_declared q d) = variables_declared_like p q d like in
-    after next.faults (variables_like (variables_declared p d).known (variables_declared q d).known rest next.known)
+    let next : Both Like (reported_variable_group p d) (reported_variable_group q d) = variables_declared_like p q d like in
+    after next.faults (variables_like (reported_variable_group p d).known (reported_variable_group q d).known rest next.known)
 
 parameters_with : (g h : KnownHeading) (by_place : Bool) (xs : List ℕ) (t u : TypeWithState) → HeadingLike g h → TypedLike t u → HeadingLike (with_parameters g by_place xs t) (with_parameters h by_place xs u)
 parameters_with g h by_place xs t u like typed = record {
@@ -244,13 +244,13 @@ heading_like x g h like = subst (λ fs. Like (state_after_heading x g) (define h
 body_like : (p q : KnownDeclarations) (b : Tree ℕ (maybe body)) → Like p q → Both Like (reported_body p b) (reported_body q b)
 unfolding reported_body
 body_like p q none like = right_both Like p q like
-body_like p q (one (begins statements)) like = record { known = like; faults = ap (λ (f : Facts TypeId). reported_sequence f statements) (same_facts p q false like) }
+body_like p q (one (begins statements)) like = record { known = like; faults = ap (λ (f : Facts TypeId). sequence_faults f statements) (same_facts p q false like) }
 
 mutual
   unfolding reported_block
 
   pub block_like : (p q : KnownDeclarations) (b : Tree ℕ block) → Like p q → Both Like (reported_block p b) (reported_block q b)
-  block_like p q (has_body (declares cs ts vs ps) statements) like =
+  block_like p q (forms_block (declares cs ts vs ps) statements) like =
       let constants : Both Like (reported_constants p (section_constants cs)) (reported_constants q (section_constants cs)) = constants_like p q (section_constants cs) like in
       let types = types_like _ _ (section_types ts) constants.known in
       let variables = variables_like _ _ (section_variables vs) types.known in

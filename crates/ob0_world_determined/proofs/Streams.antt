@@ -10,7 +10,7 @@ use Rattle.ob0_frame.specs.Head.{max_content}
 use Rattle.ob0_frame.specs.FramerState.{StreamRest, Open, Broken, Feeds}
 use Rattle.ob0_frame.proofs.InTurn.{fed_in_turn}
 use Rattle.ob0_session_server.specs.Answers.{ServerState, start, Answers, AnswersInPhase, Conversation}
-use Rattle.ob0_session.specs.Serving.{Served, AllServed, EndsWith}
+use Rattle.ob0_session.specs.Serving.{HasServed, HasServedAll, EndsByExit}
 use Rattle.ob0_session_server.specs.Steps.{HasNotEnded}
 use Rattle.ob0_session_server.specs.declared.session.Phase.TheVariants.{Ended}
 use Rattle.ob0_session.specs.declared.serving.ServeFault.{ServeFault}
@@ -81,8 +81,8 @@ pub data Ending : Type 0 where
   with_rest : StreamRest → Ending
 
 abbrev pub EndsIn : Ending → List ℕ → List ℕ → Type 0
-EndsIn (at_exit status) taken put = EndsWith status taken put
-EndsIn (with_rest rest) taken put = AllServed taken rest put
+EndsIn (at_exit status) taken put = EndsByExit status taken put
+EndsIn (with_rest rest) taken put = HasServedAll taken rest put
 
 same_status : (s t : ℕ) → Ended s ≡ Ended t → s ≡ t
 same_status s t e = cc
@@ -96,14 +96,14 @@ module _ (one : ConversationIsDetermined) (feeds : OneFeed) (taken : List ℕ) w
       let quiet = silent status parts.between more parts.later end (ap (λ (s : ServerState). s.phase) (sym same.1) ∙ over) parts.goes_on in
       (sym (parts.is ∙ (λ i. sym same.0 i ++ quiet.0 i) ∙ append-nil sent), quiet.1 ∙ sym same.1)
 
-  all_one : (r q : StreamRest) (put other : List ℕ) → AllServed taken r put → AllServed taken q other → (put ≡ other) × (with_rest r ≡ with_rest q)
+  all_one : (r q : StreamRest) (put other : List ℕ) → HasServedAll taken r put → HasServedAll taken q other → (put ≡ other) × (with_rest r ≡ with_rest q)
   all_one r q put other h k =
       let fed = feeds (Open []) r q taken (h.served.answered ++ []) (k.served.answered ++ []) h.served.feeds k.served.feeds in
       let contents : h.served.answered ≡ k.served.answered = sym (append-nil h.served.answered) ∙ fed.0 ∙ append-nil k.served.answered in
       let same = one start k.served.answered h.served.sent k.served.sent h.after k.after (subst (λ cs. Conversation start cs h.served.sent h.after) contents h.served.conversation) k.served.conversation in
       (h.served.frames ∙ ap (flat_map frame) same.0 ∙ sym k.served.frames, ap with_rest fed.1)
 
-  end_one : (status another : ℕ) (put other : List ℕ) → EndsWith status taken put → EndsWith another taken other → (put ≡ other) × (at_exit status ≡ at_exit another)
+  end_one : (status another : ℕ) (put other : List ℕ) → EndsByExit status taken put → EndsByExit another taken other → (put ≡ other) × (at_exit status ≡ at_exit another)
   end_one status another put other (h, h_ended) (k, k_ended) =
       let fed = (feeds (Open []) h.rest k.rest taken (h.served.answered ++ h.waiting) (k.served.answered ++ k.waiting) h.served.feeds k.served.feeds).0 in
       let same : (h.served.sent ≡ k.served.sent) × (k.after ≡ h.after) =
@@ -115,15 +115,15 @@ module _ (one : ConversationIsDetermined) (feeds : OneFeed) (taken : List ℕ) w
       (h.served.frames ∙ ap (flat_map frame) same.0 ∙ sym k.served.frames, ap at_exit statuses)
 
   ended_goes_on : (status : ℕ) (s : ServerState) → s.phase ≡ Ended status → HasNotEnded s.phase → ⊥
-  ended_goes_on status s over going = let no : HasNotEnded (Ended status) = subst HasNotEnded over going in cc
+  ended_goes_on status s over not_ended = let no : HasNotEnded (Ended status) = subst HasNotEnded over not_ended in cc
 
   -- If one call ended at an `exit`, another over the same bytes can't have served all of them.
-  never_both : (status : ℕ) (q : StreamRest) (put other : List ℕ) → EndsWith status taken put → AllServed taken q other → ⊥
+  never_both : (status : ℕ) (q : StreamRest) (put other : List ℕ) → EndsByExit status taken put → HasServedAll taken q other → ⊥
   never_both status q put other (h, h_ended) k =
       let fed : h.served.answered ++ h.waiting ≡ k.served.answered =
       (feeds (Open []) h.rest q taken (h.served.answered ++ h.waiting) (k.served.answered ++ []) h.served.feeds k.served.feeds).0 ∙ append-nil k.served.answered in
       let end : k.after ≡ h.after = (longer status h.served.answered h.waiting h.served.sent k.served.sent h.after k.after h_ended h.served.conversation (subst (λ cs. Conversation start cs k.served.sent k.after) (sym fed) k.served.conversation)).1 in
-      ended_goes_on status k.after (ap (λ (s : ServerState). s.phase) end ∙ h_ended) k.going
+      ended_goes_on status k.after (ap (λ (s : ServerState). s.phase) end ∙ h_ended) k.not_ended
 
   one_ending : (e f : Ending) (put other : List ℕ) → EndsIn e taken put → EndsIn f taken other → (put ≡ other) × (e ≡ f)
   one_ending (at_exit s) (at_exit t) put other h k = end_one s t put other h k
@@ -182,7 +182,7 @@ further (at_exit status) taken more put closed f (h, ended) =
     let s = h.served in
     let parts = fed_front (Open []) h.rest f.rest taken more (s.answered ++ h.waiting) f.contents s.feeds f.feeds in
     let same : f.contents ≡ s.answered ++ (h.waiting ++ parts.0) = parts.1 ∙ append_assoc s.answered h.waiting parts.0 in
-    let served : Served (taken ++ more) (h.waiting ++ parts.0) f.rest h.after put =
+    let served : HasServed (taken ++ more) (h.waiting ++ parts.0) f.rest h.after put =
     record { answered = s.answered; sent = s.sent; feeds = subst (λ cs. Feeds (Open []) (taken ++ more) cs f.rest) same f.feeds; conversation = s.conversation; frames = s.frames } in
     (record { after = h.after; waiting = h.waiting ++ parts.0; rest = f.rest; served = served }, ended)
 further (with_rest Broken) taken more put closed f h =
@@ -191,7 +191,7 @@ further (with_rest Broken) taken more put closed f h =
     record {
       after = h.after;
       served = record { answered = s.answered; sent = s.sent; feeds = subst (λ cs. Feeds (Open []) (taken ++ more) cs Broken) (append-nil (s.answered ++ [])) fed; conversation = s.conversation; frames = s.frames };
-      going = h.going;
+      not_ended = h.not_ended;
     }
 further (with_rest (Open left)) taken more put closed f h = absurd closed
 
@@ -285,14 +285,14 @@ module _ (one : ConversationIsDetermined) (feeds : OneFeed) (taken sent : Conten
   nothing_more_said mid answered said end is h =
       longer one feeds (flat_map frame taken) status taken mid sent said after end over talk (subst (λ cs. Conversation start cs said end) is h)
 
-  no_rest : (put : List ℕ) (rest : StreamRest) → AllServed (flat_map frame taken ++ more) rest put → ⊥
+  no_rest : (put : List ℕ) (rest : StreamRest) → HasServedAll (flat_map frame taken ++ more) rest put → ⊥
   no_rest put rest h =
       let s = h.served in
       let parts = fed_front (Open []) (Open []) rest (flat_map frame taken) more taken (s.answered ++ []) fed s.feeds in
       let same = nothing_more_said parts.0 s.answered s.sent h.after (sym (append-nil s.answered) ∙ parts.1) s.conversation in
-      ended_goes_on one feeds (flat_map frame taken) status h.after (ap (λ (s : ServerState). s.phase) same.1 ∙ over) h.going
+      ended_goes_on one feeds (flat_map frame taken) status h.after (ap (λ (s : ServerState). s.phase) same.1 ∙ over) h.not_ended
 
-  exit_one : (put : List ℕ) (found : ℕ) → EndsWith found (flat_map frame taken ++ more) put → (put ≡ flat_map frame sent) × (found ≡ status)
+  exit_one : (put : List ℕ) (found : ℕ) → EndsByExit found (flat_map frame taken ++ more) put → (put ≡ flat_map frame sent) × (found ≡ status)
   exit_one put found (h, ended) =
       let s = h.served in
       let parts = fed_front (Open []) (Open []) h.rest (flat_map frame taken) more taken (s.answered ++ h.waiting) fed s.feeds in

@@ -4,9 +4,9 @@
 use Rattle.std.proofs.Common.{◌≡◌, ◌∙◌, ◌==◌, ◌||◌, ℕ, Bool, true, false, Option, List, [], ◌∷◌, map, refl, sym, ap, subst, eqb-true}
 use Rattle.std.specs.List.{list_any}
 use Rattle.ob0_scan.specs.TextWithTokens.{TextWithTokens}
-use Rattle.ob0_tree.specs.Order.{leaves}
+use Rattle.ob0_tree.specs.Order.{identifier_names}
 use Rattle.ob0_tree.specs.ParsedModule.{tree_of}
-use Rattle.ob0_tree.specs.Places.{tree_with_names, value_at}
+use Rattle.ob0_tree.specs.Places.{tree_with_names, token_value_at}
 use Rattle.ob0_language_names.specs.Names.{Name, naming_by_spelling}
 use Rattle.ob0_scope_table.specs.Resolution.{Resolution, IsResolution, binding_at, is_identifier_token, ordinal_in, ordinal_and_spelling}
 use Rattle.ob0_language_names.specs.Scopes.{relabel_module}
@@ -32,19 +32,19 @@ among s a b (x ∷ xs) token is same = go (x == token) refl (λ later. among s a
     go false here next = next (sym (ap (λ c. c || is_among xs token) here) ∙ is)
 
 module _ (r q : Resolution) (h : IsResolution r) (k : IsResolution q) (source : r.module_read.source ≡ q.module_read.source) (tree : tree_of r.module_read ≡ tree_of q.module_read) where
-  same_bound : map (binding_at r.module_read.source r.ordinals) (leaves (tree_of r.module_read)) ≡ map (binding_at r.module_read.source q.ordinals) (leaves (tree_of r.module_read))
+  same_bound : map (binding_at r.module_read.source r.ordinals) (identifier_names (tree_of r.module_read)) ≡ map (binding_at r.module_read.source q.ordinals) (identifier_names (tree_of r.module_read))
   same_bound =
-      sym (leaves_mapped (binding_at r.module_read.source r.ordinals) (value_at r.module_read.source) (tree_of r.module_read))
-      ∙ (ap leaves (sym h.binding ∙ ((λ i. relabel_module naming_by_spelling ordinal_and_spelling (tree_with_names (source i) (tree i))) ∙ k.binding))
-      ∙ (leaves_mapped (binding_at q.module_read.source q.ordinals) (value_at q.module_read.source) (tree_of q.module_read)
-      ∙ (λ i. map (binding_at (sym source i) q.ordinals) (leaves (sym tree i)))))
+      sym (leaves_mapped (binding_at r.module_read.source r.ordinals) (token_value_at r.module_read.source) (tree_of r.module_read))
+      ∙ (ap identifier_names (sym h.binding ∙ ((λ i. relabel_module naming_by_spelling ordinal_and_spelling (tree_with_names (source i) (tree i))) ∙ k.binding))
+      ∙ (leaves_mapped (binding_at q.module_read.source q.ordinals) (token_value_at q.module_read.source) (tree_of q.module_read)
+      ∙ (λ i. map (binding_at (sym source i) q.ordinals) (identifier_names (sym tree i)))))
 
   same_ordinal : (token : ℕ) → ordinal_in r.ordinals token ≡ ordinal_in q.ordinals token
   same_ordinal token = go (is_identifier_token r.module_read token) refl
     where
       go : (b : Bool) → is_identifier_token r.module_read token ≡ b → ordinal_in r.ordinals token ≡ ordinal_in q.ordinals token
-      go true is = among r.module_read.source r.ordinals q.ordinals (leaves (tree_of r.module_read)) token is same_bound
-      go false is = h.names_alone token is ∙ sym (k.names_alone token (ap (λ t. is_among (leaves t) token) (sym tree) ∙ is))
+      go true is = among r.module_read.source r.ordinals q.ordinals (identifier_names (tree_of r.module_read)) token is same_bound
+      go false is = h.ordinals_only_at_names token is ∙ sym (k.ordinals_only_at_names token (ap (λ t. is_among (identifier_names t) token) (sym tree) ∙ is))
 
 pub table_is_determined : TableIsDetermined
 table_is_determined r q h k (source, tree) token = same_ordinal r q h k source tree token

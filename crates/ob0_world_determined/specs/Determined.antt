@@ -7,10 +7,10 @@ use Rattle.ob0_frame.specs.Frames.{Frames, frame}
 use Rattle.ob0_frame.specs.Head.{max_content}
 use Rattle.ob0_scope_table.specs.Resolution.{Resolution, IsResolution, ordinal_in}
 use Rattle.ob0_tree.specs.ParsedModule.{ParsedModule, tree_of}
-use Rattle.ob0_analysis.specs.Diagnosed.{Complaint, Reports}
+use Rattle.ob0_analysis.specs.Diagnosed.{ReportedDiagnosis, Reports}
 use Rattle.ob0_session_server.specs.Answers.{ServerState, start, Reply, AreContentsOfReply, Answers, Conversation}
 use Rattle.ob0_session_server.specs.declared.session.Phase.TheVariants.{Ended}
-use Rattle.ob0_session.specs.Serving.{EndsWith, Serves}
+use Rattle.ob0_session.specs.Serving.{EndsByExit, Serves}
 use Rattle.ob0_session.specs.declared.serving.ServeFault.{ServeFault}
 use Rattle.ob0_session.specs.declared.serving.ServeFault.TheVariants.{BadHead, Truncated, Read, Write, Memory, TooManyReads}
 
@@ -32,7 +32,7 @@ TableIsDetermined =
 -- states that a text has only one list of diagnostics
 abbrev pub DiagnosesAreDetermined : Type 0
 DiagnosesAreDetermined =
-    (text : List ℕ) (found other : List Complaint)
+    (text : List ℕ) (found other : List ReportedDiagnosis)
     → Reports text found → Reports text other → found ≡ other
 
 -- ---- replies
@@ -85,7 +85,7 @@ IsDeterminedByBytes (Err Memory) = ⊥
 
 -- states that an `exit` or a bad head ended the call, so that later bytes make no difference
 abbrev pub IsFinalResult : Result ℕ ServeFault → List ℕ → List ℕ → Type 0
-IsFinalResult (Ok status) taken put = EndsWith status taken put
+IsFinalResult (Ok status) taken put = EndsByExit status taken put
 IsFinalResult (Err BadHead) taken put = ⊤
 IsFinalResult (Err Truncated) taken put = ⊥
 IsFinalResult (Err Read) taken put = ⊥

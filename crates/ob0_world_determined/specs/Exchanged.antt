@@ -5,7 +5,7 @@ use Rattle.std.specs.List.{flat_map}
 use Rattle.ob0_text.specs.declared.position_types.Unit.{Unit}
 use Rattle.ob0_frame.specs.Frames.{frame}
 use Rattle.ob0_frame.specs.Head.{max_content}
-use Rattle.ob0_session.specs.Serving.{PrefixServed}
+use Rattle.ob0_session.specs.Serving.{HasServedPrefix}
 use Rattle.ob0_session.specs.declared.serving.ServeFault.{ServeFault}
 use Rattle.ob0_world_rules.specs.EveryEditor.{Turn}
 use Rattle.serde_json.specs.Data.{Data}
@@ -38,9 +38,9 @@ pub record ServedExchange (begin now : Exchange) : Type 0 where
       → (more put : List ℕ) (result : Result ℕ ServeFault) → IsFullyWritten result
       → MayServe result (flat_map frame (now.wire.taken ++ shutdown ∷ exit ∷ []) ++ more) put
       → (put ≡ flat_map frame ((now.wire.got ++ now.wire.to_editor) ++ sent)) × (result ≡ Ok 0)
-  -- If `serve` returns `Memory`, it has answered a prefix of the contents (`PrefixServed`). If this
+  -- If `serve` returns `Memory`, it has answered a prefix of the contents (`HasServedPrefix`). If this
   -- prefix is exactly the contents that the session took, `serve` has written the same frames.
-  pub in_part : (taken put : List ℕ) (part : PrefixServed taken put)
+  pub in_part : (taken put : List ℕ) (part : HasServedPrefix taken put)
       → part.answered ≡ now.wire.taken
       → put ≡ flat_map frame (now.wire.got ++ now.wire.to_editor)
 

@@ -12,11 +12,11 @@ use Rattle.ob0_world_editor.specs.declared.editor.RewrittenDocument as rewritten
 use Rattle.ob0_world_rules.specs.Edited.{Replacement}
 use Rattle.ob0_world_rules.specs.Asks.{Ask}
 use Rattle.ob0_world_rules.specs.ClientAndServer.{OpenDocument, SentAsk, Answer, Editor, request_numbered, open_at}
-use Rattle.ob0_world_rules.specs.EditorActs.{open_document, ask_about, apply, ActResult, unchanged_result, opening_result, asks, edits_of_answer, answers_except, without_answer, applying_result, act_result}
+use Rattle.ob0_world_rules.specs.EditorActs.{open_document, ask_about, apply, ActResult, unchanged_result, opening_result, asking_result, edits_of_answer, answers_except, without_answer, applying_result, act_result}
 use Rattle.ob0_world_editor.specs.Code.{sent_ask_of, answer_of}
 use Rattle.ob0_world_rules.specs.Edited.{replacements}
 use Rattle.ob0_world_editor.specs.MessagesToServer.{IsRequest, IsAsk}
-use Rattle.ob0_world_editor.specs.Moves.{AreFew, IsSentContent, PerformsAct, IsIndexOfAnswer, IsApplyOutcome, IsRewritten, IsAppliedAs}
+use Rattle.ob0_world_editor.specs.Moves.{CountsCanGrow, IsSentContent, PerformsAct, IsIndexOfAnswer, IsApplyOutcome, IsRewritten, IsAppliedAs}
 
 -- ---- asks
 
@@ -64,7 +64,7 @@ pub use_edits : (xs : List answer.HeldAnswer) (i : ℕ) (a : answer.HeldAnswer) 
 use_edits xs i a h at = sym (ap (option_map (λ (x : answer.HeldAnswer). replacements x.edits.items)) (slice_get_read xs (length xs) i a refl h at))
 
 -- An editor with one answer less still has room for its counts.
-pub few_without : (e : Editor) (k : ℕ) → AreFew e → AreFew (without_answer e k)
+pub few_without : (e : Editor) (k : ℕ) → CountsCanGrow e → CountsCanGrow (without_answer e k)
 few_without e k few = record { openings = few.openings; asks = few.asks; versions = few.versions }
 
 -- The outcome for an answer that the editor doesn't have is `NotHeld`.
@@ -126,7 +126,7 @@ asks_once_more e new uri ask d content n older this at were count is is_new requ
     let grown : map sent_ask_of (older ++ this ∷ []) ≡ e.requested ++ a ∷ [] = map-append sent_ask_of older (this ∷ []) ∙ (λ i. were i ++ is i ∷ []) in
     let now : new ≡ record e { requested = e.requested ++ a ∷ [] } = is_new ∙ (λ i. record e { requested = grown i }) in
     let number : n + 1 ≡ suc (length e.requested) = rw add-one (ap suc (count ∙ sym (length-map older sent_ask_of) ∙ ap length were)) in
-    subst (λ o. PerformsAct (unwrap_or (option_and_then (λ d. Some (asks e uri ask d)) o) (unchanged_result e)) (Some content) new) (sym at) (
+    subst (λ o. PerformsAct (unwrap_or (option_and_then (λ d. Some (asking_result e uri ask d)) o) (unchanged_result e)) (Some content) new) (sym at) (
       now,
       (
         (subst (λ k. IsRequest k uri ask content.items) number request, subst (λ (x : Editor). IsAsk x.requested (suc (length e.requested)) uri ask) (sym now) (record { sent = a; is = slice_get_last e.requested a; about = refl; asks_this = refl })),

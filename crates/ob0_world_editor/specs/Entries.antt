@@ -9,14 +9,14 @@ use Rattle.ob0_world_editor.specs.declared.documents.OpenDocument as stored
 use Rattle.ob0_world_rules.specs.ClientAndServer.{OpenDocument, EditorDocuments}
 
 -- returns the model's open document for a value of the code's type `OpenDocument`
-abbrev pub open_document : stored.OpenDocument → OpenDocument
-open_document d =
+abbrev pub open_document_of : stored.OpenDocument → OpenDocument
+open_document_of d =
     record { version = pos d.version; text = chars (string_bytes d.text); opening = d.opening }
 
 -- returns the open documents as a map from the bytes of their uris
-abbrev pub editor_documents : {A : Type 0} → List (String A × stored.OpenDocument) → EditorDocuments
-editor_documents entries =
-    map_of.from_entries (map (λ e. (string_bytes e.0, open_document e.1)) entries)
+abbrev pub editor_documents_of : {A : Type 0} → List (String A × stored.OpenDocument) → EditorDocuments
+editor_documents_of entries =
+    map_of.from_entries (map (λ e. (string_bytes e.0, open_document_of e.1)) entries)
 
 -- encodes an open document as the tuple of its fields
 abbrev pub open_document_code : Coded OpenDocument

@@ -17,7 +17,7 @@ use Rattle.ob0_world_editor.specs.declared.editor.RewrittenDocument as rewritten
 
 -- states that each number that the editor counts (openings, asks, versions) is less than 2^63 - 1,
 -- so that it can still grow by one
-pub record AreFew (e : Editor) : Type 0 where
+pub record CountsCanGrow (e : Editor) : Type 0 where
   pub openings : e.openings < 2 ^ 63 - 1
   pub asks : length e.requested < 2 ^ 63 - 1
   pub versions : (uri : List ℕ) (d : OpenDocument) → open_at e uri ≡ Some d → version_number d.version < 2 ^ 63 - 1
@@ -100,9 +100,9 @@ IsRewritten e (Some done) (Some r) = Rewrites e done r
 -- returns the result of the act that gives a document this edited text; None if there is no edited
 -- text
 abbrev pub editing_result : Editor → List ℕ → OpenDocument → Option (List ℕ) → Option ActResult
-editing_result e uri d edited =
+editing_result e uri d text_after_edits =
     let applied : List ℕ → Applied = λ text. record { uri = uri; before = d.text; after = text } in
-    option_map (λ text. rewriting_result e uri d text (whole_text_change text ∷ []) (applied text ∷ [])) edited
+    option_map (λ text. rewriting_result e uri d text (whole_text_change text ∷ []) (applied text ∷ [])) text_after_edits
 
 -- states that `new` is the editor with the document's new text, and that the content is the
 -- notification of that text

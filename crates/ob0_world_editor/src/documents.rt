@@ -3,7 +3,7 @@ ghost use Rattle.std.specs.Prelude.{◌≡◌, pos, IfOk, OnErr, OnOk};
 ghost use Rattle.std.specs.Option.{option_map};
 ghost use Rattle.std.specs.Str.{chars};
 ghost use Rattle.std.specs.FinMap as map_of;
-ghost use Rattle.ob0_world_editor.specs.Entries.{open_document};
+ghost use Rattle.ob0_world_editor.specs.Entries.{open_document_of};
 
 use std::alloc::{AllocError, Global};
 use std::collections::BTreeMap;
@@ -26,7 +26,7 @@ impl OpenDocument {
         text: &str,
         opening: u64,
     ) -> Result<OpenDocument, AllocError>
-        ensures { IfOk result (λ d. open_document d
+        ensures { IfOk result (λ d. open_document_of d
             ≡ record { version = pos version; text = chars text.now; opening = opening }) }
     {
         let text = String::from_str(alloc, text)?;
@@ -46,13 +46,13 @@ pub struct OpenDocuments {
 
 impl Model for OpenDocuments {
     ghost use Rattle.ob0_world_rules.specs.ClientAndServer.{EditorDocuments};
-    ghost use Rattle.ob0_world_editor.specs.Entries.{editor_documents, open_documents_code};
+    ghost use Rattle.ob0_world_editor.specs.Entries.{editor_documents_of, open_documents_code};
 
     ghost Value = { EditorDocuments };
 
     ghost coded = { open_documents_code };
 
-    ghost view = { λ documents. editor_documents documents.by_uri.entries };
+    ghost view = { λ documents. editor_documents_of documents.by_uri.entries };
 }
 
 impl OpenDocuments {
@@ -67,7 +67,7 @@ impl OpenDocuments {
 
     /// Returns the open document with this uri. None if no document with this uri is open.
     pub fn get(&self, uri: &str) -> Option<&OpenDocument>
-        ensures { option_map (λ d. open_document d.now) result ≡ map_of.get self.now uri.now }
+        ensures { option_map (λ d. open_document_of d.now) result ≡ map_of.get self.now uri.now }
     {
         self.by_uri.get(uri)
     }
@@ -81,7 +81,7 @@ impl OpenDocuments {
         document: OpenDocument,
     ) -> Result<(), AllocError>
         ensures ok { OnOk result
-            (self.new ≡ map_of.insert self.old uri.now (open_document document)) }
+            (self.new ≡ map_of.insert self.old uri.now (open_document_of document)) }
         ensures err { OnErr result (self.new ≡ self.old) }
     {
         let uri = String::from_str(alloc, uri)?;

@@ -13,11 +13,11 @@ ghost use Rattle.std.specs.Str.{chars};
 ghost use Rattle.ob0_text.specs.OpenDocuments.{text_change_of};
 ghost use Rattle.ob0_world_rules.specs.ClientAndServer.{answers, new_editor};
 ghost use Rattle.ob0_world_rules.specs.EditorActs as acts;
-ghost use Rattle.ob0_world_rules.specs.EditorActs.{change_document, close_document, ask_about, apply, applying_result, act_result, edits_of_answer, reads, without_answer};
+ghost use Rattle.ob0_world_rules.specs.EditorActs.{change_document, close_document, ask_about, apply, applying_result, act_result, edits_of_answer, after_reading, without_answer};
 ghost use Rattle.ob0_world_editor.specs.Code.{ask_of, message_of, sent_ask_of};
-ghost use Rattle.ob0_world_editor.specs.Entries.{open_document};
-ghost use Rattle.ob0_world_rules.specs.Edited.{edited, replacements};
-ghost use Rattle.ob0_world_editor.specs.Moves.{AreFew, PerformsAct, IsApplyOutcome, has_edits, editing_result, IsRewritten, IsAppliedAs, StoresRewritten, IsIndexOfAnswer};
+ghost use Rattle.ob0_world_editor.specs.Entries.{open_document_of};
+ghost use Rattle.ob0_world_rules.specs.Edited.{text_after_edits, replacements};
+ghost use Rattle.ob0_world_editor.specs.Moves.{CountsCanGrow, PerformsAct, IsApplyOutcome, has_edits, editing_result, IsRewritten, IsAppliedAs, StoresRewritten, IsIndexOfAnswer};
 ghost use Rattle.ob0_world_editor.specs.MessagesToEditor.{message_to_editor_in};
 
 use crate::applied::{Applied, ApplyOutcome, applied_edit};
@@ -25,7 +25,7 @@ use crate::asks::{Ask, copy_of};
 use crate::documents::{OpenDocument, OpenDocuments};
 use crate::reading::{Message, numbered_ask, read_message};
 use crate::texts::{apply_changes, apply_edits};
-use crate::writing::{did_change, did_close, did_open, did_rewrite, request};
+use crate::writing::{did_change, did_change_whole_text, did_close, did_open, request};
 use ob0_text::{Change, Edit, Unit, Whole};
 use std::alloc::{AllocError, Global};
 use std::marker::Model;
@@ -107,7 +107,7 @@ impl Editor {
     /// Opens a document, and returns the content of the notification for the server. None if the
     /// document is open already. On an error the editor is unchanged.
     pub fn open(&mut self, uri: &str, text: &str) -> Result<Option<Vec<u8>>, AllocError>
-        requires { AreFew self.old }
+        requires { CountsCanGrow self.old }
         ensures ok { IfOk result (λ content. PerformsAct
             (act_result self.old (acts.open_document uri.now (chars text.now))) content self.new) }
         ensures err { OnErr result (self.new ≡ self.old) }
@@ -126,7 +126,7 @@ impl Editor {
     /// Changes a document, and returns the content of the notification for the server. None if the
     /// document isn't open. On an error the editor is unchanged.
     pub fn change(&mut self, uri: &str, changes: &[Change]) -> Result<Option<Vec<u8>>, AllocError>
-        requires { AreFew self.old }
+        requires { CountsCanGrow self.old }
         ensures ok { IfOk result (λ content. PerformsAct
             (act_result self.old (change_document uri.now (map text_change_of changes.now))) content
             self.new) }
@@ -166,7 +166,7 @@ impl Editor {
     /// Asks about a document, and returns the content of the request for the server. None if the
     /// document isn't open. On an error the editor is unchanged.
     pub fn ask(&mut self, uri: &str, ask: &Ask) -> Result<Option<Vec<u8>>, AllocError>
-        requires { AreFew self.old }
+        requires { CountsCanGrow self.old }
         ensures ok { IfOk result (λ content. PerformsAct
             (act_result self.old (ask_about uri.now (ask_of ask.now))) content self.new) }
         ensures err { OnErr result (self.new ≡ self.old) }
@@ -194,7 +194,7 @@ impl Editor {
     /// error the editor is unchanged.
     pub fn keep(&mut self, number: u64, edits: Vec<Edit>) -> Result<bool, AllocError>
         ensures kept { OnOk result
-            (self.new ≡ reads self.old (answers number (replacements edits.items))) }
+            (self.new ≡ after_reading self.old (answers number (replacements edits.items))) }
         ensures some { IfOk result (λ kept. kept ≡ has_edits (replacements edits.items)) }
         ensures err { OnErr result (self.new ≡ self.old) }
     {
@@ -210,7 +210,7 @@ impl Editor {
     /// request, or if two edits share a character. In every case the answer is removed, even if an
     /// allocation fails.
     pub fn apply(&mut self, k: u64) -> Result<ApplyOutcome, AllocError>
-        requires { AreFew self.old }
+        requires { CountsCanGrow self.old }
         ensures ok { IfOk result (λ applying. IsApplyOutcome (act_result self.old (apply k))
             (is_some (edits_of_answer k self.old.answers)) applying self.new) }
         ensures err { OnErr result (self.new ≡ without_answer self.old k) }
@@ -248,7 +248,7 @@ impl Editor {
     /// document, if its opening or version has changed since the request, or if two edits share a
     /// character.
     fn rewrite(&self, k: u64, edits: &[Edit]) -> Result<Option<RewrittenDocument>, AllocError>
-        requires { AreFew self.now }
+        requires { CountsCanGrow self.now }
         ensures { IfOk result (λ rewritten.
             IsRewritten self.now (applying_result self.now k (replacements edits.now)) rewritten) }
     {
@@ -273,8 +273,8 @@ impl Editor {
     ) -> Result<Option<RewrittenDocument>, AllocError>
         requires { document.now.version < 2 ^ 63 - 1 }
         ensures { IfOk result (λ rewritten. IsRewritten self.now
-            (editing_result self.now uri.now (open_document document.now)
-            (edited self.now.unit (chars (string_bytes document.now.text))
+            (editing_result self.now uri.now (open_document_of document.now)
+            (text_after_edits self.now.unit (chars (string_bytes document.now.text))
             (replacements edits.now)))
             rewritten) }
     {
@@ -297,7 +297,7 @@ impl Editor {
         ensures ok { IfOk result (λ applying. IsAppliedAs self.old rewritten applying self.new) }
         ensures err { OnErr result (self.new ≡ self.old) }
     {
-        let content = self.store_text(&rewritten)?;
+        let content = self.store_and_notify(&rewritten)?;
         Ok(ApplyOutcome::Made {
             applied: rewritten.applied,
             content,
@@ -306,7 +306,7 @@ impl Editor {
 
     /// Stores a copy of a document's new text, and returns the content of the notification. On an
     /// error the editor is unchanged.
-    fn store_text(&mut self, rewritten: &RewrittenDocument) -> Result<Vec<u8>, AllocError>
+    fn store_and_notify(&mut self, rewritten: &RewrittenDocument) -> Result<Vec<u8>, AllocError>
         requires { rewritten.now.version < 2 ^ 63 }
         ensures ok { IfOk result
             (λ content. StoresRewritten self.old rewritten.now content self.new) }
@@ -315,7 +315,7 @@ impl Editor {
         let uri = rewritten.applied.uri.as_str();
         let text = rewritten.applied.after.as_str();
         let version = rewritten.version;
-        let content = did_rewrite(self.alloc, uri, version, text)?;
+        let content = did_change_whole_text(self.alloc, uri, version, text)?;
         let document = OpenDocument::with_text(self.alloc, version, text, rewritten.opening)?;
         self.documents.put(self.alloc, uri, document)?;
         Ok(content)

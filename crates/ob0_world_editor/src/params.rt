@@ -242,7 +242,7 @@ impl WriteJson for FormattingOptions {
 
 impl FormattingOptions {
     /// Returns the formatting options for an indent.
-    pub fn of(indent: Indent) -> FormattingOptions
+    pub fn for_indent(indent: Indent) -> FormattingOptions
         ensures { indent_options result.insert_spaces result.tab_size ≡ options_value indent }
     {
         match indent {

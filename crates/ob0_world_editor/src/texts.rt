@@ -3,7 +3,7 @@ ghost use Rattle.std.specs.Prelude.{◌≡◌, Some, map, IfOk, OnOk, string_byt
 ghost use Rattle.std.specs.Option.{option_map};
 ghost use Rattle.std.specs.Str.{chars};
 ghost use Rattle.ob0_text.specs.OpenDocuments.{text_change_of, changed_text};
-ghost use Rattle.ob0_world_rules.specs.Edited.{edited, text_after_changes};
+ghost use Rattle.ob0_world_rules.specs.Edited.{text_after_edits, text_after_changes};
 ghost use Rattle.ob0_world_rules.specs.Edited.{replacements};
 
 use ob0_text::{Change, Edit, PatchFault, TextStore, Unit, patch};
@@ -54,7 +54,7 @@ pub fn apply_edits<T: TextStore>(
     text: &str,
     edits: &[Edit],
 ) -> Result<Option<String>, AllocError>
-    ensures { IfOk result (λ new. edited unit (chars text.now) (replacements edits.now)
+    ensures { IfOk result (λ new. text_after_edits unit (chars text.now) (replacements edits.now)
         ≡ option_map (λ s. chars (string_bytes s)) new) }
 {
     let store = T::from_str_in(alloc, text, unit)?;

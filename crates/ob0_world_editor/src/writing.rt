@@ -56,7 +56,7 @@ pub fn did_change(
 
 /// Returns the content of the notification that the whole text of a document was replaced by this
 /// text.
-pub fn did_rewrite(
+pub fn did_change_whole_text(
     alloc: Global,
     uri: &str,
     version: u64,
@@ -116,7 +116,7 @@ pub fn request(alloc: Global, number: u64, uri: &str, ask: &Ask) -> Result<Vec<u
             request_content(alloc, number, "textDocument/codeAction", &params)
         }
         Ask::Format { indent } => {
-            let options = FormattingOptions::of(*indent);
+            let options = FormattingOptions::for_indent(*indent);
             let params = FormattingParams { options, document };
             request_content(alloc, number, "textDocument/formatting", &params)
         }

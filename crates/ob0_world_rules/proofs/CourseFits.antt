@@ -9,10 +9,10 @@ use Rattle.ob0_text.specs.OpenDocuments.{OpenDocuments, Document, InStep, OutOfS
 use Rattle.ob0_world_rules.specs.Edited.{Replacement, text_after_changes}
 use Rattle.ob0_world_rules.specs.Asks.{Ask}
 use Rattle.ob0_world_rules.specs.Answers.{IsAnswer, IsEmptyIfWellTyped}
-use Rattle.ob0_world_rules.specs.ClientAndServer.{OpenDocument, Editor, open_at, MessageToServer, notifies, requests, MessageToEditor, publishes, answers, Made, ClientAndServer, start, after_message}
-use Rattle.ob0_world_rules.specs.EditorActs.{Act, open_document, change_document, close_document, ask_about, apply, discard, ActResult, unchanged_result, opening_result, rewriting_result, closing_result, asks, edits_of_answer, without_answer, applying_result, act_result}
+use Rattle.ob0_world_rules.specs.ClientAndServer.{OpenDocument, Editor, open_at, MessageToServer, notifies, requests, MessageToEditor, publishes, answers, PublicationWithText, ClientAndServer, start, after_message}
+use Rattle.ob0_world_rules.specs.EditorActs.{Act, open_document, change_document, close_document, ask_about, apply, discard, ActResult, unchanged_result, opening_result, rewriting_result, closing_result, asking_result, edits_of_answer, without_answer, applying_result, act_result}
 use Rattle.ob0_world_rules.specs.Serving.{Publishes, Replies}
-use Rattle.ob0_world_rules.specs.Happens.{Event, does, serve, take_message, after_act, after_editor_takes, ServerTakes, Happens, Course}
+use Rattle.ob0_world_rules.specs.Happens.{Event, editor_acts, serve, take_message, after_act, after_editor_takes, ServerTakes, Happens, Course}
 use Rattle.ob0_world_rules.specs.Laws.{HasAnswers, IsAnswerable, CourseExists}
 use Rattle.ob0_world_rules.proofs.PerformsAct.{applied_so}
 
@@ -30,7 +30,7 @@ note_sent : (note : DocumentEvent) → All CanBeReplied (notifies note ∷ [])
 note_sent note = All-push CanBeReplied [] (notifies note) none_sent tt
 
 -- Each message that an act sends can be replied to if the act's ask has answers.
-act_sends : (e : Editor) (act : Act) → IsAnswerable (does act) → All CanBeReplied (act_result e act).sent
+act_sends : (e : Editor) (act : Act) → IsAnswerable (editor_acts act) → All CanBeReplied (act_result e act).sent
 act_sends e (open_document uri text) h = go (is_some (open_at e uri))
   where
     go : (b : Bool) → All CanBeReplied (cond b (unchanged_result e) (opening_result e uri text)).sent
@@ -52,7 +52,7 @@ act_sends e (close_document uri) h = go (is_some (open_at e uri))
     go false = none_sent
 act_sends e (ask_about uri ask) h = go (open_at e uri)
   where
-    go : (o : Option OpenDocument) → All CanBeReplied (unwrap_or (option_and_then (λ d. Some (asks e uri ask d)) o) (unchanged_result e)).sent
+    go : (o : Option OpenDocument) → All CanBeReplied (unwrap_or (option_and_then (λ d. Some (asking_result e uri ask d)) o) (unchanged_result e)).sent
     go None = none_sent
     go (Some d) = All-push CanBeReplied [] _ none_sent h
 act_sends e (apply k) h =
@@ -66,7 +66,7 @@ act_sends e (discard k) h = none_sent
 
 -- ---- the server's replies
 
-publish_fits : (uri : List ℕ) (o : Option Document) → ((said : List MessageToEditor) (made : List Made) → Publishes uri o said made → ⊥) → ⊥
+publish_fits : (uri : List ℕ) (o : Option Document) → ((said : List MessageToEditor) (made : List PublicationWithText) → Publishes uri o said made → ⊥) → ⊥
 publish_fits uri (Some (InStep version text)) none =
     replies false (λ no. absurd (differ no), λ fits. absurd (replies true (λ yes'. fits, λ f. refl)))
   where
@@ -74,7 +74,7 @@ publish_fits uri (Some (InStep version text)) none =
     differ no' = cc
 
     replies : (empty : Bool) → IsEmptyIfWellTyped text empty → ⊥
-    replies empty right = none (publishes uri (Some version) empty ∷ []) (record { uri = uri; version = version; text = text; empty = empty } ∷ []) (empty, right, refl, refl)
+    replies empty right = none (publishes uri (Some version) empty ∷ []) (record { uri = uri; version = version; text = text; no_diagnostics = empty } ∷ []) (empty, right, refl, refl)
 publish_fits uri (Some OutOfStep) none = none [] [] (refl, refl)
 publish_fits uri None none = none [] [] (refl, refl)
 
@@ -83,7 +83,7 @@ answer_fits unit (Some (InStep version text)) ask h none = h unit text none
 answer_fits unit (Some OutOfStep) ask h none = none [] refl
 answer_fits unit None ask h none = none [] refl
 
-reply_fits : (held : OpenDocuments) (m : MessageToServer) → CanBeReplied m → ((said : List MessageToEditor) (made : List Made) → Replies held m said made → ⊥) → ⊥
+reply_fits : (held : OpenDocuments) (m : MessageToServer) → CanBeReplied m → ((said : List MessageToEditor) (made : List PublicationWithText) → Replies held m said made → ⊥) → ⊥
 reply_fits held (notifies (Opened uri version text)) h none = publish_fits uri (document_at (after_event held (Opened uri version text)) uri) none
 reply_fits held (notifies (Changed uri version how)) h none = publish_fits uri (document_at (after_event held (Changed uri version how)) uri) none
 reply_fits held (notifies (Lost uri)) h none = none [] [] (refl, refl)
@@ -107,7 +107,7 @@ taken w [] waiting = waiting
 taken w (m ∷ rest) waiting = waiting
 
 event_fits : (e : Event) (w : ClientAndServer) → IsAnswerable e → All CanBeReplied w.to_server → ((new : ClientAndServer) → Happens w e new → All CanBeReplied new.to_server → ⊥) → ⊥
-event_fits (does act) w h waiting none =
+event_fits (editor_acts act) w h waiting none =
     none (after_act w (act_result w.editor act)) refl (All-append CanBeReplied w.to_server (act_result w.editor act).sent waiting (act_sends w.editor act h))
 event_fits serve w h waiting none = serve_fits w w.to_server refl waiting none
 event_fits take_message w h waiting none = none (after_editor_takes w w.to_editor) refl (taken w w.to_editor waiting)

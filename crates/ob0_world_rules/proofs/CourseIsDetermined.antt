@@ -8,9 +8,9 @@ use Rattle.ob0_world_rules.specs.Language.{WellTypedText}
 use Rattle.ob0_world_rules.specs.Edited.{Replacement}
 use Rattle.ob0_world_rules.specs.Asks.{Ask}
 use Rattle.ob0_world_rules.specs.Answers.{IsAnswer}
-use Rattle.ob0_world_rules.specs.ClientAndServer.{MessageToServer, notifies, requests, MessageToEditor, publishes, answers, Made, ClientAndServer, after_message}
+use Rattle.ob0_world_rules.specs.ClientAndServer.{MessageToServer, notifies, requests, MessageToEditor, publishes, answers, PublicationWithText, ClientAndServer, after_message}
 use Rattle.ob0_world_rules.specs.Serving.{Publishes, RepliesToNotification, Replies}
-use Rattle.ob0_world_rules.specs.Happens.{Event, does, serve, take_message, ServerTakes, Happens, Course}
+use Rattle.ob0_world_rules.specs.Happens.{Event, editor_acts, serve, take_message, ServerTakes, Happens, Course}
 use Rattle.ob0_world_rules.proofs.AnswerIsDetermined.{answers_are_unique}
 
 same_truth : (a b : Bool) (P : Type 0) → IsTrue a ↔ P → IsTrue b ↔ P → a ≡ b
@@ -19,17 +19,17 @@ same_truth true false P p q = sym (q.1 (p.0 refl))
 same_truth false true P p q = p.1 (q.0 refl)
 same_truth false false P p q = refl
 
-abbrev made_with : List ℕ → ℤ → List ℕ → Bool → Made
-made_with uri version text empty = record { uri = uri; version = version; text = text; empty = empty }
+abbrev made_with : List ℕ → ℤ → List ℕ → Bool → PublicationWithText
+made_with uri version text empty = record { uri = uri; version = version; text = text; no_diagnostics = empty }
 
-publishes_one : (uri : List ℕ) (o : Option Document) (said also : List MessageToEditor) (made more : List Made) → Publishes uri o said made → Publishes uri o also more → (said ≡ also) × (made ≡ more)
+publishes_one : (uri : List ℕ) (o : Option Document) (said also : List MessageToEditor) (made more : List PublicationWithText) → Publishes uri o said made → Publishes uri o also more → (said ≡ also) × (made ≡ more)
 publishes_one uri (Some (InStep version text)) said also made more (e, right, is_said, is_made) (f, right_too, is_also, is_more) =
     let same : e ≡ f = same_truth e f (WellTypedText text) right right_too in
     (is_said ∙ ap (λ b. publishes uri (Some version) b ∷ []) same ∙ sym is_also, is_made ∙ ap (λ b. made_with uri version text b ∷ []) same ∙ sym is_more)
 publishes_one uri (Some OutOfStep) said also made more h k = (h.0 ∙ sym k.0, h.1 ∙ sym k.1)
 publishes_one uri None said also made more h k = (h.0 ∙ sym k.0, h.1 ∙ sym k.1)
 
-reports_one : (held : OpenDocuments) (note : DocumentEvent) (said also : List MessageToEditor) (made more : List Made) → RepliesToNotification held note said made → RepliesToNotification held note also more → (said ≡ also) × (made ≡ more)
+reports_one : (held : OpenDocuments) (note : DocumentEvent) (said also : List MessageToEditor) (made more : List PublicationWithText) → RepliesToNotification held note said made → RepliesToNotification held note also more → (said ≡ also) × (made ≡ more)
 reports_one held (Opened uri version text) said also made more h k = publishes_one uri (document_at (after_event held (Opened uri version text)) uri) said also made more h k
 reports_one held (Changed uri version how) said also made more h k = publishes_one uri (document_at (after_event held (Changed uri version how)) uri) said also made more h k
 reports_one held (Lost uri) said also made more h k = (h.0 ∙ sym k.0, h.1 ∙ sym k.1)
@@ -40,7 +40,7 @@ answers_one unit (Some (InStep version text)) ask given other h k = answers_are_
 answers_one unit (Some OutOfStep) ask given other h k = h ∙ sym k
 answers_one unit None ask given other h k = h ∙ sym k
 
-sends_one : (held : OpenDocuments) (m : MessageToServer) (said also : List MessageToEditor) (made more : List Made) → Replies held m said made → Replies held m also more → (said ≡ also) × (made ≡ more)
+sends_one : (held : OpenDocuments) (m : MessageToServer) (said also : List MessageToEditor) (made more : List PublicationWithText) → Replies held m said made → Replies held m also more → (said ≡ also) × (made ≡ more)
 sends_one held (notifies note) said also made more h k = reports_one held note said also made more h k
 sends_one held (requests number uri ask) said also made more (given, h, is_said, is_made) (other, k, is_also, is_more) =
     let same : given ≡ other = answers_one held.unit (document_at held uri) ask given other h k in
@@ -53,7 +53,7 @@ serves_one w (m ∷ rest) new other (said, made, replies, is) (also, more, repli
     is ∙ (λ i. record w { to_server = rest; held = after_message w.held m; to_editor = w.to_editor ++ both.0 i; made = w.made ++ both.1 i }) ∙ sym is_too
 
 pub step_is_determined : (w : ClientAndServer) (event : Event) (new other : ClientAndServer) → Happens w event new → Happens w event other → new ≡ other
-step_is_determined w (does act) new other h k = h ∙ sym k
+step_is_determined w (editor_acts act) new other h k = h ∙ sym k
 step_is_determined w serve new other h k = serves_one w w.to_server new other h k
 step_is_determined w take_message new other h k = h ∙ sym k
 

@@ -9,16 +9,16 @@ use Rattle.std.proofs.lemmas.List.Sums.{fold_push}
 use Rattle.ob0_text.specs.declared.position_types.Unit.{Unit}
 use Rattle.ob0_text.specs.OpenDocuments.{OpenDocuments, Opened, Changed, Closed, document_at}
 use Rattle.ob0_world_rules.specs.Language.{WellTypedText, SameRun}
-use Rattle.ob0_world_rules.specs.Edited.{edited}
+use Rattle.ob0_world_rules.specs.Edited.{text_after_edits}
 use Rattle.ob0_world_rules.specs.ClientAndServer.{OpenDocument, SentAsk, Editor, open_at, MessageToServer, notifies, requests, MessageToEditor, Applied, ClientAndServer, after_message}
-use Rattle.ob0_world_rules.specs.EditorActs.{ActResult, unchanged_result, closing_result, asks, without_answer}
+use Rattle.ob0_world_rules.specs.EditorActs.{ActResult, unchanged_result, closing_result, asking_result, without_answer}
 use Rattle.ob0_world_rules.specs.Happens.{after_act, ServerTakes}
 use Rattle.ob0_world_rules.specs.Mirror.{documents_after_queue, in_step_document}
 use Rattle.ob0_world_rules.specs.Headline.{KeepsTheRun}
 use Rattle.ob0_world_rules.specs.Laws.{EditsPreserveRun}
 use Rattle.ob0_world_rules.specs.PublicationsInOrder.{AnnouncedDocument, AreMadeForDocuments, versions_announced_by, versioned_uri}
 use Rattle.ob0_world_rules.specs.Editors.{Revision, Move, to_open, to_revise, to_close, to_ask, to_apply, to_drop, revised_document, with_document, Revises, notifications_of, AppliesAnswer, opening_result_as, IsAllowedMove}
-use Rattle.ob0_world_rules.specs.EveryEditor.{EditorAndServer, initial_editor_and_server, modeled_messages, notifications_among, model_state_of, Turn, editor_does, editor_sends_unmodeled, server_takes, editor_takes, after_move, ServerTakesNext, after_editor_takes_next, MayHappen, MayLeadTo, HoldsWithEditor, HoldsForEveryEditor}
+use Rattle.ob0_world_rules.specs.EveryEditor.{EditorAndServer, initial_editor_and_server, modeled_messages, notifications_among, model_state_of, Turn, editor_moves, editor_sends_unmodeled, server_takes, editor_takes, after_move, ServerTakesNext, after_editor_takes_next, MayHappen, MayLeadTo, HoldsWithEditor, HoldsForEveryEditor}
 use Rattle.ob0_world_rules.proofs.UriLaws.{get_put, uri_itself}
 use Rattle.ob0_world_rules.proofs.Asked.{Known}
 use Rattle.ob0_world_rules.proofs.Keeping.{AnswerFits, Kept, acts_kept, revise_kept, held_known}
@@ -50,7 +50,7 @@ module _ (unit : Unit) where
     published : List AnnouncedDocument
     waiting : List AnnouncedDocument
     all : w.announced ≡ published ++ waiting
-    made_of : AreMadeForDocuments w.made published
+    are_made_for_documents : AreMadeForDocuments w.made published
     pending : Pending w.held (modeled_messages w.to_server) waiting
 
   -- A move in the model is the same move without the other messages.
@@ -72,7 +72,7 @@ module _ (unit : Unit) where
         published = good.published;
         waiting = good.waiting;
         all = append-nil w.announced ∙ good.all;
-        made_of = good.made_of;
+        are_made_for_documents = good.are_made_for_documents;
         pending = subst (λ q. Pending w.held q good.waiting) (sym (others_push w.to_server [] ∙ append-nil (modeled_messages w.to_server))) good.pending;
       }
 
@@ -92,7 +92,7 @@ module _ (unit : Unit) where
         published = good.published;
         waiting = good.waiting ++ announced;
         all = ap (λ ts. ts ++ announced) good.all ∙ append_assoc good.published good.waiting announced;
-        made_of = good.made_of;
+        are_made_for_documents = good.are_made_for_documents;
         pending = subst (λ q. Pending w.held q (good.waiting ++ announced)) (sym (others_push w.to_server (m ∷ [])))
             (pending_push w.held (modeled_messages w.to_server) m good.waiting announced good.pending (awaits before mirror, names));
       }
@@ -121,13 +121,13 @@ module _ (unit : Unit) where
       (subst (λ e. Kept unit (after_act (model_state_of w) (record { editor = e; sent = []; applied = applied }))) (sym is)
       (acts_kept unit (model_state_of w) (record { editor = w.editor; sent = []; applied = applied }) good.kept (λ k a same. same) refl refl good.kept.mirror tt keeps)))
   revisions_good (r ∷ more) w uri new announced applied good (d, later, at, makes, rest, is) keeps =
-      let m : MessageToServer = notifies (Changed uri r.version r.how) in
+      let m : MessageToServer = notifies (Changed uri r.version r.sent_changes) in
       let first : ActResult = record { editor = with_document w.editor uri (revised_document d r); sent = m ∷ []; applied = [] } in
       let one : List AnnouncedDocument = record { uri = uri; document = revised_document d r } ∷ [] in
       let between : EditorAndServer = after_move w first one in
       let so : Good between =
       one_sent w first.editor m one [] good
-      (revise_kept unit (model_state_of w) uri d (revised_document d r) r.how [] good.kept at makes (All-nil KeepsTheRun))
+      (revise_kept unit (model_state_of w) uri d (revised_document d r) r.sent_changes [] good.kept at makes (All-nil KeepsTheRun))
       (λ held mirror. (Some (revised_document d r), put_there held w.editor uri (revised_document d r) m mirror, refl))
       refl in
       let last : Good (after_move between (record { editor = new; sent = notifications_of uri more; applied = applied }) later) = revisions_good more between uri new later applied so rest keeps in
@@ -147,9 +147,9 @@ module _ (unit : Unit) where
       let asked : known.requested ≡ a.requested = same_Some known.requested a.requested (sym known.is ∙ a.numbered) in
       let same : known.requested.text ≡ a.document.text = ap (λ (x : SentAsk). x.text) asked ∙ sym a.same_text in
       let keep : EditsPreserveRun unit a.document.text a.edits = subst (λ text. EditsPreserveRun unit text a.edits) same known.holds in
-      let is : keep.after ≡ a.text = same_Some keep.after a.text (sym keep.makes ∙ ap (λ u. edited u a.document.text a.edits) (sym good.kept.counts) ∙ a.makes) in
+      let is : keep.after ≡ a.text = same_Some keep.after a.text (sym keep.makes ∙ ap (λ u. text_after_edits u a.document.text a.edits) (sym good.kept.counts) ∙ a.makes) in
       let applied : Applied = record { uri = a.requested.uri; before = a.document.text; after = a.text } in
-      let keeps : KeepsTheRun applied = record { before_fits = keep.before_fits; after_fits = subst WellTypedText is keep.after_fits; same = subst (SameRun a.document.text) is keep.same } in
+      let keeps : KeepsTheRun applied = record { before_is_well_typed = keep.before_is_well_typed; after_is_well_typed = subst WellTypedText is keep.after_is_well_typed; same = subst (SameRun a.document.text) is keep.same } in
       let without : EditorAndServer = record w { editor = e } in
       let so : Good without =
       record {
@@ -158,7 +158,7 @@ module _ (unit : Unit) where
         published = good.published;
         waiting = good.waiting;
         all = good.all;
-        made_of = good.made_of;
+        are_made_for_documents = good.are_made_for_documents;
         pending = good.pending;
       } in
       subst (λ x. Good (after_move w x announced)) (sym a.is)
@@ -176,8 +176,8 @@ module _ (unit : Unit) where
       (one_sent w (closing_result w.editor uri).editor (notifies (Closed uri)) [] [] good (close_kept unit (model_state_of w) uri good.kept) (λ held mirror. refl) refl))
   move_good w (to_ask uri ask) done announced good (d, at, is, are) =
       subst (λ x. Good (after_move w x announced)) (sym is)
-      (subst (λ ts. Good (after_move w (asks w.editor uri ask d) ts)) (sym are)
-      (one_sent w (asks w.editor uri ask d).editor (requests (suc (length w.editor.requested)) uri ask) [] [] good (ask_kept unit (model_state_of w) uri ask d at good.kept) (λ held mirror. refl) refl))
+      (subst (λ ts. Good (after_move w (asking_result w.editor uri ask d) ts)) (sym are)
+      (one_sent w (asking_result w.editor uri ask d).editor (requests (suc (length w.editor.requested)) uri ask) [] [] good (ask_kept unit (model_state_of w) uri ask d at good.kept) (λ held mirror. refl) refl))
   move_good w (to_apply k revisions) done announced good may = apply_good w k revisions done announced good may
   move_good w (to_drop k) done announced good (is, are) =
       subst (λ x. Good (after_move w x announced)) (sym is)
@@ -195,7 +195,7 @@ module _ (unit : Unit) where
         published = good.published;
         waiting = good.waiting;
         all = sym announced ∙ good.all;
-        made_of = subst (λ (x : ClientAndServer). AreMadeForDocuments x.made good.published) same good.made_of;
+        are_made_for_documents = subst (λ (x : ClientAndServer). AreMadeForDocuments x.made good.published) same good.are_made_for_documents;
         pending = subst (λ (x : ClientAndServer). Pending x.held x.to_server good.waiting) same good.pending;
       }
 
@@ -222,7 +222,7 @@ module _ (unit : Unit) where
       let takes : ServerTakes (model_state_of w) queue (model_state_of after) = (said, made, replies, λ i. record (model_state_of after) { to_editor = others_push w.to_editor said i }) in
       let both : Both unit (model_state_of after) = serve_kept unit (model_state_of w) queue (model_state_of after) same (good.kept, good.latest) takes in
       let next : Next good.published good.waiting [] (model_state_of after) =
-      serve_next good.published good.waiting (model_state_of w) queue (model_state_of after) good.made_of (subst (λ q. Pending w.held q good.waiting) same good.pending) same takes in
+      serve_next good.published good.waiting (model_state_of w) queue (model_state_of after) good.are_made_for_documents (subst (λ q. Pending w.held q good.waiting) same good.pending) same takes in
       subst Good (sym is)
       (record {
         kept = both.0;
@@ -230,7 +230,7 @@ module _ (unit : Unit) where
         published = next.done;
         waiting = next.awaits;
         all = good.all ∙ sym (append-nil (good.published ++ good.waiting)) ∙ next.parts;
-        made_of = next.made_of;
+        are_made_for_documents = next.are_made_for_documents;
         pending = next.pending;
       })
 
@@ -246,14 +246,14 @@ module _ (unit : Unit) where
         published = good.published;
         waiting = good.waiting;
         all = good.all;
-        made_of = good.made_of;
+        are_made_for_documents = good.are_made_for_documents;
         pending = good.pending;
       }
 
   -- ---- all turns
 
   turn_good : (w : EditorAndServer) (turn : Turn) (new : EditorAndServer) → Good w → MayHappen w turn new → Good new
-  turn_good w (editor_does move) new good (done, announced, may, is) = subst Good (sym is) (move_good w move done announced good may)
+  turn_good w (editor_moves move) new good (done, announced, may, is) = subst Good (sym is) (move_good w move done announced good may)
   turn_good w editor_sends_unmodeled new good is = subst Good (sym is) (says_good w good)
   turn_good w server_takes new good takes = serve_good w w.to_server new refl good takes
   turn_good w editor_takes new good is = subst Good (sym is) (take_good w w.to_editor refl good)
@@ -270,7 +270,7 @@ module _ (unit : Unit) where
         published = [];
         waiting = [];
         all = refl;
-        made_of = tt;
+        are_made_for_documents = tt;
         pending = refl;
       }
 
@@ -283,7 +283,7 @@ module _ (unit : Unit) where
         published = good.published;
         waiting = good.waiting;
         all = good.all;
-        made_of = good.made_of;
+        are_made_for_documents = good.are_made_for_documents;
         still_wait = pending_named w.held (modeled_messages w.to_server) good.waiting good.pending;
       }
 

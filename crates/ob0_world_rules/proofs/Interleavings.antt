@@ -9,13 +9,13 @@ use Rattle.std.proofs.lemmas.Option.{same_Some, none-some}
 use Rattle.std.proofs.lemmas.List.{append-nil}
 use Rattle.std.proofs.lemmas.List.Elements.{All-nil, All-head, All-tail, All-push, All-append, All-cons}
 use Rattle.ob0_text.specs.declared.position_types.Unit.{Unit}
-use Rattle.ob0_text.specs.OpenDocuments.{OpenDocuments, Document, InStep, OutOfStep, DocumentEvent, Opened, Changed, Lost, Closed, updated, after_event, changed_document, document_at}
+use Rattle.ob0_text.specs.OpenDocuments.{OpenDocuments, Document, InStep, OutOfStep, DocumentEvent, Opened, Changed, Lost, Closed, with_updated_document, after_event, changed_document, document_at}
 use Rattle.ob0_text.proofs.EntryLaws.{updated-some, updated-none}
 use Rattle.ob0_world_rules.specs.Edited.{Replacement}
 use Rattle.ob0_world_rules.specs.Asks.{Ask}
 use Rattle.ob0_world_rules.specs.Answers.{IsAnswer}
-use Rattle.ob0_world_rules.specs.ClientAndServer.{OpenDocument, SentAsk, Answer, open_at, MessageToServer, notifies, requests, MessageToEditor, publishes, answers, Made, ClientAndServer, start, after_message}
-use Rattle.ob0_world_rules.specs.EditorActs.{unchanged_result, closing_result, asks, answers_except, without_answer}
+use Rattle.ob0_world_rules.specs.ClientAndServer.{OpenDocument, SentAsk, Answer, open_at, MessageToServer, notifies, requests, MessageToEditor, publishes, answers, PublicationWithText, ClientAndServer, start, after_message}
+use Rattle.ob0_world_rules.specs.EditorActs.{unchanged_result, closing_result, asking_result, answers_except, without_answer}
 use Rattle.ob0_world_rules.specs.Serving.{Publishes, RepliesToNotification, Replies}
 use Rattle.ob0_world_rules.specs.Happens.{after_act, after_editor_takes, ServerTakes}
 use Rattle.ob0_world_rules.specs.Editors.{opening_result_as}
@@ -47,7 +47,7 @@ module _ (unit : Unit) where
   close_kept w uri kept =
       acts_kept unit w (closing_result w.editor uri) kept (λ k a is. is) refl refl (remove_mirrors w uri kept.mirror) tt (All-nil KeepsTheRun)
 
-  pub ask_kept : (w : ClientAndServer) (uri : List ℕ) (ask : Ask) (d : OpenDocument) → open_at w.editor uri ≡ Some d → Kept unit w → Kept unit (after_act w (asks w.editor uri ask d))
+  pub ask_kept : (w : ClientAndServer) (uri : List ℕ) (ask : Ask) (d : OpenDocument) → open_at w.editor uri ≡ Some d → Kept unit w → Kept unit (after_act w (asking_result w.editor uri ask d))
   ask_kept w uri ask d is kept =
       let a : SentAsk = record { ask = ask; uri = uri; text = d.text; opening = d.opening; version = d.version } in
       let known : Known (w.editor.requested ++ a ∷ []) (suc (length w.editor.requested)) (HasText (documents_after_queue w) uri) =
@@ -56,7 +56,7 @@ module _ (unit : Unit) where
         is = slice_get_last w.editor.requested a;
         holds = (d.version, kept.mirror uri ∙ ap (option_map in_step_document) is);
       } in
-      acts_kept unit w (asks w.editor uri ask d) kept (numbered_push w.editor.requested (a ∷ [])) refl refl kept.mirror (known, tt) (All-nil KeepsTheRun)
+      acts_kept unit w (asking_result w.editor uri ask d) kept (numbered_push w.editor.requested (a ∷ [])) refl refl kept.mirror (known, tt) (All-nil KeepsTheRun)
 
   -- An act that sends nothing and changes nothing keeps the invariant.
   pub still_kept : (w : ClientAndServer) → Kept unit w → Kept unit (after_act w (unchanged_result w.editor))
@@ -105,10 +105,10 @@ module _ (unit : Unit) where
   -- ---- the server's events
 
   -- holds if the last publication for each document in step was made for its version and text
-  abbrev pub AreLatest : OpenDocuments → List Made → Type 0
+  abbrev pub AreLatest : OpenDocuments → List PublicationWithText → Type 0
   AreLatest held made = (uri : List ℕ) (version : ℤ) (text : List ℕ) → document_at held uri ≡ Some (InStep version text) → IsMadeFor version text (last_publication uri made)
 
-  abbrev Others : OpenDocuments → List ℕ → List Made → Type 0
+  abbrev Others : OpenDocuments → List ℕ → List PublicationWithText → Type 0
   Others held uri made = (q : List ℕ) (version : ℤ) (text : List ℕ) → bytes_eq uri q ≡ false → document_at held q ≡ Some (InStep version text) → IsMadeFor version text (last_publication q made)
 
   both_answers : {b : Bool} → b ≡ true → b ≡ false → ⊥
@@ -120,7 +120,7 @@ module _ (unit : Unit) where
       both_answers itself differ
 
   -- The publications are the latest if they are for the document with one uri and for all other documents.
-  others_and_this : (held : OpenDocuments) (uri : List ℕ) (made : List Made) → Others held uri made
+  others_and_this : (held : OpenDocuments) (uri : List ℕ) (made : List PublicationWithText) → Others held uri made
       → ((q : List ℕ) (version : ℤ) (text : List ℕ) → uri ≡ q → document_at held q ≡ Some (InStep version text) → IsMadeFor version text (last_publication q made)) → AreLatest held made
   others_and_this held uri made others this q version text at = go (bytes_eq uri q) refl
     where
@@ -128,7 +128,7 @@ module _ (unit : Unit) where
       go true is = this q version text (same_uri uri q is) at
       go false is = others q version text is at
 
-  publish_latest : (held : OpenDocuments) (uri : List ℕ) (m : Made) (made : List Made) → m.uri ≡ uri → document_at held uri ≡ Some (InStep m.version m.text) → Others held uri made → AreLatest held (made ++ m ∷ [])
+  publish_latest : (held : OpenDocuments) (uri : List ℕ) (m : PublicationWithText) (made : List PublicationWithText) → m.uri ≡ uri → document_at held uri ≡ Some (InStep m.version m.text) → Others held uri made → AreLatest held (made ++ m ∷ [])
   publish_latest held uri m made named at others q version text found_at =
       subst (IsMadeFor version text) (sym (latest_push q made m)) (go (bytes_eq m.uri q) refl)
     where
@@ -140,20 +140,20 @@ module _ (unit : Unit) where
       go false is = others q version text (subst (λ u. bytes_eq u q ≡ false) named is) found_at
 
   -- states that the messages fit their requests, and that the publications among them are right and the latest
-  record Sound (asked : List SentAsk) (held : OpenDocuments) (said : List MessageToEditor) (made more : List Made) : Type 0 where
+  record Sound (asked : List SentAsk) (held : OpenDocuments) (said : List MessageToEditor) (made more : List PublicationWithText) : Type 0 where
     fit : All (AnswerFits unit asked) said
     right : All IsCorrectPublication more
     now : AreLatest held (made ++ more)
 
-  silent : (asked : List SentAsk) (held : OpenDocuments) (made : List Made) (said : List MessageToEditor) (more : List Made) → said ≡ [] → more ≡ [] → AreLatest held made → Sound asked held said made more
+  silent : (asked : List SentAsk) (held : OpenDocuments) (made : List PublicationWithText) (said : List MessageToEditor) (more : List PublicationWithText) → said ≡ [] → more ≡ [] → AreLatest held made → Sound asked held said made more
   silent asked held made said more none none_made now =
       subst (λ s. Sound asked held s made more) (sym none)
       (subst (λ m. Sound asked held [] made m) (sym none_made)
       (record { fit = All-nil (AnswerFits unit asked); right = All-nil IsCorrectPublication; now = subst (AreLatest held) (sym (append-nil made)) now }))
 
-  publish_sound : (asked : List SentAsk) (held : OpenDocuments) (uri : List ℕ) (o : Option Document) (said : List MessageToEditor) (made more : List Made) → document_at held uri ≡ o → Others held uri made → Publishes uri o said more → Sound asked held said made more
+  publish_sound : (asked : List SentAsk) (held : OpenDocuments) (uri : List ℕ) (o : Option Document) (said : List MessageToEditor) (made more : List PublicationWithText) → document_at held uri ≡ o → Others held uri made → Publishes uri o said more → Sound asked held said made more
   publish_sound asked held uri (Some (InStep version text)) said made more at others (empty, right, is_said, is_made) =
-      let m : Made = record { uri = uri; version = version; text = text; empty = empty } in
+      let m : PublicationWithText = record { uri = uri; version = version; text = text; no_diagnostics = empty } in
       subst (λ s. Sound asked held s made more) (sym is_said)
       (subst (λ ms. Sound asked held (publishes uri (Some version) empty ∷ []) made ms) (sym is_made)
       (record {
@@ -172,22 +172,22 @@ module _ (unit : Unit) where
   taken_back_fits asked uri true = All-push (AnswerFits unit asked) [] (publishes uri None true) (All-nil (AnswerFits unit asked)) tt
   taken_back_fits asked uri false = All-nil (AnswerFits unit asked)
 
-  put_others : (held : OpenDocuments) (uri : List ℕ) (d : Document) (made : List Made) → AreLatest held made → Others (record { unit = held.unit; by_uri = map_of.insert held.by_uri uri d }) uri made
+  put_others : (held : OpenDocuments) (uri : List ℕ) (d : Document) (made : List PublicationWithText) → AreLatest held made → Others (record { unit = held.unit; by_uri = map_of.insert held.by_uri uri d }) uri made
   put_others held uri d made now q version text differ at = go (bytes_eq q uri) refl (sym (get_put held.by_uri uri d q) ∙ at)
     where
       go : (b : Bool) → bytes_eq q uri ≡ b → cond b (Some d) (document_at held q) ≡ Some (InStep version text) → IsMadeFor version text (last_publication q made)
       go true is h = absurd (apart q uri differ is)
       go false is h = now q version text h
 
-  update_others : (held : OpenDocuments) (uri : List ℕ) (f : Document → Document) (made : List Made) → AreLatest held made → Others (record { unit = held.unit; by_uri = updated held.by_uri uri f }) uri made
+  update_others : (held : OpenDocuments) (uri : List ℕ) (f : Document → Document) (made : List PublicationWithText) → AreLatest held made → Others (record { unit = held.unit; by_uri = with_updated_document held.by_uri uri f }) uri made
   update_others held uri f made now = go (document_at held uri) refl
     where
-      go : (o : Option Document) → document_at held uri ≡ o → Others (record { unit = held.unit; by_uri = updated held.by_uri uri f }) uri made
+      go : (o : Option Document) → document_at held uri ≡ o → Others (record { unit = held.unit; by_uri = with_updated_document held.by_uri uri f }) uri made
       go None is = subst (λ m. Others (record { unit = held.unit; by_uri = m }) uri made) (sym (updated-none held.by_uri uri f is)) (λ q version text differ at. now q version text at)
       go (Some d) is = subst (λ m. Others (record { unit = held.unit; by_uri = m }) uri made) (sym (updated-some held.by_uri uri f d is)) (put_others held uri (f d) made now)
 
   -- After a document is lost, the publications for the other documents are still the latest.
-  lost_latest : (held : OpenDocuments) (uri : List ℕ) (made : List Made) → AreLatest held made → AreLatest (after_event held (Lost uri)) made
+  lost_latest : (held : OpenDocuments) (uri : List ℕ) (made : List PublicationWithText) → AreLatest held made → AreLatest (after_event held (Lost uri)) made
   lost_latest held uri made now = go (document_at held uri) refl
     where
       go : (o : Option Document) → document_at held uri ≡ o → AreLatest (after_event held (Lost uri)) made
@@ -203,14 +203,14 @@ module _ (unit : Unit) where
               get_put held.by_uri uri OutOfStep q ∙ ap (λ b. cond b (Some OutOfStep) (document_at held q)) (subst (λ x. bytes_eq x uri ≡ true) same (uri_itself uri)) in
               let other : OutOfStep ≡ InStep version text = same_Some _ _ (sym put ∙ at) in cc
 
-  remove_latest : (held : OpenDocuments) (uri : List ℕ) (made : List Made) → AreLatest held made → AreLatest (after_event held (Closed uri)) made
+  remove_latest : (held : OpenDocuments) (uri : List ℕ) (made : List PublicationWithText) → AreLatest held made → AreLatest (after_event held (Closed uri)) made
   remove_latest held uri made now q version text at = go (bytes_eq q uri) (sym (get_removed held.by_uri uri q) ∙ at)
     where
       go : (b : Bool) → cond b None (document_at held q) ≡ Some (InStep version text) → IsMadeFor version text (last_publication q made)
       go true h = absurd (none-some (InStep version text) h)
       go false h = now q version text h
 
-  note_sound : (asked : List SentAsk) (held : OpenDocuments) (note : DocumentEvent) (said : List MessageToEditor) (made more : List Made) → AreLatest held made → RepliesToNotification held note said more → Sound asked (after_event held note) said made more
+  note_sound : (asked : List SentAsk) (held : OpenDocuments) (note : DocumentEvent) (said : List MessageToEditor) (made more : List PublicationWithText) → AreLatest held made → RepliesToNotification held note said more → Sound asked (after_event held note) said made more
   note_sound asked held (Opened uri version text) said made more now h =
       publish_sound asked (after_event held (Opened uri version text)) uri (document_at (after_event held (Opened uri version text)) uri) said made more refl (put_others held uri (InStep version text) made now) h
   note_sound asked held (Changed uri version how) said made more now h =
@@ -235,7 +235,7 @@ module _ (unit : Unit) where
   abbrev Meets : List SentAsk → OpenDocuments → MessageToServer → Type 0
   Meets asked held m = AsksSee asked held (m ∷ [])
 
-  message_sound : (asked : List SentAsk) (held : OpenDocuments) (m : MessageToServer) (said : List MessageToEditor) (made more : List Made) → held.unit ≡ unit → Meets asked held m → AreLatest held made → Replies held m said more → Sound asked (after_message held m) said made more
+  message_sound : (asked : List SentAsk) (held : OpenDocuments) (m : MessageToServer) (said : List MessageToEditor) (made more : List PublicationWithText) → held.unit ≡ unit → Meets asked held m → AreLatest held made → Replies held m said more → Sound asked (after_message held m) said made more
   message_sound asked held (notifies note) said made more same_unit meets now h = note_sound asked held note said made more now h
   message_sound asked held (requests k uri ask) said made more same_unit meets now (edits, may, is_said, is_made) =
       let quiet : Sound asked held [] made more = silent asked held made [] more refl is_made now in

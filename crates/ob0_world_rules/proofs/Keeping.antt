@@ -8,7 +8,7 @@ use Rattle.std.proofs.lemmas.Option.{same_Some, none-some}
 use Rattle.std.proofs.lemmas.List.Elements.{All-head, All-tail, All-weaker, All-append}
 use Rattle.std.proofs.lemmas.List.Sums.{fold-append}
 use Rattle.ob0_text.specs.declared.position_types.Unit.{Unit}
-use Rattle.ob0_text.specs.OpenDocuments.{OpenDocuments, InStep, document, DocumentEvent, Opened, Changed, Lost, Closed, TextChange, after_event, changed_document, document_at}
+use Rattle.ob0_text.specs.OpenDocuments.{OpenDocuments, InStep, document_with_text, DocumentEvent, Opened, Changed, Lost, Closed, TextChange, after_event, changed_document, document_at}
 use Rattle.ob0_text.proofs.EntryLaws.{updated-some}
 use Rattle.ob0_world_rules.specs.Edited.{Replacement, text_after_changes}
 use Rattle.ob0_world_rules.specs.ClientAndServer.{OpenDocument, SentAsk, Answer, open_at, MessageToServer, notifies, requests, MessageToEditor, publishes, answers, Applied, ClientAndServer, after_message}
@@ -137,7 +137,7 @@ change_mirrors : (w : ClientAndServer) (uri : List ℕ) (d new : OpenDocument) (
 change_mirrors w uri d new how mirror same_unit was_open is q =
     let held : document_at (documents_after_queue w) uri ≡ Some (in_step_document d) = mirror uri ∙ ap (option_map in_step_document) was_open in
     ap (λ m. map_of.get m q) (updated-some (documents_after_queue w).by_uri uri (changed_document (documents_after_queue w).unit new.version how) (in_step_document d) held)
-    ∙ ap (λ text. map_of.get (map_of.insert (documents_after_queue w).by_uri uri (document new.version text)) q) (ap (λ u. text_after_changes u (Some d.text) how) same_unit ∙ is)
+    ∙ ap (λ text. map_of.get (map_of.insert (documents_after_queue w).by_uri uri (document_with_text new.version text)) q) (ap (λ u. text_after_changes u (Some d.text) how) same_unit ∙ is)
     ∙ put_mirror w uri new mirror q
 
 -- Giving an open document another version and text keeps the invariant if the server is sent the changes.

@@ -19,10 +19,10 @@ use Rattle.ob0_world_rules.proofs.Trees.{same_run}
 runs_kept : (unit : Unit) (text after : List ℕ) (edits : List Edit) → patched (width_of unit) text edits ≡ Some after → RunsAsBefore (utf8 text) (utf8 after) → EditsPreserveRun unit text (replacements edits)
 runs_kept unit text after edits made runs =
     record {
-      before_fits = well_typed_text text runs.old;
+      before_is_well_typed = well_typed_text text runs.old;
       after = after;
       makes = edited_as_patched unit text edits ∙ made;
-      after_fits = well_typed_text after runs.new;
+      after_is_well_typed = well_typed_text after runs.new;
       same = same_run text after runs;
     }
 

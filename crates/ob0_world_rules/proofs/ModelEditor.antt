@@ -4,16 +4,16 @@ use Rattle.std.specs.Prelude.{◌⊎◌, ℤ, pos, Some}
 use Rattle.std.proofs.lemmas.List.{map-append}
 use Rattle.ob0_text.specs.declared.position_types.Unit.{Unit}
 use Rattle.ob0_text.specs.OpenDocuments.{TextChange, changed_text}
-use Rattle.ob0_world_rules.specs.Edited.{Replacement, edited, whole_text_change, text_after_changes}
+use Rattle.ob0_world_rules.specs.Edited.{Replacement, text_after_edits, whole_text_change, text_after_changes}
 use Rattle.ob0_world_rules.specs.ClientAndServer.{OpenDocument, EditorDocuments, SentAsk, Editor, request_numbered, open_at, MessageToServer, MessageToEditor, publishes, answers, ClientAndServer, start, after_message}
-use Rattle.ob0_world_rules.specs.EditorActs.{Act, ActResult, next_version, unchanged_result, opening_result, rewriting_result, edits_of_answer, without_answer, act_result, reads}
-use Rattle.ob0_world_rules.specs.Happens.{Event, does, serve, take_message, after_act, after_editor_takes, ServerTakes, Happens, Course}
+use Rattle.ob0_world_rules.specs.EditorActs.{Act, ActResult, next_version, unchanged_result, opening_result, rewriting_result, edits_of_answer, without_answer, act_result, after_reading}
+use Rattle.ob0_world_rules.specs.Happens.{Event, editor_acts, serve, take_message, after_act, after_editor_takes, ServerTakes, Happens, Course}
 use Rattle.ob0_world_rules.specs.Headline.{Holds}
 use Rattle.ob0_world_rules.specs.Mirror.{Mirrors}
 use Rattle.ob0_world_rules.specs.Laws.{HoldsInEveryInterleaving, ServerMirrorsEditor}
-use Rattle.ob0_world_rules.specs.PublicationsInOrder.{AnnouncedDocument, announced_if_open, announced_in, announced_at_event, AreAnnounced, versions_announced_in, PublicationsInOrder}
+use Rattle.ob0_world_rules.specs.PublicationsInOrder.{AnnouncedDocument, document_if_open, documents_announced_in, documents_announced_at, AreAnnounced, versions_announced_in, PublicationsInOrder}
 use Rattle.ob0_world_rules.specs.Editors.{Revision, Move, to_open, to_revise, to_close, to_ask, to_apply, to_drop, revised_document, with_document, Revises, AppliesAnswer, IsAllowedMove}
-use Rattle.ob0_world_rules.specs.EveryEditor.{EditorAndServer, model_state_of, Turn, editor_does, server_takes, editor_takes, ServerTakesNext, after_editor_takes_next, MayHappen, MayLeadTo, HoldsWithEditor, ModelEditorKeepsRules}
+use Rattle.ob0_world_rules.specs.EveryEditor.{EditorAndServer, model_state_of, Turn, editor_moves, server_takes, editor_takes, ServerTakesNext, after_editor_takes_next, MayHappen, MayLeadTo, HoldsWithEditor, ModelEditorKeepsRules}
 use Rattle.ob0_world_rules.proofs.SameDocument.{Same, Knows, same_text, knows_first, knows_other, knows_open, knows_rewrite, knows_close, knows_ask}
 use Rattle.ob0_world_rules.proofs.PerformsAct.{edit_of, of_each}
 use Rattle.ob0_world_rules.proofs.EveryEditor.{others_none, holds_for_every_editor}
@@ -53,16 +53,16 @@ as_it_was w new announced is = record { turns = []; lead = λ i. from_model (is 
 
 by_move : (w : ClientAndServer) (announced : List AnnouncedDocument) (move : Move) (done : ActResult) (more : List AnnouncedDocument) → IsAllowedMove w.editor move done more → ComesTo w announced (after_act w done) more
 by_move w announced move done more may =
-    by_turn w announced (after_act w done) more (editor_does move)
+    by_turn w announced (after_act w done) more (editor_moves move)
     (done, more, may, λ i. record (from_model (after_act w done) (announced ++ more)) { to_server = map-append Some w.to_server done.sent i })
 
 -- A document that is inserted is the one that is announced.
-put_announced : (docs : EditorDocuments) (uri : List ℕ) (d : OpenDocument) → announced_if_open uri (map_of.get (map_of.insert docs uri d) uri) ++ [] ≡ record { uri = uri; document = d } ∷ []
-put_announced docs uri d = ap (λ o. announced_if_open uri o ++ []) (get_put docs uri d uri ∙ ap (λ b. cond b (Some d) (map_of.get docs uri)) (uri_itself uri))
+put_announced : (docs : EditorDocuments) (uri : List ℕ) (d : OpenDocument) → document_if_open uri (map_of.get (map_of.insert docs uri d) uri) ++ [] ≡ record { uri = uri; document = d } ∷ []
+put_announced docs uri d = ap (λ o. document_if_open uri o ++ []) (get_put docs uri d uri ∙ ap (λ b. cond b (Some d) (map_of.get docs uri)) (uri_itself uri))
 
 -- returns the revision with the next version and this text, by one notification
 abbrev rewrite_of : ℤ → List ℕ → List TextChange → Revision
-rewrite_of version text how = record { version = next_version version; text = text; how = how }
+rewrite_of version text how = record { version = next_version version; text = text; sent_changes = how }
 
 rewritten_revises : (e : Editor) (uri : List ℕ) (d : OpenDocument) (how : List TextChange) (text : List ℕ) → open_at e uri ≡ Some d → text_after_changes e.unit (Some d.text) how ≡ Some text
     → Revises e uri (rewrite_of d.version text how ∷ []) (with_document e uri (revised_document d (rewrite_of d.version text how))) (record { uri = uri; document = revised_document d (rewrite_of d.version text how) } ∷ [])
@@ -72,7 +72,7 @@ whole : (u : Unit) (old text : List ℕ) → text_after_changes u (Some old) (wh
 unfolding changed_text
 whole u old text = refl
 
-applied_so : (e : Editor) (k : ℕ) (edits : List Replacement) (a : SentAsk) (d : OpenDocument) (text : List ℕ) → edits_of_answer k e.answers ≡ Some edits → request_numbered e.requested k ≡ Some a → Same e a d → d.text ≡ a.text → edited e.unit d.text edits ≡ Some text
+applied_so : (e : Editor) (k : ℕ) (edits : List Replacement) (a : SentAsk) (d : OpenDocument) (text : List ℕ) → edits_of_answer k e.answers ≡ Some edits → request_numbered e.requested k ≡ Some a → Same e a d → d.text ≡ a.text → text_after_edits e.unit d.text edits ≡ Some text
     → AppliesAnswer e k (rewrite_of d.version text (whole_text_change text ∷ []) ∷ []) (rewriting_result (without_answer e k) a.uri d text (whole_text_change text ∷ []) (edit_of a.uri d text ∷ [])) (record { uri = a.uri; document = revised_document d (rewrite_of d.version text (whole_text_change text ∷ [])) } ∷ [])
 applied_so e k edits a d text answered numbered same as_asked makes =
     let r : Revision = rewrite_of d.version text (whole_text_change text ∷ []) in
@@ -112,13 +112,13 @@ knows_act e act knows =
     })
     act
 
-knows_read : (e : Editor) (m : MessageToEditor) → Knows e → Knows (reads e m)
+knows_read : (e : Editor) (m : MessageToEditor) → Knows e → Knows (after_reading e m)
 knows_read e (publishes uri version empty) knows = knows
 knows_read e (answers k []) knows = knows
-knows_read e (answers k (edit ∷ edits)) knows = knows_other e (reads e (answers k (edit ∷ edits))).answers knows
+knows_read e (answers k (edit ∷ edits)) knows = knows_other e (after_reading e (answers k (edit ∷ edits))).answers knows
 
 pub knows_event : (w : ClientAndServer) (event : Event) (new : ClientAndServer) → Knows w.editor → Happens w event new → Knows new.editor
-knows_event w (does act) new knows is = subst (λ (x : ClientAndServer). Knows x.editor) (sym is) (knows_act w.editor act knows)
+knows_event w (editor_acts act) new knows is = subst (λ (x : ClientAndServer). Knows x.editor) (sym is) (knows_act w.editor act knows)
 knows_event w serve new knows happens = go w.to_server happens
   where
     go : (queue : List MessageToServer) → ServerTakes w queue new → Knows new.editor
@@ -138,9 +138,9 @@ nothing_done w i = record w { to_server = append-nil w.to_server i; applied = ap
 
 -- holds if an act changes nothing, or is a move that the editor may make and that announces what its messages announce
 abbrev pub IsMove : Editor → ActResult → Type 0
-IsMove e done = (done ≡ unchanged_result e) ⊎ ((move : Move) × IsAllowedMove e move done (announced_in done.editor done.sent))
+IsMove e done = (done ≡ unchanged_result e) ⊎ ((move : Move) × IsAllowedMove e move done (documents_announced_in done.editor done.sent))
 
-moves : (e : Editor) (done : ActResult) (move : Move) (announced : List AnnouncedDocument) → announced_in done.editor done.sent ≡ announced → IsAllowedMove e move done announced → IsMove e done
+moves : (e : Editor) (done : ActResult) (move : Move) (announced : List AnnouncedDocument) → documents_announced_in done.editor done.sent ≡ announced → IsAllowedMove e move done announced → IsMove e done
 moves e done move announced are may = inr (move, subst (IsAllowedMove e move done) (sym are) may)
 
 pub act_may : (e : Editor) (act : Act) → Knows e → IsMove e (act_result e act)
@@ -165,12 +165,12 @@ act_may e act knows =
     })
     act
 
-act_comes : (w : ClientAndServer) (announced : List AnnouncedDocument) (act : Act) → Knows w.editor → ComesTo w announced (after_act w (act_result w.editor act)) (announced_at_event w (does act))
+act_comes : (w : ClientAndServer) (announced : List AnnouncedDocument) (act : Act) → Knows w.editor → ComesTo w announced (after_act w (act_result w.editor act)) (documents_announced_at w (editor_acts act))
 act_comes w announced act knows = go (act_result w.editor act) (act_may w.editor act knows)
   where
-    go : (done : ActResult) → IsMove w.editor done → ComesTo w announced (after_act w done) (announced_in done.editor done.sent)
-    go done (inl is) = subst (λ (d : ActResult). ComesTo w announced (after_act w d) (announced_in d.editor d.sent)) (sym is) (as_it_was w (after_act w (unchanged_result w.editor)) announced (nothing_done w))
-    go done (inr (move, may)) = by_move w announced move done (announced_in done.editor done.sent) may
+    go : (done : ActResult) → IsMove w.editor done → ComesTo w announced (after_act w done) (documents_announced_in done.editor done.sent)
+    go done (inl is) = subst (λ (d : ActResult). ComesTo w announced (after_act w d) (documents_announced_in d.editor d.sent)) (sym is) (as_it_was w (after_act w (unchanged_result w.editor)) announced (nothing_done w))
+    go done (inr (move, may)) = by_move w announced move done (documents_announced_in done.editor done.sent) may
 
 serve_comes : (w : ClientAndServer) (announced : List AnnouncedDocument) (queue : List MessageToServer) (new : ClientAndServer) → w.to_server ≡ queue → ServerTakes w queue new → ComesTo w announced new []
 serve_comes w announced [] new waits is = as_it_was w new announced is
@@ -194,8 +194,8 @@ take_comes w announced (m ∷ rest) waits =
     by_quiet_turn w announced (after_editor_takes w (m ∷ rest)) editor_takes
     (subst (λ q. from_model (after_editor_takes w (m ∷ rest)) announced ≡ after_editor_takes_next (from_model w announced) (map Some q)) (sym waits) refl)
 
-event_comes : (w : ClientAndServer) (announced : List AnnouncedDocument) (event : Event) (new : ClientAndServer) → Knows w.editor → Happens w event new → ComesTo w announced new (announced_at_event w event)
-event_comes w announced (does act) new knows is = subst (λ x. ComesTo w announced x (announced_at_event w (does act))) (sym is) (act_comes w announced act knows)
+event_comes : (w : ClientAndServer) (announced : List AnnouncedDocument) (event : Event) (new : ClientAndServer) → Knows w.editor → Happens w event new → ComesTo w announced new (documents_announced_at w event)
+event_comes w announced (editor_acts act) new knows is = subst (λ x. ComesTo w announced x (documents_announced_at w (editor_acts act))) (sym is) (act_comes w announced act knows)
 event_comes w announced serve new knows happens = serve_comes w announced w.to_server new refl happens
 event_comes w announced take_message new knows is = subst (λ x. ComesTo w announced x []) (sym is) (take_comes w announced w.to_editor refl)
 
@@ -212,7 +212,7 @@ record Led (w : ClientAndServer) (announced : List AnnouncedDocument) (events : 
 course_comes : (events : List Event) (w : ClientAndServer) (announced : List AnnouncedDocument) (new : ClientAndServer) → Knows w.editor → Course w events new → Led w announced events new
 course_comes [] w announced new knows is = record { more = []; are = refl; comes = as_it_was w new announced is }
 course_comes (event ∷ events) w announced new knows (between, happens, run) =
-    let now : List AnnouncedDocument = announced_at_event w event in
+    let now : List AnnouncedDocument = documents_announced_at w event in
     let first : ComesTo w announced between now = event_comes w announced event between knows happens in
     let rest : Led between (announced ++ now) events new = course_comes events between (announced ++ now) new (knows_event w event between knows happens) run in
     let all : List AnnouncedDocument = now ++ rest.more in
@@ -254,6 +254,6 @@ publications_in_order unit events end run =
       announced = holds.published;
       waiting = holds.waiting;
       all = subst (AreAnnounced (start unit) events) holds.all led.are;
-      made_of = holds.made_of;
+      are_made_for_documents = holds.are_made_for_documents;
       still_wait = λ other too. holds.still_wait ∙ ap versions_announced_in (others_none end.to_server) ∙ ap (λ (x : ClientAndServer). versions_announced_in x.to_server) (course_is_determined (start unit) events end other run too);
     }

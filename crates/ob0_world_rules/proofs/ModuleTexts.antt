@@ -6,7 +6,7 @@ use Rattle.std.specs.Str.{IsUtf8}
 use Rattle.std.proofs.lemmas.List.{map-append}
 use Rattle.ob0_scan.specs.declared.lexeme.LexemeKind.{LexemeKind}
 use Rattle.ob0_scan.specs.declared.lexeme.LexemeKind.TheVariants as lexeme
-use Rattle.ob0_scan.specs.Lexed.{Lexeme, Lexed}
+use Rattle.ob0_scan.specs.Lexed.{Lexeme, LexesInto}
 use Rattle.ob0_scan.specs.TextWithTokens.{TextWithTokens, IsScan, word_of, words_of_lexemes, tokens_from, comments_from, max_text}
 use Rattle.ob0_tree.specs.Tree.{Tree, module_text}
 use Rattle.ob0_language_names.specs.Names.{Name}
@@ -31,7 +31,7 @@ module_text_of tree bytes h =
     record {
       utf8 = subst IsUtf8 h.scan.of scan.utf8;
       lexemes = scan.lexemes;
-      lexed = subst (λ text. Lexed text scan.lexemes) h.scan.of scan.lexed;
+      lexed = subst (λ text. LexesInto text scan.lexemes) h.scan.of scan.lexed;
       spelled = sym (spelled_so scan.lexemes) ∙ sym (text_words h.scanned scan) ∙ h.module_of.spelled;
       short = subst (λ text. length text ≤ max_text) h.scan.of h.module_of.short;
       shallow = h.module_of.shallow;

@@ -6,11 +6,11 @@ use Rattle.std.proofs.Common.{◌≡◌, ◌≢◌, ◌∙◌, ℕ, suc, ◌+◌
 use Rattle.std.proofs.Math.ListN.{length-set}
 use Rattle.std.proofs.lemmas.List.{get_or-replicate, length-replicate}
 use Rattle.ob0_tree.specs.declared.tree.Role.TheVariants as role
-use Rattle.ob0_tree.specs.Lexeme.{Terminal, Name, Number, Mark, EndOfText, mapped_terminal}
-use Rattle.ob0_tree.specs.Order.{AreAscending, leaves}
+use Rattle.ob0_tree.specs.Lexeme.{Terminal, Name, Number, WordOrSymbol, EndOfText, mapped_terminal}
+use Rattle.ob0_tree.specs.Order.{AreAscending, identifier_names}
 use Rattle.ob0_tree.specs.ParsedModule.{tree_of}
-use Rattle.ob0_tree.specs.Places.{text_at, value_at}
-use Rattle.ob0_tree.specs.Tree.{Sort, Tree, mapped, spell}
+use Rattle.ob0_tree.specs.Places.{token_text_at, token_value_at}
+use Rattle.ob0_tree.specs.Tree.{Sort, Tree, mapped_tree, spell}
 use Rattle.ob0_tree.proofs.Leaves.{ascending_bounds, leaves_ascend, leaves_spelled, lexeme_names}
 use Rattle.ob0_tree.proofs.Mapped.{spell_mapped}
 use Rattle.ob0_language_names.specs.Names as written
@@ -20,7 +20,7 @@ use Rattle.ob0_language_fields.specs.Fields.{rename_fields_in_module}
 use Rattle.ob0_types_fields.specs.Owners.{IsOwnerTable, field_names_by_record}
 use Rattle.ob0_types_fields.specs.Identifiers.{field_identifiers}
 use Rattle.ob0_types_fields.specs.Owned.{AgreesWithOwnerList, fields_with_owners, owners_in_resolution, table_with_owners}
-use Rattle.ob0_types_fields.proofs.OwnedModules.{listed_owners_are_complete-holds}
+use Rattle.ob0_types_fields.proofs.OwnedModules.{agreeing_table_is_owner_table-holds}
 use Rattle.ob0_types_fields.proofs.OwnedTokens.{module-tokens, tokens}
 use Rattle.ob0_world_rules.proofs.OneModule.{Same, one_named_tree}
 
@@ -64,7 +64,7 @@ module _ (r : Resolution) (well : IsWellTyped r) where
       has_owners (owners_in_resolution r) (replicate n nothing) 0 n ascend (subst (λ z. n ≤ z) (sym (length-replicate n nothing)) (le_refl n)) (λ i l u. get_or-replicate n i nothing None u)
 
   table_owns : IsOwnerTable r.module_read (table_of r)
-  table_owns = listed_owners_are_complete-holds r (table_of r) well.resolved well.well_typed table_has
+  table_owns = agreeing_table_is_owner_table-holds r (table_of r) well.resolved well.well_typed table_has
 
 -- ---- two tables of one module
 
@@ -72,12 +72,12 @@ names_relabelled : {N M : Type 0} (f : N → M) (g : ℕ → ℕ) (xs : List (Te
 names_relabelled f g [] = refl
 names_relabelled f g (Name n ∷ xs) = ap (λ z. f n ∷ z) (names_relabelled f g xs)
 names_relabelled f g (Number n ∷ xs) = names_relabelled f g xs
-names_relabelled f g (Mark k ∷ xs) = names_relabelled f g xs
+names_relabelled f g (WordOrSymbol k ∷ xs) = names_relabelled f g xs
 names_relabelled f g (EndOfText ∷ xs) = names_relabelled f g xs
 
-pub leaves_mapped : {N M : Type 0} {s : Sort} (f : N → M) (g : ℕ → ℕ) (t : Tree N s) → leaves (mapped f g t) ≡ map f (leaves t)
+pub leaves_mapped : {N M : Type 0} {s : Sort} (f : N → M) (g : ℕ → ℕ) (t : Tree N s) → identifier_names (mapped_tree f g t) ≡ map f (identifier_names t)
 leaves_mapped f g t =
-    leaves_spelled role.Declaring (mapped f g t)
+    leaves_spelled role.Declaring (mapped_tree f g t)
     ∙ (ap lexeme_names (spell_mapped f g t) ∙ (names_relabelled f g (spell t) ∙ ap (map f) (sym (leaves_spelled role.Declaring t))))
 
 -- returns a field's name, marked by the ordinal of its record
@@ -117,22 +117,22 @@ same_owned text a b ((x, o) ∷ xs) ((y, l) ∷ ys) h k same wrote =
     λ i. (token i, owner i) ∷ rest i
 
 module _ (r q : Resolution) (well : IsWellTyped r) (also : IsWellTyped q) (e : Same r.module_read q.module_read) where
-  tokens_of : tokens (owners_in_resolution r) ≡ leaves (tree_of r.module_read)
+  tokens_of : tokens (owners_in_resolution r) ≡ identifier_names (tree_of r.module_read)
   tokens_of = module-tokens _ (tree_of r.module_read)
 
-  tokens_too : tokens (owners_in_resolution q) ≡ leaves (tree_of q.module_read)
+  tokens_too : tokens (owners_in_resolution q) ≡ identifier_names (tree_of q.module_read)
   tokens_too = module-tokens _ (tree_of q.module_read)
 
   -- The module with its fields so marked is the same for both readings.
-  same_writing : map (writes (text_at r.module_read.source) (table_of r)) (leaves (tree_of r.module_read)) ≡ map (writes (text_at q.module_read.source) (table_of q)) (leaves (tree_of q.module_read))
+  same_writing : map (writes (token_text_at r.module_read.source) (table_of r)) (identifier_names (tree_of r.module_read)) ≡ map (writes (token_text_at q.module_read.source) (table_of q)) (identifier_names (tree_of q.module_read))
   same_writing =
-      sym (leaves_mapped (writes (text_at r.module_read.source) (table_of r)) (value_at r.module_read.source) (tree_of r.module_read))
-      ∙ (ap leaves (sym (table_owns r well marked_by) ∙ (ap (rename_fields_in_module (field_names_by_record marked_by)) (one_named_tree e) ∙ table_owns q also marked_by))
-      ∙ leaves_mapped (writes (text_at q.module_read.source) (table_of q)) (value_at q.module_read.source) (tree_of q.module_read))
+      sym (leaves_mapped (writes (token_text_at r.module_read.source) (table_of r)) (token_value_at r.module_read.source) (tree_of r.module_read))
+      ∙ (ap identifier_names (sym (table_owns r well marked_by) ∙ (ap (rename_fields_in_module (field_names_by_record marked_by)) (one_named_tree e) ∙ table_owns q also marked_by))
+      ∙ leaves_mapped (writes (token_text_at q.module_read.source) (table_of q)) (token_value_at q.module_read.source) (tree_of q.module_read))
 
   pub one_list_of_fields : field_identifiers r ≡ field_identifiers q
   one_list_of_fields =
-      let text : ℕ → written.Name = text_at r.module_read.source in
+      let text : ℕ → written.Name = token_text_at r.module_read.source in
       let there : map (writes text (table_of r)) (tokens (owners_in_resolution r)) ≡ map (writes text (table_of q)) (tokens (owners_in_resolution q)) =
-      ap (map (writes text (table_of r))) tokens_of ∙ (same_writing ∙ (ap (λ s. map (writes (text_at s) (table_of q)) (leaves (tree_of q.module_read))) (sym e.source) ∙ ap (map (writes text (table_of q))) (sym tokens_too))) in
-      ap fields_with_owners (same_owned text (table_of r) (table_of q) (owners_in_resolution r) (owners_in_resolution q) (table_has r well) (table_has q also) (tokens_of ∙ (ap leaves e.tree ∙ sym tokens_too)) there)
+      ap (map (writes text (table_of r))) tokens_of ∙ (same_writing ∙ (ap (λ s. map (writes (token_text_at s) (table_of q)) (identifier_names (tree_of q.module_read))) (sym e.source) ∙ ap (map (writes text (table_of q))) (sym tokens_too))) in
+      ap fields_with_owners (same_owned text (table_of r) (table_of q) (owners_in_resolution r) (owners_in_resolution q) (table_has r well) (table_has q also) (tokens_of ∙ (ap identifier_names e.tree ∙ sym tokens_too)) there)

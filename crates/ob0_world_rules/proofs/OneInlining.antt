@@ -19,7 +19,7 @@ use Rattle.ob0_tree.specs.Tree.{Tree, identifiers, module_text, nesting, occurre
 use Rattle.ob0_tree.proofs.Leaves.{leaves_ascend, occurrences_ascend}
 use Rattle.ob0_edits_tokens.specs.Ranges.{range_of}
 use Rattle.ob0_edits_tokens.specs.Removed.{span_of_tokens, text_after_removal}
-use Rattle.ob0_edits_tokens.specs.Replaced.{edit_at, parts, text_after_replacement}
+use Rattle.ob0_edits_tokens.specs.Replaced.{edit_at, range_and_text, text_after_replacement}
 use Rattle.ob0_language_names.specs.Inlining.{inlined, inlined_everywhere, single_occurrence}
 use Rattle.ob0_language_names.specs.Names.{declared, same_label}
 use Rattle.ob0_language_names.specs.Occurrences.{bindings}
@@ -31,14 +31,14 @@ use Rattle.ob0_scope.specs.declared.naming.Named.{Named}
 use Rattle.ob0_language_types.specs.ConstantValues.{value_of_constant}
 use Rattle.ob0_inline.specs.declared.constants.NamedConstant.{NamedConstant}
 use Rattle.ob0_inline.specs.declared.uses.ConstantUse.{ConstantUse}
-use Rattle.ob0_inline.specs.Declarations.{is_inside, is_semicolon}
+use Rattle.ob0_inline.specs.Declarations.{contains_span, is_semicolon}
 use Rattle.ob0_inline.specs.Everywhere.{AnswersInlineEverywhere, IsConstantAt, any_use_shadowed, refusal_everywhere}
 use Rattle.ob0_inline.specs.Uses.{AnswersInlineHere, IsUseAt, is_predeclared_truth, refusal_here}
 use Rattle.ob0_inline.specs.Values.{value_factor, value_text}
 use Rattle.ob0_inline.proofs.UsesAreIdentifiers.{one_place}
-use Rattle.ob0_edits.specs.Inlinings.{InlinesIn, IsNotInlinedIn}
+use Rattle.ob0_edits.specs.Inlinings.{InlinesIn, IsInliningRefusedIn}
 use Rattle.ob0_edits.specs.declared.inlinings.Inlining.{Inlining}
-use Rattle.ob0_edits.specs.declared.inlinings.Inlining.TheVariants.{Here, Everywhere}
+use Rattle.ob0_edits.specs.declared.inlinings.Inlining.TheVariants.{OneUse, Everywhere}
 use Rattle.ob0_edits.specs.Texts.{utf8}
 use Rattle.ob0_world_rules.specs.Edited.{replacements}
 use Rattle.ob0_world_rules.proofs.OneModule.{Same, same_module, one_named_tree, one_name, same_parts}
@@ -98,7 +98,7 @@ use_there e offset u at = record {
 }
 
 module _ {m n : ParsedModule} (e : Same m n) (parsed : IsParsed n) (unit : Unit) (text : List ℕ) (offset : ℕ) (xs : Vec Edit Global) where
-  here_one : (ys : Vec Edit Global) → AnswersInlineHere unit text m offset (Ok xs) → AnswersInlineHere unit text n offset (Ok ys) → map parts xs.items ≡ map parts ys.items
+  here_one : (ys : Vec Edit Global) → AnswersInlineHere unit text m offset (Ok xs) → AnswersInlineHere unit text n offset (Ok ys) → map range_and_text xs.items ≡ map range_and_text ys.items
   here_one ys (inl (u, at, (free, h))) (inl (v, also, (free_too, k))) =
       h.here ∙ (ap (λ z. z ∷ []) (same_edit_here e parsed offset u v at also unit text) ∙ sym k.here)
   here_one ys (inr (bad, none)) k = absurd (cc)
@@ -121,7 +121,7 @@ refused_everywhere s t ordinal value first last =
     if nat_lt max_text (length (text_after_removal s first last (uses_in s t ordinal) (value_text value))) then Some TooLong
     else if nat_lt 100 (nesting (inlined_everywhere (tree_with_names s t) ordinal (value_factor value))) then Some TooDeep
     else if any_use_shadowed (tree_with_names s t) (record { ordinal = ordinal; value = value; first = first; last = last }) then Some Shadowed
-    else if list_any (is_inside (span_of_tokens s.tokens first last)) s.comments then Some CommentInside
+    else if list_any (contains_span (span_of_tokens s.tokens first last)) s.comments then Some CommentInside
     else None
 
 module _ {m n : ParsedModule} (e : Same m n) (offset : ℕ) (c d : NamedConstant) (at : IsConstantAt m offset c) (also : IsConstantAt n offset d) where
@@ -151,7 +151,7 @@ module _ {m n : ParsedModule} (e : Same m n) (offset : ℕ) (c d : NamedConstant
       ∷ map (edit_at unit text ((e.source i).tokens) (value_text (constant_value i))) (uses_in (e.source i) (e.tree i) (constant_ordinal i))
 
 module _ {m n : ParsedModule} (e : Same m n) (unit : Unit) (text : List ℕ) (offset : ℕ) (xs : Vec Edit Global) where
-  everywhere_one : (ys : Vec Edit Global) → AnswersInlineEverywhere unit text m offset (Ok xs) → AnswersInlineEverywhere unit text n offset (Ok ys) → map parts xs.items ≡ map parts ys.items
+  everywhere_one : (ys : Vec Edit Global) → AnswersInlineEverywhere unit text m offset (Ok xs) → AnswersInlineEverywhere unit text n offset (Ok ys) → map range_and_text xs.items ≡ map range_and_text ys.items
   everywhere_one ys (inl (c, at, (free, h))) (inl (d, also, (free_too, k))) =
       h.everywhere ∙ (same_edits_everywhere e offset c d at also unit text ∙ sym k.everywhere)
   everywhere_one ys (inr (bad, none)) k = absurd (cc)
@@ -171,8 +171,8 @@ module _ {m n : ParsedModule} (e : Same m n) (unit : Unit) (text : List ℕ) (of
 
 module _ (unit : Unit) (text : List ℕ) (offset : ℕ) (xs : Vec Edit Global) where
   -- Two inlinings at one place in a text have equal parts: ranges, and bytes of the new texts.
-  pub inlines_parts : (how : Inlining) (ys : Vec Edit Global) → InlinesIn how unit text offset xs → InlinesIn how unit text offset ys → map parts xs.items ≡ map parts ys.items
-  inlines_parts Here ys h k =
+  pub inlines_parts : (how : Inlining) (ys : Vec Edit Global) → InlinesIn how unit text offset xs → InlinesIn how unit text offset ys → map range_and_text xs.items ≡ map range_and_text ys.items
+  inlines_parts OneUse ys h k =
       here_one (same_module (utf8 text) h.module_read k.module_read h.read.scan h.read.parsed k.read.scan k.read.parsed) k.read.parsed unit text offset xs ys h.inlines k.inlines
   inlines_parts Everywhere ys h k =
       everywhere_one (same_module (utf8 text) h.module_read k.module_read h.read.scan h.read.parsed k.read.scan k.read.parsed) unit text offset xs ys h.inlines k.inlines
@@ -180,8 +180,8 @@ module _ (unit : Unit) (text : List ℕ) (offset : ℕ) (xs : Vec Edit Global) w
   pub inlines_one : (how : Inlining) (ys : Vec Edit Global) → InlinesIn how unit text offset xs → InlinesIn how unit text offset ys → replacements xs.items ≡ replacements ys.items
   inlines_one how ys h k = same_parts xs.items ys.items (inlines_parts how ys h k)
 
-  pub inlines_or_refused : (how : Inlining) → InlinesIn how unit text offset xs → IsNotInlinedIn how unit text offset → ⊥
-  inlines_or_refused Here h k =
+  pub inlines_or_refused : (how : Inlining) → InlinesIn how unit text offset xs → IsInliningRefusedIn how unit text offset → ⊥
+  inlines_or_refused OneUse h k =
       here_or_refused (same_module (utf8 text) h.module_read k.module_read h.read.scan h.read.parsed k.read.scan k.read.parsed) k.read.parsed unit text offset xs k.refused.0 k.refused.1 h.inlines k.refused.2
   inlines_or_refused Everywhere h k =
       everywhere_or_refused (same_module (utf8 text) h.module_read k.module_read h.read.scan h.read.parsed k.read.scan k.read.parsed) unit text offset xs k.refused.0 k.refused.1 h.inlines k.refused.2

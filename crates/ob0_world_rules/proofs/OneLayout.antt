@@ -3,7 +3,7 @@
 use Rattle.std.proofs.Common.{◌≡◌, ◌∙◌, ℕ, ◌≤◌, List, map, length, sym, ap, arith, subst}
 use Rattle.std.specs.Str.{chars}
 use mathlib.Core.List.{map-map}
-use Rattle.ob0_scan.specs.Lexed.{Lexed}
+use Rattle.ob0_scan.specs.Lexed.{LexesInto}
 use Rattle.ob0_scan.specs.TextWithTokens.{max_text}
 use Rattle.ob0_scan.proofs.Cuts.{cut_is_unique}
 use Rattle.ob0_scan.proofs.Spans.{scan_is_unique}
@@ -38,8 +38,8 @@ module _ (text : List ℕ) (m n : IsWellTypedModule (utf8 text)) where
   one_lexing : m.text_of.scan.scan.lexemes ≡ n.text_of.scan.scan.lexemes
   one_lexing =
       cut_is_unique (utf8 text) m.text_of.scan.scan.lexemes n.text_of.scan.scan.lexemes
-      (subst (λ t. Lexed t m.text_of.scan.scan.lexemes) m.text_of.scan.of m.text_of.scan.scan.lexed)
-      (subst (λ t. Lexed t n.text_of.scan.scan.lexemes) n.text_of.scan.of n.text_of.scan.scan.lexed)
+      (subst (λ t. LexesInto t m.text_of.scan.scan.lexemes) m.text_of.scan.of m.text_of.scan.scan.lexed)
+      (subst (λ t. LexesInto t n.text_of.scan.scan.lexemes) n.text_of.scan.of n.text_of.scan.scan.lexed)
 
   one_layout : (indent : Indent) → layout_of indent m ≡ layout_of indent n
   one_layout indent = λ i. layout indent (one_module i) (one_lexing i)

@@ -14,16 +14,16 @@ use Rattle.ob0_text.specs.declared.edits.Edit.{Edit}
 use Rattle.ob0_text.specs.declared.position_types.Range.{Range}
 use Rattle.ob0_tree.specs.declared.tree.Role.TheVariants as role
 use Rattle.ob0_tree.specs.Lexeme.{EndOfText}
-use Rattle.ob0_tree.specs.Order.{leaves}
+use Rattle.ob0_tree.specs.Order.{identifier_names}
 use Rattle.ob0_tree.specs.ParsedModule.{ParsedModule, IsParsed, tree_of, named_tree_of}
 use Rattle.ob0_tree.specs.Places.{index_terminals, tree_with_names}
 use Rattle.ob0_tree.specs.Tree.{Tree, module_text, identifiers}
 use Rattle.ob0_scope_table.specs.Resolution.{span_at}
 use Rattle.ob0_language_names.specs.Scopes.{numbered}
 use Rattle.ob0_parse_descent.proofs.Unique.{same}
-use Rattle.ob0_edits_tokens.specs.Replaced.{parts}
-use Rattle.ob0_scope_table.specs.Spans.{is_on}
-use Rattle.ob0_scope.specs.NamesAtPlaces.{BoundIdentifier, name_on, bound_name_of}
+use Rattle.ob0_edits_tokens.specs.Replaced.{range_and_text}
+use Rattle.ob0_scope_table.specs.Spans.{is_on_span}
+use Rattle.ob0_scope.specs.NamesAtPlaces.{BoundIdentifier, name_at_offset, bound_name_of}
 use Rattle.ob0_scope.specs.declared.naming.Named.{Named}
 use Rattle.ob0_world_rules.specs.Edited.{Replacement, replacements}
 
@@ -38,21 +38,21 @@ same_module text m n scan parsed other too =
     record { source = source; tree = both.0 }
 
 abbrev pub identifiers_of : TextWithTokens → Tree ℕ module_text → List BoundIdentifier
-identifiers_of s t = zip (identifiers role.Declaring t) (leaves (numbered (tree_with_names s t)))
+identifiers_of s t = zip (identifiers role.Declaring t) (identifier_names (numbered (tree_with_names s t)))
 
 abbrev name_in : TextWithTokens → Tree ℕ module_text → ℕ → Option Named
-name_in s t offset = option_and_then bound_name_of (find (λ x. is_on offset (span_at s x.0.1)) (identifiers_of s t))
+name_in s t offset = option_and_then bound_name_of (find (λ x. is_on_span offset (span_at s x.0.1)) (identifiers_of s t))
 
 module _ {m n : ParsedModule} (e : Same m n) where
   pub one_named_tree : named_tree_of m ≡ named_tree_of n
   one_named_tree = λ i. tree_with_names (e.source i) (e.tree i)
 
-  pub one_name : (offset : ℕ) → name_on m offset ≡ name_on n offset
+  pub one_name : (offset : ℕ) → name_at_offset m offset ≡ name_at_offset n offset
   one_name offset = λ i. name_in (e.source i) (e.tree i) offset
 
 -- Returns the replacement with this range and these bytes as its text.
 abbrev of_parts : Range × List ℕ → Replacement
 of_parts p = record { range = p.0; text = chars p.1 }
 
-pub same_parts : (xs ys : List Edit) → map parts xs ≡ map parts ys → replacements xs ≡ replacements ys
-same_parts xs ys e = sym (map-map of_parts parts xs) ∙ (ap (map of_parts) e ∙ map-map of_parts parts ys)
+pub same_parts : (xs ys : List Edit) → map range_and_text xs ≡ map range_and_text ys → replacements xs ≡ replacements ys
+same_parts xs ys e = sym (map-map of_parts range_and_text xs) ∙ (ap (map of_parts) e ∙ map-map of_parts range_and_text ys)

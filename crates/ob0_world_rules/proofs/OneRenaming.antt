@@ -15,9 +15,9 @@ use Rattle.ob0_text.specs.Texts.{offset_of}
 use Rattle.ob0_text.specs.Units.{width_of}
 use Rattle.ob0_tree.specs.declared.tree.Role.TheVariants as role
 use Rattle.ob0_tree.specs.ParsedModule.{named_tree_of}
-use Rattle.ob0_tree.specs.Places.{tree_with_names, text_at}
+use Rattle.ob0_tree.specs.Places.{tree_with_names, token_text_at}
 use Rattle.ob0_tree.specs.Tree.{Tree, identifiers, module_text, occurrences}
-use Rattle.ob0_edits_tokens.specs.Replaced.{edit_at, parts, text_after_replacement}
+use Rattle.ob0_edits_tokens.specs.Replaced.{edit_at, range_and_text, text_after_replacement}
 use Rattle.ob0_language_names.specs.Names.{Name, same_name}
 use Rattle.ob0_language_names.specs.Occurrences.{NameConflict, Free, at_declaration, at_occurrence, first_name_conflict}
 use Rattle.ob0_language_names.specs.Parts.{module_block}
@@ -27,19 +27,19 @@ use Rattle.ob0_scope.specs.Renames.{namesake}
 use Rattle.ob0_scope.specs.NamesAtPlaces.{is_bound_to}
 use Rattle.ob0_edits_tokens.specs.Ranges.{range_of}
 use Rattle.ob0_language_fields.specs.Renaming.{is_duplicate_field}
-use Rattle.ob0_types_fields.specs.Identifiers.{declared_in_block, field_identifiers, field_at_offset, first, tokens_of_field}
-use Rattle.ob0_edits.specs.Analysed.{IsModuleIn}
+use Rattle.ob0_types_fields.specs.Identifiers.{fields_declared_in_block, field_identifiers, field_at_offset, first_token, tokens_of_field}
+use Rattle.ob0_edits.specs.Analysed.{IsResolvedWellTypedModule}
 use Rattle.ob0_edits.specs.Texts.{utf8}
-use Rattle.ob0_rename.specs.Renaming.{Renaming, RenameTarget, declaration, field_of, field_tokens_to_rename, renaming_target, meaning_of_name_or_field, nothing, occurrence_range, conflicting_field_range, conflicting_range, predeclared, renaming_of, text_after_renaming, tokens_to_rename}
-use Rattle.ob0_rename.specs.Answers.{AreRenameEdits, IsRenameRefusal, IsDeclarationRefusal, IsFieldRefusal, IsTargetRefusal, Renames, RenamesField, WritesName}
-use Rattle.ob0_edits.specs.Renamings.{IsRefusedIn, RenamesIn}
+use Rattle.ob0_rename.specs.Renaming.{Renaming, RenameTarget, declaration, field_of, field_tokens_to_rename, renaming_target, target_of_name_or_field, nothing, occurrence_range, conflicting_field_range, conflicting_declaration_range, predeclared, renaming_of, text_after_renaming, tokens_to_rename}
+use Rattle.ob0_rename.specs.Answers.{AreRenameEdits, IsRenameRefusal, IsDeclarationRefusal, IsFieldRefusal, IsTargetRefusal, RenamesDeclaration, RenamesField, WritesName}
+use Rattle.ob0_edits.specs.Renamings.{IsRenameRefusedIn, RenamesIn}
 use Rattle.ob0_world_rules.specs.Edited.{replacements}
 use Rattle.ob0_world_rules.proofs.OneModule.{Same, same_module, one_named_tree, one_name, identifiers_of, same_parts}
 use Rattle.ob0_world_rules.proofs.OneFields.{one_list_of_fields}
 
 -- holds if the declaration of d has this new name at its declaring token, by the tokens and the tree over them
 abbrev is_declared_in : TextWithTokens → Tree ℕ module_text → ℕ → Name → Bool
-is_declared_in s t d new = elim (declaration_token (declaring_names (identifiers role.Declaring t)) d) [ Some token ↦ same_name (text_at s token) new | None ↦ false ]
+is_declared_in s t d new = elim (declaration_token (declaring_names (identifiers role.Declaring t)) d) [ Some token ↦ same_name (token_text_at s token) new | None ↦ false ]
 
 abbrev tokens_in : TextWithTokens → Tree ℕ module_text → ℕ → Name → List ℕ
 tokens_in s t d new = if is_declared_in s t d new then [] else map (λ x. x.0.1) (filter (is_bound_to true d) (identifiers_of s t))
@@ -57,7 +57,7 @@ module _ (unit : Unit) (text : List ℕ) (place : Position) (new : Name) (names 
   IsBadName why = ¬ IsIdentifier new × (why ≡ refusal.BadName)
 
   abbrev IsTwice : ℕ → EditRefusal → Type 0
-  IsTwice d why = (range : Range) × (first_name_conflict here d new ≡ Some at_declaration) × (conflicting_range of_names d ≡ Some range) × (why ≡ refusal.Duplicate range)
+  IsTwice d why = (range : Range) × (first_name_conflict here d new ≡ Some at_declaration) × (conflicting_declaration_range of_names d ≡ Some range) × (why ≡ refusal.Duplicate range)
 
   abbrev IsCaptured : ℕ → EditRefusal → Type 0
   IsCaptured d why = (k : ℕ) × (range : Range) × (first_name_conflict here d new ≡ Some (at_occurrence k)) × (occurrence_range of_names k ≡ Some range) × (why ≡ refusal.Captures range)
@@ -108,7 +108,7 @@ module _ (unit : Unit) (text : List ℕ) (place : Position) (new : Name) (names 
   refused_view refusal.CommentInside h = absurd h
   refused_view refusal.Memory h = absurd h
 
-module _ (unit : Unit) (text : List ℕ) (place : Position) (new : Name) (names others : Resolution) (read : IsModuleIn (utf8 text) names) (again : IsModuleIn (utf8 text) others) where
+module _ (unit : Unit) (text : List ℕ) (place : Position) (new : Name) (names others : Resolution) (read : IsResolvedWellTypedModule (utf8 text) names) (again : IsResolvedWellTypedModule (utf8 text) others) where
   abbrev r : Renaming
   r = renaming_of unit text names place new
 
@@ -125,7 +125,7 @@ module _ (unit : Unit) (text : List ℕ) (place : Position) (new : Name) (names 
   fields = one_list_of_fields names others read.well_typed again.well_typed e
 
   one_meaning : renaming_target r ≡ renaming_target q
-  one_meaning = λ i. meaning_of_name_or_field (e.source i) (one_name e (offset_of (width_of unit) text place) i) (field_at_offset (e.source i) (offset_of (width_of unit) text place) (fields i))
+  one_meaning = λ i. target_of_name_or_field (e.source i) (one_name e (offset_of (width_of unit) text place) i) (field_at_offset (e.source i) (offset_of (width_of unit) text place) (fields i))
 
   one_place_list : (d : ℕ) → tokens_to_rename names.module_read d new ≡ tokens_to_rename others.module_read d new
   one_place_list d = λ i. tokens_in (e.source i) (e.tree i) d new
@@ -137,7 +137,7 @@ module _ (unit : Unit) (text : List ℕ) (place : Position) (new : Name) (names 
   one_text xs ys same = λ i. text_after_replacement (e.source i) (same i) new
 
   -- Edits that write the new name at the same tokens are equal.
-  one_writing : (xs ys : List ℕ) (t u : Tree Name module_text) (es fs : List Edit) → xs ≡ ys → WritesName r xs t es → WritesName q ys u fs → map parts es ≡ map parts fs
+  one_writing : (xs ys : List ℕ) (t u : Tree Name module_text) (es fs : List Edit) → xs ≡ ys → WritesName r xs t es → WritesName q ys u fs → map range_and_text es ≡ map range_and_text fs
   one_writing xs ys t u es fs same h k =
       h.changes ∙ ((λ i. map (edit_at unit text ((e.source i).tokens) new) (same i)) ∙ sym k.changes)
 
@@ -150,7 +150,7 @@ module _ (unit : Unit) (text : List ℕ) (place : Position) (new : Name) (names 
   one_field : {k l : ℕ} {f g : Name} → field_of k f ≡ field_of l g → f ≡ g
   one_field h = cc
 
-  edits_one : (es fs : List Edit) → AreRenameEdits r es → AreRenameEdits q fs → map parts es ≡ map parts fs
+  edits_one : (es fs : List Edit) → AreRenameEdits r es → AreRenameEdits q fs → map range_and_text es ≡ map range_and_text fs
   edits_one es fs (inl (c, means, h)) (inl (d, also, k)) =
       let same : c ≡ d = one_declaration (sym means ∙ (one_meaning ∙ also)) in
       one_writing _ _ _ _ es fs (one_place_list c ∙ ap (λ x. tokens_to_rename others.module_read x new) same) h.writes k.writes
@@ -172,7 +172,7 @@ module _ (unit : Unit) (text : List ℕ) (place : Position) (new : Name) (names 
       let none : first_name_conflict (named_tree_of others.module_read) d new ≡ None = ap (λ t. first_name_conflict t d new) (sym tree_is_unique) ∙ (free_means_no_conflict-holds (named_tree_of names.module_read) d new).1 free in
       let both : None ≡ Some x = sym none ∙ captured in cc
 
-  declared_refused : (d : ℕ) (es : List Edit) (why : EditRefusal) → Renames r d es → IsDeclarationRefusal q d why → ⊥
+  declared_refused : (d : ℕ) (es : List Edit) (why : EditRefusal) → RenamesDeclaration r d es → IsDeclarationRefusal q d why → ⊥
   declared_refused d es refusal.NoName h bad = bad
   declared_refused d es refusal.Predeclared h bad = bad
   declared_refused d es refusal.BadName h bad = bad h.identifier
@@ -228,7 +228,7 @@ module _ (unit : Unit) (text : List ℕ) (place : Position) (new : Name) (names 
 
   -- ---- one refusal
 
-  same_other : (d : ℕ) → conflicting_range r d ≡ conflicting_range q d
+  same_other : (d : ℕ) → conflicting_declaration_range r d ≡ conflicting_declaration_range q d
   same_other d = λ i.
       option_map (λ token. range_of (width_of unit) text (span_at (e.source i) token))
       (option_and_then (declaration_token (declaring_names (identifiers role.Declaring (e.tree i)))) (namesake (tree_with_names (e.source i) (e.tree i)) d new))
@@ -238,7 +238,7 @@ module _ (unit : Unit) (text : List ℕ) (place : Position) (new : Name) (names 
 
   same_other_field : (k : ℕ) → conflicting_field_range r k ≡ conflicting_field_range q k
   same_other_field k = λ i.
-      option_map (λ token. range_of (width_of unit) text (span_at (e.source i) token)) (first (tokens_of_field (e.source i) k new (declared_in_block 0 (module_block (e.tree i)))))
+      option_map (λ token. range_of (width_of unit) text (span_at (e.source i) token)) (first_token (tokens_of_field (e.source i) k new (fields_declared_in_block 0 (module_block (e.tree i)))))
 
   same_captured : (d : ℕ) → first_name_conflict (named_tree_of names.module_read) d new ≡ first_name_conflict (named_tree_of others.module_read) d new
   same_captured d = ap (λ t. first_name_conflict t d new) tree_is_unique
@@ -338,14 +338,14 @@ module _ (unit : Unit) (text : List ℕ) (place : Position) (new : Name) (names 
 -- ---- in a text
 
 -- Two renamings of one place have equal edits, by the bytes of their texts.
-pub renames_parts : (unit : Unit) (text : List ℕ) (place : Position) (new : Name) (es fs : List Edit) → RenamesIn unit text place new es → RenamesIn unit text place new fs → map parts es ≡ map parts fs
+pub renames_parts : (unit : Unit) (text : List ℕ) (place : Position) (new : Name) (es fs : List Edit) → RenamesIn unit text place new es → RenamesIn unit text place new fs → map range_and_text es ≡ map range_and_text fs
 renames_parts unit text place new es fs h k = edits_one unit text place new h.names k.names h.read k.read es fs h.are_edits k.are_edits
 
 pub renames_one : (unit : Unit) (text : List ℕ) (place : Position) (new : Name) (es fs : List Edit) → RenamesIn unit text place new es → RenamesIn unit text place new fs → replacements es ≡ replacements fs
 renames_one unit text place new es fs h k = same_parts es fs (renames_parts unit text place new es fs h k)
 
-pub renames_or_refused : (unit : Unit) (text : List ℕ) (place : Position) (new : Name) (es : List Edit) (why : EditRefusal) → RenamesIn unit text place new es → IsRefusedIn unit text place new why → ⊥
+pub renames_or_refused : (unit : Unit) (text : List ℕ) (place : Position) (new : Name) (es : List Edit) (why : EditRefusal) → RenamesIn unit text place new es → IsRenameRefusedIn unit text place new why → ⊥
 renames_or_refused unit text place new es why h k = edits_or_refused unit text place new h.names k.names h.read k.read es why h.are_edits k.refused
 
-pub refuses_one : (unit : Unit) (text : List ℕ) (place : Position) (new : Name) (why other : EditRefusal) → IsRefusedIn unit text place new why → IsRefusedIn unit text place new other → why ≡ other
+pub refuses_one : (unit : Unit) (text : List ℕ) (place : Position) (new : Name) (why other : EditRefusal) → IsRenameRefusedIn unit text place new why → IsRenameRefusedIn unit text place new other → why ≡ other
 refuses_one unit text place new why other h k = refusal_is_unique unit text place new h.names k.names h.read k.read why other h.refused k.refused

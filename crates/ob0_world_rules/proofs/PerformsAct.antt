@@ -4,10 +4,10 @@ use Rattle.std.proofs.Common.{◌≡◌, ℕ, cond, List, [], ◌∷◌, refl, s
 use Rattle.std.specs.Prelude.{Option, Some, None, is_some, unwrap_or, option_and_then}
 use Rattle.std.proofs.lemmas.Option.{same_Some, none-some}
 use Rattle.ob0_text.specs.OpenDocuments.{TextChange}
-use Rattle.ob0_world_rules.specs.Edited.{Replacement, edited, whole_text_change, text_after_changes}
+use Rattle.ob0_world_rules.specs.Edited.{Replacement, text_after_edits, whole_text_change, text_after_changes}
 use Rattle.ob0_world_rules.specs.Asks.{Ask}
 use Rattle.ob0_world_rules.specs.ClientAndServer.{OpenDocument, SentAsk, Editor, request_numbered, open_at, Applied}
-use Rattle.ob0_world_rules.specs.EditorActs.{Act, open_document, change_document, close_document, ask_about, apply, discard, ActResult, unchanged_result, opening_result, rewriting_result, closing_result, asks, edits_of_answer, without_answer, if_unchanged_since, applying_result, act_result}
+use Rattle.ob0_world_rules.specs.EditorActs.{Act, open_document, change_document, close_document, ask_about, apply, discard, ActResult, unchanged_result, opening_result, rewriting_result, closing_result, asking_result, edits_of_answer, without_answer, if_unchanged_since, applying_result, act_result}
 use Rattle.ob0_world_rules.proofs.SameDocument.{Same, same_from}
 
 -- the edit that gives the document d the text `text`
@@ -19,8 +19,8 @@ pub record OfEach (e : Editor) (P : ActResult → Type 0) : Type 0 where
   pub opened : (uri text : List ℕ) → open_at e uri ≡ None → P (opening_result e uri text)
   pub changed : (uri : List ℕ) (d : OpenDocument) (how : List TextChange) (text : List ℕ) → open_at e uri ≡ Some d → text_after_changes e.unit (Some d.text) how ≡ Some text → P (rewriting_result e uri d text how [])
   pub closed : (uri : List ℕ) (d : OpenDocument) → open_at e uri ≡ Some d → P (closing_result e uri)
-  pub asked : (uri : List ℕ) (ask : Ask) (d : OpenDocument) → open_at e uri ≡ Some d → P (asks e uri ask d)
-  pub made : (k : ℕ) (edits : List Replacement) (a : SentAsk) (d : OpenDocument) (text : List ℕ) → edits_of_answer k e.answers ≡ Some edits → request_numbered e.requested k ≡ Some a → Same e a d → edited e.unit d.text edits ≡ Some text
+  pub asked : (uri : List ℕ) (ask : Ask) (d : OpenDocument) → open_at e uri ≡ Some d → P (asking_result e uri ask d)
+  pub made : (k : ℕ) (edits : List Replacement) (a : SentAsk) (d : OpenDocument) (text : List ℕ) → edits_of_answer k e.answers ≡ Some edits → request_numbered e.requested k ≡ Some a → Same e a d → text_after_edits e.unit d.text edits ≡ Some text
       → P (rewriting_result (without_answer e k) a.uri d text (whole_text_change text ∷ []) (edit_of a.uri d text ∷ []))
   pub dropped : (k : ℕ) → P (unchanged_result (without_answer e k))
 
@@ -38,7 +38,7 @@ pub record Applies (e : Editor) (k : ℕ) (done : ActResult) : Type 0 where
   pub held : edits_of_answer k e.answers ≡ Some edits
   pub numbered : request_numbered e.requested k ≡ Some requested
   pub same : Same e requested document
-  pub makes : edited e.unit document.text edits ≡ Some text
+  pub makes : text_after_edits e.unit document.text edits ≡ Some text
   pub is : done ≡ rewriting_result (without_answer e k) requested.uri document text (whole_text_change text ∷ []) (edit_of requested.uri document text ∷ [])
 
 pub applied_so : (e : Editor) (k : ℕ) (done : ActResult) → option_and_then (applying_result (without_answer e k) k) (edits_of_answer k e.answers) ≡ Some done → Applies e k done
@@ -46,7 +46,7 @@ applied_so e k done h =
     let (edits, held, then_asked) = then_some _ (edits_of_answer k e.answers) done h in
     let (a, numbered, then_open) = then_some _ (request_numbered e.requested k) done then_asked in
     let (d, found, then_edited) = then_some _ (option_and_then (if_unchanged_since a) (open_at e a.uri)) done then_open in
-    let (text, makes, is) = then_some _ (edited e.unit d.text edits) done then_edited in
+    let (text, makes, is) = then_some _ (text_after_edits e.unit d.text edits) done then_edited in
     record { edits = edits; requested = a; document = d; text = text; held = held; numbered = numbered; same = same_from e a d found; makes = makes; is = sym (same_Some _ done is) }
 
 module _ (e : Editor) (P : ActResult → Type 0) (each : OfEach e P) where
@@ -74,9 +74,9 @@ module _ (e : Editor) (P : ActResult → Type 0) (each : OfEach e P) where
       subst P (same_Some _ done is) (each.changed uri d how text at made))
   of_each (close_document uri) = by_open uri (closing_result e uri) (unchanged_result e) (each.closed uri) (λ is. each.still)
   of_each (ask_about uri ask) =
-      by_value (option_and_then (λ d. Some (asks e uri ask d)) (open_at e uri)) (unchanged_result e) each.still
+      by_value (option_and_then (λ d. Some (asking_result e uri ask d)) (open_at e uri)) (unchanged_result e) each.still
       (λ done h.
-      let (d, at, is) = then_some (λ d. Some (asks e uri ask d)) (open_at e uri) done h in
+      let (d, at, is) = then_some (λ d. Some (asking_result e uri ask d)) (open_at e uri) done h in
       subst P (same_Some _ done is) (each.asked uri ask d at))
   of_each (apply k) =
       by_value (option_and_then (applying_result (without_answer e k) k) (edits_of_answer k e.answers)) (unchanged_result (without_answer e k)) (each.dropped k)

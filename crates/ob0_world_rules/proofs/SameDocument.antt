@@ -13,7 +13,7 @@ use Rattle.ob0_text.specs.declared.position_types.Unit.{Unit}
 use Rattle.ob0_text.specs.OpenDocuments.{TextChange}
 use Rattle.ob0_world_rules.specs.ClientAndServer.{OpenDocument, EditorDocuments, SentAsk, Answer, Editor, new_editor, request_numbered, open_at, Applied}
 use Rattle.ob0_world_rules.specs.Asks.{Ask}
-use Rattle.ob0_world_rules.specs.EditorActs.{version_number, next_version, same_version, opening_result, rewriting_result, closing_result, asks, if_unchanged_since}
+use Rattle.ob0_world_rules.specs.EditorActs.{version_number, next_version, same_version, opening_result, rewriting_result, closing_result, asking_result, if_unchanged_since}
 use Rattle.ob0_world_rules.proofs.UriLaws.{get_put, get_removed, same_uri}
 
 -- states that a request was made earlier: its opening's number isn't fresh, and in that opening versions have only
@@ -184,10 +184,10 @@ knows_close e uri knows =
       asks = later_asks e (closing_result e uri).editor (later_close e uri) e.requested knows.asks;
     }
 
-pub knows_ask : (e : Editor) (uri : List ℕ) (ask : Ask) (d : OpenDocument) → open_at e uri ≡ Some d → Knows e → Knows (asks e uri ask d).editor
+pub knows_ask : (e : Editor) (uri : List ℕ) (ask : Ask) (d : OpenDocument) → open_at e uri ≡ Some d → Knows e → Knows (asking_result e uri ask d).editor
 knows_ask e uri ask d was_open knows =
     let a : SentAsk = record { ask = ask; uri = uri; text = d.text; opening = d.opening; version = d.version } in
-    let new : Editor = (asks e uri ask d).editor in
+    let new : Editor = (asking_result e uri ask d).editor in
     record {
       openings = knows.openings;
       asks = All-push (IsKnown new) e.requested a (later_asks e new (later_documents e (e.requested ++ a ∷ []) e.answers) e.requested knows.asks)

@@ -9,11 +9,11 @@ use Rattle.ob0_text.specs.declared.refusals.EditRefusal.{EditRefusal}
 use Rattle.ob0_text.specs.OpenDocuments.{Document, InStep, OutOfStep}
 use Rattle.ob0_text.specs.Texts.{offset_of}
 use Rattle.ob0_text.specs.Units.{width_of}
-use Rattle.ob0_edits.specs.Renamings.{RenamesIn, IsRefusedIn}
-use Rattle.ob0_edits.specs.Inlinings.{InlinesIn, IsNotInlinedIn}
+use Rattle.ob0_edits.specs.Renamings.{RenamesIn, IsRenameRefusedIn}
+use Rattle.ob0_edits.specs.Inlinings.{InlinesIn, IsInliningRefusedIn}
 use Rattle.ob0_edits.specs.Layouts.{FormatsIn, IsTooLongFormatted}
 pub use Rattle.ob0_edits.specs.declared.inlinings.Inlining.{Inlining}
-pub use Rattle.ob0_edits.specs.declared.inlinings.Inlining.TheVariants.{Here, Everywhere}
+pub use Rattle.ob0_edits.specs.declared.inlinings.Inlining.TheVariants.{OneUse, Everywhere}
 use Rattle.ob0_world_rules.specs.Language.{WellTypedText}
 use Rattle.ob0_world_rules.specs.Edited.{Replacement, replacements}
 use Rattle.ob0_world_rules.specs.Asks.{Ask, rename, inline_here, inline_all, format, clamped_indent}
@@ -34,7 +34,7 @@ InlinesAt how unit text position edits =
 -- or format the text.
 abbrev pub GivesEdits : Unit → List ℕ → Ask → List Edit → Type 0
 GivesEdits unit text (rename position name) edits = RenamesIn unit text position name edits
-GivesEdits unit text (inline_here position) edits = InlinesAt Here unit text position edits
+GivesEdits unit text (inline_here position) edits = InlinesAt OneUse unit text position edits
 GivesEdits unit text (inline_all position) edits = InlinesAt Everywhere unit text position edits
 GivesEdits unit text (format indent) edits = FormatsIn unit (clamped_indent indent) text edits
 
@@ -42,11 +42,11 @@ GivesEdits unit text (format indent) edits = FormatsIn unit (clamped_indent inde
 -- too long
 abbrev pub Refuses : Unit → List ℕ → Ask → Type 0
 Refuses unit text (rename position name) =
-    (refusal : EditRefusal) × IsRefusedIn unit text position name refusal
+    (refusal : EditRefusal) × IsRenameRefusedIn unit text position name refusal
 Refuses unit text (inline_here position) =
-    IsNotInlinedIn Here unit text (position_offset unit text position)
+    IsInliningRefusedIn OneUse unit text (position_offset unit text position)
 Refuses unit text (inline_all position) =
-    IsNotInlinedIn Everywhere unit text (position_offset unit text position)
+    IsInliningRefusedIn Everywhere unit text (position_offset unit text position)
 Refuses unit text (format indent) = IsTooLongFormatted (clamped_indent indent) text
 
 -- States that the edits `given` answer the ask about this text. They are the requested edits, or

@@ -86,12 +86,12 @@ pub record Applied : Type 0 where
   pub after : List ℕ
 
 -- a publication with the document's version, the text that its diagnostics were made for, and
--- whether there are no diagnostics (`empty`)
-pub record Made : Type 0 where
+-- whether there are no diagnostics (`no_diagnostics`)
+pub record PublicationWithText : Type 0 where
   pub uri : List ℕ
   pub version : ℤ
   pub text : List ℕ
-  pub empty : Bool
+  pub no_diagnostics : Bool
 
 -- ---- a client and a server with their queues
 
@@ -104,7 +104,7 @@ pub record ClientAndServer : Type 0 where
   pub held : OpenDocuments
   pub to_editor : List MessageToEditor
   pub applied : List Applied
-  pub made : List Made
+  pub made : List PublicationWithText
 
 -- returns the state before the first event, for a client and a server that count positions in this
 -- unit

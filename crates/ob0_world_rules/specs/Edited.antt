@@ -24,8 +24,8 @@ replacements edits = map replacement_of edits
 
 -- Returns the text with all edits made at once: each range is a range of the text before the edits.
 -- None if two edits share a character.
-unfoldable pub edited : Unit → List ℕ → List Replacement → Option (List ℕ)
-edited unit text edits =
+unfoldable pub text_after_edits : Unit → List ℕ → List Replacement → Option (List ℕ)
+text_after_edits unit text edits =
     patched_by_cuts text (map (λ e. cut_at (width_of unit) text e.range e.text) edits)
 
 -- returns the change that replaces the whole text by this text
@@ -39,9 +39,9 @@ text_after_changes unit text changes = fold (changed_text unit) text changes
 
 -- ---- the law
 
--- states that the model's edited text (`edited`, for replacements) is the text that results from
+-- states that the model's edited text (`text_after_edits`, for replacements) is the text that results from
 -- the code's edits (`patched`)
 abbrev pub EditedEqualsPatched : Type 0
 EditedEqualsPatched =
     (unit : Unit) (text : List ℕ) (edits : List Edit)
-    → edited unit text (replacements edits) ≡ patched (width_of unit) text edits
+    → text_after_edits unit text (replacements edits) ≡ patched (width_of unit) text edits

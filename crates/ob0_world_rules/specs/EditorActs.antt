@@ -4,7 +4,7 @@ use Rattle.std.specs.Prelude.{ℕ, suc, ◌+◌, ℤ, pos, negsuc, Bool, false, 
 use Rattle.std.specs.FinMap as map_of
 use Rattle.ob0_text.specs.OpenDocuments.{TextChange, Opened, Changed, Closed}
 use Rattle.ob0_language_types.specs.Typing.{◌>>=◌}
-use Rattle.ob0_world_rules.specs.Edited.{Replacement, edited, whole_text_change, text_after_changes}
+use Rattle.ob0_world_rules.specs.Edited.{Replacement, text_after_edits, whole_text_change, text_after_changes}
 use Rattle.ob0_world_rules.specs.Asks.{Ask}
 use Rattle.ob0_world_rules.specs.ClientAndServer.{OpenDocument, SentAsk, Answer, Editor, request_numbered, open_at, MessageToServer, notifies, requests, MessageToEditor, publishes, answers, Applied}
 
@@ -72,8 +72,8 @@ closing_result e uri =
 
 -- returns the result of asking about an open document: the request is stored and sent with the next
 -- number
-abbrev pub asks : Editor → List ℕ → Ask → OpenDocument → ActResult
-asks e uri ask d =
+abbrev pub asking_result : Editor → List ℕ → Ask → OpenDocument → ActResult
+asking_result e uri ask d =
     let a : SentAsk = record {
       ask = ask;
       uri = uri;
@@ -109,7 +109,7 @@ abbrev pub applying_result : Editor → ℕ → List Replacement → Option ActR
 applying_result e k edits = do
   a ← request_numbered e.requested k
   d ← open_at e a.uri >>= if_unchanged_since a
-  text ← edited e.unit d.text edits
+  text ← text_after_edits e.unit d.text edits
   let made : Applied = record { uri = a.uri; before = d.text; after = text }
   Some (rewriting_result e a.uri d text (whole_text_change text ∷ []) (made ∷ []))
 
@@ -127,7 +127,7 @@ act_result e (close_document uri) =
     if is_some (open_at e uri) then closing_result e uri else unchanged_result e
 act_result e (ask_about uri ask) = unwrap_or (do
   d ← open_at e uri
-  Some (asks e uri ask d)) (unchanged_result e)
+  Some (asking_result e uri ask d)) (unchanged_result e)
 act_result e (apply k) =
     let rest : Editor = without_answer e k in
     unwrap_or (edits_of_answer k e.answers >>= applying_result rest k) (unchanged_result rest)
@@ -135,8 +135,8 @@ act_result e (discard k) = unchanged_result (without_answer e k)
 
 -- Returns the editor after it has read a message. The editor keeps an answer that has edits, and
 -- nothing else.
-abbrev pub reads : Editor → MessageToEditor → Editor
-reads e (publishes uri version empty) = e
-reads e (answers number []) = e
-reads e (answers number (edit ∷ edits)) =
+abbrev pub after_reading : Editor → MessageToEditor → Editor
+after_reading e (publishes uri version empty) = e
+after_reading e (answers number []) = e
+after_reading e (answers number (edit ∷ edits)) =
     record e { answers = e.answers ++ record { number = number; edits = edit ∷ edits } ∷ [] }

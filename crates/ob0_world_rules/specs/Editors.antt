@@ -4,17 +4,17 @@
 use Rattle.std.specs.Prelude.{◌≡◌, ◌+◌, ℕ, ℤ, List, [], ◌∷◌, ◌++◌, map, Some}
 use Rattle.std.specs.FinMap as map_of
 use Rattle.ob0_text.specs.OpenDocuments.{TextChange, Opened, Changed}
-use Rattle.ob0_world_rules.specs.Edited.{Replacement, edited, text_after_changes}
+use Rattle.ob0_world_rules.specs.Edited.{Replacement, text_after_edits, text_after_changes}
 use Rattle.ob0_world_rules.specs.Asks.{Ask}
 use Rattle.ob0_world_rules.specs.ClientAndServer.{OpenDocument, SentAsk, Editor, request_numbered, open_at, MessageToServer, notifies}
-use Rattle.ob0_world_rules.specs.EditorActs.{ActResult, unchanged_result, sending_result, closing_result, asks, edits_of_answer, without_answer}
+use Rattle.ob0_world_rules.specs.EditorActs.{ActResult, unchanged_result, sending_result, closing_result, asking_result, edits_of_answer, without_answer}
 use Rattle.ob0_world_rules.specs.PublicationsInOrder.{AnnouncedDocument}
 
 -- a revision of a document: its next version and text, and the changes that are sent to the server
 pub record Revision : Type 0 where
   pub version : ℤ
   pub text : List ℕ
-  pub how : List TextChange
+  pub sent_changes : List TextChange
 
 -- A move of the editor. It is like an `Act`, but a document may get any version, and the changes
 -- are a list of revisions.
@@ -50,18 +50,18 @@ Revises e uri (r ∷ more) new announced =
     (d : OpenDocument)
     × (later : List AnnouncedDocument)
     × (open_at e uri ≡ Some d)
-    × (text_after_changes e.unit (Some d.text) r.how ≡ Some r.text)
+    × (text_after_changes e.unit (Some d.text) r.sent_changes ≡ Some r.text)
     × Revises (with_document e uri (revised_document d r)) uri more new later
     × (announced ≡ record { uri = uri; document = revised_document d r } ∷ later)
 
 -- returns one notification for each of these revisions
 abbrev pub notifications_of : List ℕ → List Revision → List MessageToServer
-notifications_of uri revisions = map (λ r. notifies (Changed uri r.version r.how)) revisions
+notifications_of uri revisions = map (λ r. notifies (Changed uri r.version r.sent_changes)) revisions
 
 -- returns the changes of all revisions, in order
 abbrev pub changes_of : List Revision → List TextChange
 changes_of [] = []
-changes_of (r ∷ more) = r.how ++ changes_of more
+changes_of (r ∷ more) = r.sent_changes ++ changes_of more
 
 -- ---- answers
 
@@ -79,7 +79,7 @@ pub record AppliesAnswer (e : Editor) (k : ℕ) (revisions : List Revision) (don
   pub is_open : open_at e requested.uri ≡ Some document
   pub same_text : document.text ≡ requested.text
   pub text : List ℕ
-  pub makes : edited e.unit document.text edits ≡ Some text
+  pub makes : text_after_edits e.unit document.text edits ≡ Some text
   pub new : Editor
   pub revises : Revises (without_answer e k) requested.uri revisions new announced
   pub first : List TextChange
@@ -114,6 +114,6 @@ IsAllowedMove e (to_revise uri revisions) done announced =
     × (done ≡ record { editor = new; sent = notifications_of uri revisions; applied = [] })
 IsAllowedMove e (to_close uri) done announced = (done ≡ closing_result e uri) × (announced ≡ [])
 IsAllowedMove e (to_ask uri ask) done announced =
-    (d : OpenDocument) × (open_at e uri ≡ Some d) × (done ≡ asks e uri ask d) × (announced ≡ [])
+    (d : OpenDocument) × (open_at e uri ≡ Some d) × (done ≡ asking_result e uri ask d) × (announced ≡ [])
 IsAllowedMove e (to_apply k revisions) done announced = AppliesAnswer e k revisions done announced
 IsAllowedMove e (to_drop k) done announced = (done ≡ unchanged_result (without_answer e k)) × (announced ≡ [])

@@ -3,8 +3,8 @@
 use Rattle.std.specs.Prelude.{◌≡◌, List, [], ◌∷◌, ◌++◌, map, Option, Some, None}
 use Rattle.ob0_text.specs.declared.position_types.Unit.{Unit}
 use Rattle.ob0_text.specs.OpenDocuments.{OpenDocuments, no_open_documents}
-use Rattle.ob0_world_rules.specs.ClientAndServer.{Editor, new_editor, MessageToServer, notifies, requests, MessageToEditor, Applied, Made, ClientAndServer, start, after_message}
-use Rattle.ob0_world_rules.specs.EditorActs.{ActResult, reads}
+use Rattle.ob0_world_rules.specs.ClientAndServer.{Editor, new_editor, MessageToServer, notifies, requests, MessageToEditor, Applied, PublicationWithText, ClientAndServer, start, after_message}
+use Rattle.ob0_world_rules.specs.EditorActs.{ActResult, after_reading}
 use Rattle.ob0_world_rules.specs.Serving.{Replies}
 use Rattle.ob0_world_rules.specs.Happens.{Event, Course}
 use Rattle.ob0_world_rules.specs.Headline.{Holds, AreUpToDate}
@@ -25,7 +25,7 @@ pub record EditorAndServer : Type 0 where
   -- the documents that the editor has announced to the server so far
   pub announced : List AnnouncedDocument
   pub applied : List Applied
-  pub made : List Made
+  pub made : List PublicationWithText
 
 -- returns the state before the first turn, in which editor and server count positions in this unit
 abbrev pub initial_editor_and_server : Unit → EditorAndServer
@@ -72,7 +72,7 @@ model_state_of w =
 -- takes a message
 pub data Turn : Type 0 where
   -- the editor makes a move
-  editor_does : Move → Turn
+  editor_moves : Move → Turn
   -- the editor sends a message outside the model (`None`)
   editor_sends_unmodeled : Turn
   -- the server takes the first message that waits for it, and sends its replies
@@ -101,7 +101,7 @@ ServerTakesNext w (None ∷ rest) new =
     × (new ≡ record w { to_server = rest; to_editor = w.to_editor ++ said })
 ServerTakesNext w (Some message ∷ rest) new =
     (said : List MessageToEditor)
-    × (made : List Made)
+    × (made : List PublicationWithText)
     × Replies w.held message said made
     × (new
     ≡ record w {
@@ -117,11 +117,11 @@ abbrev pub after_editor_takes_next : EditorAndServer → List (Option MessageToE
 after_editor_takes_next w [] = w
 after_editor_takes_next w (None ∷ rest) = record w { to_editor = rest }
 after_editor_takes_next w (Some message ∷ rest) =
-    record w { editor = reads w.editor message; to_editor = rest }
+    record w { editor = after_reading w.editor message; to_editor = rest }
 
 -- states that this turn can lead from `w` to `new`
 abbrev pub MayHappen : EditorAndServer → Turn → EditorAndServer → Type 0
-MayHappen w (editor_does move) new =
+MayHappen w (editor_moves move) new =
     (done : ActResult)
     × (announced : List AnnouncedDocument)
     × IsAllowedMove w.editor move done announced
@@ -154,7 +154,7 @@ pub record HoldsWithEditor (w : EditorAndServer) : Type 0 where
   pub published : List AnnouncedDocument
   pub waiting : List AnnouncedDocument
   pub all : w.announced ≡ published ++ waiting
-  pub made_of : AreMadeForDocuments w.made published
+  pub are_made_for_documents : AreMadeForDocuments w.made published
   pub still_wait : map versioned_uri waiting ≡ versions_announced_in (modeled_messages w.to_server)
 
 -- states that the guarantees hold for every editor that keeps ob0's rules, in every interleaving of

@@ -1,14 +1,14 @@
 -- Defines the events of a client and a server, and their results.
 -- Rule: LSP 3.17: a model of client and server.
 use Rattle.std.specs.Prelude.{◌≡◌, List, [], ◌∷◌, ◌++◌}
-use Rattle.ob0_world_rules.specs.ClientAndServer.{MessageToServer, MessageToEditor, Made, ClientAndServer, after_message}
-use Rattle.ob0_world_rules.specs.EditorActs.{Act, ActResult, act_result, reads}
+use Rattle.ob0_world_rules.specs.ClientAndServer.{MessageToServer, MessageToEditor, PublicationWithText, ClientAndServer, after_message}
+use Rattle.ob0_world_rules.specs.EditorActs.{Act, ActResult, act_result, after_reading}
 use Rattle.ob0_world_rules.specs.Serving.{Replies}
 
 -- an event: the editor acts, or the server or the editor takes a message
 pub data Event : Type 0 where
   -- the editor acts
-  does : Act → Event
+  editor_acts : Act → Event
   -- the server takes the first message that waits for it, and sends its replies
   serve : Event
   -- the editor takes the first message that waits for it
@@ -29,7 +29,7 @@ abbrev pub ServerTakes : ClientAndServer → List MessageToServer → ClientAndS
 ServerTakes w [] new = new ≡ w
 ServerTakes w (message ∷ rest) new =
     (said : List MessageToEditor)
-    × (made : List Made)
+    × (made : List PublicationWithText)
     × Replies w.held message said made
     × (new
     ≡ record w {
@@ -44,11 +44,11 @@ ServerTakes w (message ∷ rest) new =
 abbrev pub after_editor_takes : ClientAndServer → List MessageToEditor → ClientAndServer
 after_editor_takes w [] = w
 after_editor_takes w (message ∷ rest) =
-    record w { editor = reads w.editor message; to_editor = rest }
+    record w { editor = after_reading w.editor message; to_editor = rest }
 
 -- states that this event leads from `w` to `new`
 abbrev pub Happens : ClientAndServer → Event → ClientAndServer → Type 0
-Happens w (does act) new = new ≡ after_act w (act_result w.editor act)
+Happens w (editor_acts act) new = new ≡ after_act w (act_result w.editor act)
 Happens w serve new = ServerTakes w w.to_server new
 Happens w take_message new = new ≡ after_editor_takes w w.to_editor
 

@@ -5,7 +5,7 @@ use Rattle.std.specs.Str.{bytes_eq}
 use Rattle.ob0_text.specs.declared.position_types.Unit.{Unit}
 use Rattle.ob0_world_rules.specs.Language.{WellTypedText, SameRun}
 use Rattle.ob0_world_rules.specs.Answers.{IsEmptyIfWellTyped}
-use Rattle.ob0_world_rules.specs.ClientAndServer.{OpenDocument, Editor, open_at, Applied, Made, ClientAndServer, start}
+use Rattle.ob0_world_rules.specs.ClientAndServer.{OpenDocument, Editor, open_at, Applied, PublicationWithText, ClientAndServer, start}
 use Rattle.ob0_world_rules.specs.Happens.{Event, Course}
 use Rattle.ob0_world_rules.specs.PublicationsInOrder.{AreMadeInOrder}
 
@@ -14,25 +14,25 @@ use Rattle.ob0_world_rules.specs.PublicationsInOrder.{AreMadeInOrder}
 -- states that the texts before and after the edit are well-typed modules with the same run: the
 -- same output and the same end
 pub record KeepsTheRun (a : Applied) : Type 0 where
-  pub before_fits : WellTypedText a.before
-  pub after_fits : WellTypedText a.after
+  pub before_is_well_typed : WellTypedText a.before
+  pub after_is_well_typed : WellTypedText a.after
   pub same : SameRun a.before a.after
 
 -- ---- a publication with a version
 
 -- states that the list of diagnostics is empty exactly when the text that it was made for is a
 -- well-typed module
-abbrev pub IsCorrectPublication : Made → Type 0
-IsCorrectPublication m = IsEmptyIfWellTyped m.text m.empty
+abbrev pub IsCorrectPublication : PublicationWithText → Type 0
+IsCorrectPublication m = IsEmptyIfWellTyped m.text m.no_diagnostics
 
 -- returns the last publication with a version for the document with this uri; None if there is none
-abbrev pub last_publication : List ℕ → List Made → Option Made
+abbrev pub last_publication : List ℕ → List PublicationWithText → Option PublicationWithText
 last_publication uri made =
     fold (λ last m. if bytes_eq m.uri uri then Some m else last) None made
 
 -- States that each open document has a publication, and that its last publication was made for the
 -- document's present version and text.
-abbrev pub AreUpToDate : Editor → List Made → Type 0
+abbrev pub AreUpToDate : Editor → List PublicationWithText → Type 0
 AreUpToDate e made =
     (uri : List ℕ) (d : OpenDocument)
     → open_at e uri ≡ Some d
@@ -54,13 +54,13 @@ pub record Holds (w : ClientAndServer) : Type 0 where
 -- States that a list of events, from the start, leads to exactly one state. This state has these
 -- applied edits and these publications, in this order. The guarantees (`Holds`) hold in this state.
 pub record Headline (unit : Unit) (events : List Event) (applied : List Applied)
-    (made : List Made) : Type 0 where
+    (made : List PublicationWithText) : Type 0 where
   pub end : ClientAndServer
   -- the events lead to this end, and to no other
   pub course : Course (start unit) events end
   pub only : (other : ClientAndServer) → Course (start unit) events other → other ≡ end
-  pub applied_are : applied ≡ end.applied
-  pub made_are : made ≡ end.made
+  pub applied_at_end : applied ≡ end.applied
+  pub made_at_end : made ≡ end.made
   pub holds : Holds end
   -- the n-th publication was made for the n-th document that the editor announced
-  pub publication_in_message : AreMadeInOrder unit events made
+  pub made_in_order : AreMadeInOrder unit events made

@@ -5,7 +5,7 @@ use Rattle.std.specs.List.{flat_map}
 use Rattle.std.specs.Str.{IsUtf8}
 use Rattle.ob0_scan.specs.declared.lexeme.LexemeKind.{LexemeKind}
 use Rattle.ob0_scan.specs.declared.lexeme.LexemeKind.TheVariants as lexeme
-use Rattle.ob0_scan.specs.Lexed.{Lexeme, Lexed}
+use Rattle.ob0_scan.specs.Lexed.{Lexeme, LexesInto}
 use Rattle.ob0_scan.specs.TextWithTokens.{max_text}
 use Rattle.ob0_tree.specs.Lexeme.{Terminal, terminal_of_kind}
 use Rattle.ob0_tree.specs.Module.{max_nesting}
@@ -27,7 +27,7 @@ terminals (lexeme.Token kind) text = terminal_of_kind text kind ∷ []
 pub record IsModuleText (tree : Tree Name module_text) (bytes : List ℕ) : Type 0 where
   pub utf8 : IsUtf8 bytes
   pub lexemes : List Lexeme
-  pub lexed : Lexed bytes lexemes
+  pub lexed : LexesInto bytes lexemes
   pub spelled : flat_map (λ l. terminals l.kind l.text) lexemes ≡ spell tree
   pub short : length bytes ≤ max_text
   pub shallow : nesting tree ≤ max_nesting

@@ -7,12 +7,12 @@ use Rattle.ob0_tree.specs.Tree.{Tree, module_text}
 use Rattle.ob0_language_names.specs.Names.{Name}
 use Rattle.ob0_edits.specs.Diagnosed.{IsTextOf}
 use Rattle.ob0_world_rules.specs.Language.{IsModuleText, WellTypedText, SameRun}
-use Rattle.ob0_world_rules.specs.Edited.{Replacement, replacements, edited}
+use Rattle.ob0_world_rules.specs.Edited.{Replacement, replacements, text_after_edits}
 use Rattle.ob0_world_rules.specs.Asks.{Ask}
 use Rattle.ob0_world_rules.specs.Answers.{GivesEdits, IsAnswerForText}
 use Rattle.ob0_world_rules.specs.ClientAndServer.{ClientAndServer, start}
 use Rattle.ob0_world_rules.specs.EditorActs.{open_document, change_document, close_document, ask_about, apply, discard}
-use Rattle.ob0_world_rules.specs.Happens.{Event, does, serve, take_message, Course, Happens}
+use Rattle.ob0_world_rules.specs.Happens.{Event, editor_acts, serve, take_message, Course, Happens}
 use Rattle.ob0_world_rules.specs.Headline.{Holds}
 use Rattle.ob0_world_rules.specs.Mirror.{Mirrors}
 
@@ -30,10 +30,10 @@ ReadingsAgree =
 -- states that these edits, with positions in this unit, turn this well-typed text into a well-typed
 -- module with the same run
 pub record EditsPreserveRun (unit : Unit) (text : List ℕ) (edits : List Replacement) : Type 0 where
-  pub before_fits : WellTypedText text
+  pub before_is_well_typed : WellTypedText text
   pub after : List ℕ
-  pub makes : edited unit text edits ≡ Some after
-  pub after_fits : WellTypedText after
+  pub makes : text_after_edits unit text edits ≡ Some after
+  pub after_is_well_typed : WellTypedText after
   pub same : SameRun text after
 
 -- states that the edits that answer an ask turn a well-typed module into a well-typed module with
@@ -79,12 +79,12 @@ HasAnswers ask =
 
 -- states that the event isn't an ask, or is an ask that has answers
 abbrev pub IsAnswerable : Event → Type 0
-IsAnswerable (does (open_document uri text)) = ⊤
-IsAnswerable (does (change_document uri how)) = ⊤
-IsAnswerable (does (close_document uri)) = ⊤
-IsAnswerable (does (ask_about uri ask)) = HasAnswers ask
-IsAnswerable (does (apply k)) = ⊤
-IsAnswerable (does (discard k)) = ⊤
+IsAnswerable (editor_acts (open_document uri text)) = ⊤
+IsAnswerable (editor_acts (change_document uri how)) = ⊤
+IsAnswerable (editor_acts (close_document uri)) = ⊤
+IsAnswerable (editor_acts (ask_about uri ask)) = HasAnswers ask
+IsAnswerable (editor_acts (apply k)) = ⊤
+IsAnswerable (editor_acts (discard k)) = ⊤
 IsAnswerable serve = ⊤
 IsAnswerable take_message = ⊤
 

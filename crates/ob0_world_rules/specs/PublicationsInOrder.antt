@@ -5,9 +5,9 @@ use Rattle.std.specs.Prelude.{◌≡◌, ⊤, ℕ, ℤ, List, [], ◌∷◌, ◌
 use Rattle.std.specs.List.{flat_map}
 use Rattle.ob0_text.specs.declared.position_types.Unit.{Unit}
 use Rattle.ob0_text.specs.OpenDocuments.{Opened, Changed, Lost, Closed}
-use Rattle.ob0_world_rules.specs.ClientAndServer.{OpenDocument, Editor, open_at, MessageToServer, notifies, requests, Made, ClientAndServer, start}
+use Rattle.ob0_world_rules.specs.ClientAndServer.{OpenDocument, Editor, open_at, MessageToServer, notifies, requests, PublicationWithText, ClientAndServer, start}
 use Rattle.ob0_world_rules.specs.EditorActs.{ActResult, act_result}
-use Rattle.ob0_world_rules.specs.Happens.{Event, does, serve, take_message, Happens, Course}
+use Rattle.ob0_world_rules.specs.Happens.{Event, editor_acts, serve, take_message, Happens, Course}
 
 -- ---- the documents that the editor announced
 
@@ -17,29 +17,29 @@ pub record AnnouncedDocument : Type 0 where
   pub document : OpenDocument
 
 -- returns a list of this one document, with its uri, or an empty list for None
-abbrev pub announced_if_open : List ℕ → Option OpenDocument → List AnnouncedDocument
-announced_if_open uri (Some d) = record { uri = uri; document = d } ∷ []
-announced_if_open uri None = []
+abbrev pub document_if_open : List ℕ → Option OpenDocument → List AnnouncedDocument
+document_if_open uri (Some d) = record { uri = uri; document = d } ∷ []
+document_if_open uri None = []
 
 -- returns a list of the one document of the editor that the message opens or changes, or an empty
 -- list if there is none
-abbrev pub announced_by : Editor → MessageToServer → List AnnouncedDocument
-announced_by e (notifies (Opened uri version text)) = announced_if_open uri (open_at e uri)
-announced_by e (notifies (Changed uri version how)) = announced_if_open uri (open_at e uri)
-announced_by e (notifies (Lost uri)) = []
-announced_by e (notifies (Closed uri)) = []
-announced_by e (requests number uri ask) = []
+abbrev pub documents_announced_by : Editor → MessageToServer → List AnnouncedDocument
+documents_announced_by e (notifies (Opened uri version text)) = document_if_open uri (open_at e uri)
+documents_announced_by e (notifies (Changed uri version how)) = document_if_open uri (open_at e uri)
+documents_announced_by e (notifies (Lost uri)) = []
+documents_announced_by e (notifies (Closed uri)) = []
+documents_announced_by e (requests number uri ask) = []
 
 -- returns the editor's documents that these messages open or change, in order
-abbrev pub announced_in : Editor → List MessageToServer → List AnnouncedDocument
-announced_in e messages = flat_map (announced_by e) messages
+abbrev pub documents_announced_in : Editor → List MessageToServer → List AnnouncedDocument
+documents_announced_in e messages = flat_map (documents_announced_by e) messages
 
 -- returns the documents that the editor announces by this event; only an act announces documents
-abbrev pub announced_at_event : ClientAndServer → Event → List AnnouncedDocument
-announced_at_event w (does act) =
-    let done : ActResult = act_result w.editor act in announced_in done.editor done.sent
-announced_at_event w serve = []
-announced_at_event w take_message = []
+abbrev pub documents_announced_at : ClientAndServer → Event → List AnnouncedDocument
+documents_announced_at w (editor_acts act) =
+    let done : ActResult = act_result w.editor act in documents_announced_in done.editor done.sent
+documents_announced_at w serve = []
+documents_announced_at w take_message = []
 
 -- states that the editor announces exactly these documents, in this order, in the course of these
 -- events
@@ -50,17 +50,17 @@ AreAnnounced w (event ∷ events) announced =
     × (later : List AnnouncedDocument)
     × Happens w event between
     × AreAnnounced between events later
-    × (announced ≡ announced_at_event w event ++ later)
+    × (announced ≡ documents_announced_at w event ++ later)
 
 -- ---- publications for the announced documents
 
 -- states that the publication has the uri, the version and the text of this document
-abbrev pub IsMadeForDocument : Made → AnnouncedDocument → Type 0
+abbrev pub IsMadeForDocument : PublicationWithText → AnnouncedDocument → Type 0
 IsMadeForDocument m t = (m.uri ≡ t.uri) × (m.version ≡ t.document.version) × (m.text ≡ t.document.text)
 
 -- states that there are as many publications as documents, and that the n-th publication is made
 -- for the n-th document
-abbrev pub AreMadeForDocuments : List Made → List AnnouncedDocument → Type 0
+abbrev pub AreMadeForDocuments : List PublicationWithText → List AnnouncedDocument → Type 0
 AreMadeForDocuments [] [] = ⊤
 AreMadeForDocuments (m ∷ made) (t ∷ announced) = IsMadeForDocument m t × AreMadeForDocuments made announced
 AreMadeForDocuments [] (t ∷ announced) = ⊥
@@ -86,11 +86,11 @@ versioned_uri t = (t.uri, t.document.version)
 
 -- States that the publications were made for the first documents that the editor announced, one for
 -- each, in order. The messages that still wait for the server announce the other documents.
-pub record AreMadeInOrder (unit : Unit) (events : List Event) (made : List Made) : Type 0 where
+pub record AreMadeInOrder (unit : Unit) (events : List Event) (made : List PublicationWithText) : Type 0 where
   pub announced : List AnnouncedDocument
   pub waiting : List AnnouncedDocument
   pub all : AreAnnounced (start unit) events (announced ++ waiting)
-  pub made_of : AreMadeForDocuments made announced
+  pub are_made_for_documents : AreMadeForDocuments made announced
   pub still_wait : (end : ClientAndServer)
       → Course (start unit) events end
       → map versioned_uri waiting ≡ versions_announced_in end.to_server

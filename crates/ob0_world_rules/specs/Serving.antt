@@ -4,15 +4,15 @@ use Rattle.std.specs.Prelude.{◌≡◌, ℕ, List, [], ◌∷◌, Bool, true, O
 use Rattle.ob0_text.specs.OpenDocuments.{OpenDocuments, Document, InStep, OutOfStep, DocumentEvent, Opened, Changed, Lost, Closed, document_at, after_event}
 use Rattle.ob0_world_rules.specs.Edited.{Replacement}
 use Rattle.ob0_world_rules.specs.Answers.{IsAnswer, IsEmptyIfWellTyped}
-use Rattle.ob0_world_rules.specs.ClientAndServer.{MessageToServer, notifies, requests, MessageToEditor, publishes, answers, Made}
+use Rattle.ob0_world_rules.specs.ClientAndServer.{MessageToServer, notifies, requests, MessageToEditor, publishes, answers, PublicationWithText}
 
 -- States that the server sends diagnostics, with the version, for a document in step, and sends
 -- nothing for any other document. `made` has the same publication, with the text for which the
 -- diagnostics were made.
-abbrev pub Publishes : List ℕ → Option Document → List MessageToEditor → List Made → Type 0
+abbrev pub Publishes : List ℕ → Option Document → List MessageToEditor → List PublicationWithText → Type 0
 Publishes uri (Some (InStep version text)) sent made =
     (empty : Bool) × IsEmptyIfWellTyped text empty × (sent ≡ publishes uri (Some version) empty ∷ [])
-    × (made ≡ record { uri = uri; version = version; text = text; empty = empty } ∷ [])
+    × (made ≡ record { uri = uri; version = version; text = text; no_diagnostics = empty } ∷ [])
 Publishes uri (Some OutOfStep) sent made = (sent ≡ []) × (made ≡ [])
 Publishes uri None sent made = (sent ≡ []) × (made ≡ [])
 
@@ -22,7 +22,7 @@ Publishes uri None sent made = (sent ≡ []) × (made ≡ [])
 abbrev pub RepliesToNotification : OpenDocuments
     → DocumentEvent
     → List MessageToEditor
-    → List Made
+    → List PublicationWithText
     → Type 0
 RepliesToNotification held (Opened uri version text) sent made =
     Publishes uri (document_at (after_event held (Opened uri version text)) uri) sent made
@@ -35,7 +35,7 @@ RepliesToNotification held (Closed uri) sent made =
 
 -- states that the server replies to a message with these messages, and that `made` are the
 -- publications with a version among them; `held` are the server's documents before the message
-abbrev pub Replies : OpenDocuments → MessageToServer → List MessageToEditor → List Made → Type 0
+abbrev pub Replies : OpenDocuments → MessageToServer → List MessageToEditor → List PublicationWithText → Type 0
 Replies held (notifies note) sent made = RepliesToNotification held note sent made
 Replies held (requests number uri ask) sent made =
     (edits : List Replacement)

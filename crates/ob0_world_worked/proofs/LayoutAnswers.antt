@@ -4,7 +4,7 @@ use Rattle.std.specs.Prelude.{nat_lt}
 use Rattle.std.specs.Str.{IsUtf8, chars}
 use Rattle.std.proofs.lemmas.Bool.{ltb-false, ltb-true}
 use Rattle.std.proofs.lemmas.Str.{chars_from_encodes, encodes-chars}
-use Rattle.ob0_scan.specs.Lexed.{Lexed, Lexeme}
+use Rattle.ob0_scan.specs.Lexed.{LexesInto, Lexeme}
 use Rattle.ob0_scan.specs.TextWithTokens.{IsScan, TextWithTokens, comments_from, max_text, tokens_from}
 use Rattle.ob0_text.specs.declared.edits.Edit.{Edit}
 use Rattle.ob0_text.specs.declared.edits.Indent.{Indent}
@@ -28,7 +28,7 @@ ModuleStays =
     → (t : TextWithTokens) → IsScan t → t.text ≡ layout indent tree scan.lexemes → ModuleOf t tree
 
 abbrev pub LexemesStay : Type 0
-LexemesStay = (indent : Indent) (s : TextWithTokens) (scan : IsScan s) (tree : Tree (List ℕ) module_text) → ModuleOf s tree → Lexed (layout indent tree scan.lexemes) (formatted_lexemes indent tree scan.lexemes)
+LexemesStay = (indent : Indent) (s : TextWithTokens) (scan : IsScan s) (tree : Tree (List ℕ) module_text) → ModuleOf s tree → LexesInto (layout indent tree scan.lexemes) (formatted_lexemes indent tree scan.lexemes)
 
 abbrev pub LayoutIsUtf8 : Type 0
 LayoutIsUtf8 = (indent : Indent) (s : TextWithTokens) (scan : IsScan s) (tree : Tree (List ℕ) module_text) → IsUtf8 (layout indent tree scan.lexemes)

@@ -13,7 +13,7 @@ use Rattle.ob0_scan.specs.declared.lexeme.LexemeKind.{LexemeKind}
 use Rattle.ob0_scan.specs.declared.lexeme.LexemeKind.TheVariants as lexeme
 use Rattle.ob0_scan.specs.Classes.{IsLexemeOfKind, IsIdentifier, decimal_value, is_space, reserved_text, symbol_text}
 use Rattle.ob0_scan.specs.Ends.{EachEndsBeforeNext, continues_lexeme}
-use Rattle.ob0_scan.specs.Lexed.{Lexed, Lexeme, joined}
+use Rattle.ob0_scan.specs.Lexed.{LexesInto, Lexeme, text_of_lexemes}
 use Rattle.ob0_scan.proofs.Borders.{cut_depends_on_next_bytes}
 
 abbrev pub all_reserved : List ReservedWord
@@ -95,18 +95,18 @@ belongs_so (lexeme.Token (token.Symbol s)) text h = (bytes_eq-Decides text (symb
 
 abbrev pub are_disjoint : List Lexeme → Bool
 are_disjoint [] = true
-are_disjoint (l ∷ lexemes) = (belongs_test l.kind l.text && not (continues_lexeme l.kind (slice_index (joined lexemes) 0))) && are_disjoint lexemes
+are_disjoint (l ∷ lexemes) = (belongs_test l.kind l.text && not (continues_lexeme l.kind (slice_index (text_of_lexemes lexemes) 0))) && are_disjoint lexemes
 
 apart_so : (lexemes : List Lexeme) → are_disjoint lexemes ≡ true → EachEndsBeforeNext lexemes
 apart_so [] h = tt
 apart_so (l ∷ lexemes) h =
-    let a = and_parts (belongs_test l.kind l.text && not (continues_lexeme l.kind (slice_index (joined lexemes) 0))) (are_disjoint lexemes) h in
-    let b = and_parts (belongs_test l.kind l.text) (not (continues_lexeme l.kind (slice_index (joined lexemes) 0))) a.0 in
-    (record { belongs = belongs_so l.kind l.text b.0; ends = off (continues_lexeme l.kind (slice_index (joined lexemes) 0)) b.1 }, apart_so lexemes a.1)
+    let a = and_parts (belongs_test l.kind l.text && not (continues_lexeme l.kind (slice_index (text_of_lexemes lexemes) 0))) (are_disjoint lexemes) h in
+    let b = and_parts (belongs_test l.kind l.text) (not (continues_lexeme l.kind (slice_index (text_of_lexemes lexemes) 0))) a.0 in
+    (record { belongs = belongs_so l.kind l.text b.0; ends = off (continues_lexeme l.kind (slice_index (text_of_lexemes lexemes) 0)) b.1 }, apart_so lexemes a.1)
   where
     off : (v : Bool) → not v ≡ true → v ≡ false
     off true e = absurd (cc)
     off false e = refl
 
-pub lexed_so : (text : List ℕ) (lexemes : List Lexeme) → joined lexemes ≡ text → are_disjoint lexemes ≡ true → Lexed text lexemes
+pub lexed_so : (text : List ℕ) (lexemes : List Lexeme) → text_of_lexemes lexemes ≡ text → are_disjoint lexemes ≡ true → LexesInto text lexemes
 lexed_so text lexemes whole apart = (cut_depends_on_next_bytes text lexemes).1 (whole, apart_so lexemes apart)

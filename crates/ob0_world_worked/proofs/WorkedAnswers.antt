@@ -20,33 +20,33 @@ use Rattle.ob0_language_values.specs.declared.scalar.Scalar.{Scalar}
 use Rattle.ob0_language_values.specs.declared.scalar.Scalar.TheVariants as scalar
 use Rattle.ob0_language_values.specs.Scalars.{scalar_value}
 use Rattle.ob0_types.specs.CheckedModules.{IsWellTyped}
-use Rattle.ob0_analysis.specs.Analysed.{IsModuleIn}
+use Rattle.ob0_analysis.specs.Analysed.{IsResolvedWellTypedModule}
 use Rattle.ob0_analysis.specs.Diagnosed.{IsTextOf}
 use Rattle.ob0_analysis.specs.Texts.{utf8}
 use Rattle.ob0_analysis.proofs.Scanning.{is_module, utf8_of}
 use Rattle.ob0_edits_tokens.specs.Ranges.{range_of}
 use Rattle.ob0_edits_tokens.specs.Removed.{span_of_tokens, text_after_removal}
-use Rattle.ob0_edits_tokens.specs.Replaced.{edit_at, parts, text_after_replacement}
-use Rattle.ob0_rename.specs.Answers.{IsRenameRefusal, Renames}
-use Rattle.ob0_rename.specs.Renaming.{TargetsDeclaration, Renaming, identifier_meaning_at, renaming_of}
+use Rattle.ob0_edits_tokens.specs.Replaced.{edit_at, range_and_text, text_after_replacement}
+use Rattle.ob0_rename.specs.Answers.{IsRenameRefusal, RenamesDeclaration}
+use Rattle.ob0_rename.specs.Renaming.{TargetsDeclaration, Renaming, rename_target_at, renaming_of}
 use Rattle.ob0_inline.specs.declared.uses.ConstantUse.{ConstantUse}
 use Rattle.ob0_inline.specs.declared.constants.NamedConstant.{NamedConstant}
 use Rattle.ob0_inline.specs.Everywhere.{IsConstant, IsConstantAt, tree_inlined_everywhere}
-use Rattle.ob0_inline.specs.Inlined.{LeavesModule}
+use Rattle.ob0_inline.specs.Inlined.{EditsGiveModule}
 use Rattle.ob0_inline.specs.Uses.{IsUse, IsUseAt, tree_inlined_here}
 use Rattle.ob0_inline.specs.Values.{value_text}
 use Rattle.ob0_inline.proofs.AtUses as at_uses
 use Rattle.ob0_inline.proofs.AtConstants as at_constants
 use Rattle.ob0_edits.specs.declared.inlinings.Inlining.{Inlining}
-use Rattle.ob0_edits.specs.declared.inlinings.Inlining.TheVariants.{Here, Everywhere}
+use Rattle.ob0_edits.specs.declared.inlinings.Inlining.TheVariants.{OneUse, Everywhere}
 use Rattle.ob0_edits.specs.Inlinings.{IsInlineResult, InlinesIn}
-use Rattle.ob0_edits.specs.Renamings.{IsRefusedIn, RenamesIn}
+use Rattle.ob0_edits.specs.Renamings.{IsRenameRefusedIn, RenamesIn}
 use Rattle.ob0_edits.proofs.Renamings.{new_name_found}
 use Rattle.ob0_world_rules.specs.Asks.{Ask, rename, inline_here, inline_all}
 use Rattle.ob0_world_rules.specs.Answers.{IsAnswerForText}
 use Rattle.ob0_world_rules.specs.Edited.{Replacement}
 use Rattle.ob0_world_rules.specs.Laws.{AnswersAreUnique}
-use Rattle.ob0_world_worked.specs.WorkedText.{at, worked_text}
+use Rattle.ob0_world_worked.specs.WorkedText.{line_position, worked_text}
 use Rattle.ob0_world_worked.specs.WorkedAnswers.{CaptureIsRefused, RenameIsAnswered, InliningIsAnswered, InliningEverywhereIsAnswered, IsAnsweredBy, range_on_line, replacement_on_line}
 use Rattle.ob0_world_worked.proofs.WorkedValues.{vec_of}
 use Rattle.ob0_world_worked.proofs.LexemeTests.{identifier_of}
@@ -62,14 +62,14 @@ worked_well = record { resolved = worked_resolved; well_typed = worked_fits }
 worked_scan_of : IsScanOf worked_text (scanned_of worked_lexemes)
 worked_scan_of = record { of = refl; scan = worked_scan }
 
-pub worked_in : IsModuleIn worked_text worked_names
+pub worked_in : IsResolvedWellTypedModule worked_text worked_names
 worked_in = record { scan = worked_scan_of; well_typed = worked_well }
 
 worked_bytes : worked_text ≡ utf8 worked_text
 worked_bytes = sym (bytes_so worked_text refl)
 
-pub worked_in_bytes : IsModuleIn (utf8 worked_text) worked_names
-worked_in_bytes = subst (λ (t : List ℕ). IsModuleIn t worked_names) worked_bytes worked_in
+pub worked_in_bytes : IsResolvedWellTypedModule (utf8 worked_text) worked_names
+worked_in_bytes = subst (λ (t : List ℕ). IsResolvedWellTypedModule t worked_names) worked_bytes worked_in
 
 answered_by : AnswersAreUnique → (ask : Ask) (edits : List Replacement) → IsAnswerForText Utf16 worked_text ask edits → IsAnsweredBy ask edits
 answered_by one ask edits exists given = (λ h. one Utf16 worked_text ask given edits h exists, λ e. subst (IsAnswerForText Utf16 worked_text ask) (sym e) exists)
@@ -86,12 +86,12 @@ nothing_is = sym (chars_so [] refl)
 -- ---- the rename
 
 renaming : List ℕ → Renaming
-renaming new = renaming_of Utf16 worked_text worked_names (at 4 2) new
+renaming new = renaming_of Utf16 worked_text worked_names (line_position 4 2) new
 
-names_x : (new : List ℕ) → TargetsDeclaration (renaming_of Utf16 worked_text worked_names (at 4 2) new) 8
-names_x new = ap (identifier_meaning_at worked_names) x_is_at ∙ refl
+names_x : (new : List ℕ) → TargetsDeclaration (renaming_of Utf16 worked_text worked_names (line_position 4 2) new) 8
+names_x new = ap (rename_target_at worked_names) x_is_at ∙ refl
 
-renames_x : FreeRenamingKeepsTypingAndRuns → Renames (renaming_of Utf16 worked_text worked_names (at 4 2) (codes "y")) 8 renames
+renames_x : FreeRenamingKeepsTypingAndRuns → RenamesDeclaration (renaming_of Utf16 worked_text worked_names (line_position 4 2) (codes "y")) 8 renames
 renames_x keeps =
     let kept = keeps (named_tree_of worked_module) 8 (codes "y") (refl, refl) worked_fits in
     record {
@@ -109,28 +109,28 @@ renames_x keeps =
       };
     }
 
-pub renames_in : FreeRenamingKeepsTypingAndRuns → RenamesIn Utf16 worked_text (at 4 2) (codes "y") renames
+pub renames_in : FreeRenamingKeepsTypingAndRuns → RenamesIn Utf16 worked_text (line_position 4 2) (codes "y") renames
 renames_in keeps =
-    new_name_found Utf16 worked_text worked_text (at 4 2) (codes "y") (Some (Ok (vec_of renames (omega (arith))))) (utf8_so worked_text refl) (chars_so worked_text refl)
+    new_name_found Utf16 worked_text worked_text (line_position 4 2) (codes "y") (Some (Ok (vec_of renames (omega (arith))))) (utf8_so worked_text refl) (chars_so worked_text refl)
     (worked_names, worked_in, inl (8, names_x (codes "y"), renames_x keeps))
 
 pub rename_is_answered : FreeRenamingKeepsTypingAndRuns → AnswersAreUnique → RenameIsAnswered
 rename_is_answered keeps one =
-    answered_by one (rename (at 4 2) (codes "y")) (replacement_on_line 4 2 3 (codes "y") ∷ replacement_on_line 6 2 3 (codes "y") ∷ replacement_on_line 7 8 9 (codes "y") ∷ [])
+    answered_by one (rename (line_position 4 2) (codes "y")) (replacement_on_line 4 2 3 (codes "y") ∷ replacement_on_line 6 2 3 (codes "y") ∷ replacement_on_line 7 8 9 (codes "y") ∷ [])
     (inl (renames, renames_in keeps, ap (λ t. replacement_on_line 4 2 3 t ∷ replacement_on_line 6 2 3 t ∷ replacement_on_line 7 8 9 t ∷ []) y_is))
 
-refused : IsRenameRefusal (renaming_of Utf16 worked_text worked_names (at 4 2) (codes "Write")) (Captures (range_on_line 7 2 7))
+refused : IsRenameRefusal (renaming_of Utf16 worked_text worked_names (line_position 4 2) (codes "Write")) (Captures (range_on_line 7 2 7))
 refused = inl (8, names_x (codes "Write"), (identifier_of (codes "Write") refl, (3, refl, ap Some write_is_at)))
 
-pub refused_in : IsRefusedIn Utf16 worked_text (at 4 2) (codes "Write") (Captures (range_on_line 7 2 7))
+pub refused_in : IsRenameRefusedIn Utf16 worked_text (line_position 4 2) (codes "Write") (Captures (range_on_line 7 2 7))
 refused_in =
-    new_name_found Utf16 worked_text worked_text (at 4 2) (codes "Write") (Some (Err (Captures (range_on_line 7 2 7)))) (utf8_so worked_text refl) (chars_so worked_text refl)
+    new_name_found Utf16 worked_text worked_text (line_position 4 2) (codes "Write") (Some (Err (Captures (range_on_line 7 2 7)))) (utf8_so worked_text refl) (chars_so worked_text refl)
     (worked_names, worked_in, refused)
 
 pub capture_is_refused : AnswersAreUnique → CaptureIsRefused
 capture_is_refused one = record {
   refused = refused_in;
-  no_edits = answered_by one (rename (at 4 2) (codes "Write")) [] (inr (inl (Captures (range_on_line 7 2 7), refused_in), refl));
+  no_edits = answered_by one (rename (line_position 4 2) (codes "Write")) [] (inr (inl (Captures (range_on_line 7 2 7), refused_in), refl));
 }
 
 -- ---- inlining
@@ -158,7 +158,7 @@ use_so : IsUse worked_module the_use
 use_so = record { occurs = refl; bound = refl; has_value = has_two }
 
 -- edits that leave the text of a module with the same runs
-inlines_in : (how : Inlining) (offset : ℕ) (edits : Vec Edit Global) (t : Tree Name module_text) → LeavesModule Utf16 worked_text edits.items t → WellTyped t → HaveSameRuns t (named_tree_of worked_module)
+inlines_in : (how : Inlining) (offset : ℕ) (edits : Vec Edit Global) (t : Tree Name module_text) → EditsGiveModule Utf16 worked_text edits.items t → WellTyped t → HaveSameRuns t (named_tree_of worked_module)
     → IsInlineResult how Utf16 worked_text worked_module offset (Some edits) → InlinesIn how Utf16 worked_text offset edits
 inlines_in how offset edits t leaves well same inlines =
     let after : List ℕ = chars leaves.after.text in
@@ -176,7 +176,7 @@ inlines_in how offset edits t leaves well same inlines =
 
 here_made : at_uses.Made worked_names the_use Utf16 worked_text (puts_two ∷ [])
 here_made = record {
-  edits_are = subst (λ (t : List ℕ). map parts (puts_two ∷ []) ≡ edit_at Utf16 worked_text (scanned_of worked_lexemes).tokens t 16 ∷ []) text_of_two (ap (λ p. p ∷ []) inlines_parts);
+  edits_are = subst (λ (t : List ℕ). map range_and_text (puts_two ∷ []) ≡ edit_at Utf16 worked_text (scanned_of worked_lexemes).tokens t 16 ∷ []) text_of_two (ap (λ p. p ∷ []) inlines_parts);
   make_text = record {
     leaves = λ alone. record {
       after = scanned_of inlined_lexemes;
@@ -191,17 +191,17 @@ here_made = record {
 one_edit : Vec Edit Global
 one_edit = vec_of (puts_two ∷ []) (omega (arith))
 
-pub inlines_here_in : ConstantUsesAreFactors → InliningKeepsTypingAndRuns → InlinesIn Here Utf16 worked_text 56 (vec_of (puts_two ∷ []) (omega (arith)))
+pub inlines_here_in : ConstantUsesAreFactors → InliningKeepsTypingAndRuns → InlinesIn OneUse Utf16 worked_text 56 (vec_of (puts_two ∷ []) (omega (arith)))
 inlines_here_in alone keeps =
     let answer = at_uses.answer_ok worked_names worked_well the_use use_so alone two_fits keeps Utf16 worked_text (puts_two ∷ []) here_made refl in
-    inlines_in Here 56 (vec_of (puts_two ∷ []) (omega (arith))) (tree_inlined_here worked_module the_use) answer.1.leaves answer.1.well_typed answer.1.same_runs (inl (the_use, use_at, answer))
+    inlines_in OneUse 56 (vec_of (puts_two ∷ []) (omega (arith))) (tree_inlined_here worked_module the_use) answer.1.leaves answer.1.well_typed answer.1.same_runs (inl (the_use, use_at, answer))
 
 pub inlining_is_answered : ConstantUsesAreFactors → InliningKeepsTypingAndRuns → AnswersAreUnique → InliningIsAnswered
 inlining_is_answered alone keeps one =
-    answered_by one (inline_here (at 6 7)) (replacement_on_line 6 7 8 (codes "2") ∷ [])
+    answered_by one (inline_here (line_position 6 7)) (replacement_on_line 6 7 8 (codes "2") ∷ [])
     (inl (
       puts_two ∷ [],
-      (vec_of (puts_two ∷ []) (omega (arith)), subst (λ n. InlinesIn Here Utf16 worked_text n (vec_of (puts_two ∷ []) (omega (arith)))) (sym n_is_at) (inlines_here_in alone keeps), refl),
+      (vec_of (puts_two ∷ []) (omega (arith)), subst (λ n. InlinesIn OneUse Utf16 worked_text n (vec_of (puts_two ∷ []) (omega (arith)))) (sym n_is_at) (inlines_here_in alone keeps), refl),
       ap (λ t. replacement_on_line 6 7 8 t ∷ []) two_is,
     ))
 
@@ -217,7 +217,7 @@ constant_at = record { token = 16; named = refl; is_constant = constant_so }
 everywhere_made : at_constants.Made worked_names the_constant Utf16 worked_text (takes_out ∷ puts_two ∷ [])
 everywhere_made = record {
   edits_are =
-      subst (λ (t : List ℕ). map parts (takes_out ∷ puts_two ∷ []) ≡ (range_of (width_of Utf16) worked_text (span_of_tokens (scanned_of worked_lexemes).tokens 4 7), []) ∷ edit_at Utf16 worked_text (scanned_of worked_lexemes).tokens t 16 ∷ []) text_of_two
+      subst (λ (t : List ℕ). map range_and_text (takes_out ∷ puts_two ∷ []) ≡ (range_of (width_of Utf16) worked_text (span_of_tokens (scanned_of worked_lexemes).tokens 4 7), []) ∷ edit_at Utf16 worked_text (scanned_of worked_lexemes).tokens t 16 ∷ []) text_of_two
       (λ i. declaration_parts i ∷ inlines_parts i ∷ []);
   make_text = record {
     leaves = λ alone. record {
@@ -238,7 +238,7 @@ inlines_everywhere_in alone keeps =
 
 pub inlining_everywhere_is_answered : ConstantUsesAreFactors → InliningEverywhereKeepsTypingAndRuns → AnswersAreUnique → InliningEverywhereIsAnswered
 inlining_everywhere_is_answered alone keeps one =
-    answered_by one (inline_all (at 6 7)) (replacement_on_line 2 2 8 [] ∷ replacement_on_line 6 7 8 (codes "2") ∷ [])
+    answered_by one (inline_all (line_position 6 7)) (replacement_on_line 2 2 8 [] ∷ replacement_on_line 6 7 8 (codes "2") ∷ [])
     (inl (
       takes_out ∷ puts_two ∷ [],
       (vec_of (takes_out ∷ puts_two ∷ []) (omega (arith)), subst (λ n. InlinesIn Everywhere Utf16 worked_text n (vec_of (takes_out ∷ puts_two ∷ []) (omega (arith)))) (sym n_is_at) (inlines_everywhere_in alone keeps), refl),

@@ -3,23 +3,23 @@ use Rattle.std.proofs.Common.{◌≡◌, ◌∙◌, ◌≤◌, ℕ, List, [], �
 use Rattle.std.specs.Prelude.{codes, decimal}
 use Rattle.std.specs.Fmt.{digits}
 use Rattle.std.specs.Str.{chars, IsUtf8}
-use Rattle.ob0_scan.specs.Lexed.{joined}
+use Rattle.ob0_scan.specs.Lexed.{text_of_lexemes}
 use Rattle.ob0_text.specs.declared.edits.Edit.{Edit}
 use Rattle.ob0_text.specs.declared.position_types.Unit.TheVariants.{Utf16}
 use Rattle.ob0_text.specs.Units.{width_of}
-use Rattle.ob0_text.specs.Texts.{before, body_at, ends_line, fitting, lines, offset_of, position_in, position_of, starts_with_lf}
+use Rattle.ob0_text.specs.Texts.{text_before, line_body, ends_line, fitting_prefix, lines, offset_of, position_in, position_of, starts_with_lf}
 use Rattle.ob0_text.specs.Texts as texts
-use Rattle.ob0_text.specs.Patches.{all_apart, cut_at, in_text_order, patched, patched_by_cuts, text_with_cuts, place}
+use Rattle.ob0_text.specs.Patches.{are_all_disjoint, cut_at, in_text_order, patched, patched_by_cuts, text_with_cuts, char_count_before}
 use Rattle.ob0_edits_tokens.specs.Ranges.{range_of}
 use Rattle.ob0_edits_tokens.specs.Removed.{span_of_tokens, text_after_removal}
-use Rattle.ob0_edits_tokens.specs.Replaced.{edit_at, parts, text_after_replacement}
+use Rattle.ob0_edits_tokens.specs.Replaced.{edit_at, range_and_text, text_after_replacement}
 use Rattle.ob0_scope_table.specs.Resolution.{span_at}
-use Rattle.ob0_world_worked.specs.WorkedText.{at, worked_text}
+use Rattle.ob0_world_worked.specs.WorkedText.{line_position, worked_text}
 use Rattle.ob0_world_worked.proofs.WorkedValues.{string_of}
 use Rattle.ob0_world_worked.proofs.WorkedTexts.{chars_so, inlined_lexemes, renamed_lexemes, scanned_of, utf8_so, without_lexemes, worked_lexemes}
 
 abbrev pub edit : ℕ → ℕ → ℕ → (new : List ℕ) → IsUtf8 new → length new ≤ 1048576 → Edit
-edit line from to new u short = record { range = record { start = at line from; end = at line to }; text = string_of new u short }
+edit line from to new u short = record { range = record { start = line_position line from; end = line_position line to }; text = string_of new u short }
 
 abbrev pub puts_y : ℕ → ℕ → ℕ → Edit
 puts_y line from to = edit line from to (codes "y") (utf8_so (codes "y") refl) (omega (arith))
@@ -33,49 +33,49 @@ puts_two = edit 6 7 8 (codes "2") (utf8_so (codes "2") refl) (omega (arith))
 abbrev pub takes_out : Edit
 takes_out = edit 2 2 8 [] (utf8_so [] refl) (omega (arith))
 
-pub x_is_at : offset_of (width_of Utf16) worked_text (at 4 2) ≡ 31
-unfolding before fitting lines body_at ends_line starts_with_lf texts.joined lib.Utf8.encode
+pub x_is_at : offset_of (width_of Utf16) worked_text (line_position 4 2) ≡ 31
+unfolding text_before fitting_prefix lines line_body ends_line starts_with_lf texts.text_of_lines lib.Utf8.encode
 x_is_at = refl
 
-pub n_is_at : offset_of (width_of Utf16) worked_text (at 6 7) ≡ 56
-unfolding before fitting lines body_at ends_line starts_with_lf texts.joined lib.Utf8.encode
+pub n_is_at : offset_of (width_of Utf16) worked_text (line_position 6 7) ≡ 56
+unfolding text_before fitting_prefix lines line_body ends_line starts_with_lf texts.text_of_lines lib.Utf8.encode
 n_is_at = refl
 
-pub renames_parts : map parts renames ≡ map (edit_at Utf16 worked_text (scanned_of worked_lexemes).tokens (codes "y")) (9 ∷ 14 ∷ 20 ∷ [])
-unfolding position_of position_in lines ends_line starts_with_lf fitting
+pub renames_parts : map range_and_text renames ≡ map (edit_at Utf16 worked_text (scanned_of worked_lexemes).tokens (codes "y")) (9 ∷ 14 ∷ 20 ∷ [])
+unfolding position_of position_in lines ends_line starts_with_lf fitting_prefix
 renames_parts = refl
 
-pub inlines_parts : parts puts_two ≡ edit_at Utf16 worked_text (scanned_of worked_lexemes).tokens (codes "2") 16
-unfolding position_of position_in lines ends_line starts_with_lf fitting
+pub inlines_parts : range_and_text puts_two ≡ edit_at Utf16 worked_text (scanned_of worked_lexemes).tokens (codes "2") 16
+unfolding position_of position_in lines ends_line starts_with_lf fitting_prefix
 inlines_parts = refl
 
-renames_made : patched (width_of Utf16) worked_text renames ≡ Some (joined renamed_lexemes)
-unfolding patched_by_cuts cut_at place all_apart in_text_order text_with_cuts before fitting lines body_at ends_line starts_with_lf texts.joined chars
+renames_made : patched (width_of Utf16) worked_text renames ≡ Some (text_of_lexemes renamed_lexemes)
+unfolding patched_by_cuts cut_at char_count_before are_all_disjoint in_text_order text_with_cuts text_before fitting_prefix lines line_body ends_line starts_with_lf texts.text_of_lines chars
 renames_made = refl
 
-pub renames_leave : patched (width_of Utf16) worked_text renames ≡ Some (chars (joined renamed_lexemes))
-renames_leave = renames_made ∙ ap Some (sym (chars_so (joined renamed_lexemes) refl))
+pub renames_leave : patched (width_of Utf16) worked_text renames ≡ Some (chars (text_of_lexemes renamed_lexemes))
+renames_leave = renames_made ∙ ap Some (sym (chars_so (text_of_lexemes renamed_lexemes) refl))
 
-inlines_made : patched (width_of Utf16) worked_text (puts_two ∷ []) ≡ Some (joined inlined_lexemes)
-unfolding patched_by_cuts cut_at place all_apart in_text_order text_with_cuts before fitting lines body_at ends_line starts_with_lf texts.joined chars
+inlines_made : patched (width_of Utf16) worked_text (puts_two ∷ []) ≡ Some (text_of_lexemes inlined_lexemes)
+unfolding patched_by_cuts cut_at char_count_before are_all_disjoint in_text_order text_with_cuts text_before fitting_prefix lines line_body ends_line starts_with_lf texts.text_of_lines chars
 inlines_made = refl
 
-pub inlines_leave : patched (width_of Utf16) worked_text (puts_two ∷ []) ≡ Some (chars (joined inlined_lexemes))
-inlines_leave = inlines_made ∙ ap Some (sym (chars_so (joined inlined_lexemes) refl))
+pub inlines_leave : patched (width_of Utf16) worked_text (puts_two ∷ []) ≡ Some (chars (text_of_lexemes inlined_lexemes))
+inlines_leave = inlines_made ∙ ap Some (sym (chars_so (text_of_lexemes inlined_lexemes) refl))
 
-everywhere_made : patched (width_of Utf16) worked_text (takes_out ∷ puts_two ∷ []) ≡ Some (joined without_lexemes)
-unfolding patched_by_cuts cut_at place all_apart in_text_order text_with_cuts before fitting lines body_at ends_line starts_with_lf texts.joined chars
+everywhere_made : patched (width_of Utf16) worked_text (takes_out ∷ puts_two ∷ []) ≡ Some (text_of_lexemes without_lexemes)
+unfolding patched_by_cuts cut_at char_count_before are_all_disjoint in_text_order text_with_cuts text_before fitting_prefix lines line_body ends_line starts_with_lf texts.text_of_lines chars
 everywhere_made = refl
 
-pub everywhere_leave : patched (width_of Utf16) worked_text (takes_out ∷ puts_two ∷ []) ≡ Some (chars (joined without_lexemes))
-everywhere_leave = everywhere_made ∙ ap Some (sym (chars_so (joined without_lexemes) refl))
+pub everywhere_leave : patched (width_of Utf16) worked_text (takes_out ∷ puts_two ∷ []) ≡ Some (chars (text_of_lexemes without_lexemes))
+everywhere_leave = everywhere_made ∙ ap Some (sym (chars_so (text_of_lexemes without_lexemes) refl))
 
-pub declaration_parts : parts takes_out ≡ (range_of (width_of Utf16) worked_text (span_of_tokens (scanned_of worked_lexemes).tokens 4 7), [])
-unfolding position_of position_in lines ends_line starts_with_lf fitting
+pub declaration_parts : range_and_text takes_out ≡ (range_of (width_of Utf16) worked_text (span_of_tokens (scanned_of worked_lexemes).tokens 4 7), [])
+unfolding position_of position_in lines ends_line starts_with_lf fitting_prefix
 declaration_parts = refl
 
-pub write_is_at : range_of (width_of Utf16) worked_text (span_at (scanned_of worked_lexemes) 18) ≡ record { start = at 7 2; end = at 7 7 }
-unfolding position_of position_in lines ends_line starts_with_lf fitting
+pub write_is_at : range_of (width_of Utf16) worked_text (span_at (scanned_of worked_lexemes) 18) ≡ record { start = line_position 7 2; end = line_position 7 7 }
+unfolding position_of position_in lines ends_line starts_with_lf fitting_prefix
 write_is_at = refl
 
 pub renamed_length : length (text_after_replacement (scanned_of worked_lexemes) (9 ∷ 14 ∷ 20 ∷ []) (codes "y")) ≡ 77

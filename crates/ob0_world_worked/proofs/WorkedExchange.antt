@@ -6,38 +6,38 @@ use Rattle.std.specs.Str.{chars}
 use Rattle.std.proofs.lemmas.Str.{is_utf8-from_IsUtf8}
 use Rattle.serde_json.specs.Data.{Data, null, number, unsigned, depth}
 use Rattle.ob0_text.specs.declared.position_types.Unit.TheVariants.{Utf16}
-use Rattle.ob0_text.specs.Texts.{before, body_at, ends_line, fitting, lines, offset_of, starts_with_lf}
+use Rattle.ob0_text.specs.Texts.{text_before, line_body, ends_line, fitting_prefix, lines, offset_of, starts_with_lf}
 use Rattle.ob0_text.specs.Texts as texts
-use Rattle.ob0_text.specs.Patches.{all_apart, cut_at, in_text_order, patched_by_cuts, text_with_cuts, place}
+use Rattle.ob0_text.specs.Patches.{are_all_disjoint, cut_at, in_text_order, patched_by_cuts, text_with_cuts, char_count_before}
 use Rattle.ob0_text.specs.OpenDocuments.{Document, InStep, changed_text, document_at, no_open_documents, documents_after_open}
 use Rattle.ob0_rpc.specs.Appending.{ReadsBack}
 use Rattle.ob0_rpc.specs.Requesting.{DocumentPlace}
 use Rattle.ob0_rpc.specs.Notifications.{Notification, notification_by_method, opens, changes}
 use Rattle.ob0_language_runs.specs.EditLaws.{InliningEverywhereKeepsTypingAndRuns, InliningKeepsTypingAndRuns}
 use Rattle.ob0_language_types.specs.EditLaws.{ConstantUsesAreFactors}
-use Rattle.ob0_refs.specs.Questions.{hover_at_place}
+use Rattle.ob0_refs.specs.Questions.{hover_at_offset}
 use Rattle.ob0_analysis.specs.Diagnosed.{IsWellTypedModule}
 use Rattle.ob0_analysis.specs.Texts.{utf8}
 use Rattle.ob0_analysis.proofs.Scanning.{is_module}
-use Rattle.ob0_edits.specs.declared.inlinings.Inlining.TheVariants.{Here, Everywhere}
+use Rattle.ob0_edits.specs.declared.inlinings.Inlining.TheVariants.{OneUse, Everywhere}
 use Rattle.ob0_edits.specs.Inlinings.{InlinesIn}
 use Rattle.ob0_session_answers.specs.Actions.{actions_offset, actions_array, ListsInlinings}
-use Rattle.ob0_session_answers.specs.Questions.{hover_with_range, hover_asked, offset_in, value_or_null}
+use Rattle.ob0_session_answers.specs.Questions.{hover_with_range, hover_question, offset_in, value_or_null}
 use Rattle.ob0_session_server.specs.Answers as server
-use Rattle.ob0_session_server.specs.Answers.{Answers, Conversation, AreContentsOfReply, Sends, ServerState, react_about_document, answers_name, apply_notification, begins, offers_actions, publication_reply}
+use Rattle.ob0_session_server.specs.Answers.{Answers, Conversation, AreContentsOfReply, Sends, ServerState, react_about_document, answers_question, apply_notification, state_after_initialize, offers_actions, publication_reply}
 use Rattle.ob0_world_editor.specs.InitializeRequest.{client_for, initialize_message}
 use Rattle.ob0_world_editor.specs.Shapes.{change_object, change_params, open_params}
 use Rattle.ob0_world_editor.specs.MessagesToEditor.{message_to_editor_by, message_to_editor_of}
 use Rattle.ob0_world_rules.specs.Asks.{inline_all}
 use Rattle.ob0_world_rules.specs.ClientAndServer.{Applied, Editor, OpenDocument, SentAsk, MessageToEditor, answers, new_editor, open_at, publishes}
-use Rattle.ob0_world_rules.specs.Edited.{Replacement, text_after_changes, edited}
-use Rattle.ob0_world_rules.specs.EditorActs.{asks, without_answer}
+use Rattle.ob0_world_rules.specs.Edited.{Replacement, text_after_changes, text_after_edits}
+use Rattle.ob0_world_rules.specs.EditorActs.{asking_result, without_answer}
 use Rattle.ob0_world_rules.specs.Editors.{AppliesAnswer, opening_result_as, revised_document, to_apply, to_ask, to_open, notifications_of, with_document}
-use Rattle.ob0_world_rules.specs.EveryEditor.{editor_does, editor_sends_unmodeled, editor_takes, server_takes}
+use Rattle.ob0_world_rules.specs.EveryEditor.{editor_moves, editor_sends_unmodeled, editor_takes, server_takes}
 use Rattle.ob0_world_rules.specs.PublicationsInOrder.{AnnouncedDocument}
 use Rattle.ob0_world_rules.proofs.UriLaws.{get_put}
 use Rattle.ob0_world.specs.Exchanges.{BeginsExchange, Exchange, Exchanges, IsActionsRequest, SentRequestId, ask_number_by_id, number_id, message_to_editor_by_ids, after_reading_if_any}
-use Rattle.ob0_world_worked.specs.WorkedText.{at, worked_text}
+use Rattle.ob0_world_worked.specs.WorkedText.{line_position, worked_text}
 use Rattle.ob0_world_worked.specs.WorkedAnswers.{range_on_line, replacement_on_line}
 use Rattle.ob0_world_worked.specs.WorkedExchange.{WorkedExchangeExists, actions_params, actions_request, hover_request, hover_params, inlined_text, inlining_context, worked_revision, change_notification, initialized_notification, open_notification, worked_turns, uri}
 use Rattle.ob0_world_worked.specs.WorkedExchange as law
@@ -57,7 +57,7 @@ editor_reads of requested d r shallow =
 -- ---- the states
 
 abbrev session₀ : ServerState
-session₀ = begins (client_for Utf16)
+session₀ = state_after_initialize (client_for Utf16)
 
 abbrev session₁ : ServerState
 session₁ = record { phase = session₀.phase; client = client_for Utf16; held = documents_after_open (no_open_documents Utf16) uri (pos 0) worked_text }
@@ -72,7 +72,7 @@ abbrev editor₁ : Editor
 editor₁ = record (with_document (new_editor Utf16) uri document₀) { openings = 1 }
 
 abbrev the_ask : SentAsk
-the_ask = record { ask = inline_all (at 6 7); uri = uri; text = worked_text; opening = 1; version = pos 0 }
+the_ask = record { ask = inline_all (line_position 6 7); uri = uri; text = worked_text; opening = 1; version = pos 0 }
 
 abbrev editor₂ : Editor
 editor₂ = record editor₁ { requested = the_ask ∷ [] }
@@ -163,7 +163,7 @@ x₁₂ =
 
 -- ---- the beginning
 
-initialized_so : Answers server.start (content_of (initialize_message Utf16)) (content_of initialized_with ∷ []) (begins (client_for Utf16))
+initialized_so : Answers server.start (content_of (initialize_message Utf16)) (content_of initialized_with ∷ []) (state_after_initialize (client_for Utf16))
 initialized_so = (Some (initialize_message Utf16), reads_so (initialize_message Utf16) initialize_read refl, (refl, sends initialized_with capabilities_read refl))
 
 begins_so : BeginsExchange Utf16 x₀
@@ -172,7 +172,7 @@ begins_so = record {
   counts = refl;
   taken = begin;
   got = got₀;
-  initialized = record { between = begins (client_for Utf16); first = got₀; later = []; answers = initialized_so; follows = (refl, refl); all = refl };
+  initialized = record { between = state_after_initialize (client_for Utf16); first = got₀; later = []; answers = initialized_so; follows = (refl, refl); all = refl };
   is = refl;
 }
 
@@ -187,7 +187,7 @@ turn₂ = (x₂.wire, (session₀, [], (Some initialized_notification, reads_so 
 opened_note : notification_by_method (codes "textDocument/didOpen") ((open_params uri 0 worked_text)) ≡ opens uri (pos 0) worked_text
 opened_note = ap (λ t. opens uri (pos 0) t) (chars_so worked_text refl)
 
-turn₃ : Exchanges x₂ (editor_does (to_open uri (pos 0) worked_text)) x₃
+turn₃ : Exchanges x₂ (editor_moves (to_open uri (pos 0) worked_text)) x₃
 turn₃ = (
   opening_result_as document₀ editor₀ uri,
   announced₀ ∷ [],
@@ -214,7 +214,7 @@ opened_so : Answers session₀ (content_of open_notification) (content_of shows_
 opened_so = (
   Some open_notification,
   reads_so open_notification open_read refl,
-  subst (λ (n : Notification). let r = apply_notification session₀ n in (session₁ ≡ r.after) × AreContentsOfReply r.say (content_of shows_none ∷ [])) (sym opened_note) (refl, published_so),
+  subst (λ (n : Notification). let r = apply_notification session₀ n in (session₁ ≡ r.after) × AreContentsOfReply r.reply (content_of shows_none ∷ [])) (sym opened_note) (refl, published_so),
 )
 
 turn₄ : Exchanges x₃ server_takes x₄
@@ -226,17 +226,17 @@ turn₅ : Exchanges x₄ editor_sends_unmodeled x₅
 turn₅ = (Some (number_id 1), content_of hover_request, (hover_request, reads_so hover_request hover_read refl, (refl, tt, refl)), refl)
 
 abbrev hover_place : DocumentPlace
-hover_place = record { uri = uri; position = at 0 0 }
+hover_place = record { uri = uri; position = line_position 0 0 }
 
-no_name : null ≡ value_or_null (option_map (hover_with_range Utf16 worked_text) (hover_at_place worked_names (offset_in Utf16 worked_text hover_place)))
-unfolding before fitting lines body_at ends_line starts_with_lf texts.joined
+no_name : null ≡ value_or_null (option_map (hover_with_range Utf16 worked_text) (hover_at_offset worked_names (offset_in Utf16 worked_text hover_place)))
+unfolding text_before fitting_prefix lines line_body ends_line starts_with_lf texts.text_of_lines
 no_name = refl
 
 hovered_so : Answers session₁ (content_of hover_request) (content_of no_hover ∷ []) session₁
 hovered_so = (
   Some hover_request,
   reads_so hover_request hover_read refl,
-  subst (λ (o : Option Document). let r = react_about_document session₁ (number (unsigned 1)) o (λ version. answers_name Utf16 (number (unsigned 1)) hover_place hover_asked) in (session₁ ≡ r.after) × AreContentsOfReply r.say (content_of no_hover ∷ [])) (sym held_is)
+  subst (λ (o : Option Document). let r = react_about_document session₁ (number (unsigned 1)) o (λ version. answers_question Utf16 (number (unsigned 1)) hover_place hover_question) in (session₁ ≡ r.after) × AreContentsOfReply r.reply (content_of no_hover ∷ [])) (sym held_is)
       (refl, (null, inl (worked_names, worked_in_bytes, no_name), sends no_hover no_hover_read refl)),
 )
 
@@ -248,13 +248,13 @@ turn₆ = (x₆.wire, (session₁, content_of no_hover ∷ [], hovered_so, refl)
 open_is : open_at editor₁ uri ≡ Some document₀
 open_is = get_put map_of.empty uri document₀ uri
 
-asks_so : IsActionsRequest (number (unsigned 2)) uri (at 6 7) (content_of actions_request)
+asks_so : IsActionsRequest (number (unsigned 2)) uri (line_position 6 7) (content_of actions_request)
 asks_so = record {
   json = actions_request;
   reads = reads_so actions_request actions_read refl;
   params = actions_params;
   means = refl;
-  range = record { start = at 6 7; end = at 6 8 };
+  range = record { start = line_position 6 7; end = line_position 6 8 };
   only = Some (codes "refactor.inline" ∷ []);
   calls = refl;
   from = refl;
@@ -262,9 +262,9 @@ asks_so = record {
   allowed = refl;
 }
 
-turn₇ : Exchanges x₆ (editor_does (to_ask uri (inline_all (at 6 7)))) x₇
+turn₇ : Exchanges x₆ (editor_moves (to_ask uri (inline_all (line_position 6 7)))) x₇
 turn₇ = (
-  asks editor₁ uri (inline_all (at 6 7)) document₀,
+  asking_result editor₁ uri (inline_all (line_position 6 7)) document₀,
   [],
   hover_id ∷ ask_id ∷ [],
   content_of actions_request ∷ [],
@@ -274,8 +274,8 @@ turn₇ = (
   refl,
 )
 
-place_is : 56 ≡ actions_offset Utf16 worked_text (record { start = at 6 7; end = at 6 8 })
-unfolding before fitting lines body_at ends_line starts_with_lf texts.joined lib.Utf8.encode
+place_is : 56 ≡ actions_offset Utf16 worked_text (record { start = line_position 6 7; end = line_position 6 8 })
+unfolding text_before fitting_prefix lines line_body ends_line starts_with_lf texts.text_of_lines lib.Utf8.encode
 place_is = refl
 
 module _ (alone : ConstantUsesAreFactors) (keeps : InliningKeepsTypingAndRuns) (keeps_all : InliningEverywhereKeepsTypingAndRuns) where
@@ -284,7 +284,7 @@ module _ (alone : ConstantUsesAreFactors) (keeps : InliningKeepsTypingAndRuns) (
     here = Some here_edits;
     everywhere = Some everywhere_edits;
     wanted = refl;
-    offers_here = subst (λ n. InlinesIn Here Utf16 worked_text n here_edits) place_is (inlines_here_in alone keeps);
+    offers_here = subst (λ n. InlinesIn OneUse Utf16 worked_text n here_edits) place_is (inlines_here_in alone keeps);
     offers_everywhere = subst (λ n. InlinesIn Everywhere Utf16 worked_text n everywhere_edits) place_is (inlines_everywhere_in alone keeps_all);
     listed = refl;
   }
@@ -293,7 +293,7 @@ module _ (alone : ConstantUsesAreFactors) (keeps : InliningKeepsTypingAndRuns) (
   offered_so = (
     Some actions_request,
     reads_so actions_request actions_read refl,
-    subst (λ (o : Option Document). let r = react_about_document session₁ (number (unsigned 2)) o (λ version. offers_actions Utf16 (record requested_actions { version = version })) in (session₁ ≡ r.after) × AreContentsOfReply r.say (content_of two_actions ∷ [])) (sym held_is)
+    subst (λ (o : Option Document). let r = react_about_document session₁ (number (unsigned 2)) o (λ version. offers_actions Utf16 (record requested_actions { version = version })) in (session₁ ≡ r.after) × AreContentsOfReply r.reply (content_of two_actions ∷ [])) (sym held_is)
         (refl, (two_actions, (actions_array requested_actions (Some here_edits) (Some everywhere_edits), inl lists_so, refl), sends two_actions two_actions_read refl)),
   )
 
@@ -326,18 +326,18 @@ turn₁₁ = ap (λ (m : Option MessageToEditor). record x₁₁ { editor = afte
 
 -- ---- the edits are made
 
-edits_make : edited Utf16 worked_text the_edits ≡ Some inlined_text
-unfolding edited patched_by_cuts cut_at place all_apart in_text_order text_with_cuts before fitting lines body_at ends_line starts_with_lf texts.joined
+edits_make : text_after_edits Utf16 worked_text the_edits ≡ Some inlined_text
+unfolding text_after_edits patched_by_cuts cut_at char_count_before are_all_disjoint in_text_order text_with_cuts text_before fitting_prefix lines line_body ends_line starts_with_lf texts.text_of_lines
 edits_make = refl
 
-changes_make : text_after_changes Utf16 (Some worked_text) law.changes ≡ Some inlined_text
-unfolding changed_text patched_by_cuts cut_at place all_apart in_text_order text_with_cuts before fitting lines body_at ends_line starts_with_lf texts.joined
+changes_make : text_after_changes Utf16 (Some worked_text) law.worked_changes ≡ Some inlined_text
+unfolding changed_text patched_by_cuts cut_at char_count_before are_all_disjoint in_text_order text_with_cuts text_before fitting_prefix lines line_body ends_line starts_with_lf texts.text_of_lines
 changes_make = refl
 
 abbrev the_change : Data
 the_change = change_params uri 1 (change_object (Some (range_on_line 6 7 8)) (codes "2") ∷ change_object (Some (range_on_line 2 2 8)) [] ∷ [])
 
-changed_note : notification_by_method (codes "textDocument/didChange") the_change ≡ changes uri (pos 1) law.changes
+changed_note : notification_by_method (codes "textDocument/didChange") the_change ≡ changes uri (pos 1) law.worked_changes
 unfolding chars
 changed_note = refl
 
@@ -354,14 +354,14 @@ applies_so = record {
   makes = edits_make;
   new = editor₄;
   revises = (document₀, [], open_is, changes_make, (refl, refl), refl);
-  first = law.changes;
+  first = law.worked_changes;
   next = [];
   cut = refl;
   first_make = changes_make;
   is = refl;
 }
 
-turn₁₂ : Exchanges x₁₁ (editor_does (to_apply 1 (worked_revision ∷ []))) x₁₂
+turn₁₂ : Exchanges x₁₁ (editor_moves (to_apply 1 (worked_revision ∷ []))) x₁₂
 turn₁₂ = (
   record { editor = editor₄; sent = notifications_of uri (worked_revision ∷ []); applied = record { uri = uri; before = worked_text; after = inlined_text } ∷ [] },
   announced₁ ∷ [],

@@ -14,9 +14,9 @@ use Rattle.ob0_session_json.specs.Shapes.{capabilities, publication}
 use Rattle.ob0_session_answers.specs.Actions.{RequestedActions, action_of, actions_array}
 use Rattle.ob0_session_server.specs.Answers.{Sends}
 use Rattle.ob0_world_editor.specs.InitializeRequest.{text_document_capabilities, client_for, initialize_message, workspace_capabilities}
-use Rattle.ob0_world_worked.specs.WorkedText.{at}
+use Rattle.ob0_world_worked.specs.WorkedText.{line_position}
 use Rattle.ob0_world_editor.specs.Shapes.{change_object}
-use Rattle.ob0_edits.specs.declared.inlinings.Inlining.TheVariants.{Here, Everywhere}
+use Rattle.ob0_edits.specs.declared.inlinings.Inlining.TheVariants.{OneUse, Everywhere}
 use Rattle.ob0_world_worked.specs.WorkedAnswers.{range_on_line}
 use Rattle.ob0_world_worked.specs.WorkedExchange.{actions_request, hover_request, inlining_context, change_notification, initialized_notification, open_notification, uri}
 use Rattle.ob0_world_worked.proofs.WorkedValues.{vec_of}
@@ -41,7 +41,7 @@ requested_actions = record {
   client = client_for Utf16;
   uri = uri;
   version = pos 0;
-  range = record { start = at 6 7; end = at 6 8 };
+  range = record { start = line_position 6 7; end = line_position 6 8 };
   only = Some (codes "refactor.inline" ∷ []);
 }
 
@@ -69,14 +69,14 @@ one_read = count_read 1 refl (ap is_ascii_text one_text)
 two_read : ReadsBack (number (unsigned 2))
 two_read = count_read 2 refl (ap is_ascii_text two_text)
 
-place_read : (line character : ℕ) → nat_lt line 1000 ≡ true → nat_lt character 1000 ≡ true → ReadsBack (position_value (at line character))
-place_read line character l c = position_read (at line character) (below character c) (below line l)
+place_read : (line character : ℕ) → nat_lt line 1000 ≡ true → nat_lt character 1000 ≡ true → ReadsBack (position_value (line_position line character))
+place_read line character l c = position_read (line_position line character) (below character c) (below line l)
   where
     below : (n : ℕ) → nat_lt n 1000 ≡ true → n < 2 ^ 64
     below n h = let low = ltb-true n 1000 h in omega (arith, low)
 
-part_read : (line from to : ℕ) → nat_lt line 1000 ≡ true → nat_lt from 1000 ≡ true → nat_lt to 1000 ≡ true → ReadsBack (range_value (at line from) (at line to))
-part_read line from to l f t = range_read (at line from) (at line to) (place_read line from l f) (place_read line to l t)
+part_read : (line from to : ℕ) → nat_lt line 1000 ≡ true → nat_lt from 1000 ≡ true → nat_lt to 1000 ≡ true → ReadsBack (range_value (line_position line from) (line_position line to))
+part_read line from to l f t = range_read (line_position line from) (line_position line to) (place_read line from l f) (place_read line to l t)
 
 capabilities_taken : ReadsBack (object (member (codes "textDocument") text_document_capabilities (member (codes "workspace") workspace_capabilities no_members)))
 capabilities_taken =
@@ -233,7 +233,7 @@ two_actions_read =
       (
         text_read refl,
         (
-          array_read (action_of requested_actions Here (puts_two ∷ []) ∷ action_of requested_actions Everywhere (takes_out ∷ puts_two ∷ []) ∷ []) (
+          array_read (action_of requested_actions OneUse (puts_two ∷ []) ∷ action_of requested_actions Everywhere (takes_out ∷ puts_two ∷ []) ∷ []) (
             action_read (edit_value puts_two ∷ []) (codes "Inline here") (array_read (edit_value puts_two ∷ []) (two_put, tt)) (text_read refl),
             (
               action_read (edit_value takes_out ∷ edit_value puts_two ∷ []) (codes "Inline everywhere") (array_read (edit_value takes_out ∷ edit_value puts_two ∷ []) (taken_out, (two_put, tt))) (text_read refl),

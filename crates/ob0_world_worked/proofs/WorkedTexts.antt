@@ -12,7 +12,7 @@ use Rattle.ob0_scan.specs.declared.lexeme.Symbol.TheVariants as symbol
 use Rattle.ob0_scan.specs.declared.lexeme.TokenKind.TheVariants as token
 use Rattle.ob0_scan.specs.declared.lexeme.LexemeKind.TheVariants as lexeme
 use Rattle.ob0_scan.specs.Classes.{reserved_text, symbol_text}
-use Rattle.ob0_scan.specs.Lexed.{Lexeme, joined}
+use Rattle.ob0_scan.specs.Lexed.{Lexeme, text_of_lexemes}
 use Rattle.ob0_scan.specs.TextWithTokens.{TextWithTokens, IsScan, comments_from, tokens_from}
 use Rattle.ob0_world_worked.specs.WorkedText.{worked_text}
 use Rattle.ob0_world_worked.proofs.LexemeTests.{are_disjoint, lexed_so}
@@ -90,13 +90,13 @@ without_lexemes = lexemes_with (white (10 ∷ 32 ∷ 32 ∷ 10 ∷ []) ∷ []) (
 -- ---- scans
 
 abbrev pub scanned_of : List Lexeme → TextWithTokens
-scanned_of ls = record { text = joined ls; tokens = tokens_from 0 ls; comments = comments_from 0 ls }
+scanned_of ls = record { text = text_of_lexemes ls; tokens = tokens_from 0 ls; comments = comments_from 0 ls }
 
-pub scan_so : (ls : List Lexeme) → is_ascii_text (joined ls) ≡ true → length (joined ls) ≤ 1048576 → are_disjoint ls ≡ true → IsScan (scanned_of ls)
+pub scan_so : (ls : List Lexeme) → is_ascii_text (text_of_lexemes ls) ≡ true → length (text_of_lexemes ls) ≤ 1048576 → are_disjoint ls ≡ true → IsScan (scanned_of ls)
 scan_so ls ascii short apart =
-    record { utf8 = utf8_so (joined ls) ascii; short = short; lexemes = ls; lexed = lexed_so (joined ls) ls refl apart; tokens = refl; comments = refl }
+    record { utf8 = utf8_so (text_of_lexemes ls) ascii; short = short; lexemes = ls; lexed = lexed_so (text_of_lexemes ls) ls refl apart; tokens = refl; comments = refl }
 
-pub worked_is : joined worked_lexemes ≡ worked_text
+pub worked_is : text_of_lexemes worked_lexemes ≡ worked_text
 worked_is = refl
 
 pub worked_short : length worked_text ≤ 1048576
@@ -106,10 +106,10 @@ pub worked_scan : IsScan (scanned_of worked_lexemes)
 worked_scan = scan_so worked_lexemes refl worked_short refl
 
 pub renamed_scan : IsScan (scanned_of renamed_lexemes)
-renamed_scan = scan_so renamed_lexemes refl (let l : length (joined renamed_lexemes) ≡ 77 = refl in omega (arith, l)) refl
+renamed_scan = scan_so renamed_lexemes refl (let l : length (text_of_lexemes renamed_lexemes) ≡ 77 = refl in omega (arith, l)) refl
 
 pub inlined_scan : IsScan (scanned_of inlined_lexemes)
-inlined_scan = scan_so inlined_lexemes refl (let l : length (joined inlined_lexemes) ≡ 77 = refl in omega (arith, l)) refl
+inlined_scan = scan_so inlined_lexemes refl (let l : length (text_of_lexemes inlined_lexemes) ≡ 77 = refl in omega (arith, l)) refl
 
 pub without_scan : IsScan (scanned_of without_lexemes)
-without_scan = scan_so without_lexemes refl (let l : length (joined without_lexemes) ≡ 71 = refl in omega (arith, l)) refl
+without_scan = scan_so without_lexemes refl (let l : length (text_of_lexemes without_lexemes) ≡ 71 = refl in omega (arith, l)) refl

@@ -4,16 +4,16 @@ use Rattle.std.specs.Prelude.{◌≡◌, ◌↔◌, ℕ, List, [], ◌∷◌, co
 use Rattle.ob0_text.specs.declared.position_types.Range.{Range}
 use Rattle.ob0_text.specs.declared.position_types.Unit.TheVariants.{Utf16}
 use Rattle.ob0_text.specs.declared.refusals.EditRefusal.TheVariants.{Captures}
-use Rattle.ob0_edits.specs.Renamings.{IsRefusedIn}
+use Rattle.ob0_edits.specs.Renamings.{IsRenameRefusedIn}
 use Rattle.ob0_world_rules.specs.Asks.{Ask, rename, inline_here, inline_all}
 use Rattle.ob0_world_rules.specs.Answers.{IsAnswerForText}
 use Rattle.ob0_world_rules.specs.Edited.{Replacement}
-use Rattle.ob0_world_worked.specs.WorkedText.{at, worked_text}
+use Rattle.ob0_world_worked.specs.WorkedText.{line_position, worked_text}
 
 -- returns the range of a line from the character `from` up to, but not including, the character
 -- `to`; lines and characters are counted from 0
 abbrev pub range_on_line : ℕ → ℕ → ℕ → Range
-range_on_line line from to = record { start = at line from; end = at line to }
+range_on_line line from to = record { start = line_position line from; end = line_position line to }
 
 -- returns the replacement of a part of a line (`range_on_line`) by this text
 abbrev pub replacement_on_line : ℕ → ℕ → ℕ → List ℕ → Replacement
@@ -27,21 +27,21 @@ IsAnsweredBy ask edits =
 -- states that renaming `x` to `y` is answered by three edits: at the declaration and at both uses
 abbrev pub RenameIsAnswered : Type 0
 RenameIsAnswered =
-    IsAnsweredBy (rename (at 4 2) (codes "y"))
+    IsAnsweredBy (rename (line_position 4 2) (codes "y"))
     (replacement_on_line 4 2 3 (codes "y") ∷ replacement_on_line 6 2 3 (codes "y") ∷ replacement_on_line 7 8 9 (codes "y") ∷ [])
 
 -- States that renaming `x` to `Write` is refused, because the renamed variable would capture the
 -- call of `Write`. The answer has no edits.
 pub record CaptureIsRefused : Type 0 where
-  pub refused : IsRefusedIn Utf16 worked_text (at 4 2) (codes "Write") (Captures (range_on_line 7 2 7))
-  pub no_edits : IsAnsweredBy (rename (at 4 2) (codes "Write")) []
+  pub refused : IsRenameRefusedIn Utf16 worked_text (line_position 4 2) (codes "Write") (Captures (range_on_line 7 2 7))
+  pub no_edits : IsAnsweredBy (rename (line_position 4 2) (codes "Write")) []
 
 -- states that inlining `n` at its use is answered by one edit, which replaces the use by the value
 abbrev pub InliningIsAnswered : Type 0
-InliningIsAnswered = IsAnsweredBy (inline_here (at 6 7)) (replacement_on_line 6 7 8 (codes "2") ∷ [])
+InliningIsAnswered = IsAnsweredBy (inline_here (line_position 6 7)) (replacement_on_line 6 7 8 (codes "2") ∷ [])
 
 -- states that inlining `n` everywhere is answered by two edits: one removes the declaration, and
 -- one replaces the use by the value
 abbrev pub InliningEverywhereIsAnswered : Type 0
 InliningEverywhereIsAnswered =
-    IsAnsweredBy (inline_all (at 6 7)) (replacement_on_line 2 2 8 [] ∷ replacement_on_line 6 7 8 (codes "2") ∷ [])
+    IsAnsweredBy (inline_all (line_position 6 7)) (replacement_on_line 2 2 8 [] ∷ replacement_on_line 6 7 8 (codes "2") ∷ [])

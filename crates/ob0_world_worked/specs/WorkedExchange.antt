@@ -10,9 +10,9 @@ use Rattle.ob0_world_editor.specs.InitializeRequest.{initialize_message}
 use Rattle.ob0_world_editor.specs.Shapes.{change_object, change_params, document_value, open_params, request_message}
 use Rattle.ob0_world_rules.specs.Asks.{inline_all}
 use Rattle.ob0_world_rules.specs.Editors.{Revision, to_apply, to_ask, to_open}
-use Rattle.ob0_world_rules.specs.EveryEditor.{Turn, editor_does, editor_sends_unmodeled, editor_takes, server_takes}
+use Rattle.ob0_world_rules.specs.EveryEditor.{Turn, editor_moves, editor_sends_unmodeled, editor_takes, server_takes}
 use Rattle.ob0_world.specs.Exchanges.{BeginsExchange, Exchange, ExchangeCourse}
-use Rattle.ob0_world_worked.specs.WorkedText.{at, line, worked_text}
+use Rattle.ob0_world_worked.specs.WorkedText.{line_position, with_line_feed, worked_text}
 use Rattle.ob0_world_worked.specs.WorkedAnswers.{range_on_line}
 
 abbrev pub uri : List ℕ
@@ -21,26 +21,26 @@ uri = codes "file:///m.mod"
 -- the text that `worked_text` becomes if the constant `n` is inlined everywhere
 abbrev pub inlined_text : List ℕ
 inlined_text =
-    line (codes "MODULE M;")
-    ++ (line (codes "CONST")
-    ++ (line (codes "  ")
-    ++ (line (codes "VAR")
-    ++ (line (codes "  x: INTEGER;")
-    ++ (line (codes "BEGIN")
-    ++ (line (codes "  x := 2;")
-    ++ (line (codes "  Write(x)")
-    ++ line (codes "END M."))))))))
+    with_line_feed (codes "MODULE M;")
+    ++ (with_line_feed (codes "CONST")
+    ++ (with_line_feed (codes "  ")
+    ++ (with_line_feed (codes "VAR")
+    ++ (with_line_feed (codes "  x: INTEGER;")
+    ++ (with_line_feed (codes "BEGIN")
+    ++ (with_line_feed (codes "  x := 2;")
+    ++ (with_line_feed (codes "  Write(x)")
+    ++ with_line_feed (codes "END M."))))))))
 
 -- The edits of the inlining as changes of ranges. The later range comes first, so its change
 -- doesn't move the other range.
-abbrev pub changes : List TextChange
-changes =
+abbrev pub worked_changes : List TextChange
+worked_changes =
     record { range = Some (range_on_line 6 7 8); text = codes "2" }
     ∷ record { range = Some (range_on_line 2 2 8); text = [] }
     ∷ []
 
 abbrev pub worked_revision : Revision
-worked_revision = record { version = pos 1; text = inlined_text; how = changes }
+worked_revision = record { version = pos 1; text = inlined_text; sent_changes = worked_changes }
 
 abbrev pub worked_turns : List Turn
 worked_turns =
@@ -48,20 +48,20 @@ worked_turns =
     editor_sends_unmodeled
     ∷ server_takes
     -- the editor opens the document with version 0
-    ∷ editor_does (to_open uri (pos 0) worked_text)
+    ∷ editor_moves (to_open uri (pos 0) worked_text)
     ∷ server_takes
     -- the editor sends a hover request
     ∷ editor_sends_unmodeled
     ∷ server_takes
     -- the editor requests the code actions of one kind in a range
-    ∷ editor_does (to_ask uri (inline_all (at 6 7)))
+    ∷ editor_moves (to_ask uri (inline_all (line_position 6 7)))
     ∷ server_takes
     -- the editor takes the diagnostics, and the answers to both requests
     ∷ editor_takes
     ∷ editor_takes
     ∷ editor_takes
     -- the editor applies the answer by two changes in one notification
-    ∷ editor_does (to_apply 1 (worked_revision ∷ []))
+    ∷ editor_moves (to_apply 1 (worked_revision ∷ []))
     ∷ []
 
 -- ---- the editor's messages
@@ -74,7 +74,7 @@ open_notification = notification_message (codes "textDocument/didOpen") (open_pa
 
 abbrev pub hover_params : Data
 hover_params =
-    object (member (codes "position") (position_value (at 0 0))
+    object (member (codes "position") (position_value (line_position 0 0))
     (member (codes "textDocument") (document_value uri) no_members))
 
 abbrev pub hover_request : Data
@@ -87,7 +87,7 @@ inlining_context =
 
 abbrev pub actions_params : Data
 actions_params =
-    object (member (codes "context") inlining_context (member (codes "range") (range_value (at 6 7) (at 6 8))
+    object (member (codes "context") inlining_context (member (codes "range") (range_value (line_position 6 7) (line_position 6 8))
     (member (codes "textDocument") (document_value uri) no_members)))
 
 abbrev pub actions_request : Data

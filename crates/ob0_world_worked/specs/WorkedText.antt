@@ -4,22 +4,22 @@ use Rattle.std.specs.Prelude.{ℕ, List, ◌∷◌, [], ◌++◌, codes}
 use Rattle.ob0_text.specs.declared.position_types.Position.{Position}
 
 -- returns this text followed by a line feed
-abbrev pub line : List ℕ → List ℕ
-line text = text ++ 10 ∷ []
+abbrev pub with_line_feed : List ℕ → List ℕ
+with_line_feed text = text ++ 10 ∷ []
 
 -- the example text, as characters
 abbrev pub worked_text : List ℕ
 worked_text =
-    line (codes "MODULE M;")
-    ++ (line (codes "CONST")
-    ++ (line (codes "  n = 2;")
-    ++ (line (codes "VAR")
-    ++ (line (codes "  x: INTEGER;")
-    ++ (line (codes "BEGIN")
-    ++ (line (codes "  x := n;")
-    ++ (line (codes "  Write(x)")
-    ++ line (codes "END M."))))))))
+    with_line_feed (codes "MODULE M;")
+    ++ (with_line_feed (codes "CONST")
+    ++ (with_line_feed (codes "  n = 2;")
+    ++ (with_line_feed (codes "VAR")
+    ++ (with_line_feed (codes "  x: INTEGER;")
+    ++ (with_line_feed (codes "BEGIN")
+    ++ (with_line_feed (codes "  x := n;")
+    ++ (with_line_feed (codes "  Write(x)")
+    ++ with_line_feed (codes "END M."))))))))
 
 -- returns the position of a character on a line; lines and characters are counted from 0
-abbrev pub at : ℕ → ℕ → Position
-at line character = record { line = line; character = character }
+abbrev pub line_position : ℕ → ℕ → Position
+line_position line character = record { line = line; character = character }

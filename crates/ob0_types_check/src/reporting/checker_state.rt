@@ -3,17 +3,17 @@
 
 ghost use Rattle.std.specs.Prelude.{◌≡◌, ◌≤◌, ◌∷◌, [], ◌++◌, ◌+◌, ◌^◌, map, IfOk, MatchResult, OnOk, option_map, slice_get, slice_index_or, None, Some};
 ghost use Rattle.ob0_types_table.specs.declared.types.TypeId.TheVariants as type;
-ghost use Rattle.ob0_tree.specs.Places.{text_at};
+ghost use Rattle.ob0_tree.specs.Places.{token_text_at};
 ghost use Rattle.ob0_types_check.specs.Known.{a_procedure};
-ghost use Rattle.ob0_types_check.specs.Operations.{ReportsAfter, fault_between, token_after};
+ghost use Rattle.ob0_types_check.specs.Operations.{ReturnsAndReports, fault_between, token_after};
 ghost use Rattle.ob0_types_check.specs.KnownDeclarations.{define, is_within_limits, make_type, predeclared_meanings, size_at, with_meaning};
-ghost use Rattle.ob0_types_check.specs.CheckerViews.{capped_size, meaning_in_state, entry_element_type, entry_field_type, composite_type_of, known_meaning, size_of, declarations_in_state};
+ghost use Rattle.ob0_types_check.specs.CheckerViews.{capped_size, meaning_in_state, entry_element_type, entry_field_type, composite_type_of, meaning_view, size_of, declarations_in_state};
 ghost use Rattle.ob0_types_check.specs.WrittenTypeFaults.{array_size, sum_of_sizes, next_type_ordinal, record_size};
 
 use ob0_language_values::Scalar;
 use ob0_scan::{Fault, FaultCode, Span};
 use ob0_scope_table::{Resolved, token_span};
-use ob0_tree::text_at;
+use ob0_tree::token_text_at;
 use ob0_types_table::{FormalParameter, MAX_DEPTH, MAX_SCALARS, TypeEntry, TypeId, add_entry};
 use std::alloc::{AllocError, Global};
 
@@ -30,7 +30,7 @@ pub(crate) enum Meaning {
 
 /// Returns the meanings of the predeclared names, in the order of their ordinals.
 pub(crate) fn predeclared_meanings(alloc: Global) -> Result<Vec<Option<Meaning>>, AllocError>
-    ensures { IfOk result (λ ms. map (option_map known_meaning) ms.items ≡ predeclared_meanings) }
+    ensures { IfOk result (λ ms. map (option_map meaning_view) ms.items ≡ predeclared_meanings) }
 {
     let mut meanings = Vec::new(alloc);
     meanings.push(Some(Meaning::Named(TypeId::Integer)))?;
@@ -47,7 +47,7 @@ pub(crate) fn predeclared_meanings(alloc: Global) -> Result<Vec<Option<Meaning>>
 /// parameter is a VAR parameter.
 fn one_parameter_procedure(alloc: Global, by_place: bool) -> Result<Meaning, AllocError>
     ensures { IfOk result
-        (λ m. known_meaning m
+        (λ m. meaning_view m
         ≡ a_procedure (record { by_place = by_place; of = type.Integer } ∷ [])) }
 {
     let mut formals = Vec::new(alloc);
@@ -149,9 +149,9 @@ pub(crate) struct CheckerState<'t> {
 impl<'t> CheckerState<'t> {
     /// Returns the spelling of a token.
     pub(crate) fn text(&self, token: usize) -> &'t str
-        ensures { result.now ≡ text_at self.now.resolved.now.module_read.source token }
+        ensures { result.now ≡ token_text_at self.now.resolved.now.module_read.source token }
     {
-        text_at(self.resolved.tokens(), token)
+        token_text_at(self.resolved.tokens(), token)
     }
 
     /// Returns the index of the token after this one. At the end of the text, returns `token`
@@ -232,7 +232,7 @@ impl<'t> CheckerState<'t> {
     /// Records the meaning of the declaration at a token. If the token has no ordinal, nothing
     /// changes.
     pub(crate) fn define(&mut self, token: usize, meaning: Meaning)
-        ensures { declarations_in_state self.new ≡ define (declarations_in_state self.old) (known_meaning meaning) token }
+        ensures { declarations_in_state self.new ≡ define (declarations_in_state self.old) (meaning_view meaning) token }
     {
         match self.resolved.ordinal_at(token) {
             None => {}
@@ -244,7 +244,7 @@ impl<'t> CheckerState<'t> {
     /// nothing changes.
     fn declare(&mut self, ordinal: usize, meaning: Meaning)
         ensures { declarations_in_state self.new
-            ≡ with_meaning (declarations_in_state self.old) (known_meaning meaning) (Some ordinal) }
+            ≡ with_meaning (declarations_in_state self.old) (meaning_view meaning) (Some ordinal) }
     {
         if ordinal < self.meanings.len() {
             self.meanings[ordinal] = Some(meaning);
@@ -323,7 +323,7 @@ impl<'t> CheckerState<'t> {
         token: usize,
         entry: TypeEntry,
     ) -> Result<TypeId, AllocError>
-        ensures { IfOk result (λ t. ReportsAfter faults.old.items faults.new.items
+        ensures { IfOk result (λ t. ReturnsAndReports faults.old.items faults.new.items
             (record { of = t; following = declarations_in_state self.new })
             (make_type (declarations_in_state self.old) token (composite_type_of entry).ordinal
             (composite_type_of entry).parts (composite_type_of entry).size)) }

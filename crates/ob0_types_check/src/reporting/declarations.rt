@@ -4,11 +4,11 @@
 ghost use Rattle.std.specs.Prelude.{◌≡◌, ◌∷◌, ◌++◌, [], map, IfOk, OnOk};
 ghost use Rattle.ob0_language_names.specs.Parts.{formal_sections, section_constants, section_types, section_variables};
 ghost use Rattle.ob0_tree.specs.View.{block_of, body_of, constant_of, constants_of, formals_of, further_section_of, items_of, procedure_of, type_declaration_of, types_of, variable_of, variables_of};
-ghost use Rattle.ob0_types_check.specs.DeclarationFaults.{constant_declared, reported_body, reported_constants, reported_section, reported_sections, reported_types, reported_variables, type_declared, variables_declared};
+ghost use Rattle.ob0_types_check.specs.DeclarationFaults.{reported_constant_declaration, reported_body, reported_constants, reported_section, reported_sections, reported_types, reported_variables, reported_type_declaration, reported_variable_group};
 ghost use Rattle.ob0_types_check.specs.Known.{a_variable};
-ghost use Rattle.ob0_types_check.specs.Operations.{ReportsAfter};
+ghost use Rattle.ob0_types_check.specs.Operations.{ReturnsAndReports};
 ghost use Rattle.ob0_types_check.specs.KnownDeclarations.{define_all};
-ghost use Rattle.ob0_types_check.specs.SomeBodies.{reported_block_with, report_body_if, reported_procedure_with, reported_procedures_with, walked_in, includes_body};
+ghost use Rattle.ob0_types_check.specs.SomeBodies.{reported_block_with_bodies, report_body_if_wanted, reported_procedure_with_bodies, reported_procedures_with_bodies, walk_progress_of, includes_body};
 ghost use Rattle.ob0_types_check.specs.CheckerViews.{heading_in, declarations_in_state};
 
 use crate::reporting::checker_state::{CheckerState, Meaning};
@@ -53,40 +53,40 @@ impl<'t> CheckerState<'t> {
 impl<'t> Reporter<'t> {
     /// Reports the faults of a block: constants, types, variables, procedures, and then the
     /// statements if they are wanted. `own` is the token of the block's closing name. Appends to
-    /// `faulty` the closing name of each walked body that has a fault.
+    /// `bodies_with_faults` the closing name of each walked body that has a fault.
     #[cycle(blocks)]
     pub(crate) fn report_block(
         &mut self,
-        faulty: &mut Vec<usize>,
+        bodies_with_faults: &mut Vec<usize>,
         wanted: &BodiesToWalk<'_>,
         b: &Block,
         own: usize,
     ) -> Result<(), AllocError>
-        ensures { OnOk result (ReportsAfter self.old.faults.items self.new.faults.items
-            (walked_in self.new.checker_state faulty.new.items) (reported_block_with (includes_body wanted.now) own
-            (walked_in self.old.checker_state faulty.old.items) (block_of b.now))) }
+        ensures { OnOk result (ReturnsAndReports self.old.faults.items self.new.faults.items
+            (walk_progress_of self.new.checker_state bodies_with_faults.new.items) (reported_block_with_bodies (includes_body wanted.now) own
+            (walk_progress_of self.old.checker_state bodies_with_faults.old.items) (block_of b.now))) }
     {
         self.report_constant_section(&b.constants)?;
         self.report_type_section(&b.types)?;
         self.report_variable_section(&b.variables)?;
-        self.report_procedures(faulty, wanted, &b.procedures)?;
-        self.report_body_if(faulty, wanted.includes_body(own), own, &b.body)
+        self.report_procedures(bodies_with_faults, wanted, &b.procedures)?;
+        self.report_body_if_wanted(bodies_with_faults, wanted.includes_body(own), own, &b.body)
     }
 
     #[cycle(blocks)]
     fn report_procedures(
         &mut self,
-        faulty: &mut Vec<usize>,
+        bodies_with_faults: &mut Vec<usize>,
         wanted: &BodiesToWalk<'_>,
         procedures: &Vec<Procedure>,
     ) -> Result<(), AllocError>
-        ensures { OnOk result (ReportsAfter self.old.faults.items self.new.faults.items
-            (walked_in self.new.checker_state faulty.new.items) (reported_procedures_with (includes_body wanted.now)
-            (walked_in self.old.checker_state faulty.old.items)
+        ensures { OnOk result (ReturnsAndReports self.old.faults.items self.new.faults.items
+            (walk_progress_of self.new.checker_state bodies_with_faults.new.items) (reported_procedures_with_bodies (includes_body wanted.now)
+            (walk_progress_of self.old.checker_state bodies_with_faults.old.items)
             (items_of procedure_of procedures.now.items))) }
     {
         for p in procedures {
-            self.report_procedure(faulty, wanted, p)?;
+            self.report_procedure(bodies_with_faults, wanted, p)?;
         }
         Ok(())
     }
@@ -96,32 +96,32 @@ impl<'t> Reporter<'t> {
     #[cycle(blocks)]
     fn report_procedure(
         &mut self,
-        faulty: &mut Vec<usize>,
+        bodies_with_faults: &mut Vec<usize>,
         wanted: &BodiesToWalk<'_>,
         p: &Procedure,
     ) -> Result<(), AllocError>
-        ensures { OnOk result (ReportsAfter self.old.faults.items self.new.faults.items
-            (walked_in self.new.checker_state faulty.new.items) (reported_procedure_with (includes_body wanted.now)
-            (walked_in self.old.checker_state faulty.old.items) (procedure_of p.now))) }
+        ensures { OnOk result (ReturnsAndReports self.old.faults.items self.new.faults.items
+            (walk_progress_of self.new.checker_state bodies_with_faults.new.items) (reported_procedure_with_bodies (includes_body wanted.now)
+            (walk_progress_of self.old.checker_state bodies_with_faults.old.items) (procedure_of p.now))) }
     {
         let formals = self.report_heading(&p.formals)?;
         self.checker_state
             .define(p.name, Meaning::Procedure(formals));
-        self.report_block(faulty, wanted, &p.block, p.closing)
+        self.report_block(bodies_with_faults, wanted, &p.block, p.closing)
     }
 
     /// If `wanted` is true, reports the faults of a body. If the body has a fault, also appends
-    /// `own`, the closing name of the body's block, to `faulty`.
-    fn report_body_if(
+    /// `own`, the closing name of the body's block, to `bodies_with_faults`.
+    fn report_body_if_wanted(
         &mut self,
-        faulty: &mut Vec<usize>,
+        bodies_with_faults: &mut Vec<usize>,
         wanted: bool,
         own: usize,
         statements: &Option<Vec<Statement>>,
     ) -> Result<(), AllocError>
-        ensures { OnOk result (ReportsAfter self.old.faults.items self.new.faults.items
-            (walked_in self.new.checker_state faulty.new.items) (report_body_if wanted own
-            (walked_in self.old.checker_state faulty.old.items) (body_of statements.now))) }
+        ensures { OnOk result (ReturnsAndReports self.old.faults.items self.new.faults.items
+            (walk_progress_of self.new.checker_state bodies_with_faults.new.items) (report_body_if_wanted wanted own
+            (walk_progress_of self.old.checker_state bodies_with_faults.old.items) (body_of statements.now))) }
     {
         if !wanted {
             return Ok(());
@@ -129,14 +129,14 @@ impl<'t> Reporter<'t> {
         let before = self.faults.len();
         self.report_body_statements(statements)?;
         if self.faults.len() > before {
-            faulty.push(own)?;
+            bodies_with_faults.push(own)?;
         }
         Ok(())
     }
 
     /// Reports the faults of a body's statements. A missing body (None) has no faults.
     fn report_body_statements(&mut self, body: &Option<Vec<Statement>>) -> Result<(), AllocError>
-        ensures { OnOk result (ReportsAfter self.old.faults.items self.new.faults.items
+        ensures { OnOk result (ReturnsAndReports self.old.faults.items self.new.faults.items
             (declarations_in_state self.new.checker_state)
             (reported_body (declarations_in_state self.old.checker_state) (body_of body.now))) }
     {
@@ -154,7 +154,7 @@ impl<'t> Reporter<'t> {
         &mut self,
         sections: &Option<Vec<ParameterSection>>,
     ) -> Result<Vec<FormalParameter>, AllocError>
-        ensures { IfOk result (λ formals. ReportsAfter self.old.faults.items self.new.faults.items
+        ensures { IfOk result (λ formals. ReturnsAndReports self.old.faults.items self.new.faults.items
             (heading_in self.new.checker_state formals.items) (reported_sections
             (record { formals = []; following = declarations_in_state self.old.checker_state })
             (formal_sections (formals_of sections.now)))) }
@@ -171,7 +171,7 @@ impl<'t> Reporter<'t> {
         sections: &Option<Vec<ParameterSection>>,
         formals: &mut Vec<FormalParameter>,
     ) -> Result<(), AllocError>
-        ensures { OnOk result (ReportsAfter self.old.faults.items self.new.faults.items
+        ensures { OnOk result (ReturnsAndReports self.old.faults.items self.new.faults.items
             (heading_in self.new.checker_state formals.new.items) (reported_sections
             (heading_in self.old.checker_state formals.old.items)
             (formal_sections (formals_of sections.now)))) }
@@ -189,7 +189,7 @@ impl<'t> Reporter<'t> {
         sections: &[ParameterSection],
         formals: &mut Vec<FormalParameter>,
     ) -> Result<(), AllocError>
-        ensures { OnOk result (ReportsAfter self.old.faults.items self.new.faults.items
+        ensures { OnOk result (ReturnsAndReports self.old.faults.items self.new.faults.items
             (heading_in self.new.checker_state formals.new.items) (reported_sections
             (heading_in self.old.checker_state formals.old.items)
             (items_of further_section_of sections.now))) }
@@ -207,7 +207,7 @@ impl<'t> Reporter<'t> {
         s: &ParameterSection,
         formals: &mut Vec<FormalParameter>,
     ) -> Result<(), AllocError>
-        ensures { OnOk result (ReportsAfter self.old.faults.items self.new.faults.items
+        ensures { OnOk result (ReturnsAndReports self.old.faults.items self.new.faults.items
             (heading_in self.new.checker_state formals.new.items) (reported_section
             (heading_in self.old.checker_state formals.old.items) (further_section_of s.now))) }
     {
@@ -222,7 +222,7 @@ impl<'t> Reporter<'t> {
     }
 
     fn report_constant_section(&mut self, section: &Option<Vec<Constant>>) -> Result<(), AllocError>
-        ensures { OnOk result (ReportsAfter self.old.faults.items self.new.faults.items
+        ensures { OnOk result (ReturnsAndReports self.old.faults.items self.new.faults.items
             (declarations_in_state self.new.checker_state) (reported_constants (declarations_in_state self.old.checker_state)
             (section_constants (constants_of section.now)))) }
     {
@@ -233,7 +233,7 @@ impl<'t> Reporter<'t> {
     }
 
     fn report_constants(&mut self, constants: &[Constant]) -> Result<(), AllocError>
-        ensures { OnOk result (ReportsAfter self.old.faults.items self.new.faults.items
+        ensures { OnOk result (ReturnsAndReports self.old.faults.items self.new.faults.items
             (declarations_in_state self.new.checker_state) (reported_constants (declarations_in_state self.old.checker_state)
             (items_of constant_of constants.now))) }
     {
@@ -244,9 +244,9 @@ impl<'t> Reporter<'t> {
     }
 
     fn report_constant(&mut self, c: &Constant) -> Result<(), AllocError>
-        ensures { OnOk result (ReportsAfter self.old.faults.items self.new.faults.items
+        ensures { OnOk result (ReturnsAndReports self.old.faults.items self.new.faults.items
             (declarations_in_state self.new.checker_state)
-            (constant_declared (declarations_in_state self.old.checker_state) (constant_of c.now))) }
+            (reported_constant_declaration (declarations_in_state self.old.checker_state) (constant_of c.now))) }
     {
         let value = self
             .checker_state
@@ -259,7 +259,7 @@ impl<'t> Reporter<'t> {
         &mut self,
         section: &Option<Vec<TypeDeclaration>>,
     ) -> Result<(), AllocError>
-        ensures { OnOk result (ReportsAfter self.old.faults.items self.new.faults.items
+        ensures { OnOk result (ReturnsAndReports self.old.faults.items self.new.faults.items
             (declarations_in_state self.new.checker_state)
             (reported_types (declarations_in_state self.old.checker_state) (section_types (types_of section.now)))) }
     {
@@ -270,7 +270,7 @@ impl<'t> Reporter<'t> {
     }
 
     fn report_types(&mut self, types: &[TypeDeclaration]) -> Result<(), AllocError>
-        ensures { OnOk result (ReportsAfter self.old.faults.items self.new.faults.items
+        ensures { OnOk result (ReturnsAndReports self.old.faults.items self.new.faults.items
             (declarations_in_state self.new.checker_state) (reported_types (declarations_in_state self.old.checker_state)
             (items_of type_declaration_of types.now))) }
     {
@@ -281,9 +281,9 @@ impl<'t> Reporter<'t> {
     }
 
     fn report_type_declaration(&mut self, d: &TypeDeclaration) -> Result<(), AllocError>
-        ensures { OnOk result (ReportsAfter self.old.faults.items self.new.faults.items
+        ensures { OnOk result (ReturnsAndReports self.old.faults.items self.new.faults.items
             (declarations_in_state self.new.checker_state)
-            (type_declared (declarations_in_state self.old.checker_state) (type_declaration_of d.now))) }
+            (reported_type_declaration (declarations_in_state self.old.checker_state) (type_declaration_of d.now))) }
     {
         let of = self.check_written_type(&d.written)?;
         self.checker_state.define(d.name, Meaning::Named(of));
@@ -294,7 +294,7 @@ impl<'t> Reporter<'t> {
         &mut self,
         section: &Option<Vec<VariableDeclaration>>,
     ) -> Result<(), AllocError>
-        ensures { OnOk result (ReportsAfter self.old.faults.items self.new.faults.items
+        ensures { OnOk result (ReturnsAndReports self.old.faults.items self.new.faults.items
             (declarations_in_state self.new.checker_state) (reported_variables (declarations_in_state self.old.checker_state)
             (section_variables (variables_of section.now)))) }
     {
@@ -305,7 +305,7 @@ impl<'t> Reporter<'t> {
     }
 
     fn report_variables(&mut self, variables: &[VariableDeclaration]) -> Result<(), AllocError>
-        ensures { OnOk result (ReportsAfter self.old.faults.items self.new.faults.items
+        ensures { OnOk result (ReturnsAndReports self.old.faults.items self.new.faults.items
             (declarations_in_state self.new.checker_state) (reported_variables (declarations_in_state self.old.checker_state)
             (items_of variable_of variables.now))) }
     {
@@ -316,9 +316,9 @@ impl<'t> Reporter<'t> {
     }
 
     fn report_variable_group(&mut self, v: &VariableDeclaration) -> Result<(), AllocError>
-        ensures { OnOk result (ReportsAfter self.old.faults.items self.new.faults.items
+        ensures { OnOk result (ReturnsAndReports self.old.faults.items self.new.faults.items
             (declarations_in_state self.new.checker_state)
-            (variables_declared (declarations_in_state self.old.checker_state) (variable_of v.now))) }
+            (reported_variable_group (declarations_in_state self.old.checker_state) (variable_of v.now))) }
     {
         let of = self.check_written_type(&v.written)?;
         self.checker_state.define_all(&v.names, of);

@@ -7,7 +7,7 @@ ghost use Rattle.ob0_types_table.specs.declared.types.TypeId.TheVariants as type
 ghost use Rattle.ob0_tree.specs.View.{compound_of, expression_of, factor_of, selector_of, simple_of, term_of};
 ghost use Rattle.ob0_language_types.specs.Selected.{selectors_in};
 ghost use Rattle.ob0_types_check.specs.ExpressionFaults.{reported_expression, reported_factor, reported_selector, reported_selectors, reported_simple, reported_term};
-ghost use Rattle.ob0_types_check.specs.Operations.{ReportsAfter, constant_name_operand, number_operand, add_operands, required_type, required_type_of_both, fault_at_operand, signed_operand, complement_operand, element_type_in_form, element_operand, operand_in_parentheses, field_type_in_form, field_operand, fits, joint_operand, multiply_operands, name_operand, extended_operand, relate_operands, sign_operand, comparison_type, add_operand_type, equality_operand_type, multiply_operand_type, relation_operand_type, value_type};
+ghost use Rattle.ob0_types_check.specs.Operations.{ReturnsAndReports, constant_name_operand, number_operand, add_operands, required_type, required_type_of_both, fault_at_operand, prefixed_operand, complement_operand, element_type_in_form, element_operand, operand_in_parentheses, field_type_in_form, field_operand, may_be_same_type, joint_operand, multiply_operands, name_operand, extended_operand, relate_operands, sign_operand, comparison_type, operand_type_of_addition, operand_type_of_equality, operand_type_of_multiplication, operand_type_of_relation, value_type};
 ghost use Rattle.ob0_types_check.specs.TypeFaults.{operand_value, reported_constant};
 ghost use Rattle.ob0_types_check.specs.KnownDeclarations.{same_type};
 ghost use Rattle.ob0_types_check.specs.CheckerViews.{facts_in, form_in, operand_of, known_types};
@@ -30,15 +30,15 @@ pub(crate) struct Operand {
     /// The value if the expression is constant, or None if it isn't constant or has a fault.
     pub(crate) value: Option<Scalar>,
     /// True if the expression is only a name with selectors, and the name isn't a constant's.
-    pub(crate) is_place: bool,
+    pub(crate) may_be_variable: bool,
     /// The index of the expression's first token. `last` is the index of its last token.
     pub(crate) first: usize,
     pub(crate) last: usize,
 }
 
 /// Returns the type that `+`, `-` or OR requires of both operands.
-fn add_operand_type(operator: AddOperator) -> TypeId
-    ensures { result ≡ add_operand_type (known_types []) operator }
+fn operand_type_of_addition(operator: AddOperator) -> TypeId
+    ensures { result ≡ operand_type_of_addition (known_types []) operator }
 {
     match operator {
         AddOperator::Add => TypeId::Integer,
@@ -48,8 +48,8 @@ fn add_operand_type(operator: AddOperator) -> TypeId
 }
 
 /// Returns the type that `*`, DIV, MOD or `&` requires of both operands.
-fn multiply_operand_type(operator: MultiplyOperator) -> TypeId
-    ensures { result ≡ multiply_operand_type (known_types []) operator }
+fn operand_type_of_multiplication(operator: MultiplyOperator) -> TypeId
+    ensures { result ≡ operand_type_of_multiplication (known_types []) operator }
 {
     match operator {
         MultiplyOperator::And => TypeId::Boolean,
@@ -62,12 +62,12 @@ fn multiply_operand_type(operator: MultiplyOperator) -> TypeId
 /// Returns the type that a relation requires of both operands. `=` and `#` compare two numbers or
 /// two truth values. If the left operand's type is unknown, `=` and `#` require nothing of the
 /// right operand. All other relations require INTEGER.
-fn relation_operand_type(relation: Relation, left: TypeId) -> TypeId
-    ensures { result ≡ relation_operand_type (known_types []) relation left }
+fn operand_type_of_relation(relation: Relation, left: TypeId) -> TypeId
+    ensures { result ≡ operand_type_of_relation (known_types []) relation left }
 {
     match relation {
-        Relation::Equal => equality_operand_type(left),
-        Relation::NotEqual => equality_operand_type(left),
+        Relation::Equal => operand_type_of_equality(left),
+        Relation::NotEqual => operand_type_of_equality(left),
         Relation::Less => TypeId::Integer,
         Relation::LessEqual => TypeId::Integer,
         Relation::Greater => TypeId::Integer,
@@ -77,8 +77,8 @@ fn relation_operand_type(relation: Relation, left: TypeId) -> TypeId
 
 /// Returns the type that `=` or `#` requires of both operands. The result is the left operand's
 /// type if this is INTEGER or unknown, otherwise BOOLEAN.
-fn equality_operand_type(left: TypeId) -> TypeId
-    ensures { result ≡ equality_operand_type (known_types []) left }
+fn operand_type_of_equality(left: TypeId) -> TypeId
+    ensures { result ≡ operand_type_of_equality (known_types []) left }
 {
     match left {
         TypeId::Integer => TypeId::Integer,
@@ -113,8 +113,8 @@ pub(crate) fn same_type(a: TypeId, b: TypeId) -> bool
 
 /// Returns whether the type `of` is accepted if the type `wanted` is required. The unknown type is
 /// always accepted. If `wanted` is the unknown type, every type is accepted.
-fn fits(of: TypeId, wanted: TypeId) -> bool
-    ensures { result ≡ fits (known_types []) of wanted }
+fn may_be_same_type(of: TypeId, wanted: TypeId) -> bool
+    ensures { result ≡ may_be_same_type (known_types []) of wanted }
 {
     same_type(of, wanted) || same_type(of, TypeId::Unknown) || same_type(wanted, TypeId::Unknown)
 }
@@ -133,14 +133,14 @@ fn required_type_or_unknown(of: TypeId, wanted: TypeId) -> TypeId
 impl Operand {
     /// Returns the operand of the expression in which a sign or `~` precedes this operand. The
     /// result has the type `of` and the given value.
-    fn signed_operand(self, of: TypeId, value: Option<Scalar>) -> Operand
+    fn prefixed_operand(self, of: TypeId, value: Option<Scalar>) -> Operand
         ensures { operand_of result
-            ≡ signed_operand of (option_map scalar_value value) (operand_of self) }
+            ≡ prefixed_operand of (option_map scalar_value value) (operand_of self) }
     {
         Operand {
             of,
             value,
-            is_place: false,
+            may_be_variable: false,
             first: self.first.saturating_sub(1),
             last: self.last,
         }
@@ -156,7 +156,7 @@ impl Operand {
         Operand {
             of,
             value,
-            is_place: false,
+            may_be_variable: false,
             first: self.first,
             last: right.last,
         }
@@ -170,7 +170,7 @@ impl Operand {
         Operand {
             of,
             value: None,
-            is_place: self.is_place,
+            may_be_variable: self.may_be_variable,
             first: self.first,
             last,
         }
@@ -199,10 +199,10 @@ impl<'t> CheckerState<'t> {
         wanted: TypeId,
         operand: Operand,
     ) -> Result<TypeId, AllocError>
-        ensures { IfOk result (λ t. ReportsAfter faults.old.items faults.new.items t
+        ensures { IfOk result (λ t. ReturnsAndReports faults.old.items faults.new.items t
             (required_type (facts_in self.now false) wanted (operand_of operand))) }
     {
-        if !fits(operand.of, wanted) {
+        if !may_be_same_type(operand.of, wanted) {
             self.report_at_operand(faults, FaultCode::TypeMismatch, operand)?;
         }
         Ok(required_type_or_unknown(operand.of, wanted))
@@ -218,10 +218,10 @@ impl<'t> CheckerState<'t> {
         left: Operand,
         right: Operand,
     ) -> Result<TypeId, AllocError>
-        ensures { IfOk result (λ t. ReportsAfter faults.old.items faults.new.items t
+        ensures { IfOk result (λ t. ReturnsAndReports faults.old.items faults.new.items t
             (required_type_of_both (facts_in self.now false) wanted (operand_of left) (operand_of right))) }
     {
-        if !fits(left.of, wanted) {
+        if !may_be_same_type(left.of, wanted) {
             self.report_at_operand(faults, FaultCode::TypeMismatch, left)?;
             return Ok(TypeId::Unknown);
         }
@@ -242,7 +242,7 @@ impl<'t> CheckerState<'t> {
         e: &Expression,
         only_constants: bool,
     ) -> Result<Operand, AllocError>
-        ensures { IfOk result (λ o. ReportsAfter faults.old.items faults.new.items (operand_of o)
+        ensures { IfOk result (λ o. ReturnsAndReports faults.old.items faults.new.items (operand_of o)
             (reported_expression (facts_in self.now only_constants) (expression_of e.now))) }
     {
         match e {
@@ -258,7 +258,7 @@ impl<'t> CheckerState<'t> {
         c: &CompoundExpression,
         only_constants: bool,
     ) -> Result<Operand, AllocError>
-        ensures { IfOk result (λ o. ReportsAfter faults.old.items faults.new.items (operand_of o)
+        ensures { IfOk result (λ o. ReturnsAndReports faults.old.items faults.new.items (operand_of o)
             (reported_expression (facts_in self.now only_constants) (compound_of c.now))) }
     {
         let left = self.check_simple_expression(faults, &c.left, only_constants)?;
@@ -280,11 +280,11 @@ impl<'t> CheckerState<'t> {
         left: Operand,
         right: Operand,
     ) -> Result<Operand, AllocError>
-        ensures { IfOk result (λ o. ReportsAfter faults.old.items faults.new.items (operand_of o)
+        ensures { IfOk result (λ o. ReturnsAndReports faults.old.items faults.new.items (operand_of o)
             (relate_operands (facts_in self.now false) relation (operand_of left)
             (operand_of right))) }
     {
-        let wanted = relation_operand_type(relation, left.of);
+        let wanted = operand_type_of_relation(relation, left.of);
         let of = self.require_both(faults, wanted, left, right)?;
         let value = operators::value_of_relation(relation, left.value, right.value);
         Ok(left.join_operand(right, type_of_comparison(of), value))
@@ -297,7 +297,7 @@ impl<'t> CheckerState<'t> {
         s: &SimpleExpression,
         only_constants: bool,
     ) -> Result<Operand, AllocError>
-        ensures { IfOk result (λ o. ReportsAfter faults.old.items faults.new.items (operand_of o)
+        ensures { IfOk result (λ o. ReturnsAndReports faults.old.items faults.new.items (operand_of o)
             (reported_simple (facts_in self.now only_constants) (simple_of s.now))) }
     {
         let first = self.check_term(faults, &s.first, only_constants)?;
@@ -318,11 +318,11 @@ impl<'t> CheckerState<'t> {
         left: Operand,
         right: Operand,
     ) -> Result<Operand, AllocError>
-        ensures { IfOk result (λ o. ReportsAfter faults.old.items faults.new.items (operand_of o)
+        ensures { IfOk result (λ o. ReturnsAndReports faults.old.items faults.new.items (operand_of o)
             (add_operands (facts_in self.now false) operator (operand_of left)
             (operand_of right))) }
     {
-        let of = self.require_both(faults, add_operand_type(operator), left, right)?;
+        let of = self.require_both(faults, operand_type_of_addition(operator), left, right)?;
         let value = operators::value_of_sum(operator, left.value, right.value);
         Ok(left.join_operand(right, of, value))
     }
@@ -335,7 +335,7 @@ impl<'t> CheckerState<'t> {
         sign: Option<Sign>,
         operand: Operand,
     ) -> Result<Operand, AllocError>
-        ensures { IfOk result (λ o. ReportsAfter faults.old.items faults.new.items (operand_of o)
+        ensures { IfOk result (λ o. ReturnsAndReports faults.old.items faults.new.items (operand_of o)
             (sign_operand (facts_in self.now false) sign (operand_of operand))) }
     {
         match sign {
@@ -343,7 +343,7 @@ impl<'t> CheckerState<'t> {
             Some(sign) => {
                 let of = self.require_type(faults, TypeId::Integer, operand)?;
                 let value = operators::signed_value(Some(sign), operand.value);
-                Ok(operand.signed_operand(of, value))
+                Ok(operand.prefixed_operand(of, value))
             }
         }
     }
@@ -355,7 +355,7 @@ impl<'t> CheckerState<'t> {
         t: &Term,
         only_constants: bool,
     ) -> Result<Operand, AllocError>
-        ensures { IfOk result (λ o. ReportsAfter faults.old.items faults.new.items (operand_of o)
+        ensures { IfOk result (λ o. ReturnsAndReports faults.old.items faults.new.items (operand_of o)
             (reported_term (facts_in self.now only_constants) (term_of t.now))) }
     {
         let mut so_far = self.check_factor(faults, &t.first, only_constants)?;
@@ -375,11 +375,16 @@ impl<'t> CheckerState<'t> {
         left: Operand,
         right: Operand,
     ) -> Result<Operand, AllocError>
-        ensures { IfOk result (λ o. ReportsAfter faults.old.items faults.new.items (operand_of o)
+        ensures { IfOk result (λ o. ReturnsAndReports faults.old.items faults.new.items (operand_of o)
             (multiply_operands (facts_in self.now false) operator (operand_of left)
             (operand_of right))) }
     {
-        let of = self.require_both(faults, multiply_operand_type(operator), left, right)?;
+        let of = self.require_both(
+            faults,
+            operand_type_of_multiplication(operator),
+            left,
+            right,
+        )?;
         let value = operators::value_of_product(operator, left.value, right.value);
         Ok(left.join_operand(right, of, value))
     }
@@ -391,7 +396,7 @@ impl<'t> CheckerState<'t> {
         f: &Factor,
         only_constants: bool,
     ) -> Result<Operand, AllocError>
-        ensures { IfOk result (λ o. ReportsAfter faults.old.items faults.new.items (operand_of o)
+        ensures { IfOk result (λ o. ReturnsAndReports faults.old.items faults.new.items (operand_of o)
             (reported_factor (facts_in self.now only_constants) (factor_of f.now))) }
     {
         match f {
@@ -423,7 +428,7 @@ impl<'t> CheckerState<'t> {
         Operand {
             of: TypeId::Integer,
             value: Some(Scalar::Number(number)),
-            is_place: false,
+            may_be_variable: false,
             first: token,
             last: token,
         }
@@ -436,7 +441,7 @@ impl<'t> CheckerState<'t> {
         Operand {
             of: inside.of,
             value: inside.value,
-            is_place: false,
+            may_be_variable: false,
             first: inside.first.saturating_sub(1),
             last: self.token_after(inside.last),
         }
@@ -449,11 +454,11 @@ impl<'t> CheckerState<'t> {
         faults: &mut Vec<Fault>,
         operand: Operand,
     ) -> Result<Operand, AllocError>
-        ensures { IfOk result (λ o. ReportsAfter faults.old.items faults.new.items (operand_of o)
+        ensures { IfOk result (λ o. ReturnsAndReports faults.old.items faults.new.items (operand_of o)
             (complement_operand (facts_in self.now false) (operand_of operand))) }
     {
         let of = self.require_type(faults, TypeId::Boolean, operand)?;
-        Ok(operand.signed_operand(of, operators::complement(operand.value)))
+        Ok(operand.prefixed_operand(of, operators::complement(operand.value)))
     }
 
     /// Returns the operand of a name that must refer to a value: a constant, or a variable unless
@@ -465,13 +470,13 @@ impl<'t> CheckerState<'t> {
         token: usize,
         only_constants: bool,
     ) -> Result<Operand, AllocError>
-        ensures { IfOk result (λ o. ReportsAfter faults.old.items faults.new.items (operand_of o)
+        ensures { IfOk result (λ o. ReturnsAndReports faults.old.items faults.new.items (operand_of o)
             (name_operand (facts_in self.now only_constants) token)) }
     {
         let unknown = Operand {
             of: TypeId::Unknown,
             value: None,
-            is_place: true,
+            may_be_variable: true,
             first: token,
             last: token,
         };
@@ -508,7 +513,7 @@ impl<'t> CheckerState<'t> {
         d: &Designator,
         only_constants: bool,
     ) -> Result<Operand, AllocError>
-        ensures { IfOk result (λ o. ReportsAfter faults.old.items faults.new.items (operand_of o)
+        ensures { IfOk result (λ o. ReturnsAndReports faults.old.items faults.new.items (operand_of o)
             (reported_selectors (facts_in self.now only_constants) (operand_of base)
             (selectors_in d.now))) }
     {
@@ -529,7 +534,7 @@ impl<'t> CheckerState<'t> {
         selector: &Selector,
         only_constants: bool,
     ) -> Result<Operand, AllocError>
-        ensures { IfOk result (λ o. ReportsAfter faults.old.items faults.new.items (operand_of o)
+        ensures { IfOk result (λ o. ReturnsAndReports faults.old.items faults.new.items (operand_of o)
             (reported_selector (facts_in self.now only_constants) (operand_of base)
             (selector_of selector.now))) }
     {
@@ -550,7 +555,7 @@ impl<'t> CheckerState<'t> {
         base: Operand,
         index: Operand,
     ) -> Result<Operand, AllocError>
-        ensures { IfOk result (λ o. ReportsAfter faults.old.items faults.new.items (operand_of o)
+        ensures { IfOk result (λ o. ReturnsAndReports faults.old.items faults.new.items (operand_of o)
             (element_operand (facts_in self.now false) (operand_of base) (operand_of index))) }
     {
         let index_type = self.require_type(faults, TypeId::Integer, index)?;
@@ -568,7 +573,7 @@ impl<'t> CheckerState<'t> {
         index: Operand,
         index_type: TypeId,
     ) -> Result<TypeId, AllocError>
-        ensures { IfOk result (λ t. ReportsAfter faults.old.items faults.new.items t
+        ensures { IfOk result (λ t. ReturnsAndReports faults.old.items faults.new.items t
             (element_type_in_form (facts_in self.now false) (operand_of index) index_type
             (form_in self.now.composites.items base))) }
     {
@@ -581,15 +586,19 @@ impl<'t> CheckerState<'t> {
                 }
             }
             TypeId::Unknown => Ok(TypeId::Unknown),
-            TypeId::Integer => self.report_no_array(faults, index),
-            TypeId::Boolean => self.report_no_array(faults, index),
-            TypeId::Record(_) => self.report_no_array(faults, index),
+            TypeId::Integer => self.report_not_an_array(faults, index),
+            TypeId::Boolean => self.report_not_an_array(faults, index),
+            TypeId::Record(_) => self.report_not_an_array(faults, index),
         }
     }
 
     /// Reports `NotArray` at the `[` before the index, and returns the unknown type.
-    fn report_no_array(&self, faults: &mut Vec<Fault>, index: Operand) -> Result<TypeId, AllocError>
-        ensures { IfOk result (λ t. ReportsAfter faults.old.items faults.new.items t
+    fn report_not_an_array(
+        &self,
+        faults: &mut Vec<Fault>,
+        index: Operand,
+    ) -> Result<TypeId, AllocError>
+        ensures { IfOk result (λ t. ReturnsAndReports faults.old.items faults.new.items t
             (element_type_in_form (facts_in self.now false) (operand_of index) type.Integer
             (form_in [] type.Integer))) }
     {
@@ -605,7 +614,7 @@ impl<'t> CheckerState<'t> {
         base: Operand,
         name: usize,
     ) -> Result<Operand, AllocError>
-        ensures { IfOk result (λ o. ReportsAfter faults.old.items faults.new.items (operand_of o)
+        ensures { IfOk result (λ o. ReturnsAndReports faults.old.items faults.new.items (operand_of o)
             (field_operand (facts_in self.now false) (operand_of base) name)) }
     {
         let of = self.field_type(faults, base.of, name)?;
@@ -621,7 +630,7 @@ impl<'t> CheckerState<'t> {
         base: TypeId,
         name: usize,
     ) -> Result<TypeId, AllocError>
-        ensures { IfOk result (λ t. ReportsAfter faults.old.items faults.new.items t
+        ensures { IfOk result (λ t. ReturnsAndReports faults.old.items faults.new.items t
             (field_type_in_form (facts_in self.now false) name (form_in self.now.composites.items base))) }
     {
         match base {
@@ -633,15 +642,19 @@ impl<'t> CheckerState<'t> {
                 }
             },
             TypeId::Unknown => Ok(TypeId::Unknown),
-            TypeId::Integer => self.report_no_record(faults, name),
-            TypeId::Boolean => self.report_no_record(faults, name),
-            TypeId::Array(_) => self.report_no_record(faults, name),
+            TypeId::Integer => self.report_not_a_record(faults, name),
+            TypeId::Boolean => self.report_not_a_record(faults, name),
+            TypeId::Array(_) => self.report_not_a_record(faults, name),
         }
     }
 
     /// Reports `NotRecord` at the `.` before the field's name, and returns the unknown type.
-    fn report_no_record(&self, faults: &mut Vec<Fault>, name: usize) -> Result<TypeId, AllocError>
-        ensures { IfOk result (λ t. ReportsAfter faults.old.items faults.new.items t
+    fn report_not_a_record(
+        &self,
+        faults: &mut Vec<Fault>,
+        name: usize,
+    ) -> Result<TypeId, AllocError>
+        ensures { IfOk result (λ t. ReturnsAndReports faults.old.items faults.new.items t
             (field_type_in_form (facts_in self.now false) name (form_in [] type.Integer))) }
     {
         self.report_at(faults, FaultCode::NotRecord, name.saturating_sub(1))?;
@@ -655,7 +668,7 @@ impl<'t> CheckerState<'t> {
         faults: &mut Vec<Fault>,
         e: &Expression,
     ) -> Result<Option<Scalar>, AllocError>
-        ensures { IfOk result (λ v. ReportsAfter faults.old.items faults.new.items
+        ensures { IfOk result (λ v. ReturnsAndReports faults.old.items faults.new.items
             (option_map scalar_value v)
             (reported_constant (facts_in self.now true) (expression_of e.now))) }
     {
@@ -670,7 +683,7 @@ impl<'t> CheckerState<'t> {
         faults: &mut Vec<Fault>,
         constant_operand: Operand,
     ) -> Result<Option<Scalar>, AllocError>
-        ensures { IfOk result (λ v. ReportsAfter faults.old.items faults.new.items
+        ensures { IfOk result (λ v. ReturnsAndReports faults.old.items faults.new.items
             (option_map scalar_value v)
             (operand_value (facts_in self.now false) (operand_of constant_operand))) }
     {
@@ -693,7 +706,7 @@ fn constant_operand(value: Option<Scalar>, token: usize) -> Operand
     Operand {
         of: constant_type(value),
         value,
-        is_place: false,
+        may_be_variable: false,
         first: token,
         last: token,
     }

@@ -4,8 +4,8 @@ ghost use Rattle.std.specs.Prelude.{◌≡◌, ◌++◌, false, map, IfOk, OnOk,
 ghost use Rattle.ob0_scan.specs.declared.fault.FaultCode.TheVariants as code;
 ghost use Rattle.ob0_tree.specs.View.{assignment_of, call_of, elsifs_of_vec, expression_of, if_of, sequence_of_vec, statement_of};
 ghost use Rattle.ob0_types_check.specs.Known.{a_procedure};
-ghost use Rattle.ob0_types_check.specs.Operations.{ReportsAfter, fault_at_token};
-ghost use Rattle.ob0_types_check.specs.StatementFaults.{target_name_type, reported_call_by_meaning, required_of_argument, reported_argument, reported_required, reported_call, reported_condition, reported_elsifs, reported_untyped_arguments, reported_sequence, reported_statement};
+ghost use Rattle.ob0_types_check.specs.Operations.{ReturnsAndReports, fault_at_token};
+ghost use Rattle.ob0_types_check.specs.StatementFaults.{target_name_type, call_faults_by_meaning, required_type_of_argument, faults_of_argument, typed_expression_faults, call_faults, condition_faults, elsif_faults, untyped_argument_faults, sequence_faults, statement_faults};
 ghost use Rattle.ob0_types_check.specs.CheckerViews.{facts_in, formal_of, operand_of};
 
 use crate::reporting::checker_state::{CheckerState, Meaning};
@@ -25,7 +25,7 @@ impl<'t> CheckerState<'t> {
     ) -> Result<(), AllocError>
         ensures { OnOk result (faults.new.items
             ≡ faults.old.items
-            ++ reported_sequence (facts_in self.now false) (sequence_of_vec statements.now)) }
+            ++ sequence_faults (facts_in self.now false) (sequence_of_vec statements.now)) }
     {
         for s in statements {
             self.report_statement(faults, s)?;
@@ -38,7 +38,7 @@ impl<'t> CheckerState<'t> {
     fn report_statement(&self, faults: &mut Vec<Fault>, s: &Statement) -> Result<(), AllocError>
         ensures { OnOk result (faults.new.items
             ≡ faults.old.items
-            ++ reported_statement (facts_in self.now false) (statement_of s.now)) }
+            ++ statement_faults (facts_in self.now false) (statement_of s.now)) }
     {
         match s {
             Statement::Empty => Ok(()),
@@ -62,7 +62,7 @@ impl<'t> CheckerState<'t> {
     #[cycle(statements)]
     fn report_if_statement(&self, faults: &mut Vec<Fault>, i: &If) -> Result<(), AllocError>
         ensures { OnOk result (faults.new.items
-            ≡ faults.old.items ++ reported_statement (facts_in self.now false) (if_of i.now)) }
+            ≡ faults.old.items ++ statement_faults (facts_in self.now false) (if_of i.now)) }
     {
         self.report_condition(faults, &i.condition)?;
         self.report_sequence(faults, &i.then)?;
@@ -76,7 +76,7 @@ impl<'t> CheckerState<'t> {
     #[cycle(statements)]
     fn report_elsifs(&self, faults: &mut Vec<Fault>, parts: &Vec<Elsif>) -> Result<(), AllocError>
         ensures { OnOk result (faults.new.items
-            ≡ faults.old.items ++ reported_elsifs (facts_in self.now false) (elsifs_of_vec parts.now)) }
+            ≡ faults.old.items ++ elsif_faults (facts_in self.now false) (elsifs_of_vec parts.now)) }
     {
         for part in parts {
             self.report_condition(faults, &part.condition)?;
@@ -89,7 +89,7 @@ impl<'t> CheckerState<'t> {
     fn report_condition(&self, faults: &mut Vec<Fault>, e: &Expression) -> Result<(), AllocError>
         ensures { OnOk result (faults.new.items
             ≡ faults.old.items
-            ++ reported_condition (facts_in self.now false) (expression_of e.now)) }
+            ++ condition_faults (facts_in self.now false) (expression_of e.now)) }
     {
         self.check_typed_expression(faults, TypeId::Boolean, e)
     }
@@ -103,7 +103,7 @@ impl<'t> CheckerState<'t> {
     ) -> Result<(), AllocError>
         ensures { OnOk result (faults.new.items
             ≡ faults.old.items
-            ++ reported_required (facts_in self.now false) wanted (expression_of e.now)) }
+            ++ typed_expression_faults (facts_in self.now false) wanted (expression_of e.now)) }
     {
         let operand = self.check_expression(faults, e, false)?;
         self.require_type(faults, wanted, operand)?;
@@ -115,13 +115,13 @@ impl<'t> CheckerState<'t> {
     fn report_assignment(&self, faults: &mut Vec<Fault>, a: &Assignment) -> Result<(), AllocError>
         ensures { OnOk result (faults.new.items
             ≡ faults.old.items
-            ++ reported_statement (facts_in self.now false) (assignment_of a.now)) }
+            ++ statement_faults (facts_in self.now false) (assignment_of a.now)) }
     {
         let token = a.target.name;
         let base = Operand {
             of: self.target_type(faults, token)?,
             value: None,
-            is_place: true,
+            may_be_variable: true,
             first: token,
             last: token,
         };
@@ -133,7 +133,7 @@ impl<'t> CheckerState<'t> {
     /// If the name refers to something else, a fault is reported. If the name has no known meaning,
     /// nothing is reported. In both cases the result is the unknown type.
     fn target_type(&self, faults: &mut Vec<Fault>, token: usize) -> Result<TypeId, AllocError>
-        ensures { IfOk result (λ t. ReportsAfter faults.old.items faults.new.items t
+        ensures { IfOk result (λ t. ReturnsAndReports faults.old.items faults.new.items t
             (target_name_type (facts_in self.now false) token)) }
     {
         match self.meaning_of_name(token) {
@@ -158,7 +158,7 @@ impl<'t> CheckerState<'t> {
 
     fn report_call_statement(&self, faults: &mut Vec<Fault>, call: &Call) -> Result<(), AllocError>
         ensures { OnOk result (faults.new.items
-            ≡ faults.old.items ++ reported_statement (facts_in self.now false) (call_of call.now)) }
+            ≡ faults.old.items ++ statement_faults (facts_in self.now false) (call_of call.now)) }
     {
         match &call.arguments {
             None => self.report_call(faults, call.procedure, &[]),
@@ -176,7 +176,7 @@ impl<'t> CheckerState<'t> {
     ) -> Result<(), AllocError>
         ensures { OnOk result (faults.new.items
             ≡ faults.old.items
-            ++ reported_call (facts_in self.now false) procedure
+            ++ call_faults (facts_in self.now false) procedure
             (map expression_of arguments.now)) }
     {
         match self.meaning_of_name(procedure) {
@@ -185,16 +185,16 @@ impl<'t> CheckerState<'t> {
                 Meaning::Procedure(formals) => {
                     self.report_arguments(faults, procedure, formals.as_slice(), arguments)
                 }
-                Meaning::Named(_) => self.report_no_procedure(faults, procedure, arguments),
-                Meaning::Constant(_) => self.report_no_procedure(faults, procedure, arguments),
-                Meaning::Variable(_) => self.report_no_procedure(faults, procedure, arguments),
+                Meaning::Named(_) => self.report_not_a_procedure(faults, procedure, arguments),
+                Meaning::Constant(_) => self.report_not_a_procedure(faults, procedure, arguments),
+                Meaning::Variable(_) => self.report_not_a_procedure(faults, procedure, arguments),
             },
         }
     }
 
     /// Reports that a called name isn't a procedure's, and then the faults of the arguments, which
     /// may have any type.
-    fn report_no_procedure(
+    fn report_not_a_procedure(
         &self,
         faults: &mut Vec<Fault>,
         procedure: usize,
@@ -203,7 +203,7 @@ impl<'t> CheckerState<'t> {
         ensures { OnOk result (faults.new.items
             ≡ faults.old.items
             ++ (fault_at_token (facts_in self.now false) code.WrongKind procedure
-            ++ reported_untyped_arguments (facts_in self.now false) (map expression_of arguments.now))) }
+            ++ untyped_argument_faults (facts_in self.now false) (map expression_of arguments.now))) }
     {
         self.report_at(faults, FaultCode::WrongKind, procedure)?;
         self.report_untyped_arguments(faults, arguments)
@@ -217,7 +217,7 @@ impl<'t> CheckerState<'t> {
     ) -> Result<(), AllocError>
         ensures { OnOk result (faults.new.items
             ≡ faults.old.items
-            ++ reported_untyped_arguments (facts_in self.now false) (map expression_of arguments.now)) }
+            ++ untyped_argument_faults (facts_in self.now false) (map expression_of arguments.now)) }
     {
         for e in arguments {
             self.check_expression(faults, e, false)?;
@@ -236,7 +236,7 @@ impl<'t> CheckerState<'t> {
     ) -> Result<(), AllocError>
         ensures { OnOk result (faults.new.items
             ≡ faults.old.items
-            ++ reported_call_by_meaning (facts_in self.now false) procedure
+            ++ call_faults_by_meaning (facts_in self.now false) procedure
             (Some (a_procedure (map formal_of formals.now))) (map expression_of arguments.now)) }
     {
         if formals.len() != arguments.len() {
@@ -257,7 +257,7 @@ impl<'t> CheckerState<'t> {
     ) -> Result<(), AllocError>
         ensures { OnOk result (faults.new.items
             ≡ faults.old.items
-            ++ reported_argument (facts_in self.now false) (formal_of formal.now)
+            ++ faults_of_argument (facts_in self.now false) (formal_of formal.now)
             (expression_of e.now)) }
     {
         let operand = self.check_expression(faults, e, false)?;
@@ -274,10 +274,10 @@ impl<'t> CheckerState<'t> {
         formal: &FormalParameter,
         operand: Operand,
     ) -> Result<TypeId, AllocError>
-        ensures { IfOk result (λ t. ReportsAfter faults.old.items faults.new.items t
-            (required_of_argument (facts_in self.now false) (formal_of formal.now) (operand_of operand))) }
+        ensures { IfOk result (λ t. ReturnsAndReports faults.old.items faults.new.items t
+            (required_type_of_argument (facts_in self.now false) (formal_of formal.now) (operand_of operand))) }
     {
-        if formal.by_place && !operand.is_place {
+        if formal.by_place && !operand.may_be_variable {
             self.report_at_operand(faults, FaultCode::NotVariable, operand)?;
             return Ok(TypeId::Unknown);
         }

@@ -7,7 +7,7 @@ ghost use Rattle.ob0_tree.specs.View.{expression_of, fields_of, further_fields_o
 ghost use Rattle.ob0_language_types.specs.Typing.{array_length};
 ghost use Rattle.ob0_language_values.specs.Scalars.{scalar_value};
 ghost use Rattle.ob0_types_check.specs.Known.{a_variable};
-ghost use Rattle.ob0_types_check.specs.Operations.{ReportsAfter};
+ghost use Rattle.ob0_types_check.specs.Operations.{ReturnsAndReports};
 ghost use Rattle.ob0_types_check.specs.KnownDeclarations.{empty_size};
 ghost use Rattle.ob0_types_check.specs.CheckerViews.{AddsKnownFields, HasKnownFields, facts_in, fields_in, operand_of, size_of, declarations_in_state};
 ghost use Rattle.ob0_types_check.specs.TypeFaults.{length_of, type_by_meaning, type_named_at};
@@ -98,7 +98,7 @@ impl<'t> CheckerState<'t> {
     /// than a type, a fault is reported. If the name has no known meaning, nothing is reported. In
     /// both cases the result is the unknown type.
     fn type_named_at(&self, faults: &mut Vec<Fault>, token: usize) -> Result<TypeId, AllocError>
-        ensures { IfOk result (λ t. ReportsAfter faults.old.items faults.new.items t
+        ensures { IfOk result (λ t. ReturnsAndReports faults.old.items faults.new.items t
             (type_named_at (facts_in self.now false) token)) }
     {
         match self.meaning_of_name(token) {
@@ -114,7 +114,7 @@ impl<'t> CheckerState<'t> {
 
     /// Reports `WrongKind` at a name that isn't a type's, and returns the unknown type.
     fn report_not_a_type(&self, faults: &mut Vec<Fault>, token: usize) -> Result<TypeId, AllocError>
-        ensures { IfOk result (λ t. ReportsAfter faults.old.items faults.new.items t
+        ensures { IfOk result (λ t. ReturnsAndReports faults.old.items faults.new.items t
             (type_by_meaning (facts_in self.now false) token (Some (a_variable type.Integer)))) }
     {
         self.report_at(faults, FaultCode::WrongKind, token)?;
@@ -128,7 +128,7 @@ impl<'t> CheckerState<'t> {
         faults: &mut Vec<Fault>,
         operand: Operand,
     ) -> Result<Option<usize>, AllocError>
-        ensures { IfOk result (λ n. ReportsAfter faults.old.items faults.new.items n
+        ensures { IfOk result (λ n. ReturnsAndReports faults.old.items faults.new.items n
             (length_of (facts_in self.now false) (operand_of operand))) }
     {
         let of = self.require_type(faults, TypeId::Integer, operand)?;
@@ -151,7 +151,7 @@ impl<'t> Reporter<'t> {
     /// Reports the faults of a written type and returns the type. Faulty parts of the type are
     /// unknown.
     pub(crate) fn check_written_type(&mut self, t: &WrittenType) -> Result<TypeId, AllocError>
-        ensures { IfOk result (λ of. ReportsAfter self.old.faults.items self.new.faults.items
+        ensures { IfOk result (λ of. ReturnsAndReports self.old.faults.items self.new.faults.items
             (record { of = of; following = declarations_in_state self.new.checker_state })
             (reported_type 0 (declarations_in_state self.old.checker_state) (type_of t.now))) }
     {
@@ -163,7 +163,7 @@ impl<'t> Reporter<'t> {
     #[cycle(types)]
     fn check_nested_type(&mut self, t: &WrittenType, around: usize) -> Result<TypeId, AllocError>
         ensures { IfOk result
-            (λ of. ReportsAfter self.old.faults.items self.new.faults.items
+            (λ of. ReturnsAndReports self.old.faults.items self.new.faults.items
             (record { of = of; following = declarations_in_state self.new.checker_state })
             (reported_type around (declarations_in_state self.old.checker_state)
             (type_of t.now))) }
@@ -180,7 +180,7 @@ impl<'t> Reporter<'t> {
     #[cycle(types)]
     fn check_array_type(&mut self, a: &ArrayType, around: usize) -> Result<TypeId, AllocError>
         ensures { IfOk result
-            (λ of. ReportsAfter self.old.faults.items self.new.faults.items
+            (λ of. ReturnsAndReports self.old.faults.items self.new.faults.items
             (record { of = of; following = declarations_in_state self.new.checker_state }) (reported_type
             around (declarations_in_state self.old.checker_state)
             (array_type (expression_of a.now.size) (type_of a.now.element.value)))) }
@@ -206,7 +206,7 @@ impl<'t> Reporter<'t> {
         length: Option<usize>,
         element: TypeId,
     ) -> Result<TypeId, AllocError>
-        ensures { IfOk result (λ of. ReportsAfter self.old.faults.items self.new.faults.items
+        ensures { IfOk result (λ of. ReturnsAndReports self.old.faults.items self.new.faults.items
             (record { of = of; following = declarations_in_state self.new.checker_state }) (made_array_type ordinal
             (operand_of size) length
             (record { of = element; following = declarations_in_state self.old.checker_state }))) }
@@ -234,7 +234,7 @@ impl<'t> Reporter<'t> {
     #[cycle(types)]
     fn check_record_type(&mut self, r: &RecordType, around: usize) -> Result<TypeId, AllocError>
         ensures { IfOk result
-            (λ of. ReportsAfter self.old.faults.items self.new.faults.items
+            (λ of. ReturnsAndReports self.old.faults.items self.new.faults.items
             (record { of = of; following = declarations_in_state self.new.checker_state })
             (reported_type around (declarations_in_state self.old.checker_state)
             (record_type_of r.now))) }
@@ -277,7 +277,7 @@ impl<'t> Reporter<'t> {
     ) -> Result<TypeId, AllocError>
         ensures { (g : spec.KnownFields)
             → HasKnownFields g self.old.checker_state gathered
-            → IfOk result (λ of. ReportsAfter self.old.faults.items self.new.faults.items
+            → IfOk result (λ of. ReturnsAndReports self.old.faults.items self.new.faults.items
             (record { of = of; following = declarations_in_state self.new.checker_state })
             (made_record_type word ordinal g)) }
     {

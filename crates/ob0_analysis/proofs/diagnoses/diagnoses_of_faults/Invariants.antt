@@ -1,6 +1,6 @@
 use Rattle.std.proofs.Common.{◌≡◌, map, take}
-use Rattle.ob0_analysis.specs.Diagnosed.{complaint_of_diagnosis, complaint_of_fault}
+use Rattle.ob0_analysis.specs.Diagnosed.{reported_diagnosis_of, reported_diagnosis_of_fault}
 use Rattle.ob0_analysis.proofs.diagnoses.diagnoses_of_faults.Given as goal
 
 abbrev pub invariant-loop-fault : goal.invariant-loop-fault
-invariant-loop-fault l = map complaint_of_diagnosis l.list.items ≡ map complaint_of_fault (take l.fault-index l.faults)
+invariant-loop-fault l = map reported_diagnosis_of l.list.items ≡ map reported_diagnosis_of_fault (take l.fault-index l.faults)

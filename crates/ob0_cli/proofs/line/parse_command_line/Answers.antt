@@ -1,7 +1,7 @@
 use Rattle.std.proofs.Common.{◌≡◌, ◌∙◌, List, [], ap, map, subst, sym}
 use Rattle.clap.specs.Faults.{is_simple_and_free}
 use Rattle.clap.specs.Words.{App, Text, fault_of}
-use Rattle.ob0_cli.specs.Given.{FoundCommand, YieldsCommandLine}
+use Rattle.ob0_cli.specs.Given.{FoundSubcommand, YieldsCommandLine}
 use Rattle.ob0_cli.specs.Lines.{ob0_app}
 use Rattle.ob0_cli.proofs.Named.{parsed, simple_and_free}
 use Rattle.ob0_cli.proofs.line.parse_command_line.Goals as goal
@@ -22,6 +22,6 @@ returns-in-Ok c =
     let none : fault_of ob0_app words ≡ [] = ap (λ (a : App). fault_of a words) (sym is) ∙ matches.ensures.kinds (ap is_simple_and_free is ∙ simple_and_free) in
     let same = (parsed c.args.ob0_definition words matches.matches is none matches.ensures.parsed matches.ensures.matches).0 in
     record {
-      gives = record { fine = none; read = subst (λ (f : FoundCommand). YieldsCommandLine f c.command_line_of.result) same c.command_line_of.ensures };
+      gives = record { has_no_fault = none; read = subst (λ (f : FoundSubcommand). YieldsCommandLine f c.command_line_of.result) same c.command_line_of.ensures };
       refuses = tt;
     }

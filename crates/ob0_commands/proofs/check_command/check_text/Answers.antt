@@ -3,7 +3,7 @@ use Rattle.ob0_commands.proofs.check_command.check_text.Goals as goal
 
 pub returns-in-Ok-Some : goal.returns-in-Ok-Some
 returns-in-Ok-Some g c = inl (record {
-  low = omega arith;
+  status_at_most_one = omega arith;
   good = λ zero. (search rules, search rules);
   other = λ no. absurd (omega (arith, no));
   both = (c.in-Ok-Some.ensures.readable, c.in-Ok-Some.ensures.unfailed, refl);
@@ -11,7 +11,7 @@ returns-in-Ok-Some g c = inl (record {
 
 pub returns-in-Err : goal.returns-in-Err
 returns-in-Err g c = inr (record {
-  why = c.in-Err.fault;
+  ending_fault = c.in-Err.fault;
   is = c.print_fault.ensures.status;
   stops = c.in-Err.ensures.fault;
   failed = c.in-Err.ensures.failed;

@@ -1,6 +1,6 @@
 use Rattle.std.proofs.Common.{refl, subst, sym}
 use Rattle.ob0_commands.specs.CommandEffects.{PerformsOnFile}
-use Rattle.ob0_commands.specs.IsPrintedOnStderr.{PrintsLine}
+use Rattle.ob0_commands.specs.StderrLines.{PrintsLine}
 use Rattle.ob0_commands.proofs.commands.perform.Goals as goal
 
 pub returns-in-Run : goal.returns-in-Run

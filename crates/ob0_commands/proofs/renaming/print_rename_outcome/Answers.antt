@@ -1,7 +1,7 @@
 use Rattle.std.proofs.Common.{Result, Vec, Global, refl, sym, subst, arith, rules}
 use Rattle.ob0_text.specs.declared.edits.Edit.{Edit}
 use Rattle.ob0_text.specs.declared.refusals.EditRefusal.{EditRefusal}
-use Rattle.ob0_commands.specs.IsPrintedOnStderr.{PrintsLine}
+use Rattle.ob0_commands.specs.StderrLines.{PrintsLine}
 use Rattle.ob0_commands.specs.Renamed.{PrintsRefusal}
 use Rattle.ob0_commands.proofs.renaming.print_rename_outcome.Goals as goal
 
@@ -9,7 +9,7 @@ pub returns : goal.returns
 returns g c =
     record {
       ends = record {
-        low = omega arith;
+        status_at_most_one = omega arith;
         good = λ no. absurd (omega (arith, no));
         other = λ one. (subst (λ (r : Result (Vec Edit Global) EditRefusal). PrintsRefusal r (PrintsLine g.E.Write.contents g.E.Output.is_flushed g.E.Output.has_failed c.args.err.now c.print-in-Err.new.out)) (sym c.in-Err.is) (search rules), refl);
         both = refl;

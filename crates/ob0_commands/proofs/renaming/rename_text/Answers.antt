@@ -1,6 +1,6 @@
 use Rattle.std.proofs.Common.{Some, inl, inr, subst}
 use Rattle.ob0_commands.specs.Printed.{fault_line}
-use Rattle.ob0_commands.specs.IsPrintedOnStderr.{PrintsLine}
+use Rattle.ob0_commands.specs.StderrLines.{PrintsLine}
 use Rattle.ob0_commands.proofs.renaming.rename_text.Goals as goal
 
 pub returns-in-Ok : goal.returns-in-Ok
@@ -8,7 +8,7 @@ returns-in-Ok g c = inl c.in-Ok.ensures.ends
 
 pub returns-in-Err : goal.returns-in-Err
 returns-in-Err g c = inr (record {
-  why = c.in-Err.fault;
+  ending_fault = c.in-Err.fault;
   is = c.print_fault.ensures.status;
   stops = c.in-Err.ensures.fault;
   failed = c.in-Err.ensures.failed;

@@ -1,6 +1,6 @@
 use Rattle.std.proofs.Common.{◌≡◌, IsSomeAnd, sym, ap, ◌∙◌, subst}
 use Rattle.ob0_scope_table.specs.Resolution.{Resolution}
-use Rattle.ob0_scope.specs.NamesAtPlaces.{name_on}
+use Rattle.ob0_scope.specs.NamesAtPlaces.{name_at_offset}
 use Rattle.ob0_inline.specs.Everywhere.{IsConstant}
 use Rattle.ob0_inline.proofs.AtConstants.{constant_named}
 use Rattle.ob0_inline.proofs.constants.constant_at.Goals as goal
@@ -10,5 +10,5 @@ returns-in-Some-constant c =
     let r = c.args.«module».now in
     let back = c.resolved-names.ensures.value in
     constant_named r.module_read c.args.offset c.in-Some.found
-    (sym c.in-Some.is ∙ (c.name_at.ensures ∙ ap (λ (q : Resolution). name_on q.module_read c.args.offset) back)) c.named_constant.result
+    (sym c.in-Some.is ∙ (c.name_at.ensures ∙ ap (λ (q : Resolution). name_at_offset q.module_read c.args.offset) back)) c.named_constant.result
     (subst (λ (q : Resolution). IsSomeAnd c.named_constant.result (λ x. (x.ordinal ≡ c.in-Some.found.ordinal) × IsConstant q.module_read x)) back c.named_constant.ensures)

@@ -3,7 +3,7 @@ use Rattle.ob0_scan.specs.TextWithTokens.{TextWithTokens}
 use Rattle.ob0_tree.specs.ParsedModule.{named_tree_of}
 use Rattle.ob0_scope_table.specs.Resolution.{Resolution}
 use Rattle.ob0_edits_tokens.specs.Removed.{span_of_tokens}
-use Rattle.ob0_inline.specs.Declarations.{is_inside}
+use Rattle.ob0_inline.specs.Declarations.{contains_span}
 use Rattle.ob0_inline.specs.Everywhere.{any_use_shadowed}
 use Rattle.std.specs.List.{list_any}
 use Rattle.ob0_inline.proofs.AtConstants.{IsRefused, Made, answer_comment, answer_hidden, answer_made, answer_not_made}
@@ -24,16 +24,16 @@ returns-then-branch g c =
     let hidden = ap (λ (r : Resolution). any_use_shadowed (named_tree_of r.module_read) k) (sym back) ∙ (sym c.in_ok-any_use_shadowed-in-Ok.ensures ∙ c.if-branch.true) in
     inl (answer_hidden c.args.«module».now well k c.requires.is_constant c.constant_uses_are_factors.ensures c.value_is_scalar.ensures unit content edits made hidden)
 
-pub has_comment-requires-clause-inside : goal.has_comment-requires-clause-inside
-has_comment-requires-clause-inside g c =
+pub declaration_has_comment-requires-clause-inside : goal.declaration_has_comment-requires-clause-inside
+declaration_has_comment-requires-clause-inside g c =
     let taken = is_taken c.args.«module».now c.resolved-names.ensures.well_typed.resolved c.args.constant c.requires.is_constant in
     subst (λ (s : TextWithTokens). c.args.constant.last < length s.tokens) (sym (c.tokens.ensures ∙ ap (λ (r : Resolution). r.module_read.source) c.resolved-names.ensures.value)) taken.inside
 
-pub has_comment-requires-clause-order : goal.has_comment-requires-clause-order
-has_comment-requires-clause-order g c = (is_taken c.args.«module».now c.resolved-names.ensures.well_typed.resolved c.args.constant c.requires.is_constant).order
+pub declaration_has_comment-requires-clause-order : goal.declaration_has_comment-requires-clause-order
+declaration_has_comment-requires-clause-order g c = (is_taken c.args.«module».now c.resolved-names.ensures.well_typed.resolved c.args.constant c.requires.is_constant).order
 
-pub returns-then-has_comment : goal.returns-then-has_comment
-returns-then-has_comment g c =
+pub returns-then-declaration_has_comment : goal.returns-then-declaration_has_comment
+returns-then-declaration_has_comment g c =
     let k = c.args.constant in
     let unit = g.T.TextStore.unit_of c.args.store.now in
     let content = g.T.TextStore.content c.args.store.now in
@@ -45,11 +45,11 @@ returns-then-has_comment g c =
     let made = subst (λ (r : Resolution). Made r k unit content edits) back there in
     let shown = ap (λ (r : Resolution). any_use_shadowed (named_tree_of r.module_read) k) (sym back) ∙ (sym c.in_ok-any_use_shadowed-in-Ok.ensures ∙ c.if-branch.false) in
     let source = c.tokens.ensures ∙ ap (λ (r : Resolution). r.module_read.source) back in
-    let comment = ap (λ (s : TextWithTokens). list_any (is_inside (span_of_tokens s.tokens k.first k.last)) s.comments) (sym source) ∙ (sym c.has_comment.ensures ∙ c.if-has_comment.true) in
+    let comment = ap (λ (s : TextWithTokens). list_any (contains_span (span_of_tokens s.tokens k.first k.last)) s.comments) (sym source) ∙ (sym c.declaration_has_comment.ensures ∙ c.if-declaration_has_comment.true) in
     inl (answer_comment c.args.«module».now well k c.requires.is_constant c.constant_uses_are_factors.ensures c.value_is_scalar.ensures unit content edits made shown comment)
 
-pub returns-else-has_comment : goal.returns-else-has_comment
-returns-else-has_comment g c =
+pub returns-else-declaration_has_comment : goal.returns-else-declaration_has_comment
+returns-else-declaration_has_comment g c =
     let k = c.args.constant in
     let unit = g.T.TextStore.unit_of c.args.store.now in
     let content = g.T.TextStore.content c.args.store.now in
@@ -61,7 +61,7 @@ returns-else-has_comment g c =
     let made = subst (λ (r : Resolution). Made r k unit content edits) back there in
     let shown = ap (λ (r : Resolution). any_use_shadowed (named_tree_of r.module_read) k) (sym back) ∙ (sym c.in_ok-any_use_shadowed-in-Ok.ensures ∙ c.if-branch.false) in
     let source = c.tokens.ensures ∙ ap (λ (r : Resolution). r.module_read.source) back in
-    let bare = ap (λ (s : TextWithTokens). list_any (is_inside (span_of_tokens s.tokens k.first k.last)) s.comments) (sym source) ∙ (sym c.has_comment.ensures ∙ c.if-has_comment.false) in
+    let bare = ap (λ (s : TextWithTokens). list_any (contains_span (span_of_tokens s.tokens k.first k.last)) s.comments) (sym source) ∙ (sym c.declaration_has_comment.ensures ∙ c.if-declaration_has_comment.false) in
     answer_made c.args.«module».now well k c.requires.is_constant c.constant_uses_are_factors.ensures c.value_is_scalar.ensures c.inlining_everywhere_keeps_typing_and_runs.ensures unit content edits made shown bare
 
 pub returns-in-Err : goal.returns-in-Err

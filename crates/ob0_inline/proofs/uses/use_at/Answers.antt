@@ -1,7 +1,7 @@
 use Rattle.std.proofs.Common.{◌==◌, sym, ap, ◌∙◌}
 use Rattle.std.specs.List.{position_from}
 use Rattle.ob0_scope_table.specs.Resolution.{Resolution}
-use Rattle.ob0_scope.specs.NamesAtPlaces.{name_on}
+use Rattle.ob0_scope.specs.NamesAtPlaces.{name_at_offset}
 use Rattle.ob0_inline.proofs.AtUses.{no_use, use_found, use_is_one}
 use Rattle.ob0_inline.proofs.uses.use_at.Goals as goal
 
@@ -10,7 +10,7 @@ returns-in-Some-occurrence_at-clause-at c =
     let r = c.args.«module».now in
     let back = c.resolved-names.ensures.value in
     use_found r c.resolved-names.ensures.well_typed c.args.offset c.in-Some.found c.in-Some-occurrence_at.occurrence c.in-Some-constant.value
-    (sym c.in-Some.is ∙ (c.name_at.ensures ∙ ap (λ (q : Resolution). name_on q.module_read c.args.offset) back))
+    (sym c.in-Some.is ∙ (c.name_at.ensures ∙ ap (λ (q : Resolution). name_at_offset q.module_read c.args.offset) back))
     (ap (λ (q : Resolution). position_from (λ i. i == c.in-Some.found.token) 0 q.uses) (sym back) ∙ (sym c.occurrence_at.ensures ∙ c.in-Some-occurrence_at.is))
     c.in-Some-constant.ensures
 
@@ -20,7 +20,7 @@ returns-in-Some-occurrence_at-clause-is_use c =
     let back = c.resolved-names.ensures.value in
     λ u e. use_is_one r c.resolved-names.ensures.well_typed c.args.offset _ u
     (use_found r c.resolved-names.ensures.well_typed c.args.offset c.in-Some.found c.in-Some-occurrence_at.occurrence c.in-Some-constant.value
-    (sym c.in-Some.is ∙ (c.name_at.ensures ∙ ap (λ (q : Resolution). name_on q.module_read c.args.offset) back))
+    (sym c.in-Some.is ∙ (c.name_at.ensures ∙ ap (λ (q : Resolution). name_at_offset q.module_read c.args.offset) back))
     (ap (λ (q : Resolution). position_from (λ i. i == c.in-Some.found.token) 0 q.uses) (sym back) ∙ (sym c.occurrence_at.ensures ∙ c.in-Some-occurrence_at.is))
     c.in-Some-constant.ensures) e
 
@@ -29,5 +29,5 @@ returns-in-None-occurrence_at-clause-at c =
     let r = c.args.«module».now in
     let back = c.resolved-names.ensures.value in
     no_use r c.resolved-names.ensures.well_typed c.args.offset c.in-Some.found
-    (sym c.in-Some.is ∙ (c.name_at.ensures ∙ ap (λ (q : Resolution). name_on q.module_read c.args.offset) back))
+    (sym c.in-Some.is ∙ (c.name_at.ensures ∙ ap (λ (q : Resolution). name_at_offset q.module_read c.args.offset) back))
     (ap (λ (q : Resolution). position_from (λ i. i == c.in-Some.found.token) 0 q.uses) (sym back) ∙ (sym c.occurrence_at.ensures ∙ c.in-None-occurrence_at.is))

@@ -15,8 +15,8 @@ loop-i-preserved g c =
     let none : GapSite = record { start = 0; end = 0; gap = Nothing } in
     let from = c.in_ok-from.ensures ∙ ap (map (position_of width content)) c.deref.ensures.value in
     let to = c.in_ok-to.ensures ∙ ap (map (position_of width content)) c.deref-2.ensures.value in
-    let a = c.index.ensures ∙ position_at width content gs c.loop-i.i c.loop-i-test.true none (λ (x : GapSite). x.start) c.in_ok-starts.starts.items c.in_ok-from.from.items c.index.result.now from c.in_ok-starts.ensures in
-    let b = c.index-in-loop-i.ensures ∙ position_at width content gs c.loop-i.i c.loop-i-test.true none (λ (x : GapSite). x.end) c.in_ok-ends.ends.items c.in_ok-to.to.items c.index-in-loop-i.result.now to c.in_ok-ends.ensures in
+    let a = c.index.ensures ∙ position_at width content gs c.loop-i.i c.loop-i-test.true none (λ (x : GapSite). x.start) c.in_ok-gap_starts.gap_starts.items c.in_ok-from.from.items c.index.result.now from c.in_ok-gap_starts.ensures in
+    let b = c.index-in-loop-i.ensures ∙ position_at width content gs c.loop-i.i c.loop-i-test.true none (λ (x : GapSite). x.end) c.in_ok-gap_ends.gap_ends.items c.in_ok-to.to.items c.index-in-loop-i.result.now to c.in_ok-gap_ends.ensures in
     ap (map edit_content) c.in_ok-push.ensures.items
     ∙ edit_further width content gs c.loop-i.i c.loop-i-test.true none c.args.indent c.loop-i.edits.items _ c.loop-i.invariant
     (λ j. record { range = record { start = a j; end = b j }; text = c.in_ok-text.ensures j })

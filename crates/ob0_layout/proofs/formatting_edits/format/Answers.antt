@@ -8,7 +8,7 @@ use Rattle.ob0_scan.specs.TextWithTokens.{TextWithTokens, IsScan, max_text}
 use Rattle.ob0_text.specs.Units.{width_of}
 use Rattle.ob0_text.specs.declared.edits.Indent.{Indent}
 use Rattle.ob0_tree.specs.ParsedModule.{ParsedModule, tree_of, named_tree_of}
-use Rattle.ob0_tree.specs.Places.{text_at, value_at}
+use Rattle.ob0_tree.specs.Places.{token_text_at, token_value_at}
 use Rattle.ob0_layout.specs.Layout.{formatted_lexemes, layout}
 use Rattle.ob0_text.specs.Patches.{Cut, patched}
 use Rattle.ob0_layout.proofs.Patched.{gaps_patched}
@@ -39,7 +39,7 @@ lie_in_source {t = t} e indent len read is scan long h =
 counted : (m : ParsedModule) (indent : Indent) (scan : IsScan m.source) → formatted_len_from (length m.source.text) 0 (changed_in indent (line_roles 0 (tree_of m)) m.source scan) ≡ length (layout indent (named_tree_of m) scan.lexemes)
 unfolding formatted_lexemes
 counted m indent scan =
-    ap (λ (ss : List LineRole). formatted_len_from (length m.source.text) 0 (changed_in indent ss m.source scan)) (sym (roles_mapped (text_at m.source) (value_at m.source) 0 (tree_of m)))
+    ap (λ (ss : List LineRole). formatted_len_from (length m.source.text) 0 (changed_in indent ss m.source scan)) (sym (roles_mapped (token_text_at m.source) (token_value_at m.source) 0 (tree_of m)))
     ∙ changed_length indent m.source scan (line_roles 0 (named_tree_of m))
 
 past : (b : Bool) (n m : ℕ) → (n ≤ m → IsTrue b) → b ≡ false → m < n
@@ -67,7 +67,7 @@ returns-clause-edits g c = λ scan.
     let edit = edit_of (width_of (g.T.TextStore.unit_of c.args.store.now)) (g.T.TextStore.content c.args.store.now) in
     c.in_ok-edits.ensures ∙ sym (map-map edit (gap_cut c.args.indent) c.deref-3.result.now)
     ∙ ap (map edit)
-    (same ∙ ap (λ (ss : List LineRole). changed_in c.args.indent ss c.args.module.now.source scan) (sym (roles_mapped (text_at c.args.module.now.source) (value_at c.args.module.now.source) 0 (tree_of c.args.module.now))))
+    (same ∙ ap (λ (ss : List LineRole). changed_in c.args.indent ss c.args.module.now.source scan) (sym (roles_mapped (token_text_at c.args.module.now.source) (token_value_at c.args.module.now.source) 0 (tree_of c.args.module.now))))
 
 pub returns-clause-fits : goal.returns-clause-fits
 returns-clause-fits g c = λ scan.

@@ -3,7 +3,7 @@ use Rattle.ob0_scan.specs.TextWithTokens.{IsScan, TextWithTokens}
 use Rattle.ob0_text.specs.Units.{width_of}
 use Rattle.ob0_text.specs.declared.refusals.EditRefusal.TheVariants as refusal
 use Rattle.ob0_tree.specs.ParsedModule.{named_tree_of}
-use Rattle.ob0_tree.specs.Places.{text_at}
+use Rattle.ob0_tree.specs.Places.{token_text_at}
 use Rattle.ob0_language_names.specs.Names.{Name, same_name}
 use Rattle.ob0_scope_table.specs.Resolution.{Resolution, span_at}
 use Rattle.ob0_types.specs.CheckedModules.{IsWellTyped}
@@ -27,14 +27,14 @@ returns-in-Some-clause-answers g c = λ place.
     let text = g.T.TextStore.content c.args.store.now in
     let new = c.args.new.now in
     let names = c.resolved-names.result.now in
-    let f : Name = text_at names.module_read.source c.args.token in
+    let f : Name = token_text_at names.module_read.source c.args.token in
     let id = c.is_identifier.ensures.0 c.if-not-is_identifier.false in
-    let old = c.text_at-old.ensures ∙ ap (λ (s : TextWithTokens). text_at s c.args.token) c.tokens-2.ensures in
+    let old = c.token_text_at-old.ensures ∙ ap (λ (s : TextWithTokens). token_text_at s c.args.token) c.tokens-2.ensures in
     let other : (if same_name new f then None else field_declaring_token names.module_read c.args.owner new) ≡ Some c.in-Some.other =
     (λ i. if same_name new (sym old i) then None else field_declaring_token (c.resolved-names.ensures.value i).module_read c.args.owner new) ∙ (sym c.conflicting_field.ensures ∙ c.in-Some.is) in
     let range = c.token_range.ensures c.in-Some.other refl ∙ ap (λ (s : TextWithTokens). range_of (width_of unit) text (span_at s c.in-Some.other)) c.tokens-in-Some.ensures in
     let refused = duplicated unit text place new c.args.owner f names id c.duplicate_has_declaring_token.ensures c.in-Some.other (refusal.Duplicate c.token_range.result) other (ap (λ r. refusal.Duplicate r) range) in
-    inr (subst (λ (x : Resolution). IsFieldRefusal (requested_field unit text place new c.args.owner (text_at x.module_read.source c.args.token) x) c.args.owner (text_at x.module_read.source c.args.token) (refusal.Duplicate c.token_range.result)) c.resolved-names.ensures.value refused)
+    inr (subst (λ (x : Resolution). IsFieldRefusal (requested_field unit text place new c.args.owner (token_text_at x.module_read.source c.args.token) x) c.args.owner (token_text_at x.module_read.source c.args.token) (refusal.Duplicate c.token_range.result)) c.resolved-names.ensures.value refused)
 
 pub returns-in_ok-tokens-in-None : goal.returns-in_ok-tokens-in-None
 returns-in_ok-tokens-in-None g c =
@@ -43,10 +43,10 @@ returns-in_ok-tokens-in-None g c =
     let new = c.args.new.now in
     let k : ℕ = c.args.owner in
     let names = c.resolved-names.result.now in
-    let f : Name = text_at names.module_read.source c.args.token in
+    let f : Name = token_text_at names.module_read.source c.args.token in
     let well = subst IsWellTyped (sym c.resolved-names.ensures.value) c.resolved-names.ensures.well_typed in
     let id = c.is_identifier.ensures.0 c.if-not-is_identifier.false in
-    let old = c.text_at-old.ensures ∙ ap (λ (s : TextWithTokens). text_at s c.args.token) c.tokens-2.ensures in
+    let old = c.token_text_at-old.ensures ∙ ap (λ (s : TextWithTokens). token_text_at s c.args.token) c.tokens-2.ensures in
     let other : (if same_name new f then None else field_declaring_token names.module_read k new) ≡ None =
     (λ i. if same_name new (sym old i) then None else field_declaring_token (c.resolved-names.ensures.value i).module_read k new) ∙ (sym c.conflicting_field.ensures ∙ c.in-None.is) in
     let free : IsFreeFieldName (named_tree_of names.module_read) k f new = c.duplicate_has_declaring_token.ensures names.module_read k f new ∙ other_none (same_name new f) (field_declaring_token names.module_read k new) other in
@@ -59,10 +59,10 @@ returns-in_ok-tokens-in-None g c =
     let found = subst (λ (x : Resolution). AreIdentifierIndexes x.module_read.source.tokens 0 c.in_ok-tokens-in-None.tokens.items) (sym c.resolved-names.ensures.value) c.in_ok-tokens-in-None.ensures.names in
     let are = subst (AreIdentifierIndexes names.module_read.source.tokens 0) value found in
     record {
-      answers = λ place. subst (λ (x : Resolution). AnswersForField (requested_field unit text place new k (text_at x.module_read.source c.args.token) x) k (text_at x.module_read.source c.args.token) c.replacement_edits.result) c.resolved-names.ensures.value
+      answers = λ place. subst (λ (x : Resolution). AnswersForField (requested_field unit text place new k (token_text_at x.module_read.source c.args.token) x) k (token_text_at x.module_read.source c.args.token) c.replacement_edits.result) c.resolved-names.ensures.value
           (field_answered unit text place new k f names well id free c.free_field_renaming_keeps_typing_and_runs.ensures c.renaming_changes_field_tokens.ensures c.renaming_keeps_spelling.ensures c.names_replace_names.ensures are c.replacement_edits.result there);
       memory = λ refused. id;
       own_name = λ id own.
-          let same : new ≡ f = own ∙ ap (λ (x : Resolution). text_at x.module_read.source c.args.token) (sym c.resolved-names.ensures.value) in
+          let same : new ≡ f = own ∙ ap (λ (x : Resolution). token_text_at x.module_read.source c.args.token) (sym c.resolved-names.ensures.value) in
           own_field_answered unit text (record { line = 0; character = 0 }) new k f names (subst IsScan c.tokens.ensures c.text-text.ensures.scan) same c.replacement_edits.result there;
     }

@@ -2,8 +2,8 @@ use Rattle.std.proofs.Common.{suc, ap, ◌∙◌}
 use Rattle.ob0_run_machine.specs.declared.code.TruthList.{out-TruthList}
 use Rattle.ob0_run_machine.specs.View.{conjunction_from, conjunction_of, truth_of}
 use Rattle.ob0_run_machine.proofs.TruthList.{all_made}
-use Rattle.ob0_run_lowering.specs.Rows.{and_depth}
-use Rattle.ob0_run_lowering.proofs.Rows.{all_deep}
+use Rattle.ob0_run_lowering.specs.TruthDepths.{and_depth}
+use Rattle.ob0_run_lowering.proofs.TruthDepths.{all_deep}
 use Rattle.ob0_run_lowering.proofs.Longer.{all_more}
 use Rattle.ob0_run_lowering.proofs.chains.extended_conjunction.Goals as goal
 

@@ -2,8 +2,8 @@ use Rattle.std.proofs.Common.{suc, ap, ◌∙◌}
 use Rattle.ob0_run_machine.specs.declared.code.TruthList.{out-TruthList}
 use Rattle.ob0_run_machine.specs.View.{disjunction_from, disjunction_of, truth_of}
 use Rattle.ob0_run_machine.proofs.TruthList.{any_made}
-use Rattle.ob0_run_lowering.specs.Rows.{or_depth}
-use Rattle.ob0_run_lowering.proofs.Rows.{any_deep}
+use Rattle.ob0_run_lowering.specs.TruthDepths.{or_depth}
+use Rattle.ob0_run_lowering.proofs.TruthDepths.{any_deep}
 use Rattle.ob0_run_lowering.proofs.Longer.{any_more}
 use Rattle.ob0_run_lowering.proofs.chains.extended_disjunction.Goals as goal
 

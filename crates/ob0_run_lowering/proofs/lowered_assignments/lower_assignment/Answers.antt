@@ -4,38 +4,38 @@ use Rattle.ob0_tree.specs.View.{assignment_of, expression_of, items_of, selector
 use Rattle.ob0_scope_table.specs.LabelledTrees.{tree_with_labels}
 use Rattle.ob0_run_machine.specs.Lowered as lowered
 use Rattle.ob0_run_machine.specs.View.{number_of, place_of, statement_of}
-use Rattle.ob0_run_lowering.specs.LoweredBodies.{StatementLowers}
-use Rattle.ob0_run_lowering.specs.LoweredMeans.{Lowers}
-use Rattle.ob0_run_lowering.specs.declared.lowered.Lowered.{Lowered}
+use Rattle.ob0_run_lowering.specs.LoweredBodies.{LowersStatement}
+use Rattle.ob0_run_lowering.specs.LoweredMeans.{LowersExpression}
+use Rattle.ob0_run_lowering.specs.declared.lowered.LoweredExpression.{LoweredExpression}
 use Rattle.ob0_run_lowering.proofs.Assigned.{block_assigned, nothing_assigned, number_assigned, truth_assigned}
 use Rattle.ob0_run_lowering.proofs.lowered_assignments.lower_assignment.Goals as goal
 
 pub returns-in-Number : goal.returns-in-Number
 returns-in-Number c =
     let a = c.args.a.now in
-    let P : Lowered → Type 0 = λ l. Lowers c.args.scene.now (expression_of a.value) l in
+    let P : LoweredExpression → Type 0 = λ l. LowersExpression c.args.scene.now (expression_of a.value) l in
     let tree = tree_with_labels c.args.scene.now.resolved.now (assignment_of a) in
     let code = lowered.stores_number (place_of c.in_ok-target.target.place) (number_of c.in-Number.n) in
-    let means : StatementLowers c.args.scene.now code tree = number_assigned c.args.scene.now a.target.name (items_of selector_of a.target.selectors.items) a.value c.in_ok-target.target c.in-Number.n c.in_ok-target.ensures (subst P c.in-Number.is c.in_ok-n.ensures.lowers) in
-    IfOk-weaker c.number_assignment.result (λ made. statement_of made ≡ code) (λ made. StatementLowers c.args.scene.now (statement_of made) tree)
-    (λ made same. subst (λ k. StatementLowers c.args.scene.now k tree) (sym same) means) c.number_assignment.ensures
+    let means : LowersStatement c.args.scene.now code tree = number_assigned c.args.scene.now a.target.name (items_of selector_of a.target.selectors.items) a.value c.in_ok-target.target c.in-Number.n c.in_ok-target.ensures (subst P c.in-Number.is c.in_ok-n.ensures.lowers) in
+    IfOk-weaker c.number_assignment.result (λ made. statement_of made ≡ code) (λ made. LowersStatement c.args.scene.now (statement_of made) tree)
+    (λ made same. subst (λ k. LowersStatement c.args.scene.now k tree) (sym same) means) c.number_assignment.ensures
 
 pub returns-in-Truth : goal.returns-in-Truth
 returns-in-Truth c =
     let a = c.args.a.now in
-    let P : Lowered → Type 0 = λ l. Lowers c.args.scene.now (expression_of a.value) l in
-    let Q : lowered.Instruction → Type 0 = λ k. StatementLowers c.args.scene.now k (tree_with_labels c.args.scene.now.resolved.now (assignment_of a)) in
+    let P : LoweredExpression → Type 0 = λ l. LowersExpression c.args.scene.now (expression_of a.value) l in
+    let Q : lowered.Instruction → Type 0 = λ k. LowersStatement c.args.scene.now k (tree_with_labels c.args.scene.now.resolved.now (assignment_of a)) in
     subst Q (sym c.truth_assignment.ensures)
     (truth_assigned c.args.scene.now a.target.name (items_of selector_of a.target.selectors.items) a.value c.in_ok-target.target c.in-Truth.t c.in_ok-target.ensures (subst P c.in-Truth.is c.in_ok-n.ensures.lowers))
 
 pub returns-in-Block : goal.returns-in-Block
 returns-in-Block c =
     let a = c.args.a.now in
-    let P : Lowered → Type 0 = λ l. Lowers c.args.scene.now (expression_of a.value) l in
+    let P : LoweredExpression → Type 0 = λ l. LowersExpression c.args.scene.now (expression_of a.value) l in
     block_assigned c.args.scene.now a.target.name (items_of selector_of a.target.selectors.items) a.value c.in_ok-target.target c.in-Block.from c.in-Block.cells c.in_ok-target.ensures (subst P c.in-Block.is c.in_ok-n.ensures.lowers)
 
 pub returns-in-Nothing : goal.returns-in-Nothing
 returns-in-Nothing c =
     let a = c.args.a.now in
-    let P : Lowered → Type 0 = λ l. Lowers c.args.scene.now (expression_of a.value) l in
+    let P : LoweredExpression → Type 0 = λ l. LowersExpression c.args.scene.now (expression_of a.value) l in
     nothing_assigned c.args.scene.now a.target.name (items_of selector_of a.target.selectors.items) a.value c.in_ok-target.target _ (subst P c.in-Nothing.is c.in_ok-n.ensures.lowers)

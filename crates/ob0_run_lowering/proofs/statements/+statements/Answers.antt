@@ -16,13 +16,13 @@ use Rattle.ob0_run_machine.specs.declared.code.Branch.{Branch}
 use Rattle.ob0_run_machine.specs.declared.code.RepeatLoop.{RepeatLoop}
 use Rattle.ob0_run_machine.specs.declared.code.Instruction.{Instruction}
 use Rattle.ob0_run_machine.specs.declared.code.WhileLoop.{WhileLoop}
-use Rattle.ob0_run_lowering.specs.LoweredBodies.{SequenceLowers, StatementLowers}
+use Rattle.ob0_run_lowering.specs.LoweredBodies.{LowersSequence, LowersStatement}
 use Rattle.ob0_run_lowering.proofs.HoldsInScene.{condition-lowers, repeat-lowers, while-lowers}
 use Rattle.ob0_run_lowering.proofs.Made.{BranchesMade, SequenceMade, branches_begin, branches_end, branches_go_on, if_rolled, none_otherwise, sequence_begins, sequence_ends, sequence_goes_on, some_otherwise}
 use Rattle.ob0_run_lowering.proofs.statements.+statements.Goals as goal
 
-pub branches-loop-part-init : goal.branches-loop-part-init
-branches-loop-part-init t c =
+pub lower_if-loop-part-init : goal.lower_if-loop-part-init
+lower_if-loop-part-init t c =
     let scene = c.args.scene.now in
     let r = scene.resolved.now in
     let i = out-If c.args.i.now in
@@ -32,8 +32,8 @@ branches-loop-part-init t c =
     let P : List Branch → Type 0 = λ others. BranchesMade scene r e a c.deref-part-items.result.now 0 (b ∷ others) in
     subst P (sym c.new-others.ensures.items) (branches_begin scene r e a c.deref-part-items.result.now b (condition-lowers scene i.condition c.in_ok-first.first c.in_ok-first.ensures.lowers) c.in_ok-then.ensures)
 
-pub branches-loop-part-preserved : goal.branches-loop-part-preserved
-branches-loop-part-preserved t c =
+pub lower_if-loop-part-preserved : goal.lower_if-loop-part-preserved
+lower_if-loop-part-preserved t c =
     let scene = c.args.scene.now in
     let r = scene.resolved.now in
     let i = out-If c.args.i.now in
@@ -43,8 +43,8 @@ branches-loop-part-preserved t c =
     let step = branches_go_on c.part-item.result b c.loop-part.invariant c.loop-part-test.true c.part-item.is (condition-lowers scene c.part-item.result.condition c.in_ok-condition.condition c.in_ok-condition.ensures.lowers) c.in_ok-body.ensures in
     subst P (sym c.in_ok-push.ensures.items) step
 
-pub branches-returns-in-None : goal.branches-returns-in-None
-branches-returns-in-None t c =
+pub lower_if-returns-in-None : goal.lower_if-returns-in-None
+lower_if-returns-in-None t c =
     let scene = c.args.scene.now in
     let r = scene.resolved.now in
     let i = out-If c.args.i.now in
@@ -52,13 +52,13 @@ branches-returns-in-None t c =
     let first : Branch = record { condition = c.loop-part.first-1; body = c.in_ok-then.then } in
     let made = lowered.chooses (all_branches (first ∷ c.loop-part.others.items)) (sequence_of c.new.result.items) in
     let whole = branches_end (sequence_of c.new.result.items) last c.loop-part.invariant c.loop-part-test.false (none_otherwise scene r i.otherwise c.new.result.items c.in-None.is c.new.ensures.items) in
-    let P : List Elsif → Type 0 = λ parts. StatementLowers scene made (branches (tree_with_labels r (expression_of i.condition)) (tree_with_labels r (sequence_of_list i.then.items)) (tree_with_labels r (items_of elsif_of parts)) last) in
-    let Q : Tree Label sort.statement → Type 0 = λ a. StatementLowers scene made a in
-    let R : lowered.Instruction → Type 0 = λ code. StatementLowers scene code (tree_with_labels r (if_of c.args.i.now)) in
+    let P : List Elsif → Type 0 = λ parts. LowersStatement scene made (branches (tree_with_labels r (expression_of i.condition)) (tree_with_labels r (sequence_of_list i.then.items)) (tree_with_labels r (items_of elsif_of parts)) last) in
+    let Q : Tree Label sort.statement → Type 0 = λ a. LowersStatement scene made a in
+    let R : lowered.Instruction → Type 0 = λ code. LowersStatement scene code (tree_with_labels r (if_of c.args.i.now)) in
     subst R (sym (if_rolled (record { condition = c.loop-part.first-1; body = c.in_ok-then.then; others = c.loop-part.others; otherwise = c.new.result }))) (subst Q (sym (ap (tree_with_labels r) (tree.if_parts c.args.i.now))) (subst P c.deref-part-items.ensures.value whole))
 
-pub branches-returns-in_ok-otherwise-in-Some : goal.branches-returns-in_ok-otherwise-in-Some
-branches-returns-in_ok-otherwise-in-Some t c =
+pub lower_if-returns-in_ok-otherwise-in-Some : goal.lower_if-returns-in_ok-otherwise-in-Some
+lower_if-returns-in_ok-otherwise-in-Some t c =
     let scene = c.args.scene.now in
     let r = scene.resolved.now in
     let i = out-If c.args.i.now in
@@ -67,9 +67,9 @@ branches-returns-in_ok-otherwise-in-Some t c =
     let first : Branch = record { condition = c.loop-part.first-1; body = c.in_ok-then.then } in
     let made = lowered.chooses (all_branches (first ∷ c.loop-part.others.items)) (sequence_of otherwise.items) in
     let whole = branches_end (sequence_of otherwise.items) last c.loop-part.invariant c.loop-part-test.false (some_otherwise scene r i.otherwise c.in-Some.statements otherwise.items c.in-Some.is c.in_ok-otherwise-in-Some.ensures) in
-    let P : List Elsif → Type 0 = λ parts. StatementLowers scene made (branches (tree_with_labels r (expression_of i.condition)) (tree_with_labels r (sequence_of_list i.then.items)) (tree_with_labels r (items_of elsif_of parts)) last) in
-    let Q : Tree Label sort.statement → Type 0 = λ a. StatementLowers scene made a in
-    let R : lowered.Instruction → Type 0 = λ code. StatementLowers scene code (tree_with_labels r (if_of c.args.i.now)) in
+    let P : List Elsif → Type 0 = λ parts. LowersStatement scene made (branches (tree_with_labels r (expression_of i.condition)) (tree_with_labels r (sequence_of_list i.then.items)) (tree_with_labels r (items_of elsif_of parts)) last) in
+    let Q : Tree Label sort.statement → Type 0 = λ a. LowersStatement scene made a in
+    let R : lowered.Instruction → Type 0 = λ code. LowersStatement scene code (tree_with_labels r (if_of c.args.i.now)) in
     subst R (sym (if_rolled (record { condition = c.loop-part.first-1; body = c.in_ok-then.then; others = c.loop-part.others; otherwise = otherwise }))) (subst Q (sym (ap (tree_with_labels r) (tree.if_parts c.args.i.now))) (subst P c.deref-part-items.ensures.value whole))
 
 pub lower_sequence-loop-s-init : goal.lower_sequence-loop-s-init
@@ -87,29 +87,29 @@ lower_sequence-loop-s-preserved t c =
 pub lower_sequence-returns : goal.lower_sequence-returns
 lower_sequence-returns t c =
     let scene = c.args.scene.now in
-    let P : List written.Statement → Type 0 = λ ss. SequenceLowers scene (sequence_of c.loop-s.made.items) (tree_with_labels scene.resolved.now (sequence_of_list ss)) in
+    let P : List written.Statement → Type 0 = λ ss. LowersSequence scene (sequence_of c.loop-s.made.items) (tree_with_labels scene.resolved.now (sequence_of_list ss)) in
     subst P c.deref-s-items.ensures.value (sequence_ends c.loop-s.invariant c.loop-s-test.false)
 
-pub statement-returns-in_ok-lower_assignment-in-Assign : goal.statement-returns-in_ok-lower_assignment-in-Assign
-statement-returns-in_ok-lower_assignment-in-Assign t c =
+pub lower_statement-returns-in_ok-lower_assignment-in-Assign : goal.lower_statement-returns-in_ok-lower_assignment-in-Assign
+lower_statement-returns-in_ok-lower_assignment-in-Assign t c =
     let scene = c.args.scene.now in
-    let P : Tree ℕ sort.statement → Type 0 = λ a. StatementLowers scene (code.statement_of c.in_ok-lower_assignment-in-Assign.field-0) (tree_with_labels scene.resolved.now a) in
+    let P : Tree ℕ sort.statement → Type 0 = λ a. LowersStatement scene (code.statement_of c.in_ok-lower_assignment-in-Assign.field-0) (tree_with_labels scene.resolved.now a) in
     subst P (ap assignment_of c.deref.ensures ∙ sym (ap statement_of c.in-Assign.is)) c.in_ok-lower_assignment-in-Assign.ensures
 
-pub statement-returns-in_ok-lower_call_statement-in-Call : goal.statement-returns-in_ok-lower_call_statement-in-Call
-statement-returns-in_ok-lower_call_statement-in-Call t c =
+pub lower_statement-returns-in_ok-lower_call_statement-in-Call : goal.lower_statement-returns-in_ok-lower_call_statement-in-Call
+lower_statement-returns-in_ok-lower_call_statement-in-Call t c =
     let scene = c.args.scene.now in
-    let P : written.Statement → Type 0 = λ s. StatementLowers scene (code.statement_of c.in_ok-lower_call_statement-in-Call.field-0) (tree_with_labels scene.resolved.now (statement_of s)) in
+    let P : written.Statement → Type 0 = λ s. LowersStatement scene (code.statement_of c.in_ok-lower_call_statement-in-Call.field-0) (tree_with_labels scene.resolved.now (statement_of s)) in
     subst P (sym c.in-Call.is) c.in_ok-lower_call_statement-in-Call.ensures
 
-pub statement-returns-in_ok-branches-in-If : goal.statement-returns-in_ok-branches-in-If
-statement-returns-in_ok-branches-in-If t c =
+pub lower_statement-returns-in_ok-lower_if-in-If : goal.lower_statement-returns-in_ok-lower_if-in-If
+lower_statement-returns-in_ok-lower_if-in-If t c =
     let scene = c.args.scene.now in
-    let P : Tree ℕ sort.statement → Type 0 = λ a. StatementLowers scene (code.statement_of c.in_ok-branches-in-If.field-0) (tree_with_labels scene.resolved.now a) in
-    subst P (ap if_of c.deref-in-If.ensures ∙ sym (ap statement_of c.in-If.is)) c.in_ok-branches-in-If.ensures
+    let P : Tree ℕ sort.statement → Type 0 = λ a. LowersStatement scene (code.statement_of c.in_ok-lower_if-in-If.field-0) (tree_with_labels scene.resolved.now a) in
+    subst P (ap if_of c.deref-in-If.ensures ∙ sym (ap statement_of c.in-If.is)) c.in_ok-lower_if-in-If.ensures
 
-pub statement-returns-in_ok-body-in-While : goal.statement-returns-in_ok-body-in-While
-statement-returns-in_ok-body-in-While t c =
+pub lower_statement-returns-in_ok-body-in-While : goal.lower_statement-returns-in_ok-body-in-While
+lower_statement-returns-in_ok-body-in-While t c =
     let scene = c.args.scene.now in
     let r = scene.resolved.now in
     let condition = c.deref-in-While.result.now.condition in
@@ -117,12 +117,12 @@ statement-returns-in_ok-body-in-While t c =
     let tree_is = tree.while_read c.in-While.w c.deref-in-While.ensures c.deref-in-While-2.ensures in
     let made : WhileLoop = record { condition = c.in_ok-condition-in-While.condition; body = c.in_ok-body-in-While.body } in
     let whole = while-lowers scene (tree_with_labels r (expression_of condition)) (tree_with_labels r (sequence_of_list body)) (truth_of made.condition) (sequence_of made.body.items) (condition-lowers scene condition made.condition c.in_ok-condition-in-While.ensures.lowers) c.in_ok-body-in-While.ensures in
-    let P : Tree Label sort.statement → Type 0 = λ a. StatementLowers scene (lowered.while_loop (truth_of made.condition) (sequence_of made.body.items)) a in
-    let R : lowered.Instruction → Type 0 = λ code. StatementLowers scene code (tree_with_labels r (statement_of c.args.s.now)) in
+    let P : Tree Label sort.statement → Type 0 = λ a. LowersStatement scene (lowered.while_loop (truth_of made.condition) (sequence_of made.body.items)) a in
+    let R : lowered.Instruction → Type 0 = λ code. LowersStatement scene code (tree_with_labels r (statement_of c.args.s.now)) in
     subst R (sym (while_made made)) (subst P (sym (ap (λ s. tree_with_labels r (statement_of s)) c.in-While.is ∙ ap (tree_with_labels r) tree_is)) whole)
 
-pub statement-returns-in_ok-condition-in-Repeat : goal.statement-returns-in_ok-condition-in-Repeat
-statement-returns-in_ok-condition-in-Repeat t c =
+pub lower_statement-returns-in_ok-condition-in-Repeat : goal.lower_statement-returns-in_ok-condition-in-Repeat
+lower_statement-returns-in_ok-condition-in-Repeat t c =
     let scene = c.args.scene.now in
     let r = scene.resolved.now in
     let body = c.deref-in-Repeat.result.now.body.items in
@@ -130,6 +130,6 @@ statement-returns-in_ok-condition-in-Repeat t c =
     let tree_is = tree.repeat_read c.in-Repeat.r c.deref-in-Repeat.ensures c.deref-in-Repeat-2.ensures in
     let made : RepeatLoop = record { body = c.in_ok-body-in-Repeat.body; condition = c.in_ok-condition-in-Repeat.condition } in
     let whole = repeat-lowers scene (tree_with_labels r (expression_of condition)) (tree_with_labels r (sequence_of_list body)) (truth_of made.condition) (sequence_of made.body.items) (condition-lowers scene condition made.condition c.in_ok-condition-in-Repeat.ensures.lowers) c.in_ok-body-in-Repeat.ensures in
-    let P : Tree Label sort.statement → Type 0 = λ a. StatementLowers scene (lowered.repeat_loop (sequence_of made.body.items) (truth_of made.condition)) a in
-    let R : lowered.Instruction → Type 0 = λ code. StatementLowers scene code (tree_with_labels r (statement_of c.args.s.now)) in
+    let P : Tree Label sort.statement → Type 0 = λ a. LowersStatement scene (lowered.repeat_loop (sequence_of made.body.items) (truth_of made.condition)) a in
+    let R : lowered.Instruction → Type 0 = λ code. LowersStatement scene code (tree_with_labels r (statement_of c.args.s.now)) in
     subst R (sym (repeat_made made)) (subst P (sym (ap (λ s. tree_with_labels r (statement_of s)) c.in-Repeat.is ∙ ap (tree_with_labels r) tree_is)) whole)

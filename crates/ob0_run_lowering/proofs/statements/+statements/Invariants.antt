@@ -5,8 +5,8 @@ use Rattle.ob0_scope_table.specs.LabelledTrees.{tree_with_labels}
 use Rattle.ob0_run_lowering.proofs.Made.{BranchesMade, SequenceMade}
 use Rattle.ob0_run_lowering.proofs.statements.+statements.Given as goal
 
-abbrev pub invariant-branches-loop-part : goal.invariant-branches-loop-part
-invariant-branches-loop-part l =
+abbrev pub invariant-lower_if-loop-part : goal.invariant-lower_if-loop-part
+invariant-lower_if-loop-part l =
     BranchesMade l.scene l.scene.resolved.now (tree_with_labels l.scene.resolved.now (expression_of (out-If l.i).condition)) (tree_with_labels l.scene.resolved.now (sequence_of_list (out-If l.i).then.items)) l.part-items l.part-index
     (record { condition = l.first; body = l.then } ∷ l.others.items)
 

@@ -1,5 +1,5 @@
 use Rattle.std.proofs.Common.{sym, ap, ◌∙◌}
-use Rattle.ob0_types_table.specs.FieldPlaces.{field_selected}
+use Rattle.ob0_types_table.specs.FieldPlaces.{selected_field}
 use Rattle.ob0_types_table.specs.KnownTables.{shapes_of}
 use Rattle.ob0_types_table.specs.Tables.{type_shape}
 use Rattle.ob0_language_values.specs.Values.{at_field}
@@ -10,5 +10,5 @@ pub returns-in-Some : goal.returns-in-Some
 returns-in-Some c = λ laid.
     let shapes = shapes_of c.args.known.now in
     let (k, fs, e, l) = c.in-Some.ensures shapes laid in
-    c.offset_of_field.ensures k fs c.args.name.now l (c.field.ensures ∙ ap (λ s. field_selected s c.args.name.now) e)
+    c.offset_of_field.ensures k fs c.args.name.now l (c.field.ensures ∙ ap (λ s. selected_field s c.args.name.now) e)
     ∙ sym (ap (λ s. step_offset s (at_field c.args.name.now)) (ap (type_shape shapes) c.in-Record.is ∙ e))

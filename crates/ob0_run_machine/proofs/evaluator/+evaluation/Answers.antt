@@ -37,8 +37,8 @@ evaluate_general_operation-returns-in-Err t c =
     let o = out-Operation c.args.o.now in
     c.into_flat-in-Err.ensures ∙ ap (λ z. z >>= outcome_of_applied_link ls c.args.cells.now o.link) c.in-Err.ensures ∙ sym (applied_to ls c.args.cells.now (first_of o.first) o.link)
 
-pub operation-returns-in-Variable : goal.operation-returns-in-Variable
-operation-returns-in-Variable t c =
+pub evaluate_operation-returns-in-Variable : goal.evaluate_operation-returns-in-Variable
+evaluate_operation-returns-in-Variable t c =
     let ls = levels_of c.args.level.now in
     let o = out-Operation c.args.o.now in
     let a : SFits w32 c.value_of.result = search rules in

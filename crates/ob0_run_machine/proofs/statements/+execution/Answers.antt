@@ -114,7 +114,7 @@ run_counted_body-returns-in_err-run_sequence_inline g t c = λ v found. leaving 
 
 pub run_counted_body-returns : goal.run_counted_body-returns
 run_counted_body-returns g t c = λ v found. then_last c.args.turns (levels_of c.args.level.now) c.args.statements.now c.in_ok-run_sequence_inline.field-0 (Increase v c.args.by) c.in_ok-run_sequence_inline.ensures
-    (record { as_defined = λ enters p. steps_as enters c.args.turns (levels_of c.args.level.now) v c.count.result _ _ (to_z-of_z c.ranges.by) (c.count.ensures enters c.args.turns (levels_of c.args.level.now) v (found _)) })
+    (record { has_effect = λ enters p. steps_as enters c.args.turns (levels_of c.args.level.now) v c.increase_or_stop.result _ _ (to_z-of_z c.ranges.by) (c.increase_or_stop.ensures enters c.args.turns (levels_of c.args.level.now) v (found _)) })
 
 pub run_counting_loop-again-init : goal.run_counting_loop-again-init
 run_counting_loop-again-init g t c = while_begins

@@ -10,16 +10,16 @@ returns-in_err-pass_all g c = λ t. leaving (err_from_is_err_and c.from_residual
 
 pub returns-in-Empty : goal.returns-in-Empty
 returns-in-Empty g c = λ t. call_enters _ _ t (levels_of c.args.level.now) _ c.args.c.now _ _ refl c.as_slice.ensures.value c.in_ok-pass_all.ensures
-    (entered_as c.size-base.ensures (sym (ap addresses_in c.in-Empty.is)) refl) c.enter_procedure.ensures.as_defined
+    (entered_as c.cell_count-base.ensures (sym (ap addresses_in c.in-Empty.is)) refl) c.enter_procedure.ensures.has_effect
 
 pub returns-in-One : goal.returns-in-One
 returns-in-One g c = λ t. call_enters _ _ t (levels_of c.args.level.now) _ c.args.c.now _ _ refl c.as_slice.ensures.value c.in_ok-pass_all.ensures
-    (entered_as c.size-base.ensures (sym (ap addresses_in c.in-One.is)) refl) c.enter_procedure-in-One.ensures.as_defined
+    (entered_as c.cell_count-base.ensures (sym (ap addresses_in c.in-One.is)) refl) c.enter_procedure-in-One.ensures.has_effect
 
 pub returns-in-Two : goal.returns-in-Two
 returns-in-Two g c = λ t. call_enters _ _ t (levels_of c.args.level.now) _ c.args.c.now _ _ refl c.as_slice.ensures.value c.in_ok-pass_all.ensures
-    (entered_as c.size-base.ensures (sym (ap addresses_in c.in-Two.is)) refl) c.enter_procedure-in-Two.ensures.as_defined
+    (entered_as c.cell_count-base.ensures (sym (ap addresses_in c.in-Two.is)) refl) c.enter_procedure-in-Two.ensures.has_effect
 
 pub returns : goal.returns
 returns g c = λ t. call_enters _ _ t (levels_of c.args.level.now) _ c.args.c.now _ _ refl c.as_slice.ensures.value c.in_ok-pass_all.ensures
-    (entered_as c.size-base.ensures (c.as_slice-in-More.ensures.value ∙ sym (ap addresses_in c.in-More.is)) refl) c.enter_procedure-in-More.ensures.as_defined
+    (entered_as c.cell_count-base.ensures (c.as_slice-in-More.ensures.value ∙ sym (ap addresses_in c.in-More.is)) refl) c.enter_procedure-in-More.ensures.has_effect

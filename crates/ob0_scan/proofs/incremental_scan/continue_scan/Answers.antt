@@ -2,7 +2,7 @@ use Rattle.std.proofs.Common.{Bor, List, vec_len, ◌≡◌, ◌∙◌, ℕ, ◌
 use Rattle.ob0_scan.specs.declared.lexeme.Span.{Span}
 use Rattle.ob0_scan.specs.declared.lexeme.Token.{Token}
 use Rattle.ob0_scan.specs.declared.old_lexemes.LexemeSlices.{LexemeSlices}
-use Rattle.ob0_scan.specs.Reused.{ReplacesRange, NoOldBegins, tokens_beginning_from, comments_beginning_from}
+use Rattle.ob0_scan.specs.Reused.{ReplacesRange, NoLexemeBeginsAt, tokens_beginning_from, comments_beginning_from}
 use Rattle.ob0_scan.specs.RescanState.{first_token_begins_at, first_comment_begins_at}
 use Rattle.ob0_scan.proofs.AtLexemes.{back_again}
 use Rattle.ob0_scan.proofs.RescannedMiddle.{reads_none, reads_more, none_begins, end_met}
@@ -45,7 +45,7 @@ loop-scanner-preserved c =
                 let same : place ≡ here.at + removed - added = omega (arith, w.old_offset-place.ensures) in
                 let tokens : w.skip_to-rest.result.tokens.now ≡ tokens_beginning_from place old.tokens = w.skip_to-rest.ensures.tokens ∙ inv.tokens place (omega (arith, w.old_offset-place.ensures, w.if-scanner-change.true)) (omega (arith, w.old_offset-place.ensures)) in
                 let comments : w.skip_to-rest.result.comments.now ≡ comments_beginning_from place old.comments = w.skip_to-rest.ensures.comments ∙ inv.comments place (omega (arith, w.old_offset-place.ensures, w.if-scanner-change.true)) (omega (arith, w.old_offset-place.ensures)) in
-                subst (NoOldBegins old) same (none_begins old c.lexeme_slices.ensures.scan place
+                subst (NoLexemeBeginsAt old) same (none_begins old c.lexeme_slices.ensures.scan place
                 (ap₂ (λ ts cs. first_token_begins_at place ts || first_comment_begins_at place cs) (sym tokens) (sym comments) ∙ sym w.first_begins_at.ensures ∙ w.if-first_begins_at.false)))
             | else-is_empty w ↦ elim w.else-is_empty.branch [
               | else-is_empty-via-then-is_empty+else-scanner-change v ↦ absurd (omega (arith, far, v.if-scanner-change.false))

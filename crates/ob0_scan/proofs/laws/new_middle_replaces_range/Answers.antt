@@ -12,5 +12,5 @@ returns c = λ front middle other following. record {
   inside_old = omega (arith, length-append front (middle ++ following), length-append middle following);
   inside_new = omega (arith, length-append front (other ++ following), length-append other following);
   front = take_at front (middle ++ following) (length front) refl ∙ sym (take_at front (other ++ following) (length front) refl);
-  following = rest front middle following ∙ sym (rest front other following);
+  behind = rest front middle following ∙ sym (rest front other following);
 }

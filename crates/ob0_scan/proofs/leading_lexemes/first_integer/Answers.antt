@@ -4,8 +4,8 @@ use Rattle.std.specs.Char.{is_ascii_alphabetic, is_ascii_alphanumeric, is_ascii_
 use Rattle.ob0_scan.specs.declared.lexeme.LexemeKind.TheVariants as lexeme
 use Rattle.ob0_scan.specs.declared.lexeme.TokenKind.TheVariants as token
 use Rattle.ob0_scan.specs.Classes.{decimal_value}
-use Rattle.ob0_scan.specs.TextStart.{IsFirstOf}
-use Rattle.ob0_scan.specs.Begins.{IsFaultOf}
+use Rattle.ob0_scan.specs.TextStart.{StartsWithLexeme}
+use Rattle.ob0_scan.specs.Begins.{StartsWithFault}
 use Rattle.ob0_scan.specs.Faults.{letter_follows_digits}
 use Rattle.ob0_scan.specs.declared.fault.FaultCode.TheVariants as code
 use Rattle.ob0_scan.proofs.Runs.{run_passes, digit_longer}
@@ -22,7 +22,7 @@ returns-then-is_ascii_alphabetic c =
     let word = c.word_len.ensures ∙ ap (prefix_len is_ascii_alphanumeric) same in
     let letter : is_ascii_alphabetic (get_or text (prefix_len is_ascii_digit text) 0) ≡ true =
     ap is_ascii_alphabetic (ap₂ (λ t n. get_or t n 0) (sym same) (sym len)) ∙ sym c.if-is_ascii_alphabetic.ensures.value in
-    subst (IsFaultOf text code.NumberJoinsLetter) (sym word) (joined_fault text c.utf8.text c.requires letter)
+    subst (StartsWithFault text code.NumberJoinsLetter) (sym word) (joined_fault text c.utf8.text c.requires letter)
 
 pub integer_value-requires : goal.integer_value-requires
 integer_value-requires c =
@@ -48,7 +48,7 @@ returns-in-Some c =
     let same = c.as_bytes-bytes.ensures.value in
     let len = c.digits_len-len.ensures ∙ ap (prefix_len is_ascii_digit) same in
     let digits = ap decimal_value (ap₂ take len same) in
-    subst (IsFirstOf text (lexeme.Token (token.Integer value))) (sym len)
+    subst (StartsWithLexeme text (lexeme.Token (token.Integer value))) (sym len)
     (integer_first text value c.requires (digit_longer text c.requires) (c.in-Some.ensures.1 ∙ digits) (omega (arith, c.in-Some.ensures.0, c.in-Some.ensures.1)) (no_letter (goal.at.returns-in-Some c).After-integer_value))
 
 pub returns-in-None : goal.returns-in-None
@@ -56,5 +56,5 @@ returns-in-None c =
     let text = c.args.text.now in
     let same = c.as_bytes-bytes.ensures.value in
     let len = c.digits_len-len.ensures ∙ ap (prefix_len is_ascii_digit) same in
-    subst (IsFaultOf text code.NumberTooLarge) (sym len)
+    subst (StartsWithFault text code.NumberTooLarge) (sym len)
     (large_fault text c.utf8.text c.requires (λ fits. c.in-None.ensures (subst (λ v. v ≤ 2147483647) (sym (ap decimal_value (ap₂ take len same))) fits)) (no_letter (goal.at.returns-in-None c).After-integer_value))

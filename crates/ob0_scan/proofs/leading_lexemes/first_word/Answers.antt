@@ -3,7 +3,7 @@ use Rattle.std.specs.List.{prefix_len}
 use Rattle.std.specs.Char.{is_ascii_alphanumeric}
 use Rattle.ob0_scan.specs.declared.lexeme.LexemeKind.TheVariants as lexeme
 use Rattle.ob0_scan.specs.Classes.{IsWord, IsLexemeOfKind}
-use Rattle.ob0_scan.specs.TextStart.{IsFirstOf}
+use Rattle.ob0_scan.specs.TextStart.{StartsWithLexeme}
 use Rattle.ob0_scan.proofs.Runs.{word_at_front, word_first, letter_longer}
 use Rattle.ob0_scan.proofs.leading_lexemes.first_word.Goals as goal
 
@@ -20,4 +20,4 @@ returns c =
     let kind = lexeme.Token c.word_kind.result in
     let same = c.as_bytes-bytes.ensures.value in
     let len = c.word_len-len.ensures ∙ ap (prefix_len is_ascii_alphanumeric) same in
-    subst (IsFirstOf text kind) (sym len) (word_first text kind c.requires (subst (IsLexemeOfKind kind) (ap₂ take len same) c.word_kind.ensures))
+    subst (StartsWithLexeme text kind) (sym len) (word_first text kind c.requires (subst (IsLexemeOfKind kind) (ap₂ take len same) c.word_kind.ensures))

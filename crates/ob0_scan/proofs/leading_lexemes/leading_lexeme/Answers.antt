@@ -6,7 +6,7 @@ use Rattle.std.proofs.lemmas.Bool.Decides.{Decides-eqb}
 use Rattle.ob0_scan.specs.declared.lexeme.LexemeKind.TheVariants as lexeme
 use Rattle.ob0_scan.specs.declared.lexeme.TokenKind.TheVariants as token
 use Rattle.ob0_scan.specs.Classes.{is_space}
-use Rattle.ob0_scan.specs.TextStart.{IsFirstOf, StartsWithNoLexeme}
+use Rattle.ob0_scan.specs.TextStart.{StartsWithLexeme, StartsWithNoLexeme}
 use Rattle.ob0_scan.proofs.Families.{family-mark}
 use Rattle.ob0_scan.proofs.Runs.{space_first}
 use Rattle.ob0_scan.proofs.Symbols.{symbol_first, no_mark}
@@ -17,7 +17,7 @@ returns-then-is_space c =
     let text = c.args.text.now in
     let same = c.as_bytes-bytes.ensures.value in
     let head = subst (λ t. is_space (get_or t 0 0) ≡ true) same (sym c.if-is_space.ensures) in
-    subst (IsFirstOf text lexeme.Space) (sym (c.space_len.ensures ∙ ap (prefix_len is_space) same)) (space_first text head c.requires)
+    subst (StartsWithLexeme text lexeme.Space) (sym (c.space_len.ensures ∙ ap (prefix_len is_space) same)) (space_first text head c.requires)
 
 -- If `starts_with` is false, the text doesn't begin with the pair `(*`
 no_pair : (text : List ℕ) → false ≡ starts_with eqb text (40 ∷ 42 ∷ []) → take 2 text ≢ 40 ∷ 42 ∷ []
@@ -29,7 +29,7 @@ no_pair text h e =
 pub returns-in-Some : goal.returns-in-Some
 returns-in-Some c =
     let same = c.as_bytes-bytes.ensures.value in
-    subst (λ t. IsFirstOf t (lexeme.Token (token.Symbol c.in-Some.symbol)) c.in-Some.len) same
+    subst (λ t. StartsWithLexeme t (lexeme.Token (token.Symbol c.in-Some.symbol)) c.in-Some.len) same
     (symbol_first c.as_bytes-bytes.result.now c.in-Some.symbol c.in-Some.len (no_pair c.as_bytes-bytes.result.now c.if-starts_with.ensures.value) c.in-Some.ensures.found)
 
 pub returns-in_default : goal.returns-in_default
@@ -41,7 +41,7 @@ returns-in_default c =
       nonempty = c.first_char_len.ensures.nonempty;
       boundary = c.first_char_len.ensures.boundary;
       fault = record {
-        no_first = subst StartsWithNoLexeme same (no_mark bytes
+        no_lexeme = subst StartsWithNoLexeme same (no_mark bytes
             (family-mark byte (sym c.if-is_space.ensures) (sym c.if-is_ascii_alphabetic.ensures.value) (sym c.if-is_ascii_digit.ensures.value))
             (no_pair bytes c.if-starts_with.ensures.value)
             c.in_default.ensures.none);

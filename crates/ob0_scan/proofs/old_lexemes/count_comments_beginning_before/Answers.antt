@@ -7,8 +7,8 @@ use Rattle.ob0_scan.proofs.old_lexemes.count_comments_beginning_before.Goals as 
 
 pub returns-clause-count : goal.returns-clause-count
 returns-clause-count c =
-    let passes = λ (s : Span). nat_lt s.start c.args.place in
+    let passes = λ (s : Span). nat_lt s.start c.args.offset in
     point_is_count passes c.args.comments.now _ c.partition_point.ensures.bound
     (IsPartitionPoint-from_clause passes _ _ c.partition_point.ensures.partitioned
-    (IsPartitionedBy-ltb (λ (s : Span). s.start) c.args.comments.now c.args.place c.requires)
+    (IsPartitionedBy-ltb (λ (s : Span). s.start) c.args.comments.now c.args.offset c.requires)
     (λ a r q k. search rules))

@@ -7,8 +7,8 @@ use Rattle.ob0_scan.proofs.old_lexemes.count_tokens_beginning_before.Goals as go
 
 pub returns-clause-count : goal.returns-clause-count
 returns-clause-count c =
-    let passes = λ (t : Token). nat_lt t.span.start c.args.place in
+    let passes = λ (t : Token). nat_lt t.span.start c.args.offset in
     point_is_count passes c.args.tokens.now _ c.partition_point.ensures.bound
     (IsPartitionPoint-from_clause passes _ _ c.partition_point.ensures.partitioned
-    (IsPartitionedBy-ltb (λ (t : Token). t.span.start) c.args.tokens.now c.args.place c.requires)
+    (IsPartitionedBy-ltb (λ (t : Token). t.span.start) c.args.tokens.now c.args.offset c.requires)
     (λ a r q k. search rules))

@@ -9,4 +9,4 @@ returns c =
     let e = c.in_ok-splice.ensures.items in
     let gone = e.3 in
     let given : e.1 ≡ c.args.between.items = sym (map-id e.1) ∙ items_from_drains e.1 (gone.1.0, gone.1.1, λ _. (gone.0, gone.1.2)) (YieldsList-from_vec c.args.between.items e.2.0 (omega (arith, e.2.1, c.args.between.ok))) in
-    put_between c.args.comments.now.items c.shift_comments.new.comments.items _ c.args.between.items e.1 c.splice.new.self.items c.args.front c.args.following c.requires.ordered c.requires.inside c.shift_comments.ensures e.4 given
+    put_between c.args.comments.now.items c.shift_comments.new.comments.items _ c.args.between.items e.1 c.splice.new.self.items c.args.old_start c.args.old_end c.requires.ordered c.requires.inside c.shift_comments.ensures e.4 given

@@ -12,9 +12,9 @@ use Rattle.ob0_scope.proofs.body_rebinding.carry_unchanged_bindings.Goals as goa
 
 pub recheck_declarations-requires : goal.recheck_declarations-requires
 recheck_declarations-requires c =
-    let was = c.requires.was in
+    let was = c.requires.was_bound in
     ap (list_any is_declaration_fault) c.deref-5.ensures.value
-    ∙ (was.resolved.reported.declared_twice ∙ ap not (sym (still_once was.old c.args.read.now was.way c.requires.same was.replaced)))
+    ∙ (was.resolved.reported.declared_twice ∙ ap not (sym (still_once was.old c.args.read.now was.path c.requires.same was.replaced)))
 
 pub returns : goal.returns
 returns c =

@@ -18,7 +18,7 @@ pub recheck_declarations-requires : goal.recheck_declarations-requires
 recheck_declarations-requires c =
     let was = c.requires in
     ap (list_any is_declaration_fault) c.deref-2.ensures.value
-    ∙ (was.resolved.reported.declared_twice ∙ ap not (sym (still_once_written was.old c.args.read.now c.args.low c.args._high was.parsed was.change)))
+    ∙ (was.resolved.reported.declared_twice ∙ ap not (sym (still_once_written was.old c.args.read.now c.args.low c.args._changed_end was.parsed was.change)))
 
 pub returns : goal.returns
 returns c =
@@ -29,10 +29,10 @@ returns c =
     let made : c.in_ok-ordinals.ordinals.items ≡ made_of b.declarations.items = c.in_ok-ordinals.ensures ∙ ap made_of c.deref.ensures.value in
     let count : length c.tokens.result.now ≡ length m.source.tokens = ap length (c.tokens.ensures ∙ ap (λ (s : TextWithTokens). s.tokens) c.tokens-tokens.ensures.source) in
     let within : length m.source.tokens ≤ length b.ordinals.items = omega (arith, c.if-len-tokens.false, c.len.ensures, count, b.ordinals.ok) in
-    let numbered = body_numbered was.old m c.args.low c.args._high b.ordinals.items b.declarations.items was.parsed was.change (marks_resolved (resolution_with (record m { source = was.old }) b) was.resolved) was.resolved.declaring within in
+    let numbered = body_numbered was.old m c.args.low c.args._changed_end b.ordinals.items b.declarations.items was.parsed was.change (marks_resolved (resolution_with (record m { source = was.old }) b) was.resolved) was.resolved.declaring within in
     let all = c.in_ok-report_undeclared.ensures
     ∙ (λ i. c.in_ok-faults.faults.items ++ undeclared_faults_by_table (c.tokens-tokens.ensures.source i) (c.deref-3.ensures.value i) (c.deref-4.ensures.value i)) in
     resolution_marked m c.in_ok-ordinals.ordinals.items b.declarations.items b.occurrences.items c.in_ok-faults.faults.items c.report_undeclared.new.faults.items was.parsed
     (subst (λ (os : List (Option ℕ)). HasMarks (ordinal_in os) (visit_module (tree_of m) (initial_walk (original_spellings m.source))).marks) (sym made) numbered.marks)
-    (λ token e. ap (λ (os : List (Option ℕ)). ordinal_in os token) made ∙ (numbered.elsewhere token e ∙ was.resolved.names_alone token e))
+    (λ token e. ap (λ (os : List (Option ℕ)). ordinal_in os token) made ∙ (numbered.elsewhere token e ∙ was.resolved.ordinals_only_at_names token e))
     was.resolved.declaring was.resolved.occurring c.in_ok-faults.ensures all

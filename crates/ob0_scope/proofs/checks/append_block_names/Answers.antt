@@ -2,7 +2,7 @@ use Rattle.std.proofs.Common.{◌≡◌, ◌++◌, OnOk, sym, ap, ◌∙◌, sub
 use Rattle.ob0_tree.specs.declared.tree.Block.{out-Block}
 use Rattle.ob0_tree.specs.View.{constants_of, items_of, procedure_of, types_of, variables_of}
 use Rattle.ob0_tree.proofs.Viewed.{block_parts}
-use Rattle.ob0_language_names.specs.DeclaredOnce.{block_names, procedure_names}
+use Rattle.ob0_language_names.specs.ConsistentNames.{block_names, procedure_names}
 use Rattle.ob0_language_names.specs.Parts.{constant_names, declared_type_names, section_constants, section_types, section_variables, variable_names}
 use Rattle.ob0_scope.proofs.checks.append_block_names.Goals as goal
 

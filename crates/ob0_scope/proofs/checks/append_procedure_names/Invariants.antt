@@ -1,4 +1,4 @@
-use Rattle.ob0_language_names.specs.DeclaredOnce.{procedure_names}
+use Rattle.ob0_language_names.specs.ConsistentNames.{procedure_names}
 use Rattle.ob0_tree.specs.View.{items_of, procedure_of}
 use Rattle.ob0_scope.proofs.Checking.{Gathering}
 use Rattle.ob0_scope.proofs.checks.append_procedure_names.Given as goal

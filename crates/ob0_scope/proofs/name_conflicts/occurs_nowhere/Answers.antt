@@ -10,7 +10,7 @@ loop-index-init c i h = absurd (omega (arith, h))
 pub loop-index-preserved : goal.loop-index-preserved
 loop-index-preserved c =
     one_more c.args.tokens.now c.args.name.now c.loop-index.index c.loop-index.invariant
-    (ap (λ (x : Name). same_name x c.args.name.now) (sym c.text_at.ensures) ∙ (sym c.eq.ensures ∙ c.if-eq.false))
+    (ap (λ (x : Name). same_name x c.args.name.now) (sym c.token_text_at.ensures) ∙ (sym c.eq.ensures ∙ c.if-eq.false))
 
 pub returns : goal.returns
 returns c holds =

@@ -11,7 +11,7 @@ loop-content-init g c =
       put = [];
       answered = nothing_answered c.args.framer.now.waiting c.args.session.now;
       appends = Appends-nil (g.W.OutputDevice.contents c.args.writer.now);
-      going = c.requires.serves;
+      not_ended = c.requires.serves;
       writes = c.requires.writes;
       rest = refl;
     }
@@ -24,7 +24,7 @@ returns-clause-answers g c =
       record {
         answered = rw c.in_default.ensures.1 i.answered;
         none_left = ap (λ (f : FramerState). f.waiting) c.in_default.ensures.1 ∙ c.in_default.ensures.0;
-        going = i.going;
+        not_ended = i.not_ended;
         works = i.writes;
       },
     )
@@ -57,7 +57,7 @@ loop-content-preserved g c =
       put = _;
       answered = s.answered;
       appends = Appends-trans _ _ _ i.put _ i.appends sent.0;
-      going = sym s.next ∙ c.in-Continue.is;
+      not_ended = sym s.next ∙ c.in-Continue.is;
       writes = sent.1;
       rest = sym (ap (λ (f : FramerState). f.rest) c.in-Some.ensures) ∙ i.rest;
     }

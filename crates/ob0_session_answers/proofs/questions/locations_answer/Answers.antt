@@ -5,10 +5,10 @@ use Rattle.serde_json.specs.Data.{Data, array}
 use Rattle.serde_json.specs.View.{items_of}
 use Rattle.ob0_text.specs.Units.{width_of}
 use Rattle.ob0_edits_tokens.specs.Ranges.{range_of}
-use Rattle.ob0_rpc.specs.Seen.{id_data}
+use Rattle.ob0_rpc.specs.MessageViews.{id_data}
 use Rattle.ob0_rpc.specs.Shapes.{result_message}
-use Rattle.ob0_rpc.specs.Writing.{CanBeSent, Writes}
-use Rattle.ob0_session_json.specs.Shapes.{location_in}
+use Rattle.ob0_rpc.specs.Writing.{FitsInMessage, Writes}
+use Rattle.ob0_session_json.specs.Shapes.{range_location}
 use Rattle.ob0_session_answers.proofs.Naming.{locations_can_be_sent}
 use Rattle.ob0_session_answers.proofs.questions.locations_answer.Goals as goal
 
@@ -16,9 +16,9 @@ pub returns : goal.returns
 returns g c =
     let unit = g.T.TextStore.unit_of c.args.store.now in
     let text = g.T.TextStore.content c.args.store.now in
-    let shown = location_in c.args.uri.now in
+    let shown = range_location c.args.uri.now in
     let placed = range_of (width_of unit) text in
     let found = c.as_slice-ranges.ensures.value ∙ c.in_ok-ranges.ensures in
     let same = ap (λ rs. array (items_of (map shown rs))) found ∙ ap (λ ds. array (items_of ds)) (map-map shown placed c.args.spans.now) in
     let can = locations_can_be_sent unit c.args.uri.now text c.args.spans.now in
-    IfOk-weaker c.answer_text.result _ _ (λ bytes sent. subst (λ (d : Data). Writes (result_message (id_data c.args.id.now) d) bytes.items) same (sent (subst CanBeSent (sym same) can))) c.answer_text.ensures
+    IfOk-weaker c.answer_text.result _ _ (λ bytes sent. subst (λ (d : Data). Writes (result_message (id_data c.args.id.now) d) bytes.items) same (sent (subst FitsInMessage (sym same) can))) c.answer_text.ensures

@@ -1,6 +1,6 @@
 use Rattle.std.proofs.Common.{◌∙◌, ℕ, List, subst}
 use Rattle.std.proofs.lemmas.Result.{IfOk-weaker}
-use Rattle.ob0_rpc.specs.Seen.{id_data}
+use Rattle.ob0_rpc.specs.MessageViews.{id_data}
 use Rattle.ob0_rpc.specs.Writing.{Writes}
 use Rattle.ob0_session_json.specs.Shapes.{edit_refusal}
 use Rattle.ob0_session_json.proofs.refusals.refusal_with_reason.Goals as goal

@@ -1,7 +1,7 @@
 use Rattle.std.proofs.Common.{◌≡◌, ◌+◌, ◌<◌, ◌≤◌, drop, length, sym, subst, arith}
 use Rattle.std.specs.Str.{chars}
 use Rattle.ob0_text.specs.Units.{width_of}
-use Rattle.ob0_text.specs.Places.{IsSought}
+use Rattle.ob0_text.specs.Places.{CanFindOffsets}
 use Rattle.ob0_text.specs.Stretches.{IsPieceOfLine}
 use Rattle.ob0_text.proofs.LinePlaces.{some_start, seeks}
 use Rattle.ob0_text.proofs.StretchSteps.{sought_past_stretch}
@@ -16,7 +16,7 @@ advance_to_position-requires c =
     let width = width_of c.args.unit in
     let text = c.args.text.now in
     let position = c.args.position in
-    let counted = c.args.counted.counted in
+    let counted = c.args.counted.end_and_units in
     let start = c.line_start_place-start in
     let sought = seeks width text c.args.table.now.starts position start.result c.utf8.text c.requires.lines.starts start.ensures.offset start.ensures.line start.ensures.character in
     let here : c.args.counted.start ≡ start.result.offset = omega (arith, c.if-start-counted.false) in
@@ -24,4 +24,4 @@ advance_to_position-requires c =
     let room : start.result.character + counted.units ≤ position.character = omega (arith, c.if-counted-position.false, start.ensures.character) in
     let passed = sought_past_stretch width text position start.result counted sought (subst (λ n. IsPieceOfLine width text n counted) here c.requires.counted) line room in
     let units : start.result.character + counted.units ≡ counted.units = omega (arith, start.ensures.character) in
-    record { place = subst (λ n. IsSought width text position (drop counted.end text) counted.end start.result.line n) units passed }
+    record { place = subst (λ n. CanFindOffsets width text position (drop counted.end text) counted.end start.result.line n) units passed }

@@ -1,7 +1,7 @@
 use Rattle.std.proofs.Common.{max, sym, ap, ◌∙◌}
 use Rattle.ob0_tree.proofs.Viewed.{block_parts}
 use Rattle.ob0_tree.specs.declared.tree.Block.{out-Block}
-use Rattle.ob0_tree.specs.Depth.{capped}
+use Rattle.ob0_tree.specs.Depth.{capped_to_u32}
 use Rattle.ob0_tree.specs.Tree.{nesting}
 use Rattle.ob0_tree.specs.View.{items_of, constants_of, types_of, variables_of, procedure_of, body_of}
 use Rattle.ob0_tree.proofs.Deepest.{deeper_on, deepest_ends, two_deep, zero_max}
@@ -13,7 +13,7 @@ block_nesting-loop-p-preserved t c = deeper_on procedure_of c.p-item.result c.lo
 pub block_nesting-returns : goal.block_nesting-returns
 block_nesting-returns t c =
     let b = out-Block c.args.b.now in
-    let procedures = deepest_ends c.loop-p.invariant c.loop-p-test.false ∙ (zero_max (capped (nesting (items_of procedure_of c.deref-p-items.result.now))) ∙ ap (λ xs. capped (nesting (items_of procedure_of xs))) c.deref-p-items.ensures.value) in
+    let procedures = deepest_ends c.loop-p.invariant c.loop-p-test.false ∙ (zero_max (capped_to_u32 (nesting (items_of procedure_of c.deref-p-items.result.now))) ∙ ap (λ xs. capped_to_u32 (nesting (items_of procedure_of xs))) c.deref-p-items.ensures.value) in
     let constants = nesting (constants_of b.constants) in
     let types = nesting (types_of b.types) in
     let variables = nesting (variables_of b.variables) in
@@ -22,4 +22,4 @@ block_nesting-returns t c =
     let others = two_deep variables inner c.variables_nesting-variables.ensures procedures c.max-2.ensures in
     let declared = two_deep (max constants types) (max variables inner) names others c.max-declared.ensures in
     two_deep (max (max constants types) (max variables inner)) (nesting (body_of b.body)) declared c.body_nesting.ensures c.max-3.ensures
-    ∙ ap (λ t. capped (nesting t)) (sym (block_parts c.args.b.now))
+    ∙ ap (λ t. capped_to_u32 (nesting t)) (sym (block_parts c.args.b.now))

@@ -2,7 +2,7 @@ use Rattle.std.proofs.Common.{◌≡◌, max, List, [], ◌∷◌, sym, ap, ◌�
 use Rattle.ob0_tree.proofs.Viewed.{while_read, repeat_read, if_parts}
 use Rattle.ob0_tree.specs.declared.tree.If.{out-If}
 use Rattle.ob0_tree.specs.declared.tree.Statement.{Statement}
-use Rattle.ob0_tree.specs.Depth.{capped}
+use Rattle.ob0_tree.specs.Depth.{capped_to_u32}
 use Rattle.ob0_tree.specs.Tree.{nesting, branches}
 use Rattle.ob0_tree.specs.View.{items_of, statement_of, further_statement_of, sequence_of_list, expression_of, elsif_of, else_part_of}
 use Rattle.ob0_tree.proofs.Deepest.{deeper_on, list_ends, two_deep, one_deeper, max_zero}
@@ -18,7 +18,7 @@ sequence_nesting-loop-s-preserved t c = deeper_on further_statement_of c.s-item.
 pub sequence_nesting-returns : goal.sequence_nesting-returns
 sequence_nesting-returns t c =
     list_ends c.loop-s.invariant c.loop-s-test.false
-    ∙ ap capped (ap (λ xs. nesting (items_of further_statement_of xs)) c.deref-s-items.ensures.value ∙ sequence_nests c.args.statements.now.items)
+    ∙ ap capped_to_u32 (ap (λ xs. nesting (items_of further_statement_of xs)) c.deref-s-items.ensures.value ∙ sequence_nests c.args.statements.now.items)
 
 pub elsifs_nesting-loop-e-preserved : goal.elsifs_nesting-loop-e-preserved
 elsifs_nesting-loop-e-preserved t c =
@@ -29,7 +29,7 @@ elsifs_nesting-loop-e-preserved t c =
 pub elsifs_nesting-returns : goal.elsifs_nesting-returns
 elsifs_nesting-returns t c =
     list_ends c.loop-e.invariant c.loop-e-test.false
-    ∙ ap (λ xs. capped (nesting (items_of elsif_of xs))) c.deref-e-items.ensures.value
+    ∙ ap (λ xs. capped_to_u32 (nesting (items_of elsif_of xs))) c.deref-e-items.ensures.value
 
 pub if_nesting-returns-in-Some : goal.if_nesting-returns-in-Some
 if_nesting-returns-in-Some t c =
@@ -42,7 +42,7 @@ if_nesting-returns-in-Some t c =
     let first = two_deep condition then_part c.expression_nesting.ensures c.sequence_nesting.ensures c.max-first.ensures in
     let others = two_deep elsifs other c.elsifs_nesting-others.ensures c.sequence_nesting-in-Some.ensures c.max.ensures in
     let all = two_deep (max condition then_part) (max elsifs other) first others c.max-in-Some.ensures in
-    one_deeper (max (max condition then_part) (max elsifs other)) all c.one_level_deeper.ensures ∙ ap (λ t. capped (nesting t)) (sym tree)
+    one_deeper (max (max condition then_part) (max elsifs other)) all c.one_level_deeper.ensures ∙ ap (λ t. capped_to_u32 (nesting t)) (sym tree)
 
 pub if_nesting-returns-in-None : goal.if_nesting-returns-in-None
 if_nesting-returns-in-None t c =
@@ -54,7 +54,7 @@ if_nesting-returns-in-None t c =
     let first = two_deep condition then_part c.expression_nesting.ensures c.sequence_nesting.ensures c.max-first.ensures in
     let others = two_deep elsifs 0 c.elsifs_nesting-others.ensures refl (max_zero c.elsifs_nesting-others.result) in
     let all = two_deep (max condition then_part) (max elsifs 0) first others c.max-in-None.ensures in
-    one_deeper (max (max condition then_part) (max elsifs 0)) all c.one_level_deeper-in-None.ensures ∙ ap (λ t. capped (nesting t)) (sym tree)
+    one_deeper (max (max condition then_part) (max elsifs 0)) all c.one_level_deeper-in-None.ensures ∙ ap (λ t. capped_to_u32 (nesting t)) (sym tree)
 
 pub statement_nesting-returns-in-While : goal.statement_nesting-returns-in-While
 statement_nesting-returns-in-While t c =
@@ -63,7 +63,7 @@ statement_nesting-returns-in-While t c =
     let tree = while_read c.in-While.w c.deref-in-While.ensures c.deref-in-While-2.ensures in
     let inner = two_deep condition body c.expression_nesting.ensures c.sequence_nesting.ensures c.max.ensures in
     one_deeper (max condition body) inner c.one_level_deeper.ensures
-    ∙ ap (λ t. capped (nesting t)) (sym tree ∙ sym (ap statement_of c.in-While.is))
+    ∙ ap (λ t. capped_to_u32 (nesting t)) (sym tree ∙ sym (ap statement_of c.in-While.is))
 
 pub statement_nesting-returns-in-Repeat : goal.statement_nesting-returns-in-Repeat
 statement_nesting-returns-in-Repeat t c =
@@ -72,4 +72,4 @@ statement_nesting-returns-in-Repeat t c =
     let tree = repeat_read c.in-Repeat.r c.deref-in-Repeat.ensures c.deref-in-Repeat-2.ensures in
     let inner = two_deep body condition c.sequence_nesting-in-Repeat.ensures c.expression_nesting-in-Repeat.ensures c.max-in-Repeat.ensures in
     one_deeper (max body condition) inner c.one_level_deeper-in-Repeat.ensures
-    ∙ ap (λ t. capped (nesting t)) (sym tree ∙ sym (ap statement_of c.in-Repeat.is))
+    ∙ ap (λ t. capped_to_u32 (nesting t)) (sym tree ∙ sym (ap statement_of c.in-Repeat.is))

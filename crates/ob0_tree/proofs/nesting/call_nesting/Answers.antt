@@ -1,12 +1,12 @@
 use Rattle.std.proofs.Common.{◌≡◌, List, [], ◌∷◌, refl, sym, ap, ◌∙◌}
 use Rattle.ob0_tree.specs.declared.tree.Expression.{Expression}
-use Rattle.ob0_tree.specs.Depth.{capped}
+use Rattle.ob0_tree.specs.Depth.{capped_to_u32}
 use Rattle.ob0_tree.specs.Tree.{nesting}
-use Rattle.ob0_tree.specs.View.{further_argument_of, items_of, arguments_of, arguments_listed}
+use Rattle.ob0_tree.specs.View.{further_argument_of, items_of, arguments_of, arguments_of_list}
 use Rattle.ob0_tree.proofs.Deepest.{deeper_on, list_ends}
 use Rattle.ob0_tree.proofs.nesting.call_nesting.Goals as goal
 
-arguments_nest : (xs : List Expression) → nesting (items_of further_argument_of xs) ≡ nesting (arguments_listed xs)
+arguments_nest : (xs : List Expression) → nesting (items_of further_argument_of xs) ≡ nesting (arguments_of_list xs)
 arguments_nest [] = refl
 arguments_nest (x ∷ xs) = refl
 
@@ -16,4 +16,4 @@ loop-e-preserved c = deeper_on further_argument_of c.e-item.result c.loop-e.inva
 pub returns : goal.returns
 returns c =
     list_ends c.loop-e.invariant c.loop-e-test.false
-    ∙ ap capped (ap (λ xs. nesting (items_of further_argument_of xs)) c.deref-e-items.ensures.value ∙ (arguments_nest c.in-Some.arguments.items ∙ sym (ap (λ o. nesting (arguments_of o)) c.in-Some.is)))
+    ∙ ap capped_to_u32 (ap (λ xs. nesting (items_of further_argument_of xs)) c.deref-e-items.ensures.value ∙ (arguments_nest c.in-Some.arguments.items ∙ sym (ap (λ o. nesting (arguments_of o)) c.in-Some.is)))

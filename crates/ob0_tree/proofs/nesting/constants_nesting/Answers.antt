@@ -1,5 +1,5 @@
 use Rattle.std.proofs.Common.{sym, ap, ◌∙◌}
-use Rattle.ob0_tree.specs.Depth.{capped}
+use Rattle.ob0_tree.specs.Depth.{capped_to_u32}
 use Rattle.ob0_tree.specs.Tree.{nesting}
 use Rattle.ob0_tree.specs.View.{constant_of, items_of, constants_of}
 use Rattle.ob0_tree.proofs.Deepest.{deeper_on, list_ends}
@@ -11,4 +11,4 @@ loop-c-preserved c = deeper_on constant_of c.c-item.result c.loop-c.invariant c.
 pub returns : goal.returns
 returns c =
     list_ends c.loop-c.invariant c.loop-c-test.false
-    ∙ ap capped (ap (λ xs. nesting (items_of constant_of xs)) c.deref-c-items.ensures.value ∙ sym (ap (λ o. nesting (constants_of o)) c.in-Some.is))
+    ∙ ap capped_to_u32 (ap (λ xs. nesting (items_of constant_of xs)) c.deref-c-items.ensures.value ∙ sym (ap (λ o. nesting (constants_of o)) c.in-Some.is))

@@ -1,6 +1,6 @@
 use Rattle.std.proofs.Common.{◌≡◌, List, [], ◌∷◌, refl, sym, ap, ◌∙◌}
 use Rattle.ob0_tree.specs.declared.tree.ParameterSection.{ParameterSection}
-use Rattle.ob0_tree.specs.Depth.{capped}
+use Rattle.ob0_tree.specs.Depth.{capped_to_u32}
 use Rattle.ob0_tree.specs.Tree.{nesting}
 use Rattle.ob0_tree.specs.View.{items_of, further_section_of, formals_of_list, formals_of}
 use Rattle.ob0_tree.proofs.Deepest.{deeper_on, list_ends}
@@ -16,4 +16,4 @@ loop-s-preserved c = deeper_on further_section_of c.s-item.result c.loop-s.invar
 pub returns : goal.returns
 returns c =
     list_ends c.loop-s.invariant c.loop-s-test.false
-    ∙ ap capped (ap (λ xs. nesting (items_of further_section_of xs)) c.deref-s-items.ensures.value ∙ (sections_nest c.in-Some.sections.items ∙ sym (ap (λ o. nesting (formals_of o)) c.in-Some.is)))
+    ∙ ap capped_to_u32 (ap (λ xs. nesting (items_of further_section_of xs)) c.deref-s-items.ensures.value ∙ (sections_nest c.in-Some.sections.items ∙ sym (ap (λ o. nesting (formals_of o)) c.in-Some.is)))

@@ -1,5 +1,5 @@
 use Rattle.std.proofs.Common.{sym, ap, ◌∙◌}
-use Rattle.ob0_tree.specs.Depth.{capped}
+use Rattle.ob0_tree.specs.Depth.{capped_to_u32}
 use Rattle.ob0_tree.specs.Tree.{nesting}
 use Rattle.ob0_tree.specs.View.{type_declaration_of, items_of, types_of}
 use Rattle.ob0_tree.proofs.Deepest.{deeper_on, list_ends}
@@ -11,4 +11,4 @@ loop-d-preserved c = deeper_on type_declaration_of c.d-item.result c.loop-d.inva
 pub returns : goal.returns
 returns c =
     list_ends c.loop-d.invariant c.loop-d-test.false
-    ∙ ap capped (ap (λ xs. nesting (items_of type_declaration_of xs)) c.deref-d-items.ensures.value ∙ sym (ap (λ o. nesting (types_of o)) c.in-Some.is))
+    ∙ ap capped_to_u32 (ap (λ xs. nesting (items_of type_declaration_of xs)) c.deref-d-items.ensures.value ∙ sym (ap (λ o. nesting (types_of o)) c.in-Some.is))

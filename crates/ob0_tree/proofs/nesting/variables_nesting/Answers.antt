@@ -1,5 +1,5 @@
 use Rattle.std.proofs.Common.{sym, ap, ◌∙◌}
-use Rattle.ob0_tree.specs.Depth.{capped}
+use Rattle.ob0_tree.specs.Depth.{capped_to_u32}
 use Rattle.ob0_tree.specs.Tree.{nesting}
 use Rattle.ob0_tree.specs.View.{variable_of, items_of, variables_of}
 use Rattle.ob0_tree.proofs.Deepest.{deeper_on, list_ends}
@@ -11,4 +11,4 @@ loop-v-preserved c = deeper_on variable_of c.v-item.result c.loop-v.invariant c.
 pub returns : goal.returns
 returns c =
     list_ends c.loop-v.invariant c.loop-v-test.false
-    ∙ ap capped (ap (λ xs. nesting (items_of variable_of xs)) c.deref-v-items.ensures.value ∙ sym (ap (λ o. nesting (variables_of o)) c.in-Some.is))
+    ∙ ap capped_to_u32 (ap (λ xs. nesting (items_of variable_of xs)) c.deref-v-items.ensures.value ∙ sym (ap (λ o. nesting (variables_of o)) c.in-Some.is))

@@ -9,7 +9,7 @@ use Rattle.ob0_tree.specs.declared.tree.SimpleExpression.{out-SimpleExpression}
 use Rattle.ob0_tree.specs.declared.tree.Term.{out-Term}
 use Rattle.ob0_tree.specs.declared.tree.Role.TheVariants as role
 use Rattle.ob0_tree.specs.Tree.{compares, identifiers, one, relates}
-use Rattle.ob0_tree.specs.View.{items_of, addend_of, compared_of, comparison_of, multiplier_of, term_of, factor_of, simple_of, compound_of}
+use Rattle.ob0_tree.specs.View.{items_of, addend_of, maybe_comparison_of, comparison_of, multiplier_of, term_of, factor_of, simple_of, compound_of}
 use Rattle.ob0_tree.specs.Visited.{state_after_identifiers, state_after_visit}
 use Rattle.ob0_tree.proofs.Visits.{all_visited, then_visited, visits_on}
 use Rattle.ob0_tree.proofs.walk.+expressions.Goals as goal
@@ -23,7 +23,7 @@ walk_compound-returns-in_ok-walk_simple-2 g t c =
     let right = c.in-Some.compared.value in
     let tree : compound_of c.args.c.now ≡ compares (simple_of x.left) (one (relates (out-Comparison right).relation (simple_of (out-Comparison right).right))) =
     compound_parts c.args.c.now
-    ∙ (ap (λ o. compares (simple_of x.left) (compared_of (back-CompoundExpression-compared o))) c.in-Some.is ∙ ap (λ y. compares (simple_of x.left) (one y)) (comparison_parts right)) in
+    ∙ (ap (λ o. compares (simple_of x.left) (maybe_comparison_of (back-CompoundExpression-compared o))) c.in-Some.is ∙ ap (λ y. compares (simple_of x.left) (one y)) (comparison_parts right)) in
     c.in_ok-walk_simple-2.ensures
     ∙ (ap (λ (x : Comparison). state_after_visit g.V.Visitor.seen (simple_of (out-Comparison x).right) c.walk_simple.new.visitor) c.deref.ensures
     ∙ (then_visited g.V.Visitor.seen c.args.visitor.now (identifiers role.Declaring (simple_of x.left)) (identifiers role.Declaring (simple_of (out-Comparison right).right)) c.in_ok-walk_simple.ensures

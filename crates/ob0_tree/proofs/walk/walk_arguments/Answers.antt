@@ -2,12 +2,12 @@ use Rattle.std.proofs.Common.{◌≡◌, List, [], ◌∷◌, refl, ap, ◌∙�
 use Rattle.ob0_tree.specs.declared.tree.Expression.{Expression}
 use Rattle.ob0_tree.specs.declared.tree.Role.TheVariants as role
 use Rattle.ob0_tree.specs.Tree.{identifiers}
-use Rattle.ob0_tree.specs.View.{arguments_listed, further_argument_of, items_of}
+use Rattle.ob0_tree.specs.View.{arguments_of_list, further_argument_of, items_of}
 use Rattle.ob0_tree.specs.Visited.{state_after_identifiers}
 use Rattle.ob0_tree.proofs.Visits.{all_visited, visits_on}
 use Rattle.ob0_tree.proofs.walk.walk_arguments.Goals as goal
 
-arguments_visited : (es : List Expression) → identifiers role.Declaring (items_of further_argument_of es) ≡ identifiers role.Declaring (arguments_listed es)
+arguments_visited : (es : List Expression) → identifiers role.Declaring (items_of further_argument_of es) ≡ identifiers role.Declaring (arguments_of_list es)
 arguments_visited [] = refl
 arguments_visited (e ∷ es) = refl
 

@@ -11,8 +11,8 @@ pub report_some_bodies-requires : goal.report_some_bodies-requires
 report_some_bodies-requires c =
     let r = c.args.resolved.now in
     let last = ap (λ (b : OneBody). b.closing) (c.body_containing-body.ensures ∙ ap (λ m. body_in_module c.args.low (tree_of m)) c.module.ensures.value) in
-    let bodies = c.as_slice.ensures.value ∙ (c.in_ok-push.ensures.items ∙ (λ i. copied_items c.args.before.faulty.items c.in_ok-bodies.bodies.items c.in_ok-bodies.ensures.cases.0 i ++ last i ∷ [])) in
+    let bodies = c.as_slice.ensures.value ∙ (c.in_ok-push.ensures.items ∙ (λ i. copied_items c.args.before.bodies_with_faults.items c.in_ok-bodies.bodies.items c.in_ok-bodies.ensures.cases.0 i ++ last i ∷ [])) in
     subst (λ found. IncludesFaultyBodies (is_among found) r) (sym bodies) (were_faulty r c.args.before c.args.low c.requires c.module.ensures.resolved)
 
 pub fields_after_body_change-requires-clause-known : goal.fields_after_body_change-requires-clause-known
-fields_after_body_change-requires-clause-known c = known_where_typed c.args.resolved.now c.in_ok-report.report c.no_fault_in_modules.ensures c.module.ensures.resolved c.in_ok-report.ensures
+fields_after_body_change-requires-clause-known c = known_where_typed c.args.resolved.now c.in_ok-report.report c.typed_modules_have_no_fault.ensures c.module.ensures.resolved c.in_ok-report.ensures

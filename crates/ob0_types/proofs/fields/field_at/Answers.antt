@@ -20,13 +20,13 @@ pub returns-clause-value : goal.returns-clause-value
 returns-clause-value c =
     let r = c.args.well_typed.now in
     let source = c.tokens.ensures ∙ ap (λ (r : Resolution). r.module_read.source) c.resolved-names.ensures.value in
-    found_at r _ _ c.args.offset _ c.resolved-names.ensures.well_typed.resolved.parsed source c.fields.ensures.1 c.at.ensures
+    found_at r _ _ c.args.offset _ c.resolved-names.ensures.well_typed.resolved.parsed source c.fields.ensures.1 c.identifier_at.ensures
 
 pub returns-clause-are_identifiers : goal.returns-clause-are_identifiers
 returns-clause-are_identifiers c =
     let r = c.args.well_typed.now in
     let parsed = c.resolved-names.ensures.well_typed.resolved.parsed in
     let source = c.tokens.ensures ∙ ap (λ (r : Resolution). r.module_read.source) c.resolved-names.ensures.value in
-    let same = found_at r _ _ c.args.offset _ parsed source c.fields.ensures.1 c.at.ensures in
+    let same = found_at r _ _ c.args.offset _ parsed source c.fields.ensures.1 c.identifier_at.ensures in
     subst (λ found. IfSome found (λ x. IsIdentifierToken r.module_read.source.tokens x.token)) (sym same)
     (field_is_identifier r.module_read.source r.module_read.source.tokens c.args.offset (field_identifiers r) (fields_are_identifiers r parsed))

@@ -12,17 +12,17 @@ use Rattle.ob0_types_fields.proofs.declared.+types.Goals as goal
 pub add_type_fields-returns-in-Record-clause-found : goal.add_type_fields-returns-in-Record-clause-found
 add_type_fields-returns-in-Record-clause-found t c =
     subst (λ z. IfOk c.add_record_fields.result (λ _. c.add_record_fields.new.found.items ≡ c.args.found.now.items ++ z))
-    (ap (fields_in_type c.args.made.now) (sym (made_record_type c.in-Record.r) ∙ sym (ap type_of c.in-Record.is))) c.add_record_fields.ensures.found
+    (ap (fields_in_type c.args.word_count.now) (sym (made_record_type c.in-Record.r) ∙ sym (ap type_of c.in-Record.is))) c.add_record_fields.ensures.found
 
-pub add_type_fields-returns-in-Record-clause-made : goal.add_type_fields-returns-in-Record-clause-made
-add_type_fields-returns-in-Record-clause-made t c =
-    subst (λ z. IfOk c.add_record_fields.result (λ _. c.add_record_fields.new.made ≡ c.args.made.now + z))
-    (ap constructor_count (sym (made_record_type c.in-Record.r) ∙ sym (ap type_of c.in-Record.is))) c.add_record_fields.ensures.made
+pub add_type_fields-returns-in-Record-clause-word_count : goal.add_type_fields-returns-in-Record-clause-word_count
+add_type_fields-returns-in-Record-clause-word_count t c =
+    subst (λ z. IfOk c.add_record_fields.result (λ _. c.add_record_fields.new.word_count ≡ c.args.word_count.now + z))
+    (ap constructor_count (sym (made_record_type c.in-Record.r) ∙ sym (ap type_of c.in-Record.is))) c.add_record_fields.ensures.word_count
 
 pub add_group_fields-returns-in_ok-add_named_fields-in-Listed-clause-found : goal.add_group_fields-returns-in_ok-add_named_fields-in-Listed-clause-found
 add_group_fields-returns-in_ok-add_named_fields-in-Listed-clause-found t c =
     let l = c.deref-l.result.now in
-    let k = c.args.made.now in
+    let k = c.args.word_count.now in
     let start = c.args.found.now.items in
     let tree = ap (λ (g : FieldGroup). some_fields (names_of g.names) (type_of g.written)) c.deref-l.ensures ∙ sym (ap fields_of c.in-Listed.is) in
     subst (λ z. IfOk c.add_type_fields.result (λ _. c.add_type_fields.new.found.items ≡ z))

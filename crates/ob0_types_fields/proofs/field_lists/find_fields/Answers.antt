@@ -9,4 +9,4 @@ pub returns : goal.returns
 returns c =
     let read = ap (λ (p : ParsedModule). p.block) c.module.ensures.value in
     c.in_ok-add_block_fields.ensures.found
-    ∙ (λ i. c.new-found.ensures.items i ++ fields_in_block (meanings_by_token (declared_object_in c.args.known.now) c.args.resolved.now) 0 (block_of ((c.block.ensures ∙ read) i)))
+    ∙ (λ i. c.new-found.ensures.items i ++ fields_in_block (meanings_by_token (declared_object_in c.args.table.now) c.args.resolved.now) 0 (block_of ((c.block.ensures ∙ read) i)))

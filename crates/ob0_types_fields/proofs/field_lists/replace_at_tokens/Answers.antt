@@ -13,8 +13,8 @@ returns-in-Some c =
     let first = c.in-Some.first.now in
     let here = sym c.first.ensures.value ∙ ap option_copied c.in-Some.is in
     let rises = subst (λ (xs : List FieldName). IsNonDecreasingBy (λ x. x.token) xs) (sym c.deref.ensures.value) (rise all before found after h) in
-    let point = subst (λ (xs : List FieldName). IsPartitionPoint (λ x. nat_lt x.token first.token ≡ true) (λ x. nat_lt x.token first.token ≡ false) xs c.count_before-start.result) c.deref.ensures.value (c.count_before-start.ensures rises) in
-    c.overwrite_from.ensures ∙ over_others all before found after h c.count_before-start.result (start_found all before found after h first here c.count_before-start.result point)
+    let point = subst (λ (xs : List FieldName). IsPartitionPoint (λ x. nat_lt x.token first.token ≡ true) (λ x. nat_lt x.token first.token ≡ false) xs c.count_fields_before-start.result) c.deref.ensures.value (c.count_fields_before-start.ensures rises) in
+    c.overwrite_from.ensures ∙ over_others all before found after h c.count_fields_before-start.result (start_found all before found after h first here c.count_fields_before-start.result point)
 
 pub returns-in-None : goal.returns-in-None
 returns-in-None c = λ before after h. without_others c.args.all.now.items before c.args.found.now after h (sym c.first.ensures.value ∙ ap option_copied c.in-None.is)

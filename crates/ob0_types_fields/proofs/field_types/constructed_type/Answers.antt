@@ -10,16 +10,16 @@ use Rattle.ob0_types_fields.proofs.field_types.constructed_type.Goals as goal
 
 pub returns-in-Found : goal.returns-in-Found
 returns-in-Found c =
-    let m = meanings_by_token (declared_object_in c.args.known.now) c.args.resolved.now in
-    ap (λ s. found_type (search_view (shapes_of c.args.known.now) s)) (sym c.in-Found.is)
+    let m = meanings_by_token (declared_object_in c.args.table.now) c.args.resolved.now in
+    ap (λ s. found_type (search_view (shapes_of c.args.table.now) s)) (sym c.in-Found.is)
     ∙ (ap found_type c.search_block.ensures
     ∙ (found_at c.args.ordinal (constructed_types m None (block_of c.block.result.now))
     ∙ ap (λ b. get_or (constructed_types m None (block_of b)) c.args.ordinal None) (c.block.ensures ∙ ap (λ (p : ParsedModule). p.block) c.module.ensures.value)))
 
-pub returns-in-Before : goal.returns-in-Before
-returns-in-Before c =
-    let m = meanings_by_token (declared_object_in c.args.known.now) c.args.resolved.now in
-    ap (λ s. found_type (search_view (shapes_of c.args.known.now) s)) (sym c.in-Before.is)
+pub returns-in-Skipping : goal.returns-in-Skipping
+returns-in-Skipping c =
+    let m = meanings_by_token (declared_object_in c.args.table.now) c.args.resolved.now in
+    ap (λ s. found_type (search_view (shapes_of c.args.table.now) s)) (sym c.in-Skipping.is)
     ∙ (ap found_type c.search_block.ensures
     ∙ (found_at c.args.ordinal (constructed_types m None (block_of c.block.result.now))
     ∙ ap (λ b. get_or (constructed_types m None (block_of b)) c.args.ordinal None) (c.block.ensures ∙ ap (λ (p : ParsedModule). p.block) c.module.ensures.value)))

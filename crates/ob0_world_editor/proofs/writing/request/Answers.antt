@@ -33,7 +33,7 @@ pub returns-in-Format : goal.returns-in-Format
 returns-in-Format c =
     let this_ask = format c.in-Format.indent in
     let message : Data → Data = λ d. request_message c.args.number (codes "textDocument/formatting") (object (member (codes "options") d (member (codes "textDocument") (document_value c.args.uri.now) no_members))) in
-    let is = ap message c.of-options.ensures in
+    let is = ap message c.for_indent-options.ensures in
     rw c.in-Format.is
     (if_ok c.request_content-in-Format.result (λ content writes.
     ask_requested content.items c.args.number c.args.uri.now this_ask

@@ -14,7 +14,7 @@ reanalyse_module-requires c = record {
   new_scan = c.in-Ok.ensures.ok.scan;
   same = c.in-Ok.ensures.same;
   written = c.in-Ok.ensures.written;
-  alike = c.in-Ok.ensures.alike;
+  same_kinds = c.in-Ok.ensures.same_kinds;
   same_names = c.in-Ok.ensures.same_names;
   same_words = c.in-Ok.ensures.same_words;
 }

@@ -1,5 +1,5 @@
 use Rattle.std.proofs.Common.{subst}
-use Rattle.ob0_analysis.specs.Found.{IsValidOutcome}
+use Rattle.ob0_analysis.specs.AnalysisInvariants.{IsValidOutcome}
 use Rattle.ob0_analysis.proofs.scanned_text.ScannedText.diagnoses.Goals as goal
 
 pub diagnose_refusal-requires : goal.diagnose_refusal-requires

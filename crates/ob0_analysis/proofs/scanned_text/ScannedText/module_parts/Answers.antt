@@ -1,6 +1,6 @@
 use Rattle.std.proofs.Common.{◌∙◌, ℕ, List, ap, sym, subst}
 use Rattle.ob0_analysis.specs.Diagnosed.{IsWellTypedModule}
-use Rattle.ob0_analysis.specs.Found.{IsValidOutcome, text_of_outcome}
+use Rattle.ob0_analysis.specs.AnalysisInvariants.{IsValidOutcome, text_of_outcome}
 use Rattle.ob0_analysis.proofs.Scanning.{refused_is_none}
 use Rattle.ob0_analysis.proofs.scanned_text.ScannedText.module_parts.Goals as goal
 

@@ -14,30 +14,30 @@ reanalyse_same_words-requires c =
     record {
       old = before.old;
       was = before.was;
-      alike = record {
+      texts_alike = record {
         old_scan = before.old_scan;
         new_scan = before.new_scan;
         same_words = before.same_words c.if-same_words.true;
-        same_front = c.has_same_front.ensures c.if-has_same_front.true ∙ before.was.places_are.front;
+        same_front = c.begins_alike.ensures c.if-begins_alike.true ∙ before.was.places_are.front;
       };
-      parsed = tree_stays (parsed_module before.old tree) (parsed_module c.args.changed.rescan.tokens tree) before.was.parsed refl before.new_scan.short (before.alike c.if-not-same_kinds.false);
+      parsed = tree_stays (parsed_module before.old tree) (parsed_module c.args.changed.rescan.tokens tree) before.was.parsed refl before.new_scan.short (before.same_kinds c.if-not-same_kinds.false);
     }
 
 pub reanalyse_same_tree-requires-clause-parsed : goal.reanalyse_same_tree-requires-clause-parsed
 reanalyse_same_tree-requires-clause-parsed c =
     let before = c.requires in
     let tree = c.args.tree in
-    tree_stays (parsed_module before.old tree) (parsed_module c.args.changed.rescan.tokens tree) before.was.parsed refl before.new_scan.short (before.alike c.if-not-same_kinds.false)
+    tree_stays (parsed_module before.old tree) (parsed_module c.args.changed.rescan.tokens tree) before.was.parsed refl before.new_scan.short (before.same_kinds c.if-not-same_kinds.false)
 
 pub reanalyse_same_tree-requires-clause-resolved : goal.reanalyse_same_tree-requires-clause-resolved
 reanalyse_same_tree-requires-clause-resolved c =
     let before = c.requires in
     let new = c.args.changed.rescan.tokens in
     let tree = c.args.tree in
-    let alike = before.alike c.if-not-same_kinds.false in
+    let alike = before.same_kinds c.if-not-same_kinds.false in
     let parsed = tree_stays (parsed_module before.old tree) (parsed_module new tree) before.was.parsed refl before.new_scan.short alike in
     λ same none. c.bindings_depend_on_names.ensures before.old new tree c.args.bindings (record { same_kinds = alike; same_names = before.same_names same }) parsed before.was.resolved none
 
 pub reanalyse_same_tree-requires-clause-before : goal.reanalyse_same_tree-requires-clause-before
 reanalyse_same_tree-requires-clause-before c =
-    record { had = had_module c.args.changed c.args.tree c.args.bindings c.args.types c.args.places c.requires; same_kinds = c.requires.alike c.if-not-same_kinds.false }
+    record { earlier_module = had_module c.args.changed c.args.tree c.args.bindings c.args.types c.args.places c.requires; same_kinds = c.requires.alike c.if-not-same_kinds.false }

@@ -1,6 +1,6 @@
 use Rattle.ob0_text.specs.Texts.{offset_of}
 use Rattle.ob0_text.specs.Units.{width_of}
-use Rattle.ob0_edits.specs.declared.inlinings.Inlining.TheVariants.{Here, Everywhere}
+use Rattle.ob0_edits.specs.declared.inlinings.Inlining.TheVariants.{OneUse, Everywhere}
 use Rattle.ob0_edits.proofs.Inlined.{offered_of}
 use Rattle.ob0_edits.proofs.inlinings.InliningsQuestionQuestion.answer.Goals as goal
 
@@ -11,4 +11,4 @@ returns g c =
     let text = g.T.TextStore.content q.store.now in
     let m = c.args.module.now.module_read in
     let offset = offset_of (width_of unit) text q.place in
-    (offered_of Here unit text m offset _ _ c.inline_here.ensures c.in_ok-here.ensures, offered_of Everywhere unit text m offset _ _ c.inline_all.ensures c.in_ok-everywhere.ensures)
+    (offered_of OneUse unit text m offset _ _ c.inline_here.ensures c.in_ok-here.ensures, offered_of Everywhere unit text m offset _ _ c.inline_all.ensures c.in_ok-everywhere.ensures)

@@ -1,12 +1,12 @@
 use Rattle.std.proofs.lemmas.Result.{err_from_is_err_and}
 use Rattle.ob0_tree.specs.View.{items_of, type_declaration_of}
 use Rattle.ob0_parse_descent.proofs.Items.{taking_none, taking_more, taking_done, taking_fails}
-use Rattle.ob0_tree.specs.Tree.{type_name}
+use Rattle.ob0_tree.specs.Tree.{type_definition}
 use Rattle.ob0_parse_descent.proofs.parser.Parser.parse_type_list.Goals as goal
 
 pub loop-types-init : goal.loop-types-init
 loop-types-init c =
-    rw c.new-types.ensures.items (taking_none type_name _ _ _ c.requires)
+    rw c.new-types.ensures.items (taking_none type_definition _ _ _ c.requires)
 
 pub returns-in_err-declaration : goal.returns-in_err-declaration
 returns-in_err-declaration c =

@@ -5,12 +5,12 @@ use Rattle.ob0_parse_descent.proofs.Refusals.{fails_maybe}
 use Rattle.ob0_parse_descent.proofs.Expressions.{taken_item, taken_no_item}
 use Rattle.ob0_parse_descent.proofs.Leads.{no_item}
 use Rattle.ob0_parse_descent.proofs.Led.{taken_led, led_fails, leads_declares_types}
-use Rattle.ob0_tree.specs.Tree.{type_names}
+use Rattle.ob0_tree.specs.Tree.{type_definitions}
 use Rattle.ob0_parse_descent.proofs.parser.Parser.parse_types.Goals as goal
 
 pub returns-then-not-has_word_at : goal.returns-then-not-has_word_at
 returns-then-not-has_word_at c =
-    taken_no_item type_names _ _ _ c.requires (no_item 13 refl c.if-not-has_word_at.ensures)
+    taken_no_item type_definitions _ _ _ c.requires (no_item 13 refl c.if-not-has_word_at.ensures)
 
 pub returns-in_err-types : goal.returns-in_err-types
 returns-in_err-types c =

@@ -2,7 +2,7 @@ use Rattle.std.proofs.Common.{◌≡◌, Option, Some, None, option_map, codes, 
 use Rattle.std.proofs.lemmas.Result.{on_ok_weaker}
 use Rattle.serde_json.specs.Data.{Data}
 use Rattle.ob0_rpc.specs.Appending.{AppendsMember, or_null}
-use Rattle.ob0_rpc.specs.Seen.{id_data, id_or_null}
+use Rattle.ob0_rpc.specs.MessageViews.{id_data, id_or_null}
 use Rattle.ob0_rpc.specs.declared.incoming.Id.{Id}
 use Rattle.ob0_rpc.proofs.Appending.{object_of}
 use Rattle.ob0_rpc.proofs.outgoing.ErrorResponseWriteJson.write.Goals as goal

@@ -10,14 +10,14 @@ use Rattle.ob0_tree.specs.View.{items_of, compound_of, expression_of, addend_of,
 use Rattle.ob0_scope_table.specs.LabelledTrees.{tree_with_labels}
 use Rattle.ob0_types_table.specs.KnownTables.{shapes_of}
 use Rattle.ob0_language_types.proofs.TreeParts.{addend_parts, compound_alone, compound_related}
-use Rattle.ob0_run_lowering.specs.Codes.{addition_code, multiplication_code, related, signed_code}
+use Rattle.ob0_run_lowering.specs.Codes.{addition_code, multiplication_code, relation_code, signed_code}
 use Rattle.ob0_run_lowering.specs.Trees.{addends_code, code_of, expression_code, factor_code, found_place_of, multipliers_code, selected_place, simple_code, term_code}
 use Rattle.ob0_run_lowering.proofs.CodeChains.{added_fold, added_once, fold_ends, fold_goes_on, multiplied_fold, selected_fold}
-use Rattle.ob0_run_lowering.proofs.Rows.{still_flat}
+use Rattle.ob0_run_lowering.proofs.TruthDepths.{still_flat}
 use Rattle.ob0_run_lowering.proofs.scene.Scene.+lowering.Goals as goal
 
-pub factor-returns-in-Designator-clause-code : goal.factor-returns-in-Designator-clause-code
-factor-returns-in-Designator-clause-code t c =
+pub lower_factor-returns-in-Designator-clause-code : goal.lower_factor-returns-in-Designator-clause-code
+lower_factor-returns-in-Designator-clause-code t c =
     let scene = c.args.self.now in
     subst (λ z. IfOk c.lower_designator.result (λ l. code_of l ≡ factor_code scene (tree_with_labels scene.resolved.now z))) (sym (designator_made c.in-Designator.d) ∙ sym (ap factor_of c.in-Designator.is)) c.lower_designator.ensures.code
 
@@ -36,7 +36,7 @@ locate-returns t c =
 pub lower_expression-returns-in-Factor-clause-code : goal.lower_expression-returns-in-Factor-clause-code
 lower_expression-returns-in-Factor-clause-code t c =
     let scene = c.args.self.now in
-    subst (λ z. IfOk c.factor.result (λ l. code_of l ≡ expression_code scene (tree_with_labels scene.resolved.now z))) (sym (ap expression_of c.in-Factor.is)) c.factor.ensures.code
+    subst (λ z. IfOk c.lower_factor.result (λ l. code_of l ≡ expression_code scene (tree_with_labels scene.resolved.now z))) (sym (ap expression_of c.in-Factor.is)) c.lower_factor.ensures.code
 
 pub lower_expression-returns-in-CompoundExpression-clause-code : goal.lower_expression-returns-in-CompoundExpression-clause-code
 lower_expression-returns-in-CompoundExpression-clause-code t c =
@@ -56,8 +56,8 @@ lower_compound-returns-in_ok-right-in-Some-clause-code t c =
     let compared = out-Comparison c.deref-compared.result.now in
     let left = simple_of (out-CompoundExpression c.args.c.now).left in
     subst (λ z. IfOk c.lower_relation.result (λ l. code_of l ≡ z))
-    (ap (λ a. related compared.relation a (code_of c.in_ok-right-in-Some.right)) c.in_ok-left.ensures.code
-    ∙ ap (related compared.relation (simple_code scene (tree_with_labels r left))) c.in_ok-right-in-Some.ensures.code
+    (ap (λ a. relation_code compared.relation a (code_of c.in_ok-right-in-Some.right)) c.in_ok-left.ensures.code
+    ∙ ap (relation_code compared.relation (simple_code scene (tree_with_labels r left))) c.in_ok-right-in-Some.ensures.code
     ∙ ap (λ k. expression_code scene (tree_with_labels r (compares left (one (relates (out-Comparison k).relation (simple_of (out-Comparison k).right)))))) c.deref-compared.ensures
     ∙ sym (ap (λ e. expression_code scene (tree_with_labels r e)) (compound_related c.args.c.now c.in-Some.compared c.in-Some.is)))
     c.lower_relation.ensures.code
@@ -88,8 +88,8 @@ lower_simple-returns-clause-code t c =
     ∙ ap (λ k. addends_code scene k (tree_with_labels r (items_of addend_of s.more.items))) (c.in_ok-so_far.ensures.code ∙ ap (signed_code s.sign) c.in_ok-first.ensures.code)
     ∙ sym (ap (λ z. simple_code scene (tree_with_labels r z)) (simple_parts c.args.s.now))
 
-pub term-loop-multiplier-preserved : goal.term-loop-multiplier-preserved
-term-loop-multiplier-preserved t c =
+pub lower_term-loop-multiplier-preserved : goal.lower_term-loop-multiplier-preserved
+lower_term-loop-multiplier-preserved t c =
     let scene = c.args.self.now in
     let a = c.multiplier-item.result in
     record {
@@ -99,8 +99,8 @@ term-loop-multiplier-preserved t c =
       flat = still_flat c.in_ok-so_far-2.ensures.flat c.loop-multiplier.invariant.flat;
     }
 
-pub term-returns-clause-code : goal.term-returns-clause-code
-term-returns-clause-code t c =
+pub lower_term-returns-clause-code : goal.lower_term-returns-clause-code
+lower_term-returns-clause-code t c =
     let scene = c.args.self.now in
     let r = scene.resolved.now in
     let s = out-Term c.args.t.now in

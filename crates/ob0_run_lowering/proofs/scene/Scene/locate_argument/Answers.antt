@@ -4,7 +4,7 @@ use Rattle.ob0_tree.specs.View.{expression_of}
 use Rattle.ob0_tree.specs.declared.tree.Designator.{out-Designator}
 use Rattle.ob0_language_types.specs.Selected.{selectors_in}
 use Rattle.ob0_types_table.proofs.DesignatedAlone.{labelled_designator, parts_in}
-use Rattle.ob0_run_lowering.specs.LoweredMeans.{Locates, LocatesLoneDesignator}
+use Rattle.ob0_run_lowering.specs.LoweredMeans.{LocatesDesignator, LocatesLoneDesignator}
 use Rattle.ob0_run_lowering.proofs.Lowerings.{alone-by, alone-not}
 use Rattle.ob0_run_lowering.proofs.scene.Scene.locate_argument.Goals as goal
 
@@ -19,5 +19,5 @@ returns-in-Some c =
     let scene = c.args.self.now in
     let e = expression_of c.args.e.now in
     let d = c.in-Some.d.now in
-    IfOk-weaker c.place.result (Locates scene (out-Designator d).name (selectors_in d)) (LocatesLoneDesignator scene e)
-    (λ l h. alone-by scene e (out-Designator d).name (selectors_in d) l (labelled_designator scene.resolved.now e ∙ sym (ap (option_map (parts_in scene.resolved.now)) c.in-Some.ensures)) h) c.place.ensures
+    IfOk-weaker c.lower_to_place.result (LocatesDesignator scene (out-Designator d).name (selectors_in d)) (LocatesLoneDesignator scene e)
+    (λ l h. alone-by scene e (out-Designator d).name (selectors_in d) l (labelled_designator scene.resolved.now e ∙ sym (ap (option_map (parts_in scene.resolved.now)) c.in-Some.ensures)) h) c.lower_to_place.ensures

@@ -3,7 +3,7 @@ use Rattle.ob0_scope_table.specs.LabelledTrees.{label_at_token}
 use Rattle.ob0_scope_table.proofs.Counted.{labels_listed}
 use Rattle.ob0_types_table.specs.Tables.{mode_of}
 use Rattle.ob0_run_cells.specs.Activations.{place_name}
-use Rattle.ob0_run_lowering.specs.Placed.{declared_size, place_each, variable_slot}
+use Rattle.ob0_run_lowering.specs.PlacedNames.{declared_size, place_each, variable_slot}
 use Rattle.ob0_run_lowering.proofs.FollowingSites.{as_deep, in_begins, in_ends, in_on, places_as}
 use Rattle.ob0_run_lowering.proofs.visible_sites.VisibleSites.place_names.Goals as goal
 

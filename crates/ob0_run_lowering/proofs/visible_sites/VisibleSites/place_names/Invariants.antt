@@ -1,7 +1,7 @@
 use Rattle.std.proofs.Common.{◌∷◌, ◌+◌, map}
 use Rattle.ob0_scope_table.specs.LabelledTrees.{label_at_token}
 use Rattle.ob0_types_table.specs.Tables.{mode_of}
-use Rattle.ob0_run_lowering.specs.Placed.{declared_size, place_each, variable_slot}
+use Rattle.ob0_run_lowering.specs.PlacedNames.{declared_size, place_each, variable_slot}
 use Rattle.ob0_run_lowering.proofs.FollowingSites.{InPlaces}
 use Rattle.ob0_run_lowering.proofs.visible_sites.VisibleSites.place_names.Given as goal
 

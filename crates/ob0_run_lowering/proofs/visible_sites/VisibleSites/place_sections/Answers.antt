@@ -3,7 +3,7 @@ use Rattle.ob0_tree.specs.View.{further_section_of, items_of, names_of}
 use Rattle.ob0_language_names.specs.Parts.{names_in_list}
 use Rattle.ob0_scope_table.specs.LabelledTrees.{tree_with_labels}
 use Rattle.ob0_types_table.specs.Tables.{mode_of}
-use Rattle.ob0_run_lowering.specs.Placed.{declared_size, place_each, variable_slot}
+use Rattle.ob0_run_lowering.specs.PlacedNames.{declared_size, place_each, variable_slot}
 use Rattle.ob0_run_lowering.proofs.FollowingSites.{as_deep, in_begins, in_ends, in_on, section_step}
 use Rattle.ob0_run_lowering.proofs.visible_sites.VisibleSites.place_sections.Goals as goal
 

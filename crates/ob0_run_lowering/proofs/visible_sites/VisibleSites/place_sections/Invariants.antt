@@ -1,7 +1,7 @@
 use Rattle.ob0_tree.specs.View.{further_section_of, items_of}
 use Rattle.ob0_scope_table.specs.LabelledTrees.{tree_with_labels}
-use Rattle.ob0_run_lowering.specs.Placed as placed
-use Rattle.ob0_run_lowering.specs.Placed.{declared_size, variable_slot}
+use Rattle.ob0_run_lowering.specs.PlacedNames as placed
+use Rattle.ob0_run_lowering.specs.PlacedNames.{declared_size, variable_slot}
 use Rattle.ob0_run_lowering.proofs.FollowingSites.{InPlaces}
 use Rattle.ob0_run_lowering.proofs.visible_sites.VisibleSites.place_sections.Given as goal
 

@@ -9,7 +9,7 @@ use Rattle.ob0_scan.proofs.old_lexemes.ReplacedRange.replace.Goals as goal
 -- The old text with the changed bytes replaced by the new ones is the new text.
 put_in : (old new : List ℕ) (from removed added : ℕ) → ReplacesRange old new from removed added → replace_range old from (from + removed) (slice_range new from (from + added)) ≡ new
 put_in old new from removed added r =
-    ap₂ (λ a b. (a ++ slice_range new from (from + added)) ++ b) r.front r.following
+    ap₂ (λ a b. (a ++ slice_range new from (from + added)) ++ b) r.front r.behind
     ∙ append_assoc (take from new) (slice_range new from (from + added)) (drop (from + added) new)
     ∙ ap (λ t. take from new ++ t) (sym (drop_split new from (from + added) (omega arith)))
     ∙ take-append-drop from new

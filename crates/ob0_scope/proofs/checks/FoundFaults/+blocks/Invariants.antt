@@ -3,5 +3,5 @@ use Rattle.ob0_tree.specs.View.{items_of, procedure_of}
 use Rattle.ob0_scope.proofs.Checking.{Gathering}
 use Rattle.ob0_scope.proofs.checks.FoundFaults.+blocks.Given as goal
 
-abbrev pub invariant-block-loop-p : goal.invariant-block-loop-p
-invariant-block-loop-p l = Gathering (λ xs. procedures_declaration_faults l.tokens (items_of procedure_of xs)) l.p-items l.initial.self l.p-index l.self
+abbrev pub invariant-check_block-loop-p : goal.invariant-check_block-loop-p
+invariant-check_block-loop-p l = Gathering (λ xs. procedures_declaration_faults l.tokens (items_of procedure_of xs)) l.p-items l.initial.self l.p-index l.self

@@ -9,7 +9,7 @@ use Rattle.ob0_session_answers.specs.Actions.{actions_request_view, actions_offs
 use Rattle.ob0_session_answers.proofs.actions.ActionsRequestDocumentRequest.answer.Goals as goal
 
 pub returns-then-not-wants_inlining : goal.returns-then-not-wants_inlining
-returns-then-not-wants_inlining g c = IfOk-weaker c.no_actions.result _ _ (λ bytes sent. (_, (_, inr (inl (sym c.wants_inlining.ensures ∙ c.if-not-wants_inlining.true), refl), refl), sent)) c.no_actions.ensures
+returns-then-not-wants_inlining g c = IfOk-weaker c.answer_without_actions.result _ _ (λ bytes sent. (_, (_, inr (inl (sym c.wants_inlining.ensures ∙ c.if-not-wants_inlining.true), refl), refl), sent)) c.answer_without_actions.ensures
 
 pub returns-in-Some : goal.returns-in-Some
 returns-in-Some g c =
@@ -19,15 +19,15 @@ returns-in-Some g c =
     let offset = actions_offset unit text requested.range in
     let there = subst (λ (o : ℕ). FindsInlineResults unit text o c.in_ok-found.field-0) c.actions_position-place.ensures c.in_ok-found.ensures in
     let found = subst (λ (a : Option Inlinings). FindsInlineResults unit text offset a) c.in-Some.is there in
-    IfOk-weaker c.list_actions.result _ _ (λ bytes sent. (
+    IfOk-weaker c.answer_with_actions.result _ _ (λ bytes sent. (
       _,
       (_, inl (record { here = c.in-Some.found.here; everywhere = c.in-Some.found.everywhere; wanted = sym c.wants_inlining.ensures ∙ c.if-not-wants_inlining.false; offers_here = found.0; offers_everywhere = found.1; listed = refl }), refl),
       sent,
-    )) (rw (to_z-of_z c.ranges.version) at c.list_actions.ensures)
+    )) (rw (to_z-of_z c.ranges.version) at c.answer_with_actions.ensures)
 
 pub returns-in-None : goal.returns-in-None
 returns-in-None g c =
     let unit = g.T.TextStore.unit_of c.args.text.now in
     let text : List ℕ = g.T.TextStore.content c.args.text.now in
     let unfit = subst (λ (a : Option Inlinings). FindsInlineResults unit text (offset_of (width_of unit) text c.actions_position-place.result) a) c.in-None.is c.in_ok-found.ensures in
-    IfOk-weaker c.no_actions-in-None.result _ _ (λ bytes sent. (_, (_, inr (inr unfit, refl), refl), sent)) c.no_actions-in-None.ensures
+    IfOk-weaker c.answer_without_actions-in-None.result _ _ (λ bytes sent. (_, (_, inr (inr unfit, refl), refl), sent)) c.answer_without_actions-in-None.ensures

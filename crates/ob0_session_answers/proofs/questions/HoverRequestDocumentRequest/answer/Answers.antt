@@ -3,7 +3,7 @@ use Rattle.std.proofs.lemmas.Result.{IfOk-weaker}
 use Rattle.ob0_refs.specs.Parts.{hover_view}
 use Rattle.ob0_refs.specs.Shown.{HoverText}
 use Rattle.ob0_refs.specs.declared.answers.Hover.{Hover}
-use Rattle.ob0_refs.specs.Questions.{hover_at_place}
+use Rattle.ob0_refs.specs.Questions.{hover_at_offset}
 use Rattle.ob0_scope_table.specs.Resolution.{Resolution}
 use Rattle.serde_json.specs.Data.{null}
 use Rattle.ob0_session_answers.specs.Questions.{hover_with_range, value_or_null}
@@ -14,15 +14,15 @@ pub returns-in-Some : goal.returns-in-Some
 returns-in-Some g c =
     let unit = g.T.TextStore.unit_of c.args.text.now in
     let text : List ℕ = g.T.TextStore.content c.args.text.now in
-    let is = λ (r : Resolution) (found : Option Hover). option_map hover_view found ≡ hover_at_place r c.offset-offset.result in
+    let is = λ (r : Resolution) (found : Option Hover). option_map hover_view found ≡ hover_at_offset r c.offset-offset.result in
     let found = found_of c.args.analysis.now text is c.in_ok-found.field-0 c.in_ok-found.ensures.utf8 (sym c.requires) c.in_ok-found.ensures.found in
     let there = subst (λ (a : Option (Option Hover)). FoundOf text is a) c.in-Some.is found in
-    let same = there.2 ∙ ap (hover_at_place there.0) c.offset-offset.ensures in
+    let same = there.2 ∙ ap (hover_at_offset there.0) c.offset-offset.ensures in
     IfOk-weaker c.hover_answer.result _ _ (λ bytes sent. (_, inl (there.0, there.1, ap (λ (f : Option HoverText). value_or_null (option_map (hover_with_range unit text) f)) same), sent)) c.hover_answer.ensures
 
 pub returns-in-None : goal.returns-in-None
 returns-in-None g c =
     let text : List ℕ = g.T.TextStore.content c.args.text.now in
-    let is = λ (r : Resolution) (found : Option Hover). option_map hover_view found ≡ hover_at_place r c.offset-offset.result in
+    let is = λ (r : Resolution) (found : Option Hover). option_map hover_view found ≡ hover_at_offset r c.offset-offset.result in
     let found = found_of c.args.analysis.now text is c.in_ok-found.field-0 c.in_ok-found.ensures.utf8 (sym c.requires) c.in_ok-found.ensures.found in
     IfOk-weaker c.answer_text.result _ _ (λ bytes sent. (null, inr (subst (λ (a : Option (Option Hover)). FoundOf text is a) c.in-None.is found, refl), sent null_can_be_sent)) c.answer_text.ensures

@@ -2,7 +2,7 @@ use Rattle.std.proofs.Common.{◌≡◌, ℕ, List, Option, Vec, Global, map, in
 use Rattle.std.proofs.lemmas.Result.{IfOk-weaker}
 use Rattle.serde_json.specs.Data.{Data, array}
 use Rattle.serde_json.specs.View.{items_of}
-use Rattle.ob0_rpc.specs.Seen.{document_place_view, id_data}
+use Rattle.ob0_rpc.specs.MessageViews.{document_place_view, id_data}
 use Rattle.ob0_rpc.specs.Shapes.{result_message}
 use Rattle.ob0_rpc.specs.Writing.{Writes}
 use Rattle.ob0_scan.specs.declared.lexeme.Span.{Span}

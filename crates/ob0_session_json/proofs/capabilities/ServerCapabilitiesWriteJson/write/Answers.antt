@@ -3,14 +3,14 @@ use Rattle.std.proofs.lemmas.Result.{on_ok_weaker}
 use Rattle.serde_json.specs.Data.{Members, boolean, member, no_members}
 use Rattle.ob0_rpc.specs.declared.clients.ClientFeatures.{ClientFeatures}
 use Rattle.ob0_rpc.proofs.Appending.{are_names, object_of, rebuilt}
-use Rattle.ob0_session_json.specs.Shapes.{action_provider, remaining_members}
+use Rattle.ob0_session_json.specs.Shapes.{code_action_options, remaining_members}
 use Rattle.ob0_session_json.proofs.capabilities.ServerCapabilitiesWriteJson.write.Goals as goal
 
 abbrev from_definition : ClientFeatures → Members
 from_definition client = member (codes "definitionProvider") (boolean true) (remaining_members client)
 
 abbrev from_actions : ClientFeatures → Members
-from_actions client = member (codes "codeActionProvider") action_provider (from_definition client)
+from_actions client = member (codes "codeActionProvider") code_action_options (from_definition client)
 
 names_by : (offers : Bool) (client : ClientFeatures) → client.offers_utf8 ≡ offers → are_names (from_definition client) ≡ true
 names_by true client is = rw is refl

@@ -4,7 +4,7 @@ use mathlib.Core.List.{map-map}
 use Rattle.serde_json.specs.Data.{Data, array}
 use Rattle.serde_json.specs.View.{items_of}
 use Rattle.ob0_rpc.proofs.Appending.{object_of}
-use Rattle.ob0_session_json.specs.Made.{diagnostic_view}
+use Rattle.ob0_session_json.specs.JsonViews.{diagnostic_view}
 use Rattle.ob0_session_json.specs.Shapes.{diagnostic_value, diagnostics_value}
 use Rattle.ob0_session_json.specs.declared.publication.Diagnostic.{Diagnostic}
 use Rattle.ob0_session_json.proofs.publication.PublishDiagnosticsParamsWriteJson.write.Goals as goal

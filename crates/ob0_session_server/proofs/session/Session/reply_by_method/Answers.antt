@@ -1,7 +1,7 @@
 use Rattle.std.proofs.lemmas.Result.{IfOk-weaker}
 use Rattle.serde_json.specs.View.{view}
 use Rattle.ob0_rpc.specs.Requesting.{request_by_method}
-use Rattle.ob0_rpc.specs.Seen.{id_data}
+use Rattle.ob0_rpc.specs.MessageViews.{id_data}
 use Rattle.ob0_session_server.proofs.Answering.{request_refused}
 use Rattle.ob0_session_server.proofs.session.Session.reply_by_method.Goals as goal
 

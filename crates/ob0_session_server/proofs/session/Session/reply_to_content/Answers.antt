@@ -1,6 +1,6 @@
 use Rattle.std.proofs.Common.{Some, None, refl}
 use Rattle.std.proofs.lemmas.Result.{IfOk-weaker}
-use Rattle.ob0_rpc.specs.Seen.{message_view}
+use Rattle.ob0_rpc.specs.MessageViews.{message_view}
 use Rattle.ob0_session_server.proofs.Answering.{answered, refused}
 use Rattle.ob0_session_server.proofs.session.Session.reply_to_content.Goals as goal
 

@@ -2,8 +2,8 @@ use Rattle.std.proofs.Common.{◌≡◌, ◌∙◌, ap, sym, subst}
 use Rattle.std.proofs.lemmas.Result.{IfOk-weaker}
 use Rattle.serde_json.specs.View.{view}
 use Rattle.ob0_session_server.specs.Answers.{ServerState, Reaction, react_to_request}
-use Rattle.ob0_rpc.specs.Seen.{id_data}
-use Rattle.ob0_session_server.specs.Seen.{Reacts}
+use Rattle.ob0_rpc.specs.MessageViews.{id_data}
+use Rattle.ob0_session_server.specs.ReplyViews.{Reacts}
 use Rattle.ob0_session_server.specs.declared.session.Phase.{Phase}
 use Rattle.ob0_session_server.specs.declared.session.Phase.TheVariants.{ShutDown}
 use Rattle.ob0_session_server.proofs.session.Session.reply_to_request.Goals as goal

@@ -6,5 +6,5 @@ use Rattle.ob0_text.proofs.line_store.LinesTextStore.from_str_in.Goals as goal
 pub invariant_of-result : goal.invariant_of-result
 invariant_of-result c = record {
   lines = subst (λ bs. HasLines bs c.in_ok-table.table) (sym c.in_ok-text.ensures.ok) c.in_ok-table.ensures;
-  counted = c.empty_counted_piece.ensures (width_of c.args.unit) (string_bytes c.in_ok-text.text);
+  piece = c.empty_counted_piece.ensures (width_of c.args.unit) (string_bytes c.in_ok-text.text);
 }

@@ -38,7 +38,7 @@ returns-clause-bytes c =
 pub invariant_of-self : goal.invariant_of-self
 invariant_of-self c = record {
   lines = c.replace.ensures.table;
-  counted = subst (λ bs. IsPieceOfLine (width_of c.self.inside.unit) bs c.self.inside.counted.start c.self.inside.counted.counted) (sym c.in_err-replace.ensures.err) c.self.invariant.counted;
+  piece = subst (λ bs. IsPieceOfLine (width_of c.self.inside.unit) bs c.self.inside.counted_piece.start c.self.inside.counted_piece.end_and_units) (sym c.in_err-replace.ensures.err) c.self.invariant.piece;
 }
 
 pub invariant_of-self-2 : goal.invariant_of-self-2
@@ -48,11 +48,11 @@ invariant_of-self-2 c =
     let kept = c.kept_if_before-self-inside.result in
     let border = from_border (width_of c.args.self.now.unit) c.args.self.now.text bytes (IsUtf8-string_bytes c.self.inside.text) (ap (λ (v : TextInUnit). v.text) c.self.view_is) c.args.range c.range_offsets-found.result.start c.range_offsets-found.result.end from c.max-to.result (c.range_offsets-found.ensures.start ∙ ap (λ bs. offset_of (width_of c.self.inside.unit) (chars bs) c.args.range.start) c.as_str.ensures.value ∙ ap (λ (v : TextInUnit). offset_of (width_of v.unit) v.text c.args.range.start) c.self.view_is) (c.range_offsets-found.ensures.end ∙ ap (λ bs. offset_of (width_of c.self.inside.unit) (chars bs) c.args.range.end) c.as_str.ensures.value ∙ ap (λ (v : TextInUnit). offset_of (width_of v.unit) v.text c.args.range.end) c.self.view_is) c.min-from.ensures c.max-to.ensures in
     let width = width_of c.self.inside.unit in
-    let found = c.range_offsets-found.result.counted in
-    let counted = subst (λ bs. IsPieceOfLine width bs found.start found.counted) c.as_str.ensures.value c.range_offsets-found.ensures.counted in
+    let found = c.range_offsets-found.result.counted_piece in
+    let counted = subst (λ bs. IsPieceOfLine width bs found.start found.end_and_units) c.as_str.ensures.value c.range_offsets-found.ensures.counted in
     let left : string_bytes c.replace.new.text ≡ take from bytes ++ (c.args.text.now ++ drop c.max-to.result bytes) = c.in_ok-replace.ensures.ok ∙ append_assoc (take from bytes) c.args.text.now (drop c.max-to.result bytes) in
     record {
       lines = c.replace.ensures.table;
-      counted = subst (λ bs. IsPieceOfLine (width_of c.self.inside.unit) bs kept.start kept.counted) (sym left)
+      piece = subst (λ bs. IsPieceOfLine (width_of c.self.inside.unit) bs kept.start kept.end_and_units) (sym left)
           (c.kept_if_before-self-inside.ensures width bytes (c.args.text.now ++ drop c.max-to.result bytes) counted border.0);
     }

@@ -3,7 +3,7 @@ use Rattle.std.proofs.lemmas.Result.{IfOk-weaker, on_ok_weaker}
 use Rattle.ob0_tree.proofs.Viewed.{made_record_type}
 use Rattle.ob0_tree.specs.View.{expression_of, fields_of, further_fields_of_group, items_of, names_of, type_of}
 use Rattle.ob0_types_check.specs.ExpressionFaults.{reported_expression}
-use Rattle.ob0_types_check.specs.Operations.{ReportsAfter, without_fault, ◌>>=◌}
+use Rattle.ob0_types_check.specs.Operations.{ReturnsAndReports, without_fault, ◌>>=◌}
 use Rattle.ob0_types_check.specs.KnownDeclarations.{TypeWithState, facts_at}
 use Rattle.ob0_types_check.specs.CheckerViews.{operand_of, declarations_in_state}
 use Rattle.ob0_types_check.specs.TypeFaults.{length_of, type_named_at}
@@ -28,7 +28,7 @@ check_nested_type-returns-in-Named t c =
 
 pub check_nested_type-returns-in-Record : goal.check_nested_type-returns-in-Record
 check_nested_type-returns-in-Record t c =
-    subst (λ z. IfOk c.check_record_type.result (λ of. ReportsAfter c.args.self.now.faults.items c.check_record_type.new.self.faults.items (record { of = of; following = declarations_in_state c.check_record_type.new.self.checker_state }) (reported_type c.args.around (declarations_in_state c.args.self.now.checker_state) z)))
+    subst (λ z. IfOk c.check_record_type.result (λ of. ReturnsAndReports c.args.self.now.faults.items c.check_record_type.new.self.faults.items (record { of = of; following = declarations_in_state c.check_record_type.new.self.checker_state }) (reported_type c.args.around (declarations_in_state c.args.self.now.checker_state) z)))
     (sym (made_record_type c.in-Record.r) ∙ sym (ap type_of c.in-Record.is)) c.check_record_type.ensures
 
 pub check_array_type-returns : goal.check_array_type-returns

@@ -2,7 +2,7 @@ use Rattle.std.proofs.Common.{◌++◌, false, refl, sym, ap, ◌∙◌}
 use Rattle.std.proofs.lemmas.Result.{on_ok_weaker}
 use Rattle.ob0_tree.specs.View.{body_of, sequence_of_list}
 use Rattle.ob0_types_check.specs.DeclarationFaults.{reported_body}
-use Rattle.ob0_types_check.specs.StatementFaults.{reported_sequence}
+use Rattle.ob0_types_check.specs.StatementFaults.{sequence_faults}
 use Rattle.ob0_types_check.specs.CheckerViews.{declarations_in_state}
 use Rattle.ob0_types_check.proofs.Chains.{reports_nothing, reports_same}
 use Rattle.ob0_types_check.proofs.SameFacts.{facts_same}
@@ -21,5 +21,5 @@ returns-in-Some c =
     let before = c.args.self.now.faults.items in
     let a = sequence_of_list c.in-Some.statements.items in
     on_ok_weaker c.report_sequence.result (λ h. reports_same
-    (record { known = refl; reported = h ∙ ap (λ facts. before ++ reported_sequence facts a) (facts_same s false) })
+    (record { known = refl; reported = h ∙ ap (λ facts. before ++ sequence_faults facts a) (facts_same s false) })
     (sym (ap (λ z. reported_body p (body_of z)) c.in-Some.is ∙ body_reported p a))) c.report_sequence.ensures

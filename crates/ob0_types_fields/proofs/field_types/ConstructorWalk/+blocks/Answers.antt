@@ -4,7 +4,7 @@ use Rattle.ob0_tree.specs.declared.tree.Block.{out-Block}
 use Rattle.ob0_tree.specs.declared.tree.Procedure.{out-Procedure, roll-out-Procedure}
 use Rattle.ob0_tree.specs.View.{block_of, formals_of, items_of, procedure_of, types_of, variables_of}
 use Rattle.ob0_types_fields.specs.FieldTypes.{constructed_types}
-use Rattle.ob0_types_fields.specs.Search.{after_constructors, constructor_walk_meanings, search_view_in_walk, shape_in_walk}
+use Rattle.ob0_types_fields.specs.Search.{state_after_constructors, constructor_walk_meanings, search_view_in_walk, shape_in_walk}
 use Rattle.ob0_types_fields.proofs.ConstructorWalks.{after_both, found_stays, items_end, items_go_on}
 use Rattle.ob0_types_fields.proofs.field_types.ConstructorWalk.+blocks.Goals as goal
 
@@ -21,26 +21,26 @@ search_block-returns t c =
     let vs = constructed_types m None (variables_of b.variables) in
     let ps = constructed_types m None (items_of procedure_of b.procedures.items) in
     items_end c.loop-p.invariant c.loop-p-test.false
-    ∙ (λ i. after_constructors (c.search_variable_section-search.ensures i) (constructed_types m None (items_of procedure_of (c.deref-p-items.ensures.value i))))
+    ∙ (λ i. state_after_constructors (c.search_variable_section-search.ensures i) (constructed_types m None (items_of procedure_of (c.deref-p-items.ensures.value i))))
     ∙ sym (after_both (search_view_in_walk c.args.self.now c.search_type_section-search.result) vs ps)
-    ∙ ap (λ s. after_constructors s (vs ++ ps)) c.search_type_section-search.ensures
+    ∙ ap (λ s. state_after_constructors s (vs ++ ps)) c.search_type_section-search.ensures
     ∙ sym (after_both start ts (vs ++ ps))
-    ∙ ap (λ z. after_constructors start (constructed_types m None z)) (sym (block_parts c.args.b.now))
+    ∙ ap (λ z. state_after_constructors start (constructed_types m None z)) (sym (block_parts c.args.b.now))
 
 pub search_procedure-returns-in-Found : goal.search_procedure-returns-in-Found
 search_procedure-returns-in-Found t c =
     let w = c.args.self.now in
     let ts = constructed_types (constructor_walk_meanings w) None (procedure_of c.args.p.now) in
-    sym (found_stays (shape_in_walk w c.in-Found.of) ts) ∙ ap (λ s. after_constructors (search_view_in_walk w s) ts) (sym c.in-Found.is)
+    sym (found_stays (shape_in_walk w c.in-Found.of) ts) ∙ ap (λ s. state_after_constructors (search_view_in_walk w s) ts) (sym c.in-Found.is)
 
-pub search_procedure-returns-in-Before : goal.search_procedure-returns-in-Before
-search_procedure-returns-in-Before t c =
+pub search_procedure-returns-in-Skipping : goal.search_procedure-returns-in-Skipping
+search_procedure-returns-in-Skipping t c =
     let p = out-Procedure c.args.p.now in
     let m = constructor_walk_meanings c.args.self.now in
     let start = search_view_in_walk c.args.self.now c.args.search in
     let fs = constructed_types m None (formals_of p.formals) in
     let b = constructed_types m None (block_of p.block) in
     c.search_block.ensures
-    ∙ ap (λ s. after_constructors s b) c.search_formals.ensures
+    ∙ ap (λ s. state_after_constructors s b) c.search_formals.ensures
     ∙ sym (after_both start fs b)
-    ∙ ap (λ z. after_constructors start (constructed_types m None z)) (sym (sym (ap procedure_of (roll-out-Procedure c.args.p.now)) ∙ procedure_made p))
+    ∙ ap (λ z. state_after_constructors start (constructed_types m None z)) (sym (sym (ap procedure_of (roll-out-Procedure c.args.p.now)) ∙ procedure_made p))

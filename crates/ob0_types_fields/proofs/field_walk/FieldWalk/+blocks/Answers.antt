@@ -19,14 +19,14 @@ add_block_fields-returns-clause-found t c =
     let b = out-Block c.args.b.now in
     let m = field_walk_meanings c.args.self.now in
     let start = c.args.found.now.items in
-    let k : ℕ = c.args.made.now in
+    let k : ℕ = c.args.word_count.now in
     let ts = section_types (types_of b.types) in
     let vs = section_variables (variables_of b.variables) in
     let ps = items_of procedure_of b.procedures.items in
     let jv : ℕ = k + types_constructor_count ts in
     let jp : ℕ = jv + variables_constructor_count vs in
-    let first : c.add_type_section_fields.new.made ≡ jv = c.in_ok-add_type_section_fields.ensures.made in
-    let second : c.add_variable_section_fields.new.made ≡ jp = c.in_ok-add_variable_section_fields.ensures.made ∙ ap (λ n. n + variables_constructor_count vs) first in
+    let first : c.add_type_section_fields.new.word_count ≡ jv = c.in_ok-add_type_section_fields.ensures.word_count in
+    let second : c.add_variable_section_fields.new.word_count ≡ jp = c.in_ok-add_variable_section_fields.ensures.word_count ∙ ap (λ n. n + variables_constructor_count vs) first in
     let e = c.in_ok-add_variable_section_fields.ensures.found ∙ ap (λ n. c.add_type_section_fields.new.found.items ++ fields_in_variables n vs) first in
     let ends = procedures_end c.loop-p.invariant c.loop-p-test.false in
     let f = ends.0 ∙ (λ i. c.add_variable_section_fields.new.found.items ++ fields_in_procedures m (second i) (items_of procedure_of (c.deref-p-items.ensures.value i))) in
@@ -34,12 +34,12 @@ add_block_fields-returns-clause-found t c =
     subst (λ z. IfOk c.add_body_fields.result (λ _. c.add_body_fields.new.found.items ≡ z))
     (joined start (fields_in_types k ts ++ (fields_in_variables jv vs ++ fields_in_procedures m jp ps)) (fields_in_tree m (body_of b.body)) all ∙ ap (λ t. start ++ fields_in_block m k t) (sym (block_parts c.args.b.now))) c.add_body_fields.ensures
 
-pub add_block_fields-returns-clause-made : goal.add_block_fields-returns-clause-made
-add_block_fields-returns-clause-made t c =
+pub add_block_fields-returns-clause-word_count : goal.add_block_fields-returns-clause-word_count
+add_block_fields-returns-clause-word_count t c =
     let b = out-Block c.args.b.now in
     let ts = section_types (types_of b.types) in
     let vs = section_variables (variables_of b.variables) in
     let ends = procedures_end c.loop-p.invariant c.loop-p-test.false in
     let listed = ap (λ xs. procedures_constructor_count (items_of procedure_of xs)) c.deref-p-items.ensures.value in
     let whole : block_constructor_count (block_of c.args.b.now) ≡ types_constructor_count ts + (variables_constructor_count vs + procedures_constructor_count (items_of procedure_of b.procedures.items)) = ap block_constructor_count (block_parts c.args.b.now) in
-    always c.add_body_fields.result (omega (arith, ends.1, listed, whole, c.in_ok-add_type_section_fields.ensures.made, c.in_ok-add_variable_section_fields.ensures.made))
+    always c.add_body_fields.result (omega (arith, ends.1, listed, whole, c.in_ok-add_type_section_fields.ensures.word_count, c.in_ok-add_variable_section_fields.ensures.word_count))

@@ -9,7 +9,7 @@ use Rattle.ob0_types_fields.proofs.field_walk.FieldWalk.+expressions.Given as go
 
 abbrev pub invariant-add_designator_fields-loop-s : goal.invariant-add_designator_fields-loop-s
 invariant-add_designator_fields-loop-s l =
-    OnPath (field_walk_meanings l.self) l.initial.found.items (option_map (type_shape (shapes_of l.self.known.now)) l.initial.at) l.s-items l.s-index l.found.items (option_map (type_shape (shapes_of l.self.known.now)) l.at)
+    OnPath (field_walk_meanings l.self) l.initial.found.items (option_map (type_shape (shapes_of l.self.table.now)) l.initial.at) l.s-items l.s-index l.found.items (option_map (type_shape (shapes_of l.self.table.now)) l.at)
 
 abbrev pub invariant-add_simple_expression_fields-loop-addend : goal.invariant-add_simple_expression_fields-loop-addend
 invariant-add_simple_expression_fields-loop-addend l = Walking addend_of (field_walk_meanings l.self) l.initial.found.items l.addend-items l.addend-index l.found.items

@@ -11,7 +11,7 @@ use Rattle.ob0_types_fields.proofs.field_walk.FieldWalk.add_selected_field.Goals
 pub returns-in-Record-clause-found : goal.returns-in-Record-clause-found
 returns-in-Record-clause-found c =
     let w = c.args.self.now in
-    let shapes = shapes_of w.known.now in
+    let shapes = shapes_of w.table.now in
     let base : Some (record_shape_in w c.in-Record.shape.now) ≡ option_map (type_shape shapes) c.args.base =
     ap Some (ap (parts_shape shapes) (sym c.in-Record.is) ∙ c.parts.ensures.shape) ∙ ap (option_map (type_shape shapes)) (sym c.in-Some.is) in
     subst (λ (s : Option Shape). IfOk c.add_record_selection.result (λ _. c.add_record_selection.new.found.items ≡ c.args.found.now.items ++ field_if_owned c.args.name (owner s ((field_walk_meanings w).written c.args.name)))) base c.add_record_selection.ensures.found
@@ -19,7 +19,7 @@ returns-in-Record-clause-found c =
 pub returns-in-Record-clause-following : goal.returns-in-Record-clause-following
 returns-in-Record-clause-following c =
     let w = c.args.self.now in
-    let shapes = shapes_of w.known.now in
+    let shapes = shapes_of w.table.now in
     let x = (field_walk_meanings w).written c.args.name in
     let base : Some (record_shape_in w c.in-Record.shape.now) ≡ option_map (type_shape shapes) c.args.base =
     ap Some (ap (parts_shape shapes) (sym c.in-Record.is) ∙ c.parts.ensures.shape) ∙ ap (option_map (type_shape shapes)) (sym c.in-Some.is) in

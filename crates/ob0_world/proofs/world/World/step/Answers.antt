@@ -9,7 +9,7 @@ pub perform_event-requires : goal.perform_event-requires
 perform_event-requires g c = few c.self.inside.steps c.self.inside.connection.model.editor (c.self.invariant c.if-self.false).0 (subst (λ (w : World). w.steps < 2 ^ 63 - 1) (sym c.self.view_is) c.requires.few)
 
 pub invariant_of-self : goal.invariant_of-self
-invariant_of-self g c = λ goes_on. (
+invariant_of-self g c = λ has_not_ended. (
   within_step c.self.inside.steps c.self.inside.connection.model (c.self.invariant c.if-self.false).0 (event_of c.args.event.now) c.perform_event.new.self.model c.in-Ok.ensures.ok.0,
   reached_more c.self.inside.connection.model (event_of c.args.event.now) c.perform_event.new.self.model (c.self.invariant c.if-self.false).1 c.in-Ok.ensures.ok.0,
 )

@@ -2,7 +2,7 @@ use Rattle.std.proofs.Common.{refl, sym, subst}
 use Rattle.std.specs.Prelude.{is_some}
 use Rattle.ob0_world_editor.specs.declared.applied.ApplyOutcome as applying
 use Rattle.ob0_world_rules.specs.EditorActs.{apply, act_result, edits_of_answer}
-use Rattle.ob0_world_editor.specs.Moves.{AreFew, IsApplyOutcome}
+use Rattle.ob0_world_editor.specs.Moves.{CountsCanGrow, IsApplyOutcome}
 use Rattle.ob0_world_editor.proofs.Moving.{comes_not_held, few_without}
 use Rattle.ob0_world_editor.proofs.editor.Editor.apply.Goals as goal
 
@@ -12,4 +12,4 @@ returns-in_default-clause-ok c =
     (comes_not_held c.args.self.now c.args.k _ c.in_default.ensures.edits refl)
 
 pub rewrite-rewritten-requires : goal.rewrite-rewritten-requires
-rewrite-rewritten-requires c = subst AreFew (sym c.in-Some.ensures.after) (few_without c.args.self.now c.args.k c.requires)
+rewrite-rewritten-requires c = subst CountsCanGrow (sym c.in-Some.ensures.after) (few_without c.args.self.now c.args.k c.requires)

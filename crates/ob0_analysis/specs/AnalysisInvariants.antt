@@ -1,0 +1,60 @@
+-- Defines the invariants of the analysis of a text.
+-- Rule: none; for private contracts: the results that an analysis keeps.
+use Rattle.std.specs.Prelude.{ℕ, IfSome, List, string_bytes}
+use Rattle.ob0_scan.specs.Refused.{AreFaults}
+use Rattle.ob0_scan.specs.TextWithTokens.{TextWithTokens, IsScannable}
+use Rattle.ob0_parse.specs.KeptTokens.{AreInPlace}
+use Rattle.ob0_parse.specs.IsRightParseRefusal.{IsRightParseRefusal}
+use Rattle.ob0_parse_descent.specs.declared.refusal.ParseRefusal.{ParseRefusal}
+use Rattle.ob0_parse_descent.specs.declared.refusal.ParseRefusal.TheVariants.{Syntax, TooDeep, Memory}
+use Rattle.ob0_analysis.specs.LastModule.{IsLastModuleOf}
+use Rattle.ob0_analysis.specs.declared.analysis.AnalysisResult.{AnalysisResult}
+use Rattle.ob0_analysis.specs.declared.analysis.AnalysisResult.TheVariants.{NoLexemes, Read}
+use Rattle.ob0_analysis.specs.declared.scanned_text.ReanalysisFailure.{ReanalysisFailure}
+use Rattle.ob0_analysis.specs.declared.scanned_text.ReanalysisFailure.TheVariants as not_read
+use Rattle.ob0_analysis.specs.declared.scanned_text.ParseOutcome.{ParseOutcome}
+use Rattle.ob0_analysis.specs.declared.scanned_text.ParseOutcome.TheVariants.{NoTree, Module}
+
+-- states that the refusal isn't lack of memory
+abbrev pub IsNotLackOfMemory : ParseRefusal → Type 0
+IsNotLackOfMemory (Syntax token expected) = Unit {0}
+IsNotLackOfMemory (TooDeep token) = Unit {0}
+IsNotLackOfMemory Memory = ⊥
+
+-- states that the parser refuses these tokens with this refusal, and that this isn't lack of memory
+abbrev pub IsRefusedByParser : TextWithTokens → ParseRefusal → Type 0
+IsRefusedByParser tokens refusal = IsRightParseRefusal tokens refusal × IsNotLackOfMemory refusal
+
+-- returns the text that was parsed
+abbrev pub text_of_outcome : ParseOutcome → List ℕ
+text_of_outcome (NoTree ill) = ill.tokens.text
+text_of_outcome (Module m) = m.module_read.source.text
+
+-- States that the outcome of parsing a text is right. If the text is a module, this always holds.
+-- If the text has no tree, the parser refuses its tokens with this refusal, and the kept trees
+-- belong to its tokens. Also, `last` is None or has the names and types of the last module before
+-- this text.
+abbrev pub IsValidOutcome : ParseOutcome → Type 0
+IsValidOutcome (NoTree ill) =
+    IsRefusedByParser ill.tokens ill.refusal
+    × AreInPlace ill.tokens.tokens ill.kept
+    × IfSome ill.last (IsLastModuleOf ill.tokens)
+IsValidOutcome (Module m) = Unit {0}
+
+-- States that the failure to analyse the changed text is right. If the reason is lexical faults,
+-- the text can't be scanned and has exactly these faults. Always holds for lack of memory.
+abbrev pub IsReanalysisFailure : List ℕ → ReanalysisFailure → Type 0
+IsReanalysisFailure text (not_read.Faults faults last) = (IsScannable text → ⊥) × AreFaults text faults.items
+IsReanalysisFailure text not_read.Memory = Unit {0}
+
+-- returns the text that was analysed
+abbrev pub text_of : AnalysisResult → List ℕ
+text_of (NoLexemes ill) = string_bytes ill.text
+text_of (Read read) = read
+
+-- States that the result of analysing a text is right. If the result is lexical faults, the text
+-- can't be scanned and has exactly these faults. Always holds if the text has lexemes.
+abbrev pub IsValidAnalysisResult : AnalysisResult → Type 0
+IsValidAnalysisResult (NoLexemes ill) =
+    (IsScannable (string_bytes ill.text) → ⊥) × AreFaults (string_bytes ill.text) ill.faults.items
+IsValidAnalysisResult (Read read) = Unit {0}

@@ -1,0 +1,106 @@
+-- Modules that declare no name twice in a block or record, and in which each closing name equals
+-- the name of its module or procedure.
+-- Rule: docs/LANGUAGE.md, Scopes 5 to 7.
+use Rattle.std.specs.Prelude.{Bool, true, false, not, ◌&&◌, ◌||◌, List, [], ◌∷◌, ◌++◌}
+use Rattle.ob0_tree.specs.Tree.{Tree, array_type, block, declares, declares_procedure, declares_type, declares_variable, end, fields, further_fields, further_section, forms_block, is_module, item, items, module_text, more, named_type, no_fields, procedure, record_type, some_fields, then_fields, then_section, type_definition, variable, written_type}
+use Rattle.ob0_language_names.specs.Names.{Name, same_name}
+use Rattle.ob0_language_names.specs.Parts.{block_constants, block_procedures, block_types, block_variables, constant_names, formal_names, formal_sections, declared_type_names, names_in_list, procedure_name, section_type, section_types, section_variables, variable_names}
+
+-- returns whether a name is in a list
+abbrev pub is_among : Name → List Name → Bool
+is_among x [] = false
+is_among x (y ∷ ys) = same_name x y || is_among x ys
+
+-- returns whether a list has no name twice
+abbrev pub are_distinct : List Name → Bool
+are_distinct [] = true
+are_distinct (x ∷ xs) = not (is_among x xs) && are_distinct xs
+
+-- returns the names of the fields in a group, such as `x` and `y` in `x, y: T`
+abbrev pub group_field_names : {N : Type 0} → Tree N fields → List N
+group_field_names no_fields = []
+group_field_names (some_fields ns t) = names_in_list ns
+
+-- returns the names of the fields in the groups of a record after its first group
+abbrev pub further_field_names : {N : Type 0} → Tree N (items further_fields) → List N
+further_field_names end = []
+further_field_names (more (then_fields g) rest) = group_field_names g ++ further_field_names rest
+
+-- Returns whether no record in a written type declares a field twice.
+abbrev mutual
+  -- returns whether no record in a written type declares a field twice; records that a type's name
+  -- denotes aren't checked here
+  pub has_distinct_fields : Tree Name written_type → Bool
+  has_distinct_fields (named_type x) = true
+  has_distinct_fields (array_type e t) = has_distinct_fields t
+  has_distinct_fields (record_type g rest) =
+      are_distinct (group_field_names g ++ further_field_names rest) && (group_has_distinct_fields g && groups_have_distinct_fields rest)
+
+  -- returns whether no record in the type of a group of fields declares a field twice
+  pub group_has_distinct_fields : Tree Name fields → Bool
+  group_has_distinct_fields no_fields = true
+  group_has_distinct_fields (some_fields ns t) = has_distinct_fields t
+
+  -- returns whether no record in the types of the groups after the first group declares a field
+  -- twice
+  pub groups_have_distinct_fields : Tree Name (items further_fields) → Bool
+  groups_have_distinct_fields end = true
+  groups_have_distinct_fields (more (then_fields g) rest) = group_has_distinct_fields g && groups_have_distinct_fields rest
+
+-- returns the names of a block's procedures
+abbrev pub procedure_names : {N : Type 0} → Tree N (items procedure) → List N
+procedure_names end = []
+procedure_names (more p rest) = procedure_name p ∷ procedure_names rest
+
+-- returns the names that a block declares: its constants, types, variables and procedures
+abbrev pub block_names : {N : Type 0} → Tree N block → List N
+block_names b =
+    constant_names (block_constants b)
+    ++ (declared_type_names (block_types b)
+    ++ (variable_names (block_variables b) ++ procedure_names (block_procedures b)))
+
+-- returns whether no record in the types of a TYPE section declares a field twice
+abbrev pub types_have_distinct_fields : Tree Name (items type_definition) → Bool
+types_have_distinct_fields end = true
+types_have_distinct_fields (more (declares_type x t) ds) = has_distinct_fields t && types_have_distinct_fields ds
+
+-- returns whether no record in the types of variables declares a field twice
+abbrev pub variables_have_distinct_fields : Tree Name (items variable) → Bool
+variables_have_distinct_fields end = true
+variables_have_distinct_fields (more (declares_variable ns t) gs) = has_distinct_fields t && variables_have_distinct_fields gs
+
+-- returns whether no record in the types of parameters declares a field twice
+abbrev pub formals_have_distinct_fields : Tree Name (items further_section) → Bool
+formals_have_distinct_fields end = true
+formals_have_distinct_fields (more (then_section s) fs) = has_distinct_fields (section_type s) && formals_have_distinct_fields fs
+
+-- Returns whether no block declares a name twice, no record declares a field twice, and each
+-- procedure's closing name equals the procedure's name. A procedure's parameters and locals count
+-- as one block.
+abbrev mutual
+  -- Returns whether a block and the blocks and records inside it declare no name twice. The
+  -- procedures inside it must also have the right closing names. `own` has the names of the
+  -- parameters if this is a procedure's block. These names count as the block's names.
+  pub block_has_consistent_names : List Name → Tree Name block → Bool
+  block_has_consistent_names own (forms_block (declares cs ts vs ps) statements) =
+      are_distinct (own ++ block_names (forms_block (declares cs ts vs ps) statements))
+      && (types_have_distinct_fields (section_types ts)
+      && (variables_have_distinct_fields (section_variables vs) && procedures_have_consistent_names ps))
+
+  -- returns whether each procedure has the right closing name and declares no name twice in a block
+  -- or record
+  pub procedures_have_consistent_names : Tree Name (items procedure) → Bool
+  procedures_have_consistent_names end = true
+  procedures_have_consistent_names (more p rest) = procedure_has_consistent_names p && procedures_have_consistent_names rest
+
+  -- returns whether a procedure has the right closing name and declares no name twice in a block or
+  -- record
+  pub procedure_has_consistent_names : Tree Name (item procedure) → Bool
+  procedure_has_consistent_names (declares_procedure x fs b closing) =
+      same_name x closing
+      && (formals_have_distinct_fields (formal_sections fs) && block_has_consistent_names (formal_names (formal_sections fs)) b)
+
+-- returns whether a module declares no name twice in a block or record, and each closing name
+-- equals the name of its module or procedure
+abbrev pub has_consistent_names : Tree Name module_text → Bool
+has_consistent_names (is_module x b closing) = same_name x closing && block_has_consistent_names [] b

@@ -1,0 +1,136 @@
+-- States which values, places and meanings of names in a run agree with the types that the checker gives them.
+-- Rule: docs/LANGUAGE.md, Runs 11.
+use Rattle.std.specs.Prelude.{◌≡◌, true, List, [], ◌∷◌, map, if◌then◌else◌, nat_lt, slice_get, Some, None, Option, option_and_then}
+use Rattle.ob0_language_names.specs.Names.{Naming}
+use Rattle.ob0_language_names.specs.Parts.{procedure_formals}
+use Rattle.ob0_language_types.specs.Expressions.{Meanings, Object, a_constant, a_procedure, a_standard, a_type, a_variable}
+use Rattle.ob0_language_types.specs.Typing.{shape_of_field}
+use Rattle.ob0_language_types.specs.WellTyped.{Mode, Signature, TypeEnvironment, TypeMeanings, TypedParameter, bind_typed_parameters, by_place, by_value, bind_procedure, procedure_is_well_typed, typed_parameters}
+use Rattle.ob0_language_values.specs.Values.{FieldShapes, Members, Place, Shape, Step, Store, Value, Values, array_shape, at_field, at_index, boolean_shape, count_values, elements, integer_shape, members, next_field_shape, next_member, next_value, no_field_shape, no_member, no_value, number, record_shape, truth}
+use Rattle.ob0_language_runs.specs.Runs.{Activation, Argument, ProcedureText, statement_object, place_argument, value_argument}
+
+-- States that a value has a type, including the types of the value's parts.
+abbrev mutual
+  -- States that a value has this type. The value of an array has the type's length. The value of a record has the same
+  -- ordinal `k` as the type: the number of words ARRAY and RECORD before the RECORD that constructs the type. The parts
+  -- of the value have the types of the type's parts.
+  pub HasShape : Value → Shape → Type 0
+  HasShape (number n) integer_shape = Unit {0}
+  HasShape (truth b) boolean_shape = Unit {0}
+  HasShape (elements vs) (array_shape k n s) = (count_values vs ≡ n) × EachHasShape vs s
+  HasShape (members j ms) (record_shape k fs) = (j ≡ k) × HaveShapes ms fs
+  HasShape _ _ = ⊥
+
+  -- states that all elements of an array have this type
+  pub EachHasShape : Values → Shape → Type 0
+  EachHasShape no_value s = Unit {0}
+  EachHasShape (next_value v rest) s = HasShape v s × EachHasShape rest s
+
+  -- states that the members of a record have the names and types of the fields, in the same order
+  pub HaveShapes : Members → FieldShapes → Type 0
+  HaveShapes no_member no_field_shape = Unit {0}
+  HaveShapes (next_member x v rest) (next_field_shape y s others) =
+      (x ≡ y) × HasShape v s × HaveShapes rest others
+  HaveShapes _ _ = ⊥
+
+-- returns the type of the element or field that one step selects from the type; None if there is no such element or
+-- field, for example because an index isn't below the array's length
+abbrev pub part_shape : Shape → Step → Option Shape
+part_shape (array_shape k n s) (at_index i) = if nat_lt i n then Some s else None
+part_shape (record_shape k fs) (at_field x) = shape_of_field fs x
+part_shape _ _ = None
+
+-- returns the type of the part that a path selects from the type; None if there is no such part
+abbrev pub shape_at_path : List Step → Shape → Option Shape
+shape_at_path [] s = Some s
+shape_at_path (step ∷ path) s = option_and_then (shape_at_path path) (part_shape s step)
+
+-- the types of a store's variables, in the order of the store; the proofs extend this list when a run adds variables
+abbrev pub StoreTyping : Type 0
+StoreTyping = List Shape
+
+-- states that the store has as many values as the list has types, and each value has the type at the same index
+abbrev pub StoreHasTypes : StoreTyping → Store → Type 0
+StoreHasTypes [] [] = Unit {0}
+StoreHasTypes (s ∷ ss) (v ∷ vs) = HasShape v s × StoreHasTypes ss vs
+StoreHasTypes _ _ = ⊥
+
+-- states that the part of a variable that a place denotes has this type, given the types of the store's variables
+abbrev pub PlaceHasType : StoreTyping → Place → Shape → Type 0
+PlaceHasType typing p s = option_and_then (shape_at_path p.path) (slice_get typing p.variable) ≡ Some s
+
+-- returns the modes of a procedure's parameters, given its signature
+abbrev pub signature_modes : Signature → List Mode
+signature_modes = map (λ f. f.mode)
+
+-- States that a name's object in a run agrees with the name's object in the checked module. The name may also have no
+-- object in either. Types, constants and standard procedures must be equal. The place of a variable must have the
+-- variable's type. The modes of a procedure's parameters must be the modes in its signature.
+abbrev pub RunObjectAgrees : StoreTyping
+    → Option (Object Shape Signature)
+    → Option (Object Place (List Mode))
+    → Type 0
+RunObjectAgrees typing None None = Unit {0}
+RunObjectAgrees typing (Some (a_type s)) (Some (a_type t)) = s ≡ t
+RunObjectAgrees typing (Some (a_constant v)) (Some (a_constant w)) = v ≡ w
+RunObjectAgrees typing (Some (a_variable s)) (Some (a_variable p)) = PlaceHasType typing p s
+RunObjectAgrees typing (Some (a_procedure signature)) (Some (a_procedure modes)) =
+    modes ≡ signature_modes signature
+RunObjectAgrees typing (Some (a_standard p)) (Some (a_standard q)) = p ≡ q
+RunObjectAgrees typing _ _ = ⊥
+
+-- States that each name's object in a run agrees with the name's object in the checked module. Also states that each
+-- name has the same spelling in both.
+abbrev pub RunMeaningsAgree : {N : Type 0}
+    → StoreTyping
+    → TypeMeanings N
+    → Meanings N Place (List Mode)
+    → Type 0
+RunMeaningsAgree {N} typing checked active =
+    ((x : N) → RunObjectAgrees typing (checked.object_for x) (active.object_for x))
+    × ((x : N) → checked.written x ≡ active.written x)
+
+-- states that there are as many arguments as parameters of the called procedure, and each argument has the mode and
+-- type of its parameter
+abbrev pub ArgumentsMatchSignature : StoreTyping → Signature → List Argument → Type 0
+ArgumentsMatchSignature typing [] [] = Unit {0}
+ArgumentsMatchSignature typing (f ∷ fs) (place_argument p ∷ args) =
+    (f.mode ≡ by_place) × PlaceHasType typing p f.shape × ArgumentsMatchSignature typing fs args
+ArgumentsMatchSignature typing (f ∷ fs) (value_argument v ∷ args) =
+    (f.mode ≡ by_value) × HasShape v f.shape × ArgumentsMatchSignature typing fs args
+ArgumentsMatchSignature typing _ _ = ⊥
+
+-- States that the object of the name `x` in an activation agrees with the object of `x` in the checked environment.
+-- `checked` has the bindings of that environment that are older than the binding of `x`. A procedure must also be
+-- well-typed, given these older bindings.
+abbrev pub RunBindingAgrees : {N : Type 0}
+    → Naming N
+    → StoreTyping
+    → TypeEnvironment N
+    → N
+    → Object Shape Signature
+    → Object Place (ProcedureText N)
+    → Type 0
+RunBindingAgrees {N} naming typing checked x (a_procedure signature) (a_procedure code) =
+    (ps : List (TypedParameter N))
+    × (typed_parameters naming checked code.first_constructor (procedure_formals code.text)
+    ≡ Some ps)
+    × (signature ≡ map (λ p. p.formal) ps)
+    × (procedure_is_well_typed naming (bind_typed_parameters ps (bind_procedure x ps checked)) code.first_constructor code.text
+    ≡ true)
+RunBindingAgrees naming typing checked x o r = RunObjectAgrees typing (Some o) (statement_object (Some r))
+
+-- states that the environment of a run agrees with the checked environment: both bind the same names in the same order,
+-- to objects that agree
+abbrev pub RunEnvironmentAgrees : {N : Type 0}
+    → Naming N
+    → StoreTyping
+    → TypeEnvironment N
+    → Activation N
+    → Type 0
+RunEnvironmentAgrees naming typing [] [] = Unit {0}
+RunEnvironmentAgrees naming typing (b ∷ checked) (d ∷ active) =
+    (b.0 ≡ d.0)
+    × RunBindingAgrees naming typing checked b.0 b.1 d.1
+    × RunEnvironmentAgrees naming typing checked active
+RunEnvironmentAgrees naming typing _ _ = ⊥

@@ -1,0 +1,46 @@
+-- Counts how deep conjunctions, and how deep disjunctions, are nested in the left operands of a
+-- truth.
+-- Rule: none; for contracts of lowering.
+use Rattle.std.specs.Prelude.{◌≤◌, ℕ, suc, max}
+use Rattle.ob0_run_machine.specs.declared.code.Truth as truth
+use Rattle.ob0_run_machine.specs.declared.code.Truth.{Truth}
+use Rattle.ob0_run_lowering.specs.declared.lowered.LoweredExpression.{LoweredExpression}
+use Rattle.ob0_run_lowering.specs.declared.lowered.LoweredExpression.TheVariants as code
+
+-- Returns the number of conjunctions that are nested on the left: a truth, its first operand, the
+-- first operand of this operand, and so on. Returns 0 if the truth isn't a conjunction.
+abbrev pub and_depth : Truth → ℕ
+and_depth (truth.Both' pointer left right) = suc (and_depth left)
+and_depth (truth.All' pointer first shape row) = suc (and_depth first)
+and_depth _ = 0
+
+-- Returns the number of disjunctions that are nested on the left: a truth, its first operand, the
+-- first operand of this operand, and so on. Returns 0 if the truth isn't a disjunction.
+abbrev pub or_depth : Truth → ℕ
+or_depth (truth.Either' pointer left right) = suc (or_depth left)
+or_depth (truth.Any' pointer first shape row) = suc (or_depth first)
+or_depth _ = 0
+
+-- returns the number of nested conjunctions (`and_depth`) of an expression's code, or 0 if the code
+-- isn't a truth
+abbrev pub and_depth_of : LoweredExpression → ℕ
+and_depth_of (code.Truth t) = and_depth t
+and_depth_of _ = 0
+
+-- returns the number of nested disjunctions (`or_depth`) of an expression's code, or 0 if the code
+-- isn't a truth
+abbrev pub or_depth_of : LoweredExpression → ℕ
+or_depth_of (code.Truth t) = or_depth t
+or_depth_of _ = 0
+
+-- states that the first operand of a conjunction isn't a conjunction, and the first operand of a
+-- disjunction isn't a disjunction
+pub record IsFlat (l : LoweredExpression) : Type 0 where
+  pub bounds_and_depth : and_depth_of l ≤ 1
+  pub bounds_or_depth : or_depth_of l ≤ 1
+
+-- States that the code `whole`, which has one more operand than `left`, is nested at most as deep
+-- as `left`. If `left` isn't nested, `whole` may be nested once.
+pub record IsNoDeeper (left whole : LoweredExpression) : Type 0 where
+  pub bounds_and_depth : and_depth_of whole ≤ max 1 (and_depth_of left)
+  pub bounds_or_depth : or_depth_of whole ≤ max 1 (or_depth_of left)

@@ -1,0 +1,51 @@
+-- States which messages and outcomes of the code are the replies and reactions of `Answers`.
+-- Rule: none; for contracts: what values of the code mean.
+use Rattle.std.specs.Prelude.{◌≡◌, ℕ, ℤ, List, Option, Some, None, Vec, option_map, codes}
+use Rattle.std.specs.Option.{option_to_list}
+use Rattle.std.specs.declared.alloc.Global.{Global}
+use Rattle.serde_json.specs.Data.{Data}
+use Rattle.ob0_text.specs.declared.position_types.Unit.{Unit}
+use Rattle.ob0_session_documents.specs.DocumentRequests.{IsOutcomeOfRequest}
+use Rattle.ob0_session_documents.specs.declared.document_requests.RequestOutcome.{RequestOutcome}
+use Rattle.ob0_session_documents.specs.declared.document_requests.RequestOutcome.TheVariants.{Answered, OutOfStep, Unopened}
+use Rattle.ob0_session_json.specs.Shapes.{edit_refusal}
+use Rattle.ob0_session_server.specs.Answers.{ServerState, Reaction, Reply, AreContentsOfReply, says}
+
+-- States that the code's message is exactly this reply. For None, states that the reply is no
+-- message.
+abbrev pub SendsReply : Reply → Option (Vec ℕ Global) → Type 0
+SendsReply reply sent = AreContentsOfReply reply (option_to_list (option_map (λ v. v.items) sent))
+
+-- States that the code's message is the reply of the reaction, and that `new` is the session's
+-- state after the reaction. None means no message.
+abbrev pub Reacts : Reaction → Option (Vec ℕ Global) → ServerState → Type 0
+Reacts r sent new = (new ≡ r.after) × SendsReply r.reply sent
+
+-- States that the message is the reply to a request about a document, if the request has this
+-- outcome. The reply is the outcome's message, or a refusal if the document is out of step or isn't
+-- open.
+abbrev pub RepliesForOutcome : Data → RequestOutcome → Option (Vec ℕ Global) → Type 0
+RepliesForOutcome id (Answered message) sent = sent ≡ Some message
+RepliesForOutcome id OutOfStep sent = SendsReply (says (edit_refusal id (codes "out of step"))) sent
+RepliesForOutcome id Unopened sent = SendsReply (says (edit_refusal id (codes "unopened"))) sent
+
+-- Returns the message of an outcome. Returns None if the document is out of step or isn't open.
+abbrev pub message_of : RequestOutcome → Option (Vec ℕ Global)
+message_of (Answered message) = Some message
+message_of OutOfStep = None
+message_of Unopened = None
+
+-- States that this message answers or refuses the request about the document with this uri, and
+-- that the state is unchanged.
+abbrev pub RepliesAboutDocument : (ℤ → Unit → List ℕ → List ℕ → Type 0)
+    → ServerState
+    → Data
+    → List ℕ
+    → Option (Vec ℕ Global)
+    → ServerState
+    → Type 0
+RepliesAboutDocument answers s id uri sent new =
+    (new ≡ s)
+    × ((outcome : RequestOutcome)
+    × IsOutcomeOfRequest answers s.held uri outcome
+    × RepliesForOutcome id outcome sent)
