@@ -159,12 +159,12 @@ fn word_of_message(message: &Incoming) -> &'static str {
 }
 
 /// Returns a client's capabilities, in words.
-fn client_in_words(client: Client) -> &'static str {
-    let Client {
-        counts_utf8: utf8,
+fn client_in_words(client: ClientFeatures) -> &'static str {
+    let ClientFeatures {
+        offers_utf8: utf8,
         prepares_renames: renames,
-        takes_literal_actions: actions,
-        takes_document_changes: changes,
+        accepts_literal_actions: actions,
+        accepts_document_changes: changes,
     } = client;
     match (utf8, renames, actions, changes) {
         (false, false, false, false) => "of a client that can nothing",

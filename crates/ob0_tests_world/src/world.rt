@@ -58,12 +58,12 @@ fn are_first_publications(found: &[Made], wanted: &[(i64, &str, bool)]) -> bool 
 
 /// Returns the outcome of a story's first events if their edits and publications are the first of
 /// the expected ones. Otherwise returns `UNEXPECTED_OUTCOME`.
-fn outcome_of(story: &Story, result: StepsResult, steps: u64, played: &Played) -> Outcome {
+fn outcome_of(story: &Story, steps_result: StepsResult, steps: u64, played: &Played) -> Outcome {
     let are_edits = are_first_edits(played.applied.as_slice(), story.applied);
     if !are_edits || !are_first_publications(played.made.as_slice(), story.made) {
         return UNEXPECTED_OUTCOME;
     }
-    Outcome(result, steps, played.applied.len(), played.made.len())
+    Outcome(steps_result, steps, played.applied.len(), played.made.len())
 }
 
 /// Returns a world in which nothing has happened and positions are counted in this unit.
