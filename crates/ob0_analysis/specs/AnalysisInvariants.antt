@@ -21,7 +21,8 @@ IsNotLackOfMemory (Syntax token expected) = Unit {0}
 IsNotLackOfMemory (TooDeep token) = Unit {0}
 IsNotLackOfMemory Memory = ⊥
 
--- states that the parser refuses these tokens with this refusal, and that this isn't lack of memory
+-- states that the parser refuses these tokens with this refusal, and that the refusal isn't lack of
+-- memory
 abbrev pub IsRefusedByParser : TextWithTokens → ParseRefusal → Type 0
 IsRefusedByParser tokens refusal = IsRightParseRefusal tokens refusal × IsNotLackOfMemory refusal
 
@@ -30,10 +31,10 @@ abbrev pub text_of_outcome : ParseOutcome → List ℕ
 text_of_outcome (NoTree ill) = ill.tokens.text
 text_of_outcome (Module m) = m.module_read.source.text
 
--- States that the outcome of parsing a text is right. If the text is a module, this always holds.
--- If the text has no tree, the parser refuses its tokens with this refusal, and the kept trees
--- belong to its tokens. Also, `last` is None or has the names and types of the last module before
--- this text.
+-- States that the outcome of parsing a text is right. If the text has no tree, the parser refuses
+-- its tokens with this refusal, and the kept trees belong to its tokens. Also, `last` is None or has
+-- the names and types of the last module before this text. If the text is a module, this always
+-- holds, because a `ModuleParts` has its own invariant.
 abbrev pub IsValidOutcome : ParseOutcome → Type 0
 IsValidOutcome (NoTree ill) =
     IsRefusedByParser ill.tokens ill.refusal
@@ -42,7 +43,8 @@ IsValidOutcome (NoTree ill) =
 IsValidOutcome (Module m) = Unit {0}
 
 -- States that the failure to analyse the changed text is right. If the reason is lexical faults,
--- the text can't be scanned and has exactly these faults. Always holds for lack of memory.
+-- the text can't be scanned, and these are the lexical faults to report for it (`AreFaults`).
+-- Always holds for lack of memory.
 abbrev pub IsReanalysisFailure : List ℕ → ReanalysisFailure → Type 0
 IsReanalysisFailure text (not_read.Faults faults last) = (IsScannable text → ⊥) × AreFaults text faults.items
 IsReanalysisFailure text not_read.Memory = Unit {0}
@@ -53,7 +55,8 @@ text_of (NoLexemes ill) = string_bytes ill.text
 text_of (Read read) = read
 
 -- States that the result of analysing a text is right. If the result is lexical faults, the text
--- can't be scanned and has exactly these faults. Always holds if the text has lexemes.
+-- can't be scanned, and these are the lexical faults to report for it (`AreFaults`). For any other
+-- result this always holds, because a `ScannedText` has its own invariant.
 abbrev pub IsValidAnalysisResult : AnalysisResult → Type 0
 IsValidAnalysisResult (NoLexemes ill) =
     (IsScannable (string_bytes ill.text) → ⊥) × AreFaults (string_bytes ill.text) ill.faults.items

@@ -48,7 +48,7 @@ pub record IsWellTypedModule (text : List ℕ) : Type 0 where
 
 -- ---- the errors of a text with lexical faults
 
--- returns the complaint about one fault of lexemes, names or types
+-- returns the reported error for one fault of lexemes, names or types
 abbrev pub reported_diagnosis_of_fault : Fault → ReportedDiagnosis
 reported_diagnosis_of_fault fault =
     record { code = code_name fault.code; message = code_message fault.code; span = fault.span }
@@ -73,25 +73,25 @@ span_or_end text None = record { start = length text; end = length text }
 abbrev pub token_span_or_end : TextWithTokens → ℕ → Span
 token_span_or_end s token = span_or_end s.text (slice_get s.tokens token)
 
--- Returns the complaint about a syntax error at this span. The message is `expected` followed by
--- this word.
+-- Returns the reported error for a syntax error at the span `place`. The message is the word
+-- *expected*, followed by `word`.
 abbrev pub syntax_error : List ℕ → Span → ReportedDiagnosis
 syntax_error word place =
     record { code = codes "Syntax"; message = codes "expected " ++ word; span = place }
 
--- returns the complaint that a construct at this span is nested too deep
+-- returns the reported error for a construct at this span that is nested too deep
 abbrev pub depth_error : Span → ReportedDiagnosis
 depth_error place = record { code = codes "TooDeep"; message = codes "nested too deep"; span = place }
 
--- States that the complaint reports this refusal, at the token that the parser refused. Never holds
+-- States that the error `c` reports this refusal, at the token that the parser refused. Never holds
 -- if the refusal is lack of memory.
 abbrev pub ReportsRefusal : TextWithTokens → ParseRefusal → ReportedDiagnosis → Type 0
 ReportsRefusal s (Syntax token expected) c = c ≡ syntax_error (expected_text expected) (token_span_or_end s token)
 ReportsRefusal s (TooDeep token) c = c ≡ depth_error (token_span_or_end s token)
 ReportsRefusal s Memory c = ⊥
 
--- states that the parser refuses the text, and that the list has only one complaint, which reports
--- this refusal
+-- States that the text scans and the parser refuses it. The list must have only one error
+-- (`complaint`), which reports the parser's refusal.
 pub record ReportsParser (text : List ℕ) (reported : List ReportedDiagnosis) : Type 0 where
   pub scanned : TextWithTokens
   pub scan : IsScanOf text scanned

@@ -6,9 +6,9 @@ use Rattle.ob0_scan.specs.declared.tokens.SameParts.{SameParts}
 use Rattle.ob0_scope_table.specs.declared.one_body.BodyPlace.{BodyPlace}
 
 -- States that the earlier module's body at `was` and the current module's body at `now` are the
--- same body. Its first identifier is at the same token index in both modules, before the tokens
--- that may differ. The closing name of its block is at the same distance after these tokens in both
--- modules. Never holds if `now` is None.
+-- same body. The tokens that may differ are given by `s`. The body's first identifier is at the same
+-- token index in both modules, before the tokens that may differ. The closing name of its block is
+-- at the same distance after these tokens in both modules. Never holds if `now` is None.
 pub record IsSameBody (was : BodyPlace) (now : Option BodyPlace) (s : SameParts) : Type 0 where
   pub place : BodyPlace
   pub is : now ≡ Some place

@@ -3,13 +3,13 @@
 //! An `Analysis` owns one of two things:
 //! - For a text without lexical faults (a text that *has lexemes*), a `ScannedText`: the parts of
 //!   its module, or the parser's refusal and the tokens.
-//! - For a text with lexical faults, an `UnscannableText`: the text, its faults, and the last
-//!   `ScannedText` before it.
+//! - For a text with lexical faults, an `UnscannableText`: the text, its faults, and the
+//!   `ScannedText` of the last text that had lexemes, if it is kept.
 //!
 //! In contracts, the value of an `Analysis` is only the text. Its invariant says that the analysis
 //! is right for that text (`IsValidAnalysisResult`, `IsValidOutcome`). So `analyse_text` and
-//! `reanalyse` have the same clause, and contracts don't mention which results are reused. The
-//! crates above don't depend on how much is reused.
+//! `reanalyse` have the same `ensures` clause, which doesn't mention the results that are reused.
+//! The crates that use an `Analysis` don't depend on how much is reused.
 //!
 //! `reanalyse` finds the common beginning and end of the old and the new text
 //! (`Difference::between`). It scans only the rest, and replaces the old tokens there
@@ -133,9 +133,10 @@ impl Analysis {
         }
     }
 
-    /// Analyses a changed text, and reuses results for the parts that the old and the new text have
-    /// in common (`ScannedText::reanalyse`). If the new text has lexical faults, the results for
-    /// the last text that had lexemes are kept.
+    /// Analyses the changed text `text`, and reuses results for the parts that the old and the new
+    /// text have in common (`ScannedText::reanalyse`). If the new text has lexical faults, the
+    /// results for the last text that had lexemes are kept. If an earlier text was much longer than
+    /// the new text, nothing is reused or kept.
     pub fn reanalyse(self, alloc: Global, text: &str) -> Result<Analysis, AllocError>
         ensures { IfOk result (λ a. a ≡ text.now) }
     {
@@ -151,9 +152,9 @@ impl Analysis {
         }
     }
 
-    /// Analyses a text if the previous text had lexical faults. Reuses the analysis of the last
-    /// text that had lexemes, if that analysis is kept. Its lists have room for a text of `room`
-    /// bytes.
+    /// Analyses a text if the previous text had lexical faults (`ill`). Reuses the analysis of the
+    /// last text that had lexemes, if that analysis is kept. The lists of that analysis have room
+    /// for a text of `room` bytes.
     fn analyse_after_faults(
         alloc: Global,
         ill: UnscannableText,

@@ -1,15 +1,15 @@
 //! Answers questions about the module of a text, for example hover, definition and references.
 //!
-//! `ask` builds views of the module from the kept tokens, tree, bindings and types. If the module
-//! is well-typed, `ask` passes the view of the well-typed module to the question. If the text isn't
-//! a well-typed module, `ask` returns None, and `diagnoses` of the same analysis gives the reason.
+//! `ask` takes an analysis of the text. If the text is a well-typed module, `ask` passes the
+//! question a view of this module (`WellTyped`), built from the analysis's tokens, tree, bindings
+//! and types. Otherwise `ask` returns None, and `diagnoses` of the same analysis gives the reason.
 //!
 //! A question is a struct with `impl Question`. The impl has the type `Answer` of the answers, the
 //! function `answer`, and a ghost member `answers = { λ question names answer. .. }`, which is the
-//! contract of `answer`. To state something about the characters `content` of the text, `answers`
-//! is an implication. Its conditions are `IsResolvedWellTypedModule (utf8 content) names` and
+//! contract of `answer`. If the contract is about the characters `content` of the text, `answers`
+//! is an implication with two conditions: `IsResolvedWellTypedModule (utf8 content) names` and
 //! `content ≡ chars names.module_read.source.text`. If a question can be asked about only one text,
-//! the ghost member `is_about` states this, and callers of `ask` must prove it.
+//! the ghost member `is_about` states which text, and callers of `ask` must prove it.
 
 ghost use Rattle.std.specs.Prelude.{⊤, ℕ, List, IfOk};
 ghost use Rattle.std.specs.Str.{IsUtf8};
@@ -39,8 +39,8 @@ pub trait Question {
         ensures { IfOk result (λ answer. answers self.now module.now answer) };
 }
 
-/// Returns the answer to a question about the text's module. Returns None if the text isn't a
-/// well-typed module.
+/// Returns the answer to a question about the module of the analysed text. Returns None if that
+/// text isn't a well-typed module. Fails only if an allocation fails.
 pub fn ask<Q: Question>(
     alloc: Global,
     analysis: &Analysis,

@@ -1,4 +1,5 @@
-//! Makes the errors that are reported for a text.
+//! Makes the diagnoses of a text: a code, a message and a range for each fault or for the parser's
+//! refusal.
 
 ghost use Rattle.std.specs.Prelude.{◌≡◌, IfOk, map};
 ghost use Rattle.ob0_analysis.specs.Diagnosed.{ReportsRefusal, reported_diagnosis_of, reported_diagnosis_of_fault, syntax_error as expected_at, depth_error as too_deep_at, token_span_or_end as span_or_end};
@@ -57,8 +58,8 @@ pub fn diagnosis_of_refusal(
     }
 }
 
-/// Returns the diagnosis of a syntax error at this span. The message is `expected` followed by this
-/// word.
+/// Returns the diagnosis of a syntax error at this span. The message is the word *expected*,
+/// followed by `word`.
 fn syntax_error(alloc: Global, word: &str, span: Span) -> Result<Diagnosis, AllocError>
     ensures { IfOk result (λ d. reported_diagnosis_of d ≡ expected_at word.now span) }
 {

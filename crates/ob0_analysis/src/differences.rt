@@ -1,4 +1,5 @@
-//! Finds the difference between two texts.
+//! Finds the range of bytes in which two texts differ, between their common beginning and their
+//! common end.
 
 ghost use Rattle.std.specs.Prelude.{◌≡◌, ◌+◌, ◌-◌, ◌<◌, ◌≤◌, true, length, take, drop};
 ghost use Rattle.ob0_scan.specs.Reused.{ReplacesRange};

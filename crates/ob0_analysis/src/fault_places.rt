@@ -38,8 +38,9 @@ impl FaultPlaces {
         })
     }
 
-    /// Returns whether a text and the module's text both begin with a token, or neither of them
-    /// does. A text without tokens counts as one that begins with a token.
+    /// Returns whether the text with the tokens `tokens` begins like the module's text (`self`):
+    /// both begin with a token, or neither does. A text without tokens counts as one that begins
+    /// with a token.
     pub(crate) fn begins_alike(&self, tokens: &Tokens) -> bool
         ensures { result ≡ true → (first_token_start tokens.now == 0) ≡ self.now.starts_with_token }
     {
@@ -54,8 +55,9 @@ fn begins_with_token(tokens: &Tokens) -> bool
     token_span(tokens, 0).start == 0
 }
 
-/// Adapts a module's bindings to a text whose tokens have the same spelling as the module's tokens.
-/// The spans of the faults are computed again, from the same tokens in that text.
+/// Adapts a module's bindings to another text, whose tokens (`tokens`) have the same spellings as
+/// the module's tokens. Only the spans of the faults change. Each span is computed again from the
+/// fault's tokens, which `places` has.
 pub(crate) fn move_binding_faults(
     alloc: Global,
     tokens: &Tokens,
@@ -79,8 +81,9 @@ pub(crate) fn move_binding_faults(
     })
 }
 
-/// Adapts the result of checking a module to a text whose tokens have the same spelling as the
-/// module's tokens. The spans of the faults are computed again, from the same tokens in that text.
+/// Adapts the result of checking a module's types to another text, whose tokens (`tokens`) have the
+/// same spellings as the module's tokens. Only the spans of the faults change. Each span is
+/// computed again from the fault's tokens, which `places` has.
 pub(crate) fn move_type_faults(
     alloc: Global,
     tokens: &Tokens,

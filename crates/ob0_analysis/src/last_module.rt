@@ -7,9 +7,9 @@
 //! block. When the text has a tree again, only that body is bound and checked
 //! (`reuse_last_module`).
 //!
-//! The tree is dropped when the parser refuses the first of these texts, so the body can't be found
-//! again later. After that, the whole body counts as different (`widen_to_body`), and any further
-//! change must lie in the same body (`keep_if_any`).
+//! The earlier module's tree isn't kept when the parser refuses the next text, so the body can't be
+//! found again later. From then on, the whole body counts as different (`widen_to_body`), and any
+//! further change must lie in the same body (`keep_if_any`).
 
 ghost use Rattle.std.specs.Prelude.{◌≡◌, ◌≤◌, IfSome, Some};
 ghost use Rattle.ob0_analysis.specs.LastModule.{IsEarlierModule, WidensDifference, KeepsLastModule, IsLastModuleOf};
@@ -20,8 +20,8 @@ use ob0_tree::ModuleTree;
 use ob0_types::ModuleTypes;
 
 /// The names and types of the last text that was a module. `same` describes the tokens that the
-/// current text shares with this module. `place` is the place, in this module, of the body that
-/// contains all differences.
+/// current text certainly shares with that module. `place` is the place, in that module, of the
+/// body that contains all other tokens (the differences).
 #[derive(Drop)]
 pub(crate) struct LastModule {
     pub(crate) bindings: Bindings,
@@ -31,9 +31,10 @@ pub(crate) struct LastModule {
 }
 
 impl LastModule {
-    /// Keeps the names and types of the previous module (`tree`, `bindings`, `types`) for a changed
-    /// text with these tokens. Returns None unless all tokens that may differ (outside `same`) lie
-    /// in one body, after its first identifier.
+    /// Keeps the names and types of the previous text, a module (`tree`, `bindings`, `types`), for
+    /// a changed text with the tokens `tokens`. All tokens of the previous text that may differ
+    /// (`same.prefix..same.old_suffix`) must lie in one body, after its first identifier. Otherwise
+    /// returns None.
     pub(crate) fn keep_module(
         tokens: &Tokens,
         tree: &ModuleTree,
@@ -93,10 +94,10 @@ impl LastModule {
     }
 }
 
-/// Extends the range of tokens that may differ (`same`) to a whole body of the old text. The
-/// extended range begins after the body's first identifier and ends before the END of its block.
-/// Returns None if a token that may differ lies outside this range, or if the range would end after
-/// the current text's `count` tokens.
+/// Extends the range of tokens that may differ (`same.prefix..same.old_suffix`) to the whole body
+/// `body` of the old text. The extended range begins after the body's first identifier and ends
+/// before the END of its block. Returns None if a token that may differ lies outside the extended
+/// range, or if this range would end after the current text's `count` tokens.
 fn widen_to_body(same: SameParts, body: BodyPlace, count: usize) -> Option<SameParts>
     ensures { IfSome result (λ wider. WidensDifference same wider × (wider.new_suffix ≤ count)) }
 {
@@ -109,9 +110,10 @@ fn widen_to_body(same: SameParts, body: BodyPlace, count: usize) -> Option<SameP
     Some(wider)
 }
 
-/// Extends the range of tokens that may differ (`same`) to the range `prefix..old_suffix` of token
-/// indexes in the old text. Returns None if the range `prefix..old_suffix` doesn't contain the
-/// range of `same`.
+/// Extends the range of tokens of the old text that may differ, from
+/// `same.prefix..same.old_suffix` to `prefix..old_suffix`. The end of the range moves by the same
+/// number of tokens in the new text. Returns None if `prefix..old_suffix` doesn't contain the range
+/// of `same`.
 fn widen_difference(same: SameParts, prefix: usize, old_suffix: usize) -> Option<SameParts>
     ensures wider { IfSome result (WidensDifference same) }
     ensures prefix { IfSome result (λ wider. wider.prefix ≡ prefix) }

@@ -18,7 +18,8 @@ use ob0_tree::{Module, ModuleTree};
 use ob0_types::{ModuleTypes, types_after_body_change};
 use std::alloc::{AllocError, Global};
 
-/// Returns whether all tokens that may differ in spelling from the previous text lie in one body.
+/// Returns whether all tokens that may differ in spelling from the previous text lie in one body
+/// (the statements of one block). These are the tokens `same.prefix..same.old_suffix`.
 pub(crate) fn differs_in_one_body(tokens: &Tokens, tree: &ModuleTree, same: SameParts) -> bool
     requires { IsParsed (parsed_module tokens.now tree.now) }
     ensures { result

@@ -69,7 +69,7 @@ impl ModuleParts {
         })
     }
 
-    /// Makes a module from its parts.
+    /// Joins the parts of a module, all of which must belong to the same text.
     pub(crate) fn from_parts(
         tokens: Tokens,
         tree: ModuleTree,

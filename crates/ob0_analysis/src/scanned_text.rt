@@ -1,5 +1,5 @@
-//! Analyses a text that has lexemes. The result has the text's tokens, with its module or the
-//! parser's refusal.
+//! Analyses a text that *has lexemes*, which means that it has no lexical faults. The result has
+//! the text's tokens, with its module or the parser's refusal.
 
 ghost use Rattle.std.specs.Prelude.{◌≡◌, [], true, IfErr, IfOk, IfSome, MatchOption, map};
 ghost use Rattle.ob0_scan.specs.Refused.{AreFaults, IsRightRescanRefusal};
@@ -39,10 +39,10 @@ use ob0_types::laws::types_depend_on_tokens;
 use std::alloc::{AllocError, Global};
 use std::marker::Model;
 
-/// A text that has lexemes and no tree. It is kept as its tokens and the parser's refusal, with
-/// procedures that the next parse can reuse. `last` has the names and types of the last text that
-/// was a module. `last` is None if there was no such text, or if the differences from that text may
-/// lie in more than one body.
+/// A text without lexical faults that the parser refuses: its tokens and the refusal. `kept` has
+/// the trees of procedures that the next parse can reuse. `last` has the names and types of the
+/// last text that was a module. `last` is None if there was no such text, or if the differences
+/// from that text aren't known to lie in one body.
 #[derive(Drop)]
 pub(crate) struct UnparsableText {
     tokens: Tokens,
@@ -342,9 +342,10 @@ impl ScannedText {
         ScannedText::reanalyse_same_tree(alloc, tokens, tree, bindings, types, same, same_names)
     }
 
-    /// Parses and analyses a changed text in which a token has another kind than before. Procedures
-    /// of the previous tree are reused. If the text is a module that differs from the previous one
-    /// in only one body, the names and types outside this body are also reused.
+    /// Parses and analyses a changed text whose tokens may have other kinds than the tokens of the
+    /// previous text, a module. Procedures of the previous tree are reused. If the changed text is
+    /// also a module and the two modules differ in only one body, the names and types outside this
+    /// body are reused.
     fn reanalyse_changed_kinds(
         alloc: Global,
         tokens: Tokens,
@@ -363,7 +364,7 @@ impl ScannedText {
 
     /// Analyses a text with the same tree as the previous text. If the identifiers have the same
     /// spelling (`same_names`) and no name has a fault, the bindings are kept. Otherwise names are
-    /// bound again, because the spans of the faults of names may have changed.
+    /// bound again, because their bindings or the spans of their faults may have changed.
     fn reanalyse_same_tree(
         alloc: Global,
         tokens: Tokens,
@@ -413,7 +414,8 @@ impl ScannedText {
     }
 
     /// Analyses a text whose tokens have the same spelling as the previous text's. The tree,
-    /// bindings and types are kept, and the faults are moved to the same tokens.
+    /// bindings and types are kept. Only the spans of the faults are computed again, from the same
+    /// tokens (`places`) in the changed text.
     fn reanalyse_same_words(
         alloc: Global,
         tokens: Tokens,

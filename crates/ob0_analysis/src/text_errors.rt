@@ -1,4 +1,4 @@
-//! Makes the errors of a text that has lexemes.
+//! Makes the diagnoses of a text without lexical faults.
 
 ghost use Rattle.std.specs.Prelude.{IfOk, map};
 ghost use Rattle.ob0_parse.specs.IsRightParseRefusal.{IsRightParseRefusal};
@@ -12,8 +12,8 @@ use ob0_scan::Tokens;
 use ob0_scan::laws::scan_is_unique;
 use std::alloc::{AllocError, Global};
 
-/// Returns the only error of a text without a tree: the parser's refusal, at the token that was
-/// refused.
+/// Returns the only error of a text that the parser refuses: the refusal, at the token that was
+/// refused. Returns an error if the refusal is lack of memory or an allocation fails.
 pub(crate) fn diagnose_refusal(
     alloc: Global,
     tokens: &Tokens,

@@ -1,4 +1,4 @@
--- Defines which command the words of a command line request.
+-- Defines which command is requested by the words of a command line.
 -- Rule: docs/PROTOCOL.md, The program; clap's definition of a command line.
 use Rattle.std.specs.Prelude.{◌≡◌, ◌⊎◌, ◌≤◌, ℕ, List, [], Option, Some, codes, if◌then◌else◌, pos}
 use Rattle.std.specs.Str.{bytes_eq}
@@ -72,14 +72,14 @@ RefusesWords words (Refused error) =
     IsAmong (kind_of error) (fault_of ob0_app words) × ¬ (kind_of error ≡ OutOfMemory)
 RefusesWords words Memory = Unit {0}
 
--- ---- the values that clap's matches have
+-- ---- the values that clap finds for the arguments of a subcommand, and their kinds
 
 -- States that the argument `id` has a value, which is a text.
 abbrev pub HasTextValue : Text → List Row → Type 0
 HasTextValue id rows = (text : Text) × (first_of id rows ≡ Some text)
 
--- Returns the greatest number that the option with this name accepts: `max_calls` for `calls`.
--- Every other name is treated like `turns`.
+-- Returns the greatest number that the option with this name accepts: `max_calls` for `calls`, and
+-- `max_turns` for `turns` and every other name.
 abbrev pub max_option_value : Text → ℕ
 max_option_value id = if bytes_eq id (codes "calls") then max_calls else max_turns
 

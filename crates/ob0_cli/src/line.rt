@@ -175,8 +175,8 @@ pub enum CommandFault {
     Memory,
 }
 
-/// Returns the command that the words of a command line request, or the reason why they request no
-/// command. The first word is the program's name.
+/// Returns the command that is requested by the words of a command line, or the reason why they
+/// request no command. The first word is the program's name.
 pub fn command<'a>(alloc: Global, words: &'a [&'a str]) -> Result<CommandLine<'a>, CommandFault>
     ensures gives { IfOk result (SpellsCommand (map (λ w. w.now) words.entry.now)) }
     ensures refuses { IfErr result (RefusesWords (map (λ w. w.now) words.entry.now)) }
@@ -292,9 +292,9 @@ fn ob0_definition<'a>(alloc: Global) -> Result<Command<'a>, AllocError>
     add_subcommand(with_run, rename_definition(alloc))
 }
 
-/// Adds the subcommand `below` to the command `above`. If making either of them ran out of memory,
-/// returns that error. The other command is then dropped here, so that only the proof of this
-/// function covers the drop.
+/// Adds the subcommand `below` to the command `above`. If one of them is an error (out of memory),
+/// returns that error. The other one is then dropped in this function, so that no other proof has
+/// to cover the drop.
 fn add_subcommand<'a>(
     above: Result<Command<'a>, AllocError>,
     below: Result<Command<'a>, AllocError>,
@@ -309,7 +309,7 @@ fn add_subcommand<'a>(
     above.subcommand(below)
 }
 
-/// Adds an argument to a command. If making the command ran out of memory, returns that error.
+/// Adds an argument to a command. If `command` is an error (out of memory), returns that error.
 fn add_argument<'a>(
     command: Result<Command<'a>, AllocError>,
     argument: Arg<'a>,

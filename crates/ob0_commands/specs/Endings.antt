@@ -1,11 +1,12 @@
 -- Defines how a command on a file ends: its status, its output and its lines on standard error. If
--- the status is 0 or 1, the file is UTF-8 or too long. In that case, the call hasn't changed whether
--- the output or the input has failed. Any other status is the status of a fault.
+-- the status is 0 or 1, the file is UTF-8 or too long. In that case, the call hasn't changed
+-- whether the output or the input has failed. Any other status is the status of a fault.
 -- `StopsPrintingFaults` and `StopsRunning` state the reason for the fault. A run is printed only if
--- the bytes of its input are a list of numbers (`IsInputOf`) or aren't known. Status 5 may occur
--- with any input. `decode_or_print_too_long` allocates nothing, so status 5 occurs only for a file that isn't too
--- long (`AllocatesOnlyIfShort`). Each command prints after its last allocation. So a fault other
--- than `Write` leaves the output unchanged (`PrintsNothingUnlessWrite`).
+-- the bytes of its input are a list of numbers (`IsInputOf`) or aren't known. Status 5 (out of
+-- memory) doesn't depend on the input, but it occurs only for a file that isn't too long
+-- (`AllocatesOnlyIfShort`): for a file that is too long, the commands allocate nothing. Each
+-- command prints after its last allocation. So a fault other than `Write` leaves the output
+-- unchanged (`PrintsNothingUnlessWrite`).
 -- Rule: docs/PROTOCOL.md, The program 5 to 8.
 use Rattle.std.specs.Prelude.{◌≡◌, ◌≤◌, ℕ, List, Option, Some, Bool}
 use Rattle.ob0_commands.specs.Printed.{fault_line}

@@ -1,5 +1,5 @@
 -- Defines the parts of a `TrackedReader`, and a bound on the bytes that are read from a reader.
--- Rule: none; for contracts: a reader that remembers failures.
+-- Rule: none; for the contracts of functions that read from an `Input`.
 use Rattle.std.specs.Prelude.{◌≤◌, ℕ, List, Option, Bool, length}
 use Rattle.std.specs.Io.KnownBytes.{Consumes}
 use Rattle.ob0_commands.specs.declared.reading.TrackedReader.{TrackedReader}
@@ -8,12 +8,13 @@ use Rattle.ob0_commands.specs.declared.reading.TrackedReader.{TrackedReader}
 abbrev pub wrapped_reader : {R : Type 0} → TrackedReader R → R
 wrapped_reader input = input.device
 
--- Returns whether a read has failed.
+-- Returns whether a read of this `TrackedReader` has failed.
 abbrev pub input_failed : {R : Type 0} → TrackedReader R → Bool
 input_failed input = input.has_failed
 
--- States that at most `n` bytes of a reader were read. If the reader's bytes aren't known, nothing
--- is required.
+-- States that at most `n` bytes of a reader were read. `before` and `after` are the reader's
+-- remaining bytes before and after. If these bytes aren't known (None), nothing is stated about
+-- them.
 pub record TakesAtMost (n : ℕ) (before after : Option (List ℕ)) : Type 0 where
   pub bytes : List ℕ
   pub taken : Consumes before after bytes

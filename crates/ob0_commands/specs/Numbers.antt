@@ -13,7 +13,7 @@ pub record SpellsNumber (word : List ℕ) (n : ℤ) : Type 0 where
   pub value : n ≡ signed_digits_value 10 word
   pub fits_in_32_bits : fits_in_32_bits n ≡ true
 
--- States that a word ends before this text: the text is empty or begins with white space.
+-- States that a word may end right before this text: the text is empty or begins with white space.
 abbrev pub IsAtWordEnd : List ℕ → Type 0
 IsAtWordEnd [] = ⊤
 IsAtWordEnd (b ∷ bs) = IsTrue (is_space b)
@@ -48,7 +48,7 @@ pub record IsInputOf (ns : List ℤ) (text : List ℕ) : Type 0 where
 abbrev pub IsInvalidInput : List ℕ → Type 0
 IsInvalidInput text = ¬ ((ns : List ℤ) × IsInputOf ns text)
 
--- States that an input can't be used: its reader has failed, or its bytes are known and aren't a
--- valid input.
+-- States that an input can't be used: its reader has failed, or its bytes aren't a valid input. If
+-- the bytes aren't known (None), only a failed reader counts.
 abbrev pub IsUnusableInput : Option (List ℕ) → Bool → Type 0
 IsUnusableInput given failed = (failed ≡ true) ⊎ IfSome given IsInvalidInput

@@ -47,8 +47,9 @@ abbrev pub PrintsRefusal : Result (Vec Edit Global) EditRefusal
 PrintsRefusal (Ok edits) IsPrintedOnStderr = ⊥
 PrintsRefusal (Err refusal) IsPrintedOnStderr = IsPrintedOnStderr (Some (refusal_line refusal))
 
--- States that the file has a text, and that the edits `edits` rename the declaration at the
--- position to the name `new`. The edited text is printed. Positions count UTF-16 units.
+-- States that the file has a text (`IsTextFile`), and that this text is printed with the
+-- declaration at the position renamed to `new`. `edits` are the edits that rename the declaration.
+-- Positions count UTF-16 units.
 pub record PrintsRenamed (file : List ℕ) (position : Position) (new : List ℕ)
     (before after : Option (List ℕ)) : Type 0 where
   pub has_text : IsTextFile file
@@ -56,8 +57,8 @@ pub record PrintsRenamed (file : List ℕ) (position : Position) (new : List ℕ
   pub rename : RenamesIn Utf16 (chars file) position new edits
   pub prints : PrintsPatched Utf16 (chars file) edits before after
 
--- States that the file has a text, but that the name is refused. The refusal is printed on standard
--- error, and the output is unchanged.
+-- States that the file has a text (`IsTextFile`), but that renaming the declaration at the position
+-- to `new` is refused. The refusal is printed on standard error, and the output is unchanged.
 pub record RefusesName (file : List ℕ) (position : Position) (new : List ℕ)
     (before after : Option (List ℕ)) (IsPrintedOnStderr : Option (List ℕ) → Type 0) : Type 0 where
   pub has_text : IsTextFile file

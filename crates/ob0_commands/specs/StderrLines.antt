@@ -1,15 +1,15 @@
 -- Defines the lines that the commands print on standard error, in bytes of UTF-8, and states when a
--- line is printed (`PrintsLine`). `EndsByFault`, `PrintsStoppedRun` and `RefusesName` have this fact
--- as a parameter. So the printed line belongs to the same fault, run or refusal as the status and
--- the output.
+-- line is printed (`PrintsLine`). `EndsByFault`, `PrintsStoppedRun` and `RefusesName` have this
+-- fact as their parameter `IsPrintedOnStderr`. So they can state that the printed line belongs to
+-- the same fault, run or refusal as the status and the output.
 -- Rule: docs/PROTOCOL.md, The program 2, 3, 5, 6 and 7.
 use Rattle.std.specs.Prelude.{◌≡◌, ◌++◌, ℕ, List, Option, Some, None, Bool, true, false, codes}
 use Rattle.std.specs.Io.KnownBytes.{Appends}
 use Rattle.ob0_text.specs.RefusalTexts.{refusal_text}
 use Rattle.ob0_text.specs.declared.refusals.EditRefusal.{EditRefusal}
 
--- States that the writer for standard error has failed, or that this line is appended to it and the
--- writer is flushed. For None, states that the writer is unchanged.
+-- States that this line is appended to standard error and flushed, unless the writer for standard
+-- error has failed. For None, states that the writer is unchanged.
 abbrev pub PrintsLine : {E : Type 0}
     → (contents : E → Option (List ℕ))
     → (is_flushed has_failed : E → Bool)

@@ -24,8 +24,8 @@ pub record TextRunsAs (text : List ℕ) (input : List ℤ) (c t : ℕ) (r : Run)
   pub well_typed : WellTyped tree
   pub is : r ≡ run tree input c t
 
--- States that the text is a well-typed module, and that this program, to which the module is
--- lowered, runs like the module (`RunsAs`).
+-- States that the text is a well-typed module and that this program runs like the module
+-- (`RunsAs`). Lowering the module gives such a program.
 pub record IsLoweredTo (text : List ℕ) (program : Program) : Type 0 where
   pub tree : Tree Name module_text
   pub text_of : IsTextOf tree text
@@ -33,7 +33,8 @@ pub record IsLoweredTo (text : List ℕ) (program : Program) : Type 0 where
   pub runs : lowered.RunsAs tree program
 
 -- States that `r` is a run of the file's module, and that the output of `r` is printed. If the
--- reader's bytes are known, they spell the numbers of the run's input.
+-- reader's bytes are known (`given`), they spell the numbers of the run's input. `c` and `t` are
+-- the bounds of the run (`TextRunsAs`).
 pub record PrintsRun (file : List ℕ) (given : Option (List ℕ)) (c t : ℕ)
     (before after : Option (List ℕ)) (r : Run) : Type 0 where
   pub input : List ℤ

@@ -1,8 +1,8 @@
 //! Reads the numbers of a run's input.
 //!
-//! The whole input is read before the run. The bytes are split into words before they are decoded,
-//! so only each word has to be UTF-8. A word that begins with `+` isn't a number, although Rust's
-//! `parse` accepts it.
+//! The whole input is read before the run. The bytes are first split into words, and then each word
+//! is decoded. A word that isn't UTF-8 isn't a number. A word that begins with `+` isn't a number,
+//! although Rust's `parse` accepts it.
 //!
 //! The invariant of the loop in `parse_numbers` (`Gathered`) has two directions. If the remaining
 //! text spells a list of numbers, the whole text spells the numbers found so far, followed by that

@@ -38,7 +38,7 @@ use ob0_analysis::{Analysis, Question, WellTyped, ask};
 use ob0_run::{End, Item, Outcome, Program, execute, lower};
 use std::alloc::{AllocError, Global};
 
-/// A question to an analysis: which program is its module lowered to?
+/// A question to an analysis. The answer is the program to which the analysed module is lowered.
 #[derive(Drop)]
 struct LoweringQuestion {}
 
@@ -146,9 +146,9 @@ fn lower_or_print_diagnoses<O: Output>(
     }
 }
 
-/// Runs on this input the program that a text is lowered to. At most `calls` calls are open at a
-/// time, and each execution of a loop has at most `turns` iterations. Only the contract uses
-/// `text`.
+/// Runs `program` on `input`. At most `calls` calls are open at a time, and each execution of a
+/// loop has at most `turns` iterations. `text` is the text from which the program was lowered. Only
+/// the contract uses it.
 fn execute_module(
     alloc: Global,
     text: &str,

@@ -6,9 +6,9 @@
 //! standard error. The bytes that a writer has written are its `contents`, or None if they aren't
 //! known. If they aren't known, the contracts say nothing about them.
 //!
-//! Each command flushes its output after it has printed. If a name is refused, the output is
-//! unchanged, and whether the output is flushed isn't known (`IsFlushedOrUnchanged`). `check` and
-//! `rename` print only once, so their contracts follow from one call of `print`. After a failed
+//! Each command flushes its output after it has printed. If `rename` refuses a name, nothing is
+//! printed to the output, so the output may still be unflushed (`IsFlushedOrUnchanged`). `check`
+//! and `rename` print only once, so their contracts follow from one call of `print`. After a failed
 //! write, the contracts say nothing about the written bytes, because the contract of std's
 //! `write_all` says nothing about them.
 
@@ -36,7 +36,7 @@ pub trait Output: Write {
     // Returns whether a call of `write_tracked` or `flush_tracked` has failed.
     ghost has_failed: { Self → Bool };
 
-    /// Writes all the bytes. If that fails, the failure is remembered.
+    /// Writes all the bytes. If that fails, the failure is remembered (`has_failed`).
     fn write_tracked(&mut self, bytes: &[u8]) -> io::Result<()>
         ensures bytes { OnOk result
             (Appends (Self.contents self.old) (Self.contents self.new) bytes.now) }

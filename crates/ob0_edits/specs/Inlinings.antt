@@ -19,8 +19,8 @@ use Rattle.ob0_edits.specs.declared.inlinings.Inlining.{Inlining}
 use Rattle.ob0_edits.specs.declared.inlinings.Inlining.TheVariants.{OneUse, Everywhere}
 use Rattle.ob0_edits.specs.declared.inlinings.Inlinings as found_inlinings
 
--- States that this is the right answer to inlining at a byte offset of a module, edits or a refusal,
--- by the definitions of `ob0_inline`.
+-- States that `answer`, edits or a refusal, is the right answer to a request for this kind of
+-- inlining at a byte offset of the module, according to the definitions of `ob0_inline`.
 abbrev pub AnswersInlining : Inlining
     → Unit
     → List ℕ

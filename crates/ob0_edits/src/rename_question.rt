@@ -1,12 +1,13 @@
 //! Answers requests for renames in an analysed text.
 //!
 //! Declarations and fields are two cases of `AreRenameEdits` and `IsRenameRefusal` of `ob0_rename`.
-//! Both cases of `AreRenameEdits` contain `WritesName`, so one lemma, `renames_in` of
-//! `proofs/Renamings`, covers declarations and fields. `RenamesIn` and `IsRenameRefusedIn` are
-//! about the module with its names bound (`IsResolvedWellTypedModule`), because fields are found through the
-//! bindings of names. The contract of `ask`, which answers a question about a well-typed text, is
-//! about the bytes of the text. `RenamesIn` is about characters. The lemma `new_name_found` derives
-//! `RenamesIn` from the contract of `ask`.
+//! Both cases of `AreRenameEdits` state which tokens the edits replace by the new name
+//! (`WritesName`). So one lemma, `renames_in` of `proofs/Renamings`, covers declarations and
+//! fields. `RenamesIn` and `IsRenameRefusedIn` are about the module with its names bound
+//! (`IsResolvedWellTypedModule`), because fields are found through the bindings of names. The
+//! contract of `ask`, which answers a question about a well-typed text, is about the bytes of the
+//! text, while `RenamesIn` is about its characters. The lemma `new_name_found` derives `RenamesIn`
+//! from this contract.
 
 ghost use Rattle.std.specs.Prelude.{◌≡◌, IfOk};
 ghost use Rattle.std.specs.Str.{chars};

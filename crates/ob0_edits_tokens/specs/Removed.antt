@@ -18,8 +18,9 @@ abbrev pub changes_with_removal : ℕ → ℕ → WordChanges → WordChanges
 changes_with_removal first last changes k = if nat_le first k && nat_le k last then Some [] else changes k
 
 -- States that the tokens from the index `first` to the index `last` may be a declaration in a CONST
--- section. Only their borders count: the first is an identifier, and the last is a `;`. The token
--- before them, if there is one, is CONST or another `;`.
+-- section. Only the first token, the last token and the token before the first are checked: the
+-- first is an identifier, the last is a `;`, and the token before the first, if there is one, is
+-- CONST or another `;`.
 pub record IsDeclaration (tokens : List Token) (first last : ℕ) : Type 0 where
   pub order : first < last
   pub inside : last < length tokens

@@ -6,7 +6,8 @@ ghost use Rattle.ob0_edits_tokens.specs.OfTrees.{RenamingKeepsSpelling};
 ghost use Rattle.ob0_edits_tokens.specs.Replaced.{ReplacesName};
 ghost use Rattle.ob0_edits_tokens.specs.Written.{name_word};
 
-/// Proves that an identifier may replace any other identifier.
+/// Proves that the identifier `new` may replace any identifier of a text: the tokens in front of it
+/// and behind it stay separate from it.
 pub fn names_replace_names()
     ensures { (new : List ℕ) → IsIdentifier new → ReplacesName new (name_word new ∷ []) }
 {}

@@ -12,8 +12,8 @@ use std::alloc::{AllocError, Global};
 /// The greatest number of spans that are converted at once. This limit keeps the buffers small.
 const SPANS_AT_ONCE: usize = 16_384;
 
-/// Returns the range of each span, in the same order. If the spans are in text order, one pass over
-/// the text finds the ranges of up to `SPANS_AT_ONCE` spans.
+/// Returns the range of positions of each span, in the same order. If the spans are in text order,
+/// one pass over the text finds the ranges of up to `SPANS_AT_ONCE` spans.
 pub fn ranges<T: TextStore>(
     alloc: Global,
     store: &T,
@@ -31,7 +31,7 @@ pub fn ranges<T: TextStore>(
     Ok(ranges)
 }
 
-/// Appends the range of each span to `ranges`, in the same order.
+/// Appends the range of positions of each span to `ranges`, in the same order.
 fn add_ranges<T: TextStore>(
     alloc: Global,
     store: &T,

@@ -42,7 +42,7 @@ pub fn replacement_edits<T: TextStore>(
         → max_text < length (text_after_replacement tokens.now token_indexes.now new.now) }
     ensures refusals { IfErr result (λ refusal. (refusal ≡ TooLong) ⊎ (refusal ≡ Memory)) }
 {
-    // The proof needs the contract of this call.
+    // The proof needs the contract of this call: the tokens are a scan of their text (`IsScan`).
     let _text = tokens.text();
     if is_too_long(tokens, 0, 0, token_indexes, new) {
         return Err(EditRefusal::TooLong);
@@ -87,7 +87,7 @@ pub fn removal_edits<T: TextStore>(
         → max_text < length (text_after_removal tokens.now first last token_indexes.now new.now) }
     ensures refusals { IfErr result (λ refusal. (refusal ≡ TooLong) ⊎ (refusal ≡ Memory)) }
 {
-    // The proof needs the contract of this call.
+    // The proof needs the contract of this call: the tokens are a scan of their text (`IsScan`).
     let _text = tokens.text();
     let start = tokens.tokens()[first].span.start;
     let end = tokens.tokens()[last].span.end;

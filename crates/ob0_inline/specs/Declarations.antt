@@ -7,7 +7,7 @@ use Rattle.ob0_scan.specs.declared.lexeme.TokenKind.{TokenKind}
 use Rattle.ob0_scan.specs.declared.lexeme.TokenKind.TheVariants as kind
 use Rattle.ob0_scan.specs.declared.lexeme.Symbol.TheVariants as symbol
 
--- Returns whether `span` lies within the span `part`.
+-- Returns whether the span `span` lies within the span `part`. The two may be equal.
 abbrev pub contains_span : Span → Span → Bool
 contains_span part span = nat_le part.start span.start && nat_le span.end part.end
 

@@ -68,22 +68,22 @@ uses_of m d =
 abbrev pub UsesAreFactors : ParsedModule → ℕ → Type 0
 UsesAreFactors m d = All (λ l. l ≢ declared d) (names_beside_factors (numbered (named_tree_of m)))
 
--- Returns the tree of the module after the constant is inlined everywhere. The constant's value
--- replaces all its uses, and its declaration is removed.
+-- Returns the tree of the module after the constant `c` is inlined everywhere: the value of `c`
+-- replaces all its uses, and the declaration of `c` is removed.
 abbrev pub tree_inlined_everywhere : ParsedModule → NamedConstant → Tree Name module_text
 tree_inlined_everywhere m c = inlined_everywhere (named_tree_of m) c.ordinal (value_factor c.value)
 
--- Returns the text, in bytes, after the constant is inlined everywhere.
+-- Returns the module's text, in bytes, after the constant `c` is inlined everywhere.
 abbrev pub text_after_inlining : ParsedModule → NamedConstant → List ℕ
 text_after_inlining m c = text_after_removal m.source c.first c.last (uses_of m c.ordinal) (value_text c.value)
 
--- Returns whether the occurrence with the number `k` is a use of the constant at which TRUE or
+-- Returns whether the occurrence with the number `k` is a use of the constant `c` at which TRUE or
 -- FALSE, written for the constant's value, wouldn't mean the predeclared name.
 abbrev pub is_shadowed_use : Tree Name module_text → NamedConstant → ℕ → Bool
 is_shadowed_use m c k = same_ordinal (binds m k) c.ordinal && not (is_predeclared_truth m k c.value)
 
--- Returns whether the constant has a use at which TRUE or FALSE, written for the constant's value,
--- wouldn't mean the predeclared name.
+-- Returns whether the constant `c` has a use at which TRUE or FALSE, written for the constant's
+-- value, wouldn't mean the predeclared name.
 abbrev pub any_use_shadowed : Tree Name module_text → NamedConstant → Bool
 any_use_shadowed m c = list_any (is_shadowed_use m c) (range_with_len 0 (length (bindings m)))
 
@@ -92,17 +92,18 @@ any_use_shadowed m c = list_any (is_shadowed_use m c) (range_with_len 0 (length 
 abbrev pub declaration_has_comment : ParsedModule → NamedConstant → Bool
 declaration_has_comment m c = list_any (contains_span (span_of_tokens m.source.tokens c.first c.last)) m.source.comments
 
--- Returns the first refusal that applies to inlining the constant everywhere, or None if no refusal
--- applies.
+-- Returns the first refusal that applies to inlining the constant `c` everywhere, or None if no
+-- refusal applies.
 abbrev pub refusal_everywhere : ParsedModule → NamedConstant → Option EditRefusal
 refusal_everywhere m c =
     first_refusal (text_after_inlining m c) (tree_inlined_everywhere m c)
     (if any_use_shadowed (named_tree_of m) c then Some Shadowed
     else if declaration_has_comment m c then Some CommentInside else None)
 
--- States that these edits inline the constant everywhere. They remove its declaration, from its
--- name to its `;`, write its value in place of each use, and change no other character. The edited
--- text is the inlined module, which is well-typed and has the same runs as the module before.
+-- States that the edits inline the constant `c` everywhere. They remove the declaration of `c`,
+-- from its name to its `;`, write the value of `c` in place of each use, and change no other
+-- character. The edited text is the inlined module, which is well-typed and has the same runs as
+-- the module before.
 pub record InlinesEverywhere (unit : counting.Unit) (text : List ℕ) (m : ParsedModule)
     (c : NamedConstant) (edits : List Edit) : Type 0 where
   pub everywhere : map range_and_text edits
@@ -126,9 +127,9 @@ AnswersForConstant unit text m c (Ok edits) =
 AnswersForConstant unit text m c (Err refusal) =
     (refusal_everywhere m c ≡ Some refusal) ⊎ (refusal ≡ Memory)
 
--- States that the answer is right for the constant whose name is at the byte offset
--- (`AnswersForConstant`). If the offset isn't on the name of a constant, the answer is the refusal
--- `NoName`.
+-- States that the answer to inlining everywhere is right for the constant whose name is at the byte
+-- offset (`AnswersForConstant`). If the offset isn't on the name of a constant, the answer is the
+-- refusal `NoName`.
 abbrev pub AnswersInlineEverywhere : counting.Unit
     → List ℕ
     → ParsedModule

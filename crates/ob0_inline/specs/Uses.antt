@@ -47,26 +47,27 @@ abbrev pub truth_name_ordinal : Bool → ℕ
 truth_name_ordinal true = 2
 truth_name_ordinal false = 3
 
--- Returns whether TRUE or FALSE, written for a truth value in place of this occurrence, would mean
--- the predeclared name. If the value is a number, the result is true.
+-- Returns whether TRUE or FALSE, written for a truth value in place of the occurrence with the
+-- number `occurrence`, would mean the predeclared name. If the value is a number, the result is
+-- true.
 abbrev pub is_predeclared_truth : Tree Name module_text → ℕ → Scalar → Bool
 is_predeclared_truth m occurrence (scalar.Number n) = true
 is_predeclared_truth m occurrence (scalar.Truth b) =
     same_ordinal (resolve_at_occurrence m occurrence (truth_text b)) (truth_name_ordinal b)
 
--- Returns the tree of the module after the constant is inlined at one use: the constant's value
+-- Returns the tree of the module after the constant is inlined at the use `u`: the constant's value
 -- replaces that use.
 abbrev pub tree_inlined_here : ParsedModule → ConstantUse → Tree Name module_text
 tree_inlined_here m u = inlined (named_tree_of m) (single_occurrence u.occurrence) (value_factor u.value)
 
--- Returns the first refusal that applies to inlining the constant at this use, or None if no
+-- Returns the first refusal that applies to inlining the constant at the use `u`, or None if no
 -- refusal applies.
 abbrev pub refusal_here : ParsedModule → ConstantUse → Option EditRefusal
 refusal_here m u =
     first_refusal (text_after_replacement m.source (u.token ∷ []) (value_text u.value)) (tree_inlined_here m u)
     (if is_predeclared_truth (named_tree_of m) u.occurrence u.value then None else Some Shadowed)
 
--- States that these edits write the constant's value in place of the use and change no other
+-- States that the edits write the constant's value in place of the use `u` and change no other
 -- character. The edited text is the inlined module, which is well-typed and has the same runs as
 -- the module before.
 pub record InlinesHere (unit : counting.Unit) (text : List ℕ) (m : ParsedModule) (u : ConstantUse)
@@ -89,8 +90,9 @@ AnswersForUse unit text m u (Ok edits) =
     (refusal_here m u ≡ None) × InlinesHere unit text m u edits.items
 AnswersForUse unit text m u (Err refusal) = (refusal_here m u ≡ Some refusal) ⊎ (refusal ≡ Memory)
 
--- States that the answer is right for the use at the byte offset (`AnswersForUse`). If the offset
--- isn't on a use of a constant, the answer is the refusal `NoName`.
+-- States that the answer to inlining at one use is right for the use at the byte offset
+-- (`AnswersForUse`). If the offset isn't on a use of a constant, the answer is the refusal
+-- `NoName`.
 abbrev pub AnswersInlineHere : counting.Unit
     → List ℕ
     → ParsedModule

@@ -17,9 +17,9 @@ use ob0_tree::{MAX_NESTING, Module};
 use std::alloc::Global;
 
 /// Returns whether the text that results from the edits is nested deeper than a module may be.
-/// `read` is the module before the edits. The contract assumes that the edits make the module at
-/// most one level deeper. So the edited text is parsed only if `read` already has the greatest
-/// depth.
+/// `read` is the module before the edits. The contract assumes that the edits add at most one level
+/// of nesting. So the result is false if `read` has less than the greatest depth. Otherwise the
+/// edited text is parsed.
 pub(crate) fn is_too_deep<T: TextStore>(
     alloc: Global,
     store: &T,

@@ -51,7 +51,7 @@ pub fn inline_all<T: TextStore>(
     }
 }
 
-/// Returns the edits that write this constant's value in place of all its uses and remove its
+/// Returns the edits that write the value of `constant` in place of all its uses and remove its
 /// declaration, or the first refusal that applies.
 fn inline_constant<T: TextStore>(
     alloc: Global,
@@ -82,7 +82,7 @@ fn inline_constant<T: TextStore>(
     }
 }
 
-/// Returns the edits that inline the constant everywhere. The first edit removes the constant's
+/// Returns the edits that inline `constant` everywhere. The first edit removes the constant's
 /// declaration. Then comes one edit for each use, in text order, which writes the value in place of
 /// the use. If the edited text is too long, the refusal is `TooLong`. If it is nested too deep, the
 /// refusal is `TooDeep`.

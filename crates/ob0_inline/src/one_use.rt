@@ -34,8 +34,8 @@ pub fn inline_here<T: TextStore>(
     }
 }
 
-/// Returns the edit that writes a constant's value in place of this use, or the first refusal that
-/// applies.
+/// Returns the edit that writes a constant's value in place of the use `found`, or the first
+/// refusal that applies.
 fn inline_use<T: TextStore>(
     alloc: Global,
     store: &T,

@@ -16,9 +16,9 @@ use ob0_scope::resolve_at_occurrences;
 use ob0_scope_table::{FALSE_ORDINAL, Resolved, TRUE_ORDINAL, same_ordinal};
 use std::alloc::{AllocError, Global};
 
-/// Returns whether TRUE or FALSE, written for a truth value in place of this occurrence, would mean
-/// the predeclared name. If the value is a number, the result is true. `occurrence` is the number
-/// of the occurrence in text order, counted from 0.
+/// Returns whether TRUE or FALSE, written for the truth value `value` in place of an occurrence,
+/// would mean the predeclared name. If the value is a number, the result is true. `occurrence` is
+/// the number of the occurrence in text order, counted from 0.
 pub(crate) fn is_predeclared_truth(
     alloc: Global,
     names: &Resolved,
@@ -35,8 +35,8 @@ pub(crate) fn is_predeclared_truth(
     }
 }
 
-/// Returns whether `name`, written in place of this occurrence, would be bound to the declaration
-/// with the ordinal `ordinal`.
+/// Returns whether `name`, written in place of the occurrence with the number `occurrence`, would
+/// be bound to the declaration with the ordinal `ordinal`.
 fn would_bind_to(
     alloc: Global,
     names: &Resolved,
@@ -51,9 +51,9 @@ fn would_bind_to(
     Ok(has_ordinal_at(&bound, occurrence, ordinal))
 }
 
-/// Returns whether the item of `bound` for this occurrence is `ordinal`. `bound` has an item for
-/// each occurrence: the ordinal of a declaration, or None. If the item is None, or `bound` has no
-/// item for this occurrence, the result is false.
+/// Returns whether the item of `bound` with the index `occurrence` is `ordinal`. `bound` has an
+/// item for each occurrence in the text: the ordinal of a declaration, or None. If the item is None
+/// or missing, the result is false.
 fn has_ordinal_at(bound: &[Option<usize>], occurrence: usize, ordinal: usize) -> bool
     ensures { result
         ≡ same_ordinal (option_and_then (λ found. found) (slice_get bound.now occurrence)) ordinal }
@@ -137,9 +137,9 @@ fn any_use_differs(
     false
 }
 
-/// Returns whether this occurrence is a use of the constant with the ordinal `constant` and its
-/// item in `bound` isn't `ordinal`. `bound` has an item for each occurrence, in text order: the
-/// ordinal of a declaration, or None.
+/// Returns whether the occurrence with the number `occurrence` is a use of the constant with the
+/// ordinal `constant`, and its item in `bound` isn't `ordinal`. `bound` has an item for each
+/// occurrence, in text order: the ordinal of a declaration, or None.
 fn is_differing_use(
     names: &Resolved,
     bound: &[Option<usize>],

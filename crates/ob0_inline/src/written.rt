@@ -42,7 +42,8 @@ fn number_text(alloc: Global, number: i32) -> Result<String, AllocError>
     format!(in alloc; "{number}")
 }
 
-/// Proves that the text of a 32-bit number may replace any identifier. The function has no effect.
+/// Proves that the text of a 32-bit number may replace any identifier (`ReplacesName`). The
+/// function has no effect.
 fn number_replaces_name(number: i32)
     ensures { ReplacesName (number_text number) (number_words number) }
 {}
@@ -56,7 +57,7 @@ pub(crate) fn value_is_scalar(value: Scalar)
     }
 }
 
-/// Proves that the number fits in 32 bits. The function has no effect.
+/// Proves that the value of `number` fits in 32 bits. The function has no effect.
 fn number_fits_in_32_bits(number: i32)
     ensures { IsTrue (fits_in_32_bits number) }
 {

@@ -1,4 +1,5 @@
-//! Proves that requests to inline a constant have answers.
+//! Proves that a request to inline a constant always has an answer: for each text, some list of
+//! edits is right.
 
 ghost use Rattle.ob0_inline_answers.specs.InlineAnswers.{InliningEverywhereHasAnswers, InliningHereHasAnswers};
 

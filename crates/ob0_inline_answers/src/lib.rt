@@ -1,4 +1,5 @@
-//! Proves that each request to inline a constant has an answer.
+//! Proves that a request to inline a constant always has an answer: for each text, some list of
+//! edits is right.
 #![tactic(auto)]
 
 pub mod laws;

@@ -27,16 +27,17 @@ record_ordinal (Some boolean_shape) = None
 record_ordinal (Some (array_shape k n s)) = None
 record_ordinal (Some (record_shape k fs)) = Some k
 
--- returns the type of a designator including one more selector; `s` is the type of the designator
--- before this selector; returns None if `s` has no such field or element
+-- returns the type of a designator including one more selector, given the type `s` before this
+-- selector; returns None if `s` is unknown (None) or has no such field or element; for a tree that
+-- isn't a selector, returns `s`
 abbrev pub select_type : {i : Item} → Option Shape → Tree Name (item i) → Option Shape
 select_type s (field x) = option_and_then (λ t. field_type t x) s
 select_type s (index e) = option_and_then (λ t. element_type t integer_shape) s
 select_type s _ = s
 
--- Returns a statement or a part of a statement with the selected fields renamed. A field belongs to
--- the record from which it is selected. If the part is a list of selectors, `s` is the type of the
--- designator before these selectors.
+-- Returns a statement or a part of a statement with the selected fields renamed by `l`. A field
+-- belongs to the record from which it is selected. If the part is a selector or a list of
+-- selectors, `s` is the type of the designator before this part.
 abbrev pub rename_fields : {s : Sort} → FieldRenaming → TypeMeanings Name → Option Shape → Tree Name s → Tree Name s
 rename_fields l meaning s (more t ts) =
     more (rename_fields l meaning s t) (rename_fields l meaning (select_type s t) ts)
@@ -210,8 +211,9 @@ environment_after_procedures env k end = env
 environment_after_procedures env k (more p rest) =
     environment_after_procedures (environment_after_heading env k p) (k + procedure_constructor_count p) rest
 
--- Returns a block, its procedures or one procedure, with all fields renamed. `k` is the number of
--- words ARRAY and RECORD before this part. Constants have no fields.
+-- Returns a block, its procedures or one procedure, with all fields renamed by `l`. `k` is the
+-- number of words ARRAY and RECORD before this part. Declarations of constants are unchanged,
+-- because they contain no fields.
 abbrev mutual
   -- returns a block with the fields in its types, variables, procedures and statements renamed;
   -- `env` is the environment around the block
@@ -227,7 +229,8 @@ abbrev mutual
       (environment_after_variables env k (forms_block (declares cs ts vs ps) statements))
       (constructors_before_procedures k (forms_block (declares cs ts vs ps) statements)) ps)) None statements)
 
-  -- returns procedures with their fields renamed; each procedure is visible in the later procedures
+  -- returns procedures with their fields renamed; `env` is the environment before the first
+  -- procedure, and each procedure is visible in the later procedures
   pub rename_fields_in_procedures : FieldRenaming
       → TypeEnvironment Name
       → ℕ

@@ -38,12 +38,14 @@ abbrev mutual
       record { ordinal = k; declared = group_field_names g ++ further_field_names rest }
       ∷ (records_in_group (suc k) g ++ records_in_groups (suc k + group_constructor_count g) rest)
 
-  -- returns the records in the type of a group of fields
+  -- returns the records in the type of a group of fields, in text order; `k` is the number of words ARRAY and RECORD
+  -- before this type
   pub records_in_group : ℕ → Tree Name fields → List RecordFields
   records_in_group k no_fields = []
   records_in_group k (some_fields ns t) = records_in_type k t
 
-  -- returns the records in the types of a record's groups after its first group
+  -- returns the records in the types of a record's groups of fields after the first group, in text order; `k` is the
+  -- number of words ARRAY and RECORD before these groups
   pub records_in_groups : ℕ → Tree Name (items further_fields) → List RecordFields
   records_in_groups k end = []
   records_in_groups k (more (then_fields g) rest) =
@@ -97,7 +99,7 @@ abbrev mutual
 abbrev pub records : Tree Name module_text → List RecordFields
 records m = records_in_block 0 (module_block m)
 
--- returns whether the list `xs` of a record's fields has a field named `new` other than the field `f`
+-- returns whether a field other than `f` has the name `new`, given the list `xs` of the names of a record's fields
 abbrev pub another_field_has_name : List Name → Name → Name → Bool
 another_field_has_name xs f new = list_any (λ x. same_name x new && not (same_name x f)) xs
 

@@ -143,7 +143,7 @@ abbrev mutual
 abbrev pub module_without : ℕ → Tree Name module_text → Tree Name module_text
 module_without d (is_module x b closing) = is_module x (block_without d predeclared_count b) closing
 
--- returns the set that contains only one occurrence, given by its number
+-- returns the set that contains only the occurrence with number `occurrence`
 abbrev pub single_occurrence : ℕ → OccurrenceSet
 single_occurrence occurrence k = k == occurrence
 
@@ -151,7 +151,7 @@ single_occurrence occurrence k = k == occurrence
 abbrev pub occurrences_bound_to : Tree Name module_text → ℕ → OccurrenceSet
 occurrences_bound_to m d k = same_ordinal (binds m k) d
 
--- returns the module in which the factor `v` replaces all uses of the constant with ordinal `d`, and in which the
--- constant's declaration is removed
+-- returns the module in which the factor `v` replaces each whole factor that is a use of the constant with ordinal `d`,
+-- and in which the constant's declaration is removed
 abbrev pub inlined_everywhere : Tree Name module_text → ℕ → Tree Name factor → Tree Name module_text
 inlined_everywhere m d v = module_without d (inlined m (occurrences_bound_to m d) v)

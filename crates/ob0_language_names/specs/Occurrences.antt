@@ -7,8 +7,8 @@ use Rattle.ob0_language_names.specs.Parts.{formal_names, formal_sections, module
 use Rattle.ob0_language_names.specs.Scopes.{Scope, ordinal_after_names, ordinal_after_procedure, body_scope, declare_names, first_procedure_ordinal, numbered, predeclared_count, renamed}
 use Rattle.std.specs.List.{list_any}
 
--- returns the label of each occurrence, in text order: the ordinal of the declaration that the occurrence is bound to,
--- or the name as written if the occurrence is unbound
+-- returns the label of each occurrence of a looked-up name, in text order: the ordinal of the declaration that the
+-- occurrence is bound to, or the name as written if the occurrence is unbound
 abbrev pub bindings : Tree Name module_text → List Label
 bindings m = occurrences (numbered m)
 
@@ -23,8 +23,8 @@ label_ordinal (as_written x) = None
 abbrev pub binds : Tree Name module_text → ℕ → Option ℕ
 binds m occurrence = option_and_then label_ordinal (slice_get (bindings m) occurrence)
 
--- Returns the declarations of each block, as names with their ordinals. A procedure's parameters and locals count as
--- one block.
+-- Returns a list with the declarations of each block, as names with their ordinals. A procedure's parameters and its
+-- own declarations count as one block.
 abbrev mutual
   -- Returns a list with the declarations of a block, then the declarations of each block within it. The block's first
   -- declaration has ordinal `k`. If this is a procedure's block, `own` has the declarations of the parameters.
@@ -39,8 +39,8 @@ abbrev mutual
   scopes_in_procedures k (more p rest) =
       scopes_in_procedure (suc k) p ++ scopes_in_procedures (ordinal_after_procedure (suc k) p) rest
 
-  -- returns the declarations of each block in a procedure; the procedure has ordinal `k - 1`, so
-  -- `k` is the first ordinal after its name
+  -- returns the declarations of each block in a procedure; the procedure's name has ordinal `k - 1`, so the first
+  -- declaration after it has ordinal `k`
   pub scopes_in_procedure : {N : Type 0} → ℕ → Tree N (item procedure) → List (Scope N)
   scopes_in_procedure k (declares_procedure x fs b closing) =
       scopes_in_block (ordinal_after_names k (formal_names (formal_sections fs)))
@@ -65,7 +65,8 @@ is_duplicate m d new =
 abbrev pub Free : Tree Name module_text → ℕ → Name → Type 0
 Free m d new = (is_duplicate m d new ≡ false) × (bindings (renamed m d new) ≡ bindings m)
 
--- returns whether two labels are the same ordinal, or the same spelling of an unbound name
+-- returns whether two labels mean the same binding: both are the same ordinal, or both are the same spelling of an
+-- unbound name
 abbrev pub same_binding : Label → Label → Bool
 same_binding (as_written x) (as_written y) = same_name x y
 same_binding a b = same_label a b

@@ -17,7 +17,8 @@ FreeRenamingKeepsConsistentNames =
     → IsTrue (has_consistent_names m)
     → IsTrue (has_consistent_names (renamed m d new))
 
--- States that a new name for a declaration has no conflict exactly if it is free.
+-- States that a new name for a declaration has no conflict (`first_name_conflict` returns None) exactly if the new name
+-- is free.
 abbrev pub FreeMeansNoConflict : Type 0
 FreeMeansNoConflict =
     (m : Tree Name module_text) (d : ℕ) (new : Name) → first_name_conflict m d new ≡ None ↔ Free m d new

@@ -52,8 +52,8 @@ abbrev mutual
   ordinal_after_procedures k end = k
   ordinal_after_procedures k (more p rest) = ordinal_after_procedures (ordinal_after_procedure (suc k) p) rest
 
-  -- returns the first ordinal after the parameters and the block of a procedure; the procedure has
-  -- ordinal `k - 1`, so `k` is the first ordinal after its name
+  -- returns the first ordinal after the parameters and the block of a procedure; the procedure's name has ordinal `k -
+  -- 1`, so the first declaration after it has ordinal `k`
   pub ordinal_after_procedure : {N : Type 0} → ℕ → Tree N (item procedure) → ℕ
   ordinal_after_procedure k (declares_procedure x fs b closing) =
       ordinal_after_block (ordinal_after_names k (formal_names (formal_sections fs))) b
@@ -67,8 +67,8 @@ Labelling N M = Option ℕ → N → M
 abbrev pub label_of : {N M : Type 0} → Naming N → Labelling N M → Scope N → N → M
 label_of naming label scope x = label (ordinal_of naming scope x) x
 
--- Returns a tree without declarations, with labels instead of names. Names are looked up in `scope`, except the names
--- of fields, which get the labels of unbound names.
+-- Returns a tree that contains no declarations (an expression, a written type or statements), with labels instead of
+-- names. Names are looked up in `scope`. The names of fields aren't looked up: they get the labels of unbound names.
 abbrev pub relabel_uses : {N M : Type 0} {s : Sort}
     → Naming N
     → Labelling N M
@@ -82,8 +82,8 @@ abbrev pub label_names : {N M : Type 0} → Labelling N M → ℕ → List N →
 label_names label k [] = []
 label_names label k (x ∷ xs) = label (Some k) x ∷ label_names label (suc k) xs
 
--- returns the part of a list of declared names after the first one, with labels instead of names; the ordinals of these
--- names count up from `k`
+-- returns the part of a list of declared names after its first name, with labels instead of names; the ordinals of the
+-- names in this part count up from `k`
 abbrev pub relabel_further_names : {N M : Type 0}
     → Labelling N M
     → ℕ
@@ -222,24 +222,24 @@ relabel_variable_section naming label scope k none = none
 relabel_variable_section naming label scope k (one (declares_variables vs)) =
     one (declares_variables (relabel_variables naming label scope k vs))
 
--- returns the scope with a block's procedures added; `k` is the ordinal of the first procedure
+-- returns the scope with the names of a block's procedures added; `k` is the ordinal of the first procedure
 abbrev pub declare_procedure_names : {N : Type 0} → ℕ → Tree N (items procedure) → Scope N → Scope N
 declare_procedure_names k end scope = scope
 declare_procedure_names k (more p rest) scope =
     declare_procedure_names (ordinal_after_procedure (suc k) p) rest ((procedure_name p, k) ∷ scope)
 
--- returns the ordinal of a block's first type, or the next ordinal if it has none; `k` is the ordinal of the block's
--- first declaration
+-- returns the ordinal of a block's first type; if the block has no types, the ordinal that its first type would have;
+-- `k` is the ordinal of the block's first declaration
 abbrev pub first_type_ordinal : {N : Type 0} → ℕ → Tree N block → ℕ
 first_type_ordinal k b = ordinal_after_names k (constant_names (block_constants b))
 
--- returns the ordinal of a block's first variable, or the next ordinal if it has none; `k` is the ordinal of the
--- block's first declaration
+-- returns the ordinal of a block's first variable; if the block has no variables, the ordinal that its first variable
+-- would have; `k` is the ordinal of the block's first declaration
 abbrev pub first_variable_ordinal : {N : Type 0} → ℕ → Tree N block → ℕ
 first_variable_ordinal k b = ordinal_after_names (first_type_ordinal k b) (declared_type_names (block_types b))
 
--- returns the ordinal of a block's first procedure, or the next ordinal if it has none; `k` is the ordinal of the
--- block's first declaration
+-- returns the ordinal of a block's first procedure; if the block has no procedures, the ordinal that its first
+-- procedure would have; `k` is the ordinal of the block's first declaration
 abbrev pub first_procedure_ordinal : {N : Type 0} → ℕ → Tree N block → ℕ
 first_procedure_ordinal k b = ordinal_after_names (first_variable_ordinal k b) (variable_names (block_variables b))
 

@@ -8,8 +8,8 @@ use Rattle.ob0_language_types.specs.Environments.{environment_from_binding}
 use Rattle.ob0_language_values.specs.Values.{CallBound}
 use Rattle.ob0_language_runs.specs.Runs.{Activation, CallFunction, Progress, Run, activate, run_with_calls, running, stopped}
 
--- returns the run with only the first `n` variables in its store; a run that has ended is left
--- unchanged
+-- returns the progress of a run with only the first `n` variables in its store; a run that has
+-- ended is left unchanged
 abbrev pub drop_variables : ℕ → Progress → Progress
 drop_variables n (running s) = running record s { store = take n s.store }
 drop_variables n (stopped e out) = stopped e out

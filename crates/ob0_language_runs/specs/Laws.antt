@@ -15,14 +15,14 @@ use Rattle.ob0_language_runs.specs.Freed.{run_freeing}
 use Rattle.ob0_language_runs.specs.Runs.{CallFunction, State, execute, run, run_numbered, run_with_naming}
 
 -- States that a module and its numbered tree have the same run for every input and all bounds on calls and loop
--- iterations.
+-- iterations. The numbered tree has the ordinal of its declaration in place of each bound name.
 abbrev pub NumberingKeepsRuns : Type 0
 NumberingKeepsRuns =
     (m : Tree Name module_text) (input : List ℤ) (c t : ℕ)
     → run m input c t ≡ run_numbered (numbered m) input c t
 
 -- States that two modules with the same numbered tree have the same run for every input and all bounds on calls and
--- loop iterations.
+-- loop iterations. A numbered tree has the ordinal of its declaration in place of each bound name.
 abbrev pub NumberedTreeDecidesRuns : Type 0
 NumberedTreeDecidesRuns =
     (a b : Tree Name module_text)
@@ -57,7 +57,8 @@ NeverStuck =
     → (run m input c t).ending ≢ Stuck
 
 -- States that replacing uses of a constant by a factor leaves the execution of a statement unchanged. The factor must
--- have the constant's value in every store. `k` is the number of the statement's first occurrence.
+-- have the constant's value in every store. `k` is the number of the first occurrence of a name in the statement.
+-- Occurrences are numbered from 0 in text order.
 abbrev pub InliningKeepsExecution : Type 0
 InliningKeepsExecution =
     (meaning : Meanings Name Place (List Mode)) (enter : CallFunction Name) (t : ℕ) (uses : OccurrenceSet)

@@ -25,12 +25,13 @@ pub record State : Type 0 where
   pub input : List ℤ
   pub output : List PrintedItem
 
--- the progress of a run: it continues with a state, or it has stopped with an end and the output before this end
+-- the progress of a run: it continues with a state, or it has stopped; a stopped run has the way in which it ended and
+-- the output before its end
 pub data Progress : Type 0 where
   running : State → Progress
   stopped : End → List PrintedItem → Progress
 
--- an argument: a place for a VAR parameter, determined when the call begins; otherwise a copy of a value
+-- an evaluated argument of a call: a place for a VAR parameter, or a copy of a value for any other parameter
 pub data Argument : Type 0 where
   place_argument : Place → Argument
   value_argument : Value → Argument
@@ -46,8 +47,8 @@ abbrev pub continue_with : Progress → (State → Progress) → Progress
 continue_with (running s) next = next s
 continue_with (stopped e out) next = stopped e out
 
--- continues with one of two functions, according to a truth value; any other value ends the run
--- with Stuck
+-- continues a run from the state `s` with one of two functions: `when_true` if the value is TRUE, `when_false` if the
+-- value is FALSE; any other value ends the run with Stuck
 abbrev pub choose : State → Value → (State → Progress) → (State → Progress) → Progress
 choose s (truth true) when_true when_false = when_true s
 choose s (truth false) when_true when_false = when_false s
@@ -62,8 +63,8 @@ abbrev pub store_at : State → Place → Value → Progress
 store_at s p v =
     use_result s (or_stuck (write_place s.store p v)) (λ store. running record s { store = store })
 
--- stores the next number of the input at a place; the list has the remaining input; ends the run with InputEnd if this
--- list is empty
+-- stores the next number of the input at the place `p`; the list has the input that isn't read yet; ends the run with
+-- InputEnd if this list is empty
 abbrev pub read_number : State → Place → List ℤ → Progress
 read_number s p [] = stopped InputEnd s.output
 read_number s p (n ∷ rest) = store_at record s { input = rest } p (number n)
@@ -76,7 +77,7 @@ modes_of (Some (a_standard write_procedure)) = succeeds_with (by_value ∷ [])
 modes_of (Some (a_standard write_line_procedure)) = succeeds_with []
 modes_of _ = ends_run_with Stuck
 
--- evaluates an argument: to its place for a VAR parameter, otherwise to a copy of its value (rule 6)
+-- evaluates an argument: to its place for a VAR parameter, otherwise to a copy of its value (docs/LANGUAGE.md, Runs 6)
 unfoldable pub evaluate_argument : {N P : Type 0}
     → Meanings N Place P
     → Store
@@ -123,8 +124,8 @@ perform_call (Some (a_standard write_line_procedure)) enter [] s = running (appe
 perform_call _ enter args s = stopped Stuck s.output
 
 -- Executes a WHILE statement. The first argument is how many iterations may still be made. If the condition is FALSE,
--- the statement ends. If the condition is TRUE, one more iteration is made. If no iteration may be made then, the run
--- ends with TurnBound.
+-- the statement ends. If the condition is TRUE, another iteration is made. If the first argument is 0, the run ends
+-- with TurnBound instead of making this iteration.
 abbrev pub execute_while : ℕ → (State → Outcome Value) → (State → Progress) → State → Progress
 execute_while zero condition statements s =
     use_result s (condition s) (λ v. choose s v (λ s'. stopped TurnBound s'.output) running)
@@ -137,8 +138,8 @@ abbrev pub CallFunction : Type 0 → Type 0
 CallFunction N = N → List Argument → State → Progress
 
 -- Executes a REPEAT statement: makes an iteration and then evaluates the condition. The first argument is how many
--- iterations may be made after this one. If the condition is TRUE, the statement ends. If the condition is FALSE, one
--- more iteration is made. If no iteration may be made then, the run ends with TurnBound.
+-- iterations may be made after this one. If the condition is TRUE, the statement ends. If the condition is FALSE,
+-- another iteration is made. If the first argument is 0, the run ends with TurnBound instead of making this iteration.
 abbrev pub execute_repeat : ℕ → (State → Outcome Value) → (State → Progress) → State → Progress
 execute_repeat zero condition turn s =
     continue_with (turn s) (λ s'. use_result s' (condition s')
@@ -254,8 +255,8 @@ allocate (x ∷ xs) v f =
       store = f.store ++ v ∷ [];
     }
 
--- Returns the frame with declared variables added. Each part of a variable is 0 or FALSE (rule 1). `k` is the number of
--- words ARRAY and RECORD before these declarations. Returns None if a type has an error.
+-- Returns the frame with declared variables added. In their values, each number is 0 and each truth value is FALSE. `k`
+-- is the number of words ARRAY and RECORD before these declarations. Returns None if a type has an error.
 unfoldable pub declare_variables : {N : Type 0}
     → Naming N
     → ℕ
@@ -269,8 +270,8 @@ declare_variables naming k (more (declares_variable ns u) gs) f =
     (allocate (names_in_list ns) (initial_value s) f))
     (denoted_type (meanings naming f.env) k u)
 
--- returns the environment with procedures added, each with the number of words ARRAY and RECORD before it; `k` is this
--- number for the first procedure
+-- returns the environment `env` with these procedures added, each with the number of words ARRAY and RECORD before it;
+-- `k` is this number for the first procedure
 abbrev pub declare_procedures : {N : Type 0}
     → ℕ
     → Tree N (items procedure)
@@ -302,7 +303,8 @@ declare_block naming k b f =
     (declare_constants_and_types naming f.env k b)
 
 -- Returns the frame with a parameter bound to its argument. A VAR parameter is bound to the argument's place. Any other
--- parameter is bound to a separate variable with the argument's value. Returns None if the argument has the wrong form.
+-- parameter is bound to a separate variable with the argument's value. Returns None if a VAR parameter gets a value, or
+-- another parameter gets a place.
 abbrev pub bind_parameter : {N : Type 0} → Mode → N → Argument → Frame N → Option (Frame N)
 bind_parameter by_place x (place_argument p) f =
     Some record { env = (x, a_variable p) ∷ f.env; store = f.store }
@@ -321,7 +323,7 @@ parameters (more (then_section f) fs) =
     map (λ x. record { mode = section_mode f; name = x }) (section_names f) ++ parameters fs
 
 -- returns the frame with all parameters of a procedure bound to the arguments of a call; None if there are more or
--- fewer arguments than parameters, or an argument has the wrong form
+-- fewer arguments than parameters, or if `bind_parameter` returns None for one of them
 abbrev pub bind_parameters : {N : Type 0}
     → List (Parameter N)
     → List Argument
@@ -373,7 +375,8 @@ execute_body naming env enter t none s = running s
 execute_body naming env enter t (one (begins statements)) s =
     execute_all (statement_meanings naming env) enter t statements s
 
--- continues a run with `next` in a frame, with the frame's store; ends the run with Stuck if there is no frame
+-- continues a run with the function `next` in a frame; the run gets the frame's store; ends the run with Stuck if the
+-- frame is None
 abbrev pub continue_in_frame : {N : Type 0}
     → State
     → Option (Frame N)
@@ -382,9 +385,9 @@ abbrev pub continue_in_frame : {N : Type 0}
 continue_in_frame s None next = stopped Stuck s.output
 continue_in_frame s (Some f) next = next f record s { store = f.store }
 
--- Executes the procedure in the first binding of an environment. Binds the parameters, adds the procedure's own
--- declarations and executes its body. The body also sees this environment. Ends the run with Stuck if the binding isn't
--- a procedure, the arguments don't match, or a declaration has an error.
+-- Executes the procedure in the first binding of an environment. Adds the parameters, bound to the arguments, and the
+-- procedure's own declarations to this environment, and executes the procedure's body in it. Ends the run with Stuck if
+-- the binding isn't a procedure, the arguments don't match the parameters, or a declaration has an error.
 unfoldable pub activate : {N : Type 0}
     → Naming N
     → (Activation N → CallFunction N)

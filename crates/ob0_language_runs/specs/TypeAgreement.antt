@@ -11,9 +11,9 @@ use Rattle.ob0_language_runs.specs.Runs.{Activation, Argument, ProcedureText, st
 
 -- States that a value has a type, including the types of the value's parts.
 abbrev mutual
-  -- States that a value has this type. The value of an array has the type's length. The value of a record has the same
-  -- ordinal `k` as the type: the number of words ARRAY and RECORD before the RECORD that constructs the type. The parts
-  -- of the value have the types of the type's parts.
+  -- States that a value has this type. A number is an INTEGER, and a truth value is a BOOLEAN. An array must have the
+  -- length of the array type. A record must have the same ordinal as the record type: the number of words ARRAY and
+  -- RECORD before the RECORD that constructs the type. The parts of the value must have the types of the type's parts.
   pub HasShape : Value → Shape → Type 0
   HasShape (number n) integer_shape = Unit {0}
   HasShape (truth b) boolean_shape = Unit {0}
@@ -63,8 +63,8 @@ PlaceHasType typing p s = option_and_then (shape_at_path p.path) (slice_get typi
 abbrev pub signature_modes : Signature → List Mode
 signature_modes = map (λ f. f.mode)
 
--- States that a name's object in a run agrees with the name's object in the checked module. The name may also have no
--- object in either. Types, constants and standard procedures must be equal. The place of a variable must have the
+-- States that a name's object in a run agrees with the name's object in the checked module, or that the name has no
+-- object in both. Types, constants and standard procedures must be equal. The place of a variable must have the
 -- variable's type. The modes of a procedure's parameters must be the modes in its signature.
 abbrev pub RunObjectAgrees : StoreTyping
     → Option (Object Shape Signature)

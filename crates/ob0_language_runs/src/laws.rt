@@ -11,13 +11,15 @@ ghost use Rattle.ob0_language_runs.specs.Laws.{NumberingKeepsRuns, NumberedTreeD
 ghost use Rattle.ob0_language_runs.specs.EditLaws.{FreeRenamingKeepsTypingAndRuns, InliningKeepsTypingAndRuns, RemovingUnusedKeepsTypingAndRuns, InliningEverywhereKeepsTypingAndRuns};
 
 /// Proves that a module and its numbered tree have the same run for every input and all bounds on
-/// calls and loop iterations.
+/// calls and loop iterations. The numbered tree has the ordinal of its declaration in place of each
+/// bound name.
 pub fn numbering_keeps_runs()
     ensures { NumberingKeepsRuns }
 {}
 
-/// Proves that two modules with the same numbered tree have the same runs: the same result for
-/// every input and all bounds.
+/// Proves that two modules with the same numbered tree have the same run for every input and all
+/// bounds on calls and loop iterations. A numbered tree has the ordinal of its declaration in place
+/// of each bound name.
 pub fn numbered_tree_decides_runs()
     ensures { NumberedTreeDecidesRuns }
 {}

@@ -23,12 +23,14 @@ abbrev pub list_if_some : {A B : Type 0} → Option A → (A → List B) → Lis
 list_if_some None list = []
 list_if_some (Some a) list = list a
 
--- Returns the bindings of a block: its constants, types, variables and procedures.
+-- Returns the bindings that the declarations of a block or of procedures make, including all declarations inside
+-- procedures.
 unfoldable mutual
   unfolding declare_procedure typed_parameters
 
-  -- returns the bindings of a block, newest first; an empty list if a constant, type or variable has an error; `k` is
-  -- the number of words ARRAY and RECORD before the block
+  -- returns the bindings that the declarations of a block make, including the declarations in its procedures, newest
+  -- first; an empty list if a constant, type or variable of the block has an error; `k` is the number of words ARRAY
+  -- and RECORD before the block
   pub block_bindings : {N : Type 0}
       → Naming N
       → TypeEnvironment N

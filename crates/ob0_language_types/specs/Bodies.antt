@@ -116,9 +116,8 @@ abbrev mutual
   HoldsInProcedure Q env k (declares_procedure x fs b closing) =
       HoldsInBlock Q env (k + formals_constructor_count (formal_sections fs)) b
 
--- States that an environment and a declaration agree on the object of an ordinal. If the
--- environment of a body in a well-typed module binds an ordinal to an object, the declaration with
--- this ordinal makes the same object.
+-- States that environments agree with declarations. If the environment in which a body of a well-typed module is
+-- checked binds an ordinal to an object, the declaration with this ordinal makes the same object (`declared_object`).
 abbrev pub BindingsMatchDeclarations : Type 0
 BindingsMatchDeclarations =
     (m : Tree Name module_text) → WellTyped m

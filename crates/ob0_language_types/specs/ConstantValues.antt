@@ -18,11 +18,11 @@ use Rattle.ob0_language_types.specs.WellTyped.{bind_names}
 abbrev pub ConstantEnvironment : Type 0
 ConstantEnvironment = Environment Name (Unit {0}) (Unit {0})
 
--- the object that replaces every object other than a constant in such an environment
+-- the object that replaces every object other than a constant in a `ConstantEnvironment`
 abbrev pub non_constant : Object (Unit {0}) (Unit {0})
 non_constant = a_variable tt
 
--- returns a constant with the same value for a constant, and `non_constant` for any other object
+-- returns the object unchanged if it is a constant, otherwise `non_constant`
 abbrev pub keep_constant : {V P : Type 0} → Object V P → Object (Unit {0}) (Unit {0})
 keep_constant (a_constant v) = a_constant v
 keep_constant (a_type s) = non_constant
@@ -51,8 +51,9 @@ value_in_constants known d k (more (declares_constant x e) cs) = do
 unfoldable mutual
   unfolding value_in_constants declare_constants
 
-  -- returns the value of the constant with ordinal `d` in a block whose first declaration has
-  -- ordinal `k`; None if the block doesn't declare this constant or its value can't be computed
+  -- returns the value of the constant with ordinal `d` in a block or its procedures; the block's
+  -- first declaration has ordinal `k`; None if they don't declare this constant or its value can't
+  -- be computed
   pub value_in_block : ConstantEnvironment → ℕ → ℕ → Tree Name block → Option Value
   value_in_block known d k (forms_block (declares cs ts vs ps) statements) =
       if nat_lt d (first_type_ordinal k (forms_block (declares cs ts vs ps) statements))
@@ -74,9 +75,9 @@ unfoldable mutual
       else value_in_procedures ((procedure_name p, non_constant) ∷ known) d
       (ordinal_after_procedure (suc k) p) rest
 
-  -- Returns the value of the constant with ordinal `d` in a procedure's block. Returns None if the
-  -- block doesn't declare this constant or its value can't be computed. The procedure's first
-  -- parameter has ordinal `k`. Parameters aren't constants.
+  -- Returns the value of the constant with ordinal `d` in a procedure's block. The procedure's
+  -- first parameter has ordinal `k`. Returns None if the block doesn't declare this constant or its
+  -- value can't be computed. Also returns None if `d` is the ordinal of a parameter.
   pub value_in_procedure : ConstantEnvironment → ℕ → ℕ → Tree Name (item procedure) → Option Value
   value_in_procedure known d k (declares_procedure x fs b closing) =
       if nat_lt d (ordinal_after_names k (formal_names (formal_sections fs))) then None

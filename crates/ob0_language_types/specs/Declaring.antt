@@ -8,8 +8,8 @@ use Rattle.ob0_language_types.specs.Declarations.{constructors_before_variables,
 use Rattle.ob0_language_types.specs.Typing.{◌>>=◌}
 use Rattle.ob0_language_types.specs.WellTyped.{TypeEnvironment, bind_typed_parameters, declare_typed_variables, bind_procedure, procedure_is_well_typed, typed_parameters}
 
--- Returns the environment `env` with the procedure's name added. Returns None if the procedure
--- isn't well-typed. `k` is the number of words ARRAY and RECORD before the procedure.
+-- Returns the environment `env` with the name of the procedure `p` added. Returns None if this
+-- procedure isn't well-typed. `k` is the number of words ARRAY and RECORD before the procedure.
 unfoldable pub declare_procedure : {N : Type 0}
     → Naming N
     → TypeEnvironment N

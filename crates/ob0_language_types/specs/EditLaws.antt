@@ -29,8 +29,9 @@ IsScalar (truth b) = Unit {0}
 IsScalar (elements vs) = ⊥
 IsScalar (members k ms) = ⊥
 
--- States that a truth value's word, TRUE or FALSE, would be bound to the predeclared constant in place of this
--- occurrence. States nothing for any other value.
+-- States that the word for a truth value (TRUE or FALSE) would be bound to the predeclared constant if it replaced the
+-- occurrence with number `occurrence`. Occurrences are numbered from 0 in text order. States nothing for any other
+-- value.
 abbrev pub MeansPredeclaredTruth : Tree Name module_text → ℕ → Value → Type 0
 MeansPredeclaredTruth m occurrence (truth true) = resolve_at_occurrence m occurrence (codes "TRUE") ≡ Some 2
 MeansPredeclaredTruth m occurrence (truth false) = resolve_at_occurrence m occurrence (codes "FALSE") ≡ Some 3
@@ -44,8 +45,8 @@ pub record IsConstantWithLiteral
   pub scalar : IsScalar w
   pub literal : value_literal w ≡ Some v
 
--- States that each occurrence in `uses` is bound to the constant with ordinal `d`. If the constant's value `w` is TRUE
--- or FALSE, this word must mean the predeclared constant in place of each of these occurrences.
+-- States that each occurrence in the set `uses` is bound to the constant with ordinal `d`. If the constant's value `w`
+-- is TRUE or FALSE, this word must also mean the predeclared constant if it replaces one of these occurrences.
 pub record AreInlinableUses (m : Tree Name module_text) (d : ℕ) (w : Value) (uses : OccurrenceSet) : Type 0 where
   pub bound : (k : ℕ) → uses k ≡ true → binds m k ≡ Some d
   pub seen : (k : ℕ) → uses k ≡ true → MeansPredeclaredTruth m k w
@@ -78,8 +79,9 @@ InliningEverywhereKeepsWellTyped =
     → WellTyped m
     → WellTyped (inlined_everywhere m d v)
 
--- States that each use of a constant in a well-typed module is a whole factor, without selectors. In particular, a use
--- of a constant isn't the name of a type, a called procedure or the target of an assignment.
+-- States that each use of a constant in a well-typed module is a whole factor: a name without selectors in an
+-- expression. In particular, a use of a constant isn't the name of a type, a called procedure or the target of an
+-- assignment.
 abbrev pub ConstantUsesAreFactors : Type 0
 ConstantUsesAreFactors =
     (m : Tree Name module_text) (d : ℕ) (w : Value) (v : Tree Name factor)

@@ -13,13 +13,14 @@ use Rattle.ob0_language_names.specs.ConsistentNames.{has_consistent_names}
 use Rattle.ob0_language_types.specs.WellTyped.{Mode, TypeMeanings, WellTyped, passes_type_check}
 
 -- States that the type check by names accepts a module exactly if the type check by ordinals accepts the module's
--- numbered tree.
+-- numbered tree. This tree has the ordinal of its declaration in place of each bound name.
 abbrev pub NumberingKeepsTypeCheck : Type 0
 NumberingKeepsTypeCheck =
     (m : Tree Name module_text) → passes_type_check naming_by_spelling m ≡ passes_type_check naming_by_label (numbered m)
 
--- States that two modules with the same numbered tree are both well-typed or neither is. Both modules must declare no
--- name twice in a block or record, and each closing name must equal the name of its module or procedure.
+-- States that two modules with the same numbered tree are both well-typed or neither is. A numbered tree has the
+-- ordinal of its declaration in place of each bound name. Both modules must declare no name twice in a block or record,
+-- and each closing name must equal the name of its module or procedure.
 abbrev pub NumberedTreeDecidesTyping : Type 0
 NumberedTreeDecidesTyping =
     (a b : Tree Name module_text)
@@ -47,7 +48,8 @@ EachUseHas uses P k [] = Unit {0}
 EachUseHas uses P k (x ∷ xs) = (uses k ≡ true → P x) × EachUseHas uses P (suc k) xs
 
 -- States that replacing uses of a constant by a factor with the constant's value leaves an expression's evaluation
--- unchanged. `k` is the number of the expression's first occurrence.
+-- unchanged. `k` is the number of the first occurrence of a name in the expression. Occurrences are numbered from 0 in
+-- text order.
 abbrev pub InliningKeepsEvaluation : Type 0
 InliningKeepsEvaluation =
     (meaning : Meanings Name Place (List Mode)) (store : Store) (uses : OccurrenceSet) (v : Tree Name factor)
@@ -57,7 +59,7 @@ InliningKeepsEvaluation =
     → evaluate meaning store (inline_in uses v k e) ≡ evaluate meaning store e
 
 -- States that replacing uses of a constant by a factor with the constant's type leaves an expression's type unchanged.
--- `k` is the number of the expression's first occurrence.
+-- `k` is the number of the first occurrence of a name in the expression. Occurrences are numbered from 0 in text order.
 abbrev pub InliningKeepsTypes : Type 0
 InliningKeepsTypes =
     (checked : TypeMeanings Name) (uses : OccurrenceSet) (v : Tree Name factor) (w : Value) (k : ℕ)

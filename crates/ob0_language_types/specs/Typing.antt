@@ -24,16 +24,16 @@ infixl 20 ◌>>=◌
 abbrev pub ◌>>=◌ : {A B : Type 0} → Option A → (A → Option B) → Option B
 ◌>>=◌ o next = option_and_then next o
 
--- returns the type of a sum, a difference or an OR whose operands have these types; None unless both operands are
--- INTEGER, or both BOOLEAN for OR
+-- returns the type of `+`, `-` or OR with operands of these types: INTEGER if `+` or `-` has two INTEGER operands,
+-- BOOLEAN if OR has two BOOLEAN operands, otherwise None
 abbrev pub addition_type : AddOperator → Shape → Shape → Option Shape
 addition_type add_operator.Add integer_shape integer_shape = Some integer_shape
 addition_type add_operator.Subtract integer_shape integer_shape = Some integer_shape
 addition_type add_operator.Or boolean_shape boolean_shape = Some boolean_shape
 addition_type _ _ _ = None
 
--- returns the type of a `*`, DIV, MOD or `&` whose operands have these types; None unless both operands are INTEGER, or
--- both BOOLEAN for `&`
+-- returns the type of `*`, DIV, MOD or `&` with operands of these types: INTEGER if `*`, DIV or MOD has two INTEGER
+-- operands, BOOLEAN if `&` has two BOOLEAN operands, otherwise None
 abbrev pub multiplication_type : MultiplyOperator → Shape → Shape → Option Shape
 multiplication_type multiply_operator.Multiply integer_shape integer_shape = Some integer_shape
 multiplication_type multiply_operator.Divide integer_shape integer_shape = Some integer_shape
@@ -57,12 +57,12 @@ sign_type (Some sign.Plus) integer_shape = Some integer_shape
 sign_type (Some sign.Minus) integer_shape = Some integer_shape
 sign_type _ _ = None
 
--- returns the type of `~` before an operand of this type; None unless the operand is BOOLEAN
+-- returns the type of the operator `~` with an operand of this type: BOOLEAN if the operand is BOOLEAN, otherwise None
 abbrev pub negation_type : Shape → Option Shape
 negation_type boolean_shape = Some boolean_shape
 negation_type _ = None
 
--- returns the type of a scalar value, INTEGER or BOOLEAN (rule 7); None for an array or record
+-- returns the type of a scalar value, INTEGER or BOOLEAN; None for an array or record
 abbrev pub value_type : Value → Option Shape
 value_type (number n) = Some integer_shape
 value_type (truth b) = Some boolean_shape
@@ -74,8 +74,8 @@ object_type (Some (a_variable s)) = Some s
 object_type (Some (a_constant v)) = value_type v
 object_type _ = None
 
--- returns the type of an array's elements, given the type of the array and the type of the index; None unless the first
--- is an array type and the second is INTEGER
+-- returns the type of an array's elements, given the type of the array and the type of the index; None if the first
+-- type isn't an array type or the second isn't INTEGER
 abbrev pub element_type : Shape → Shape → Option Shape
 element_type (array_shape k n s) integer_shape = Some s
 element_type _ _ = None
@@ -169,8 +169,8 @@ abbrev pub constant_of : {V P : Type 0} → Option (Object V P) → Option Value
 constant_of (Some (a_constant v)) = Some v
 constant_of _ = None
 
--- returns the meanings of names in constant expressions: constants keep their meaning, and any other name means nothing
--- (rule 6)
+-- returns the meanings of names in constant expressions: constants keep their meaning, and any other name means
+-- nothing, because a constant expression may contain no other names
 abbrev pub constant_meanings : {N V P W Q : Type 0} → Meanings N V P → Meanings N W Q
 constant_meanings meaning =
     record {
@@ -184,8 +184,8 @@ abbrev pub outcome_value : Outcome Value → Option Value
 outcome_value (succeeds_with v) = Some v
 outcome_value (ends_run_with e) = None
 
--- Returns the value of a constant expression. The names of constants are the only names with a meaning in it. Returns
--- None if the expression has no type or its evaluation ends with a fault.
+-- Returns the value of a constant expression, in which only the names of constants have a meaning. Returns None if the
+-- expression has no type or its evaluation ends with a fault.
 unfoldable pub constant_value : {N V P : Type 0} → Meanings N V P → Tree N expression → Option Value
 unfolding type_of evaluate
 constant_value meaning e = do
@@ -221,8 +221,8 @@ abbrev mutual
   field_scalars no_field_shape = 0
   field_scalars (next_field_shape x s rest) = scalars s + field_scalars rest
 
--- Returns the depth to which arrays and records are nested in a type. Arrays and records that named types denote also
--- count.
+-- Returns the depth to which arrays and records are nested in a type. If a part of the type is written as a type's
+-- name, the arrays and records that this name means also count.
 abbrev mutual
   -- returns the depth of a type; an array is one level deeper than its elements, and a record is one level deeper than
   -- its deepest field
@@ -267,7 +267,7 @@ abbrev pub type_of_name : {V P : Type 0} → Option (Object V P) → Option Shap
 type_of_name (Some (a_type s)) = Some s
 type_of_name _ = None
 
--- returns a list of fields: these names as fields of type `s`, followed by the fields `rest`
+-- returns a list of fields: a field of type `s` for each of these names, followed by the fields `rest`
 abbrev pub prepend_fields : List Name → Shape → FieldShapes → FieldShapes
 prepend_fields [] s rest = rest
 prepend_fields (x ∷ xs) s rest = next_field_shape x s (prepend_fields xs s rest)
@@ -316,7 +316,8 @@ unfoldable mutual
     later ← denoted_further_fields meaning (k + group_constructor_count g) rest
     denoted_group_fields meaning k later g
 
--- returns the designator of an expression that is only a designator, without sign or parentheses; otherwise None
+-- returns the name and the selectors of an expression that is only a designator, without sign or parentheses; None for
+-- any other expression
 abbrev pub lone_designator : {N : Type 0} → Tree N expression → Option (N × Tree N (items selector))
 lone_designator (compares (sum None (product (designator x path) end) end) none) = Some (x, path)
 lone_designator _ = None

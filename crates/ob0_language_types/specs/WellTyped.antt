@@ -62,9 +62,9 @@ abbrev pub same_known_shape : Option Shape → Option Shape → Bool
 same_known_shape (Some s) (Some t) = same_shape s t
 same_known_shape _ _ = false
 
--- Returns the type of a designator that may be assigned to or passed as a VAR argument: a variable or parameter with
--- selectors. Returns None if there is no designator, its name isn't a variable or parameter, or its selectors have an
--- error.
+-- Returns the type of a designator that may be assigned to or passed as a VAR argument: a variable or parameter,
+-- possibly followed by selectors. Returns None if there is no designator, its name isn't a variable or parameter, or
+-- its selectors have an error.
 unfoldable pub variable_type : {N P : Type 0}
     → Meanings N Shape P
     → Option (N × Tree N (items selector))
@@ -85,7 +85,7 @@ signature_of (Some (a_standard write_line_procedure)) = Some []
 signature_of _ = None
 
 -- Returns whether an argument has its parameter's type. For a VAR parameter, the argument must also be a variable or
--- parameter with its selectors, without parentheses.
+-- parameter, possibly followed by selectors, without parentheses.
 unfoldable pub argument_matches : {N P : Type 0}
     → Meanings N Shape P
     → FormalParameter
@@ -97,7 +97,7 @@ argument_matches meaning f e =
     [ by_value ↦ type_of meaning e | by_place ↦ variable_type meaning (lone_designator e) ])
 
 -- Returns whether there are as many arguments as parameters, and each argument has the type and form that its parameter
--- requires (rules 2 and 5).
+-- requires (docs/LANGUAGE.md, Types 2 and 5).
 unfoldable pub arguments_match : {N P : Type 0}
     → Meanings N Shape P
     → Signature
@@ -213,7 +213,7 @@ typed_parameters naming env k (more (then_section f) fs) = do
       (section_names f)
       ++ rest)
 
--- returns the environment `env` with these parameters bound as variables (rule 4)
+-- returns the environment `env` with these parameters added, each bound as a variable of its type
 abbrev pub bind_typed_parameters : {N : Type 0}
     → List (TypedParameter N)
     → TypeEnvironment N
@@ -235,13 +235,14 @@ unfolding statement_is_well_typed
 body_is_well_typed naming env none = true
 body_is_well_typed naming env (one (begins statements)) = sequence_is_well_typed (meanings naming env) statements
 
--- returns whether there is a value for which the function `test` returns true
+-- returns whether an optional value isn't None and the function `test` returns true for it
 abbrev pub option_satisfies : {A : Type 0} → Option A → (A → Bool) → Bool
 option_satisfies None test = false
 option_satisfies (Some a) test = test a
 
--- Returns whether a block is well-typed. The check covers its declarations, then each procedure in the environment that
--- has the earlier procedures, then its statements in the whole environment.
+-- Returns whether a block is well-typed. The check covers its declarations, then each procedure, then its statements. A
+-- procedure is checked in the environment that has the block's earlier procedures. The statements are checked in the
+-- environment that has all the block's declarations.
 unfoldable mutual
   unfolding declare_constants_and_types declare_typed_variables typed_parameters body_is_well_typed
 

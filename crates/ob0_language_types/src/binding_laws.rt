@@ -2,9 +2,9 @@
 
 ghost use Rattle.ob0_language_types.specs.Bodies.{BindingsMatchDeclarations};
 
-/// Proves that an environment and a declaration agree on the object of an ordinal. If the
-/// environment of a body in a well-typed module binds an ordinal to an object, the declaration with
-/// this ordinal makes the same object.
+/// Proves that environments agree with declarations. If the environment in which a body of a
+/// well-typed module is checked binds an ordinal to an object, the declaration with this ordinal
+/// makes the same object (`declared_object`).
 pub fn bindings_match_declarations()
     ensures { BindingsMatchDeclarations }
 {}

@@ -10,9 +10,10 @@ pub fn numbering_keeps_type_check()
     ensures { NumberingKeepsTypeCheck }
 {}
 
-/// Proves that two modules with the same numbered tree are both well-typed or neither is. Each
-/// module must declare no name twice in a block or record, and each closing name must equal the
-/// name of its module or procedure.
+/// Proves that two modules with the same numbered tree are both well-typed or neither is. A
+/// numbered tree has the ordinal of its declaration in place of each bound name. Each module must
+/// declare no name twice in a block or record, and each closing name must equal the name of its
+/// module or procedure.
 pub fn numbered_tree_decides_typing()
     ensures { NumberedTreeDecidesTyping }
 {}

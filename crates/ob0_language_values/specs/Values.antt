@@ -63,7 +63,7 @@ abbrev pub ◌>>=◌ : {A B : Type 0} → Outcome A → (A → Outcome B) → Ou
 ◌>>=◌ (succeeds_with a) next = next a
 ◌>>=◌ (ends_run_with e) next = ends_run_with e
 
--- returns an optional result as an outcome; the outcome is the end Stuck for None
+-- returns an optional result as an outcome: the result, or the end Stuck if it is None
 abbrev pub or_stuck : {A : Type 0} → Option A → Outcome A
 or_stuck None = ends_run_with Stuck
 or_stuck (Some a) = succeeds_with a
@@ -73,12 +73,12 @@ abbrev pub fits_in_32_bits : ℤ → Bool
 fits_in_32_bits (pos n) = nat_lt n (2 ^ 31)
 fits_in_32_bits (negsuc n) = nat_lt n (2 ^ 31)
 
--- returns the number as a value if it fits in 32 bits, otherwise the end Overflow (rule 3)
+-- returns the number as a value if it fits in 32 bits, otherwise the end Overflow
 abbrev pub checked_number : ℤ → Outcome Value
 checked_number n = if fits_in_32_bits n then succeeds_with (number n) else ends_run_with Overflow
 
--- returns the outcome of a DIV or MOD: the number, or Overflow if the number doesn't fit in 32 bits, or Divisor for
--- None
+-- returns the outcome of a DIV or MOD, given its result: the end Divisor if the result is None, the end Overflow if the
+-- result doesn't fit in 32 bits, otherwise the result
 abbrev pub division_outcome : Option ℤ → Outcome Value
 division_outcome None = ends_run_with Divisor
 division_outcome (Some n) = checked_number n
@@ -149,7 +149,8 @@ pub data Step : Type 0 where
   at_index : ℕ → Step
   at_field : Name → Step
 
--- a place: the index of a variable in the store, counted from 0, and a path into the variable's value (rule 4)
+-- a place, which a designator gives: the index of a variable in the store, counted from 0, and a path to a part of the
+-- variable's value
 pub record Place : Type 0 where
   pub variable : ℕ
   pub path : List Step
@@ -211,7 +212,7 @@ with_value_at_path (s ∷ path) new v =
 abbrev pub read_place : Store → Place → Option Value
 read_place store p = option_and_then (value_at_path p.path) (slice_get store p.variable)
 
--- returns the store in which `new` replaces the value at a place (rule 5); None if there is no such place
+-- returns the store in which `new` replaces the value at a place; None if there is no such place
 abbrev pub write_place : Store → Place → Value → Option Store
 write_place store p new =
     option_and_then (λ old. option_map (slice_set store p.variable) (with_value_at_path p.path new old))

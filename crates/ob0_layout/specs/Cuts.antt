@@ -1,5 +1,5 @@
--- Defines the gaps that the code finds while it visits the tokens and comments of a text, and each gap
--- as a cut of bytes.
+-- Defines the gaps that the code finds while it visits the tokens and comments of a text. Also
+-- defines each gap as a cut: a range of bytes and its replacement.
 -- Rule: none; for private contracts: gaps as cuts of bytes, and runs of a byte.
 use Rattle.std.specs.Prelude.{◌≤◌, ℕ, Bool, true, ◌&&◌, ◌==◌, if◌then◌else◌, nat_lt, Option, Some, None, List, [], ◌∷◌, filter}
 use Rattle.ob0_scan.specs.declared.lexeme.LexemeKind.{LexemeKind}
@@ -26,14 +26,14 @@ next_lexeme (t ∷ ts) [] = Some (next.Token t)
 next_lexeme (t ∷ ts) (c ∷ cs) =
     if nat_lt c.start t.span.start then Some (next.Comment c) else Some (next.Token t)
 
--- Returns the gap between a token or comment and the next one, which has this kind and role. At the
--- start of the text (None) the gap is empty.
+-- Returns the formatted gap between a token or comment and the next one, which has the kind `kind`
+-- and the role `role`. At the start of the text (None) the gap is empty.
 abbrev pub gap_before : Option KindAndRole → LexemeKind → LineRole → Gap
 gap_before None kind role = Nothing
 gap_before (Some b) kind role = gap_between b.kind b.role kind role
 
--- Returns the gap at the end of the text: a line feed after the last token or comment. If the text
--- has no token or comment (None), the gap is empty.
+-- Returns the formatted gap at the end of the text: a line feed after the last token or comment. If
+-- the text has no token or comment (None), the gap is empty.
 abbrev pub last_gap : Option KindAndRole → Gap
 last_gap None = Nothing
 last_gap (Some b) = Line 0
@@ -51,7 +51,7 @@ pub record LiesIn (len : ℕ) (g : GapSite) : Type 0 where
   pub ordered : g.start ≤ g.end
   pub within : g.end ≤ len
 
--- Returns whether each of these bytes is equal to `b`.
+-- Returns whether each byte in the list is equal to `b`.
 abbrev pub all_equal_to : ℕ → List ℕ → Bool
 all_equal_to b [] = true
 all_equal_to b (c ∷ cs) = (c == b) && all_equal_to b cs

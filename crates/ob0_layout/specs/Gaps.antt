@@ -34,7 +34,8 @@ gaps_of_lexemes indent len (a ∷ bs) =
 abbrev pub all_gaps : Indent → List ℕ → List LineRole → List Lexeme → List Cut
 all_gaps indent text ss lexemes = gaps_of_lexemes indent (length text) (placed_lexemes 0 0 true ss lexemes)
 
--- Returns whether formatting changes the text of a gap, which is given as a cut.
+-- Returns whether formatting changes the gap that the cut `c` replaces: the gap's bytes differ from
+-- the replacement.
 abbrev pub is_changed : List ℕ → Cut → Bool
 is_changed text c = not (bytes_eq (slice_range text c.from c.to) c.new)
 
@@ -49,7 +50,7 @@ pub record EditContent : Type 0 where
   pub text : List ℕ
 
 -- Returns the edit that makes the cut `c` in the text with the characters `content`. `width`
--- returns the number of units of a character: UTF-16 units or bytes, in which positions count.
+-- returns the length of a character in the unit in which positions count: UTF-16 units or bytes.
 abbrev pub edit_of : (ℕ → ℕ) → List ℕ → Cut → EditContent
 edit_of width content c = record {
   range =
@@ -61,14 +62,13 @@ edit_of width content c = record {
 abbrev pub edit_content : Edit → EditContent
 edit_content e = record { range = e.range; text = string_bytes e.text }
 
--- Returns the length in bytes that the rest of a text, starting at the offset `at`, has after these
--- cuts are made. `at` is a byte offset in the text before the cuts, and `len` is the length of that
--- text in bytes.
+-- Returns the length in bytes of the rest of a text, starting at the offset `at`, once each `Cut`
+-- (a range and its replacement) is applied. `at` is a byte offset in the text before any cut is
+-- applied, and `len` is the length of that text in bytes.
 abbrev pub formatted_len_from : ℕ → ℕ → List Cut → ℕ
 formatted_len_from len at [] = len - at
 formatted_len_from len at (c ∷ cs) = (c.from - at) + (length c.new + formatted_len_from len c.to cs)
 
--- States that a gap of the text, which is given as a cut, contains only white space before
--- formatting.
+-- States that the gap that the cut `c` replaces contains only white space before it is replaced.
 abbrev pub IsWhiteSpace : List ℕ → Cut → Type 0
 IsWhiteSpace text c = AllPass is_space (slice_range text c.from c.to)

@@ -1,4 +1,5 @@
--- Defines the role of each token of a tree in its line.
+-- Defines the role of each token of a tree in its line: whether the token begins a line, and how
+-- its neighbours are spaced.
 -- Rule: docs/LANGUAGE.md, Layout 2 to 4.
 use Rattle.std.specs.Prelude.{ℕ, ◌+◌, min, Bool, true, false, Option, Some, None, List, [], ◌∷◌, ◌++◌}
 use Rattle.ob0_tree.specs.declared.tree.Sign.{Sign}
@@ -10,7 +11,8 @@ use Rattle.ob0_layout.specs.declared.line_role.LineRole.TheVariants.{Begins, Ope
 abbrev pub deeper_level : ℕ → ℕ
 deeper_level k = min (k + 1) 4294967295
 
--- Returns the roles with the first one replaced by `Begins level`. Returns an empty list unchanged.
+-- Returns the list of roles with the first role replaced by `Begins level`. Returns an empty list
+-- unchanged.
 abbrev pub with_line_start : ℕ → List LineRole → List LineRole
 with_line_start level [] = []
 with_line_start level (s ∷ ss) = Begins level ∷ ss

@@ -77,7 +77,7 @@ fn is_within_limit(sites: &[GapSite], len: usize, indent: Indent) -> bool
     made + len.saturating_sub(at) <= MAX_TEXT
 }
 
-/// Returns the edits that replace these gaps by their formatted texts, in the same order.
+/// Returns the edits that replace the gaps `sites` by their formatted texts, in the same order.
 fn edits<T: TextStore>(
     alloc: Global,
     store: &T,
@@ -104,14 +104,14 @@ fn edits<T: TextStore>(
     Ok(edits)
 }
 
-/// Returns the byte offsets in the text at which these gaps start, in the same order.
+/// Returns the byte offsets in the text at which the gaps `sites` start, in the same order.
 fn gap_starts(alloc: Global, sites: &[GapSite]) -> Result<Vec<usize>, AllocError>
     ensures { IfOk result (λ offsets. offsets.items ≡ map (λ site. site.start) sites.now) }
 {
     sites.iter().map(|site| site.start).collect(alloc)
 }
 
-/// Returns the byte offsets in the text at which these gaps end, in the same order.
+/// Returns the byte offsets in the text at which the gaps `sites` end, in the same order.
 fn gap_ends(alloc: Global, sites: &[GapSite]) -> Result<Vec<usize>, AllocError>
     ensures { IfOk result (λ offsets. offsets.items ≡ map (λ site. site.end) sites.now) }
 {

@@ -1,7 +1,7 @@
 //! Finds the gaps of a text that formatting changes.
 //!
 //! The code visits the tokens and comments once, and stores only the gaps that change. It compares
-//! gaps without building their texts.
+//! each gap with its formatted text without building that text.
 
 ghost use Rattle.std.specs.Prelude.{◌≡◌, ◌||◌, ◌==◌, ◌++◌, ◌∷◌, [], IfOk, OnOk, is_none, drop, length, map};
 ghost use Rattle.ob0_scan.specs.TextWithTokens.{IsScan};
@@ -91,7 +91,7 @@ pub fn changed_sites(
     Ok(sites)
 }
 
-/// Appends a gap to `sites` if formatting changes the gap.
+/// Appends the gap `site` of `text` to `sites` if formatting changes its white space.
 fn add_gap_if_changed(
     sites: &mut Vec<GapSite>,
     text: &[u8],
@@ -108,7 +108,7 @@ fn add_gap_if_changed(
     Ok(())
 }
 
-/// Returns whether formatting changes this gap.
+/// Returns whether formatting changes the white space of the gap `site` of `text`.
 fn is_changed(text: &[u8], site: GapSite, indent: Indent) -> bool
     requires { LiesIn (length text.now) site }
     ensures { result ≡ is_changed text.now (gap_cut indent site) }
@@ -137,8 +137,8 @@ fn next_lexeme(left: &[Token], comments: &[Span]) -> Option<NextLexeme>
     }
 }
 
-/// Returns the gap between `before` and the next token or comment, which has this kind and role. At
-/// the start of the text, `before` is None and the gap is empty.
+/// Returns the formatted gap between `before` and the next token or comment, which has the kind
+/// `kind` and the role `role`. At the start of the text, `before` is None and the gap is empty.
 fn gap_before(before: Option<KindAndRole>, kind: LexemeKind, role: LineRole) -> Gap
     ensures { result ≡ gap_before before kind role }
 {
@@ -148,8 +148,8 @@ fn gap_before(before: Option<KindAndRole>, kind: LexemeKind, role: LineRole) -> 
     }
 }
 
-/// Returns the gap at the end of the text. The gap is a line feed after the last token or comment,
-/// `before`. If the text has no token or comment, `before` is None and the gap is empty.
+/// Returns the formatted gap at the end of the text. The gap is a line feed after the last token or
+/// comment, `before`. If the text has no token or comment, `before` is None and the gap is empty.
 fn last_gap(before: Option<KindAndRole>) -> Gap
     ensures { result ≡ last_gap before }
 {
@@ -197,7 +197,7 @@ fn without_first_item<T>(items: &[T]) -> &[T]
 }
 
 /// Returns the role of a comment. If a line break comes before the comment (`broken`), the comment
-/// begins a line of this level. Otherwise its role is `Plain`.
+/// begins a line of the level `level`. Otherwise its role is `Plain`.
 fn comment_role(broken: bool, level: u32) -> LineRole
     ensures { result ≡ comment_role broken level }
 {

@@ -37,7 +37,7 @@ fn deeper_level(level: u32) -> u32
     level.saturating_add(1)
 }
 
-/// Appends the role `Plain` of one token.
+/// Appends the role `Plain`, for one token.
 fn add_plain_role(out: &mut Vec<LineRole>) -> Result<(), AllocError>
     ensures { IfOk result (λ _. out.new.items ≡ out.old.items ++ (Plain ∷ [])) }
 {
@@ -158,7 +158,8 @@ fn add_selector_roles(out: &mut Vec<LineRole>, s: &Selector) -> Result<(), Alloc
     }
 }
 
-/// Appends the role of the separator before an item of a list, unless the item is the first one.
+/// Appends the role of the separator before an item of a list. Appends nothing if the item is the
+/// first one of its list (`first`).
 fn add_separator_role(out: &mut Vec<LineRole>, first: bool) -> Result<(), AllocError>
     ensures { IfOk result (λ _. out.new.items ≡ out.old.items ++ separator_role first) }
 {
@@ -169,7 +170,7 @@ fn add_separator_role(out: &mut Vec<LineRole>, first: bool) -> Result<(), AllocE
 }
 
 /// Appends the roles of the tokens in a sequence of statements, including the `;` between
-/// statements. The first token of each statement begins a line of this level.
+/// statements. The first token of each statement begins a line of the level `level`.
 #[cycle(statements)]
 fn add_sequence_roles(
     out: &mut Vec<LineRole>,
@@ -188,7 +189,8 @@ fn add_sequence_roles(
     Ok(())
 }
 
-/// Appends the roles of a statement's tokens. The first token begins a line of this level.
+/// Appends the roles of a statement's tokens. The first token begins a line of the level `level`.
+/// An empty statement has no tokens.
 #[cycle(statements)]
 fn add_statement_roles(out: &mut Vec<LineRole>, level: u32, s: &Statement) -> Result<(), AllocError>
     ensures { IfOk result
@@ -215,7 +217,7 @@ fn add_statement_roles(out: &mut Vec<LineRole>, level: u32, s: &Statement) -> Re
     }
 }
 
-/// Appends the role `Begins(level)` of a token that begins a line of this level.
+/// Appends the role `Begins(level)`, for a token that begins a line.
 fn add_line_start_role(out: &mut Vec<LineRole>, level: u32) -> Result<(), AllocError>
     ensures { IfOk result (λ _. out.new.items ≡ out.old.items ++ (Begins level ∷ [])) }
 {
@@ -223,7 +225,7 @@ fn add_line_start_role(out: &mut Vec<LineRole>, level: u32) -> Result<(), AllocE
     Ok(())
 }
 
-/// Appends the roles of an assignment's tokens. The first token begins a line of this level.
+/// Appends the roles of an assignment's tokens. The first token begins a line of the level `level`.
 fn add_assignment_roles(
     out: &mut Vec<LineRole>,
     level: u32,
@@ -240,7 +242,7 @@ fn add_assignment_roles(
     add_expression_roles(out, &a.value)
 }
 
-/// Appends the roles of a call's tokens. The first token begins a line of this level.
+/// Appends the roles of a call's tokens. The first token begins a line of the level `level`.
 fn add_call_roles(out: &mut Vec<LineRole>, level: u32, c: &Call) -> Result<(), AllocError>
     ensures { IfOk result (λ _. out.new.items ≡ out.old.items ++ line_roles level (call_of c.now)) }
 {
@@ -266,8 +268,8 @@ fn add_argument_roles(out: &mut Vec<LineRole>, given: &Vec<Expression>) -> Resul
     add_plain_role(out)
 }
 
-/// Appends the roles of an IF statement's tokens. IF begins a line of this level, and the
-/// statements inside are one level deeper.
+/// Appends the roles of an IF statement's tokens. IF, ELSIF, ELSE and END begin lines of the level
+/// `level`, and the statements inside are one level deeper.
 #[cycle(statements)]
 fn add_if_roles(out: &mut Vec<LineRole>, level: u32, i: &If) -> Result<(), AllocError>
     ensures { IfOk result (λ _. out.new.items ≡ out.old.items ++ line_roles level (if_of i.now)) }
@@ -403,7 +405,7 @@ fn add_section_roles(out: &mut Vec<LineRole>, s: &ParameterSection) -> Result<()
 }
 
 /// Appends the roles of the tokens in a block's CONST section, if there is one. `level` is the
-/// level of the block.
+/// level of the block. Each declaration begins a line one level deeper.
 fn add_constant_roles(
     out: &mut Vec<LineRole>,
     level: u32,
@@ -426,7 +428,7 @@ fn add_constant_roles(
 }
 
 /// Appends the roles of the tokens in a block's TYPE section, if there is one. `level` is the level
-/// of the block.
+/// of the block. Each declaration begins a line one level deeper.
 fn add_type_declaration_roles(
     out: &mut Vec<LineRole>,
     level: u32,
@@ -449,7 +451,7 @@ fn add_type_declaration_roles(
 }
 
 /// Appends the roles of the tokens in a block's VAR section, if there is one. `level` is the level
-/// of the block.
+/// of the block. Each declaration begins a line one level deeper.
 fn add_variable_roles(
     out: &mut Vec<LineRole>,
     level: u32,

@@ -1,4 +1,5 @@
--- Each module's text has a parsed module, and its names are bound.
+-- Proves that each text that is a module has a parsed module, and that each parsed module has a
+-- resolved module.
 use Rattle.std.proofs.Common.{◌≡◌, ◌∙◌, ◌≤◌, ◌+◌, ℕ, List, [], ◌∷◌, ◌++◌, Option, None, length, refl, ap, sym, subst, arith, replicate}
 use Rattle.std.proofs.lemmas.List.{length-append}
 use Rattle.ob0_scan.specs.declared.lexeme.Token.{Token}
@@ -23,7 +24,7 @@ use Rattle.ob0_scope.proofs.Made.{resolution_made}
 abbrev pub OneTree : Type 0
 OneTree = (text : TextWithTokens) (a b : Tree (List ℕ) module_text) → ModuleOf text a → ModuleOf text b → a ≡ b
 
--- A parsed module of a text with this tree.
+-- A parsed module of the text `s`, whose tree is `t`.
 pub record ParsedOf (s : TextWithTokens) (t : Tree (List ℕ) module_text) : Type 0 where
   pub module_read : ParsedModule
   pub source : module_read.source ≡ s
@@ -67,7 +68,7 @@ parsed_of tree_is_unique s scan t h =
       tree = tree_is_unique s (named_tree_of m) t found h;
     }
 
--- The names of a parsed module are bound.
+-- Returns the resolved module of a parsed module, in which the names are bound.
 pub resolution_of : (m : ParsedModule) → IsParsed m → (r : Resolution) × IsResolution r × (r.module_read ≡ m)
 resolution_of m parsed =
     let visit = visit_module (tree_of m) (initial_walk (original_spellings m.source)) in

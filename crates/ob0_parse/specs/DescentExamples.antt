@@ -13,13 +13,13 @@ use Rattle.ob0_tree.specs.Places.{index_terminal}
 use Rattle.ob0_parse_descent.specs.Descent.{Stop, Done, Expects, Deep, DescendsText}
 use Rattle.ob0_parse_descent.specs.declared.refusal.Expected.TheVariants as expected
 
--- Returns tokens of these kinds, followed by the end of the text. The first token has the index
--- `i`.
+-- Returns tokens of the kinds in the list, followed by the end of the text. The first token has the
+-- index `i`.
 abbrev pub terminals_of_kinds : ℕ → List TokenKind → List (Terminal ℕ)
 terminals_of_kinds i [] = EndOfText ∷ []
 terminals_of_kinds i (k ∷ ks) = index_terminal i k ∷ terminals_of_kinds (i + 1) ks
 
--- States that the descent ends with this stop in a text whose tokens have these kinds.
+-- States that the descent ends with `stop` in a text whose tokens have the kinds `kinds`.
 abbrev pub DescendsKinds : List TokenKind → Stop → Type 0
 DescendsKinds kinds stop = DescendsText (terminals_of_kinds 0 kinds) stop
 
@@ -35,7 +35,7 @@ symbol_kind c = kind.Symbol c
 abbrev pub identifier_kind : TokenKind
 identifier_kind = kind.Identifier
 
--- The kind of the integer 1.
+-- The kind of each integer in the examples. It is the kind of 1, because the value doesn't matter.
 abbrev pub integer_kind : TokenKind
 integer_kind = kind.Integer 1
 
@@ -47,7 +47,7 @@ module_head = reserved_kind reserved.Module ∷ identifier_kind ∷ symbol_kind 
 abbrev pub module_end : List TokenKind
 module_end = reserved_kind reserved.End ∷ identifier_kind ∷ symbol_kind symbol.Dot ∷ []
 
--- Returns the list repeated `n` times.
+-- Returns the list `ks` repeated `n` times.
 abbrev pub repeat_kinds : ℕ → List TokenKind → List TokenKind
 repeat_kinds zero ks = []
 repeat_kinds (suc n) ks = ks ++ repeat_kinds n ks
@@ -56,11 +56,11 @@ repeat_kinds (suc n) ks = ks ++ repeat_kinds n ks
 -- construct is expected there. The last example is a whole module.
 pub record ExpectedStops : Type 0 where
   pub empty : DescendsKinds [] (Expects 0 (expected.Word reserved.Module))
-  -- MODULE M; BEGIN x = 1 END M.
+  -- `MODULE M; BEGIN x = 1 END M.`: END is expected at `=`.
   pub equals : DescendsKinds
       (module_head ++ (reserved_kind reserved.Begin ∷ identifier_kind ∷ symbol_kind symbol.Equal ∷ integer_kind ∷ module_end))
       (Expects 5 (expected.Word reserved.End))
-  -- MODULE M; BEGIN x[0] END M.
+  -- `MODULE M; BEGIN x[0] END M.`: `:=` is expected at END.
   pub selected : DescendsKinds (module_head
       ++ (reserved_kind reserved.Begin
       ∷ identifier_kind
@@ -68,22 +68,22 @@ pub record ExpectedStops : Type 0 where
       ∷ integer_kind
       ∷ symbol_kind symbol.RightBracket
       ∷ module_end)) (Expects 8 (expected.Symbol symbol.Becomes))
-  -- MODULE M; VAR x INTEGER; END M.
+  -- `MODULE M; VAR x INTEGER; END M.`: a colon is expected at INTEGER.
   pub no_colon : DescendsKinds
       (module_head ++ (reserved_kind reserved.Var ∷ identifier_kind ∷ identifier_kind ∷ symbol_kind symbol.Semicolon ∷ module_end))
       (Expects 5 (expected.Symbol symbol.Colon))
-  -- MODULE M; VAR x: ; END M.
+  -- `MODULE M; VAR x: ; END M.`: a type is expected at the second `;`.
   pub no_type : DescendsKinds (module_head
       ++ (reserved_kind reserved.Var ∷ identifier_kind ∷ symbol_kind symbol.Colon ∷ symbol_kind symbol.Semicolon ∷ module_end))
       (Expects 6 expected.Type)
-  -- MODULE M; END M. x
+  -- `MODULE M; END M. x`: the end of the text is expected at `x`.
   pub following_end : DescendsKinds (module_head ++ (module_end ++ (identifier_kind ∷ [])))
       (Expects 6 expected.EndOfText)
-  -- MODULE M; BEGIN WriteLn END M
+  -- `MODULE M; BEGIN WriteLn END M`: a full stop is expected at the end of the text.
   pub no_dot : DescendsKinds
       (module_head ++ (reserved_kind reserved.Begin ∷ identifier_kind ∷ reserved_kind reserved.End ∷ identifier_kind ∷ []))
       (Expects 7 (expected.Symbol symbol.Dot))
-  -- MODULE M; VAR UNTIL: INTEGER; END M.
+  -- `MODULE M; VAR UNTIL: INTEGER; END M.`: END is expected at UNTIL.
   pub reserved_name : DescendsKinds (module_head
       ++ (reserved_kind reserved.Var
       ∷ reserved_kind reserved.Until
@@ -91,22 +91,22 @@ pub record ExpectedStops : Type 0 where
       ∷ identifier_kind
       ∷ symbol_kind symbol.Semicolon
       ∷ module_end)) (Expects 4 (expected.Word reserved.End))
-  -- MODULE M; BEGIN WriteLn END M.
+  -- `MODULE M; BEGIN WriteLn END M.`: the descent reads the whole text.
   pub whole : DescendsKinds (module_head ++ (reserved_kind reserved.Begin ∷ identifier_kind ∷ module_end)) Done
 
 -- States that the descent stops at the 101st of 101 nested constructs, in three example texts: with
 -- IF statements, with procedures and with array types.
 pub record DeepStops : Type 0 where
-  -- MODULE M; BEGIN, 101 times IF TRUE THEN, 101 times END, END M.
+  -- The text is `MODULE M; BEGIN`, 101 times `IF TRUE THEN`, 101 times END, and `END M.`
   pub ifs : DescendsKinds (module_head
       ++ (reserved_kind reserved.Begin
       ∷ (repeat_kinds 101 (reserved_kind reserved.If ∷ identifier_kind ∷ reserved_kind reserved.Then ∷ [])
       ++ (repeat_kinds 101 (reserved_kind reserved.End ∷ []) ++ module_end)))) (Deep 304)
-  -- MODULE M; 101 times PROCEDURE P; 101 times END P; END M.
+  -- The text is `MODULE M;`, 101 times `PROCEDURE P;`, 101 times `END P;`, and `END M.`
   pub procedures : DescendsKinds (module_head
       ++ (repeat_kinds 101 (reserved_kind reserved.Procedure ∷ identifier_kind ∷ symbol_kind symbol.Semicolon ∷ [])
       ++ (repeat_kinds 101 (reserved_kind reserved.End ∷ identifier_kind ∷ symbol_kind symbol.Semicolon ∷ []) ++ module_end))) (Deep 303)
-  -- MODULE M; VAR x: 101 times ARRAY 1 OF, INTEGER; END M.
+  -- The text is `MODULE M; VAR x:`, 101 times `ARRAY 1 OF`, and `INTEGER; END M.`
   pub arrays : DescendsKinds (module_head
       ++ (reserved_kind reserved.Var
       ∷ identifier_kind

@@ -1,4 +1,5 @@
--- States when the parser's refusal of a text is right.
+-- States when the parser's refusal of a text is right: which token it must report, and for which
+-- reason.
 -- Rule: docs/LANGUAGE.md, Syntax faults 1.
 use Rattle.std.specs.Prelude.{◌≡◌, ℕ, ◌+◌, ◌≤◌, List, [], ◌∷◌, ◌++◌, take, length}
 use Rattle.ob0_scan.specs.TextWithTokens.{TextWithTokens}
@@ -17,9 +18,10 @@ NoModuleBegins s i = (t : Tree (List ℕ) module_text) (more : List (Terminal (L
     → nesting t ≤ max_nesting
     → spell t ++ (EndOfText ∷ []) ≡ take (i + 1) (terminals_of_text s ++ (EndOfText ∷ [])) ++ more → ⊥
 
--- States that the parser's refusal is right. The refusal `Syntax` or `TooDeep` at the token `i` is
--- right under two conditions. No module begins with the tokens up to and including `i`, and the
--- descent stops at `i` for the refusal's reason. The refusal `Memory` is always right.
+-- States that the parser's refusal is right. The refusal `Syntax` or `TooDeep` is right if it is at
+-- a token `i` of the text, or at its end, and two conditions hold. No module with at most
+-- `max_nesting` levels begins with the tokens up to and including `i`, and the descent stops at `i`
+-- for the refusal's reason. The refusal `Memory` is always right.
 abbrev pub IsRightParseRefusal : TextWithTokens → ParseRefusal → Type 0
 IsRightParseRefusal s (Syntax i expected) =
     (i ≤ length s.tokens) × NoModuleBegins s i × DescendsText (index_terminals s.tokens) (Expects i expected)

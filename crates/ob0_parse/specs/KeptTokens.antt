@@ -20,8 +20,8 @@ use Rattle.ob0_parse.specs.declared.kept.KeptTrees.{KeptTrees}
 use Rattle.ob0_parse.specs.declared.kept.KeptBody.{KeptBody}
 use Rattle.ob0_parse.specs.declared.kept.KeptProcedure.{KeptProcedure}
 
--- Returns tokens of these kinds, as they are spelled by a tree whose leaves are token indexes. The
--- first token has the index `i`.
+-- Returns tokens of the kinds in a list, as they are spelled by a tree whose leaves are token
+-- indexes. The first token has the index `i`.
 abbrev pub index_terminals_of_kinds : ℕ → List TokenKind → List (Terminal ℕ)
 index_terminals_of_kinds i [] = []
 index_terminals_of_kinds i (k ∷ ks) = index_terminal i k ∷ index_terminals_of_kinds (i + 1) ks
@@ -36,9 +36,9 @@ first_token_index (declares_procedure name fs b closing) = name - 1
 abbrev pub end_token_index : Tree ℕ (item procedure) → ℕ
 end_token_index (declares_procedure name fs b closing) = closing + 2
 
--- States that the tokens `at..next` have the kinds that the tree `t` spells, and that `t` isn't
--- nested too deeply. The leaves of `t` are token indexes in a text in which its first token has the
--- index `from`.
+-- States that `at..next` is a range of one or more tokens of `ts`, that these tokens have the kinds
+-- that the tree `t` spells, and that `t` isn't nested too deeply. The leaves of `t` are token
+-- indexes in a text in which its first token has the index `from`.
 pub record HasTokensAt {s : Sort} (ts : List Token) (from at next : ℕ) (t : Tree ℕ s) : Type 0 where
   pub spelled : spell t ≡ index_terminals_of_kinds from (slice_range (kinds ts) at next)
   pub shallow : nesting t ≤ max_nesting
@@ -76,16 +76,16 @@ abbrev pub HoldsForEach : {A : Type 0} → (A → Type 0) → List A → Type 0
 HoldsForEach P [] = Unit {0}
 HoldsForEach P (x ∷ xs) = P x × HoldsForEach P xs
 
--- States that the tokens of every kept tree are at their place. For `made`, the leaves determine
--- the range of these tokens. For `waiting` and `body`, the range is kept with the tree.
+-- States that every kept tree in `k` has its tokens at its range in `ts`. For `made`, the tree's
+-- leaves determine the range. For `waiting` and `body`, the range is kept with the tree.
 pub record AreInPlace (ts : List Token) (k : KeptTrees) : Type 0 where
   pub made : HoldsForEach (IsProcedureInPlace ts) k.made.items
   pub waiting : HoldsForEach (IsKeptInPlace ts) k.waiting.items
   pub body : IsAnyKeptBodyInPlace ts k.body
 
--- States that `k` is the body with these statements and the range of its tokens, in a module with
--- the procedures `ps`. BEGIN follows the last procedure. END follows the statements and comes
--- before the closing name, which has the token index `closing`.
+-- States that `k` has the given statements (not None) as its body and the range of the body's
+-- tokens, in a module with the procedures `ps`. BEGIN follows the last procedure. END follows the
+-- statements and comes before the closing name, which has the token index `closing`.
 pub record IsLocatedBody
     (ps : List Procedure) (statements : Option (Vec Statement Global)) (closing : ℕ) (k : KeptBody)
     : Type 0 where

@@ -1,5 +1,5 @@
--- States which results the parser returns for a module and for the procedures of the module's own
--- block. The parser stores these procedures with the kept trees.
+-- States which results of the parser are right, for a module and for the procedures that are
+-- declared directly in it. The parser stores these procedures in `KeptTrees`.
 -- Rule: none; for private contracts of the parser.
 use Rattle.std.specs.Prelude.{ℕ, List, [], ◌∷◌, Result, Ok, Err, length}
 use Rattle.ob0_scan.specs.declared.lexeme.Token.{Token}

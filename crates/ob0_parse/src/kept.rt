@@ -5,28 +5,28 @@
 //! `KeptTrees` holds three groups of trees. They are the procedures that the last parse made or
 //! reused, the procedures that the last parse didn't reach, and the body of the module.
 //! `HasTokensAt` states that the tokens in a tree's range have the kinds that the tree spells, and
-//! that the tree's leaves are the indexes of these tokens in the present or an earlier text. So
-//! only the kinds of these tokens decide whether a tree can be used in another text
+//! that the tree's leaves are the indexes of these tokens in the present or an earlier text. So a
+//! tree still fits a changed text if that text has tokens of the same kinds
 //! (`KeptTrees::relocate`). If a text has a syntax error, the trees that the parser made before the
 //! error are kept. The older trees after the error are also kept.
 //!
 //! A kept tree can be reused, whichever parse made it, if the token after the tree can't continue
 //! the tree. No token can continue a procedure, because a procedure ends with a semicolon
-//! (`stops_zero`). END can't continue a body. So no other tree has the same tokens (`same`). The
-//! descent reads every tree that the tokens spell (`finishes`), so `IsReadTree` follows from the
-//! spelling (`taken_there`).
+//! (`stops_zero`). The token after a reused body is END, which can't continue a body. In both cases
+//! no other tree has the same tokens (`same`). The descent reads every tree that the tokens spell
+//! (`finishes`), so `IsReadTree` follows from the spelling (`taken_there`).
 //!
 //! The leaves of a procedure determine the range of its tokens. Its name is its second token, and
 //! its closing name is its last token but one. The leaves of a body don't determine the range of
-//! its tokens, so a body is kept with the index of its BEGIN. That index is known if the module has
-//! a procedure: BEGIN is the token after the last procedure.
+//! its tokens, so a body is kept with the index of its BEGIN. The tree of a module gives that index
+//! only if the module has a procedure: BEGIN is then the token after the last procedure.
 //!
 //! The leaves of a kept tree stay unchanged until a parser reaches the tree's tokens. Then
 //! `move_leaves` adds to each leaf the distance that the tokens have moved, by a walk in
 //! `leaf_moves.rt`. So procedures and the body can be reused on both sides of a change in the text.
 //! The moved tree is the old tree with each leaf changed, so it spells the current tokens
-//! (`moved_there`). No moved leaf exceeds the largest `usize`, because the leaf is less than
-//! `next`, a `usize`.
+//! (`moved_there`). No moved leaf exceeds the largest `usize`, because each moved leaf is less than
+//! the tree's `next`, which is a `usize`.
 
 ghost use Rattle.std.specs.Prelude.{◌≡◌, ◌+◌, ◌≤◌, ◌++◌, [], List, IfOk, OnOk, IfSome};
 ghost use Rattle.std.specs.Option.{option_to_list};
@@ -90,7 +90,8 @@ impl KeptTrees {
     }
 
     /// Returns a `KeptTrees` that keeps the procedures of a module's tree. If the module has
-    /// procedures, its body is also kept.
+    /// procedures, its body is also kept. Without a procedure, the tree doesn't give the index of
+    /// BEGIN, so the body is dropped.
     pub fn from_tree(alloc: Global, tree: ModuleTree) -> KeptTrees
         ensures { (s : TextWithTokens) → IsParsed (parsed_module s tree) → AreInPlace s.tokens result }
     {
@@ -217,8 +218,8 @@ fn push_made_procedure(
     Ok(())
 }
 
-/// Returns the body with the range of its tokens in the changed text. Returns None if there is no
-/// body, or the changed text doesn't have the body's tokens.
+/// Returns the kept body `body` with the range of its tokens in the changed text. Returns None if
+/// there is no kept body, or if the changed text doesn't have the body's tokens.
 fn relocate_body(body: Option<KeptBody>, same: SameParts) -> Option<KeptBody>
     ensures { RelocatesAnyBody same body result }
 {
@@ -308,9 +309,9 @@ fn relocated_range(at: usize, next: usize, same: SameParts) -> Option<(usize, us
     Some((at, next))
 }
 
-/// Returns the index in the changed text of a token that follows the changed tokens, given its
-/// index in the old text. Returns None if the token doesn't follow the changed tokens, or if its
-/// index would be out of range.
+/// Returns the index in the changed text of a token that follows all changed tokens, given its
+/// index in the old text. Returns None if the token doesn't follow all changed tokens, or if the
+/// returned index would be out of range.
 fn relocated_index(index: usize, same: SameParts) -> Option<usize>
     ensures { IfSome result (λ place. (same.old_suffix ≤ index)
         × (place + same.old_suffix ≡ index + same.new_suffix)) }
@@ -319,9 +320,9 @@ fn relocated_index(index: usize, same: SameParts) -> Option<usize>
     following.checked_add(same.new_suffix)
 }
 
-/// Removes from `waiting` the procedure that begins at the token `at`. Returns that procedure and
-/// the index of the token after the procedure, or None if no waiting procedure begins at the token
-/// `at`. Procedures that begin before that token are dropped.
+/// Removes from `waiting` the procedure that begins at the token `at`, and adapts its leaves to the
+/// present text. Returns that procedure and the index of the token after it, or None if no waiting
+/// procedure begins at the token `at`. Procedures that begin before that token are dropped.
 pub(crate) fn take_procedure_at(
     waiting: &mut Vec<KeptProcedure>,
     at: usize,

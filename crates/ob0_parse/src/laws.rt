@@ -1,5 +1,6 @@
-//! Proves laws about the descent (`Descends`), by which contracts define the token at which
-//! the parser stops: it reads the tokens from left to right by the productions of the grammar.
+//! Proves laws about the descent (`Descends`), which reads tokens from left to right by the
+//! productions of the grammar. The contracts of the parser use the descent to define the token at
+//! which the parser stops.
 
 ghost use Rattle.std.specs.Prelude.{ℕ, List};
 ghost use Rattle.ob0_scan.specs.TextWithTokens.{TextWithTokens};

@@ -14,8 +14,9 @@ use ob0_tree::{
     While, WrittenType,
 };
 
-/// A move of tokens: the token with the index `from` in the old text has the index `to` in the
-/// changed text. Every token after it has moved by the same distance.
+/// A move of tokens by a change of the text: the token with the index `from` in the old text has
+/// the index `to` in the changed text. Every later token of the moved tree has moved by the same
+/// distance.
 #[derive(Clone, Copy)]
 pub(crate) struct LeafMove {
     pub from: usize,
@@ -80,7 +81,7 @@ fn move_simple(s: &mut SimpleExpression, by: LeafMove)
     move_addends(&mut s.more, by);
 }
 
-/// Applies the move `by` to each token index in the terms after the first.
+/// Applies the move `by` to each token index in a simple expression's terms after the first.
 #[cycle(expressions)]
 fn move_addends(parts: &mut Vec<Addend>, by: LeafMove)
     ensures { items_of addend_of parts.new.items
@@ -108,7 +109,7 @@ fn move_term(t: &mut Term, by: LeafMove)
     move_multipliers(&mut t.more, by);
 }
 
-/// Applies the move `by` to each token index in the factors after the first.
+/// Applies the move `by` to each token index in a term's factors after the first.
 #[cycle(expressions)]
 fn move_multipliers(parts: &mut Vec<Multiplier>, by: LeafMove)
     ensures { items_of multiplier_of parts.new.items

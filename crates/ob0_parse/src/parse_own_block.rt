@@ -22,9 +22,9 @@ use ob0_tree::{
 };
 use std::mem;
 
-/// Parses the declarations and the body of a module, beginning at the token `at`. Returns the parts
-/// other than procedures, and the index of the token after the block. The procedures are stored in
-/// `kept`. If the kept body is reused, it is removed from `kept`.
+/// Parses the block of a module, its declarations and its body, beginning at the token `at`. Stores
+/// the procedures in `kept.made`. Returns the other parts of the block, and the index of the token
+/// after the block. If the kept body is reused, it is removed from `kept`.
 fn parse_own_block(
     parser: &Parser<'_>,
     at: usize,
@@ -52,8 +52,9 @@ fn parse_own_block(
     ))
 }
 
-/// Parses the procedures of a module's own block, `{procedure ";"}`, beginning at the token `at`.
-/// Stores the procedures in `kept`, and returns the index of the token after them.
+/// Parses the procedures that are declared directly in a module, `{procedure ";"}`, beginning at
+/// the token `at`. Stores the procedures in `kept.made`, and returns the index of the token after
+/// them.
 fn parse_own_procedures(
     parser: &Parser<'_>,
     at: usize,
@@ -111,10 +112,10 @@ fn parse_own_body(
     }
 }
 
-/// Removes the body from `kept` and returns its statements and the index of the END after them. The
-/// body's BEGIN must be the token `at`, and END must follow its statements. Otherwise returns None
-/// and leaves the body in `kept`: the text may have a syntax error before BEGIN or END, and the
-/// body can be reused when the error is fixed.
+/// If the kept body begins at the token `at` and END follows its statements, removes the body from
+/// `kept`, and returns its statements and the index of that END. Otherwise returns None and leaves
+/// the body in `kept`: the text may have a syntax error before BEGIN or END, and the body can be
+/// reused when the error is fixed.
 fn take_kept_body(
     parser: &Parser<'_>,
     at: usize,
@@ -141,8 +142,8 @@ fn has_end_word_at(parser: &Parser<'_>, at: usize) -> bool
     parser.expect_word(at, ReservedWord::End).is_ok()
 }
 
-/// Parses all tokens as a module. Returns the token index of the module's name, its block, and the
-/// token index of its closing name.
+/// Parses all tokens as a module, reusing trees that are in `kept`. Returns the token index of the
+/// module's name, the module's block, and the token index of the closing name.
 pub(crate) fn parse_module(
     parser: &Parser<'_>,
     kept: &mut KeptTrees,

@@ -1,7 +1,7 @@
--- Defines the predictive descent, which reads a text from left to right by the productions of the
--- grammar (LANGUAGE.md, Grammar and Syntax faults). The next token, or the next two, determine the
--- production of each construct. So the token at which the descent stops, and the construct or token
--- expected there, depend only on the tokens.
+-- Defines the descent (`Descends`): predictive parsing, which reads a text from left to right by
+-- the productions of the grammar (LANGUAGE.md, Grammar and Syntax faults). The next one or two
+-- tokens determine the production of each construct. So the token at which the descent stops, and
+-- the construct or token expected there, depend only on the tokens.
 -- Rule: docs/LANGUAGE.md, Grammar 1, Nesting and limits 1, Syntax faults.
 use Rattle.std.specs.Prelude.{◌≡◌, ◌==◌, ℕ, zero, suc, ◌+◌, List, [], ◌∷◌, ◌++◌, Option, Some, None, Bool, true, false, drop, if◌then◌else◌}
 use Rattle.ob0_scan.specs.declared.lexeme.TokenKind.{TokenKind}
@@ -36,22 +36,22 @@ pub data ProductionChoice : Type 0 where
   missing : Expected → ProductionChoice
   too_deep : ProductionChoice
 
--- Returns the part of a production that is this reserved word.
+-- Returns the part of a production that is the reserved word `w`.
 abbrev pub reserved_part : ReservedWord → ProductionPart
 reserved_part w = token (kind.ReservedWord w)
 
--- Returns the part of a production that is this symbol.
+-- Returns the part of a production that is the symbol `s`.
 abbrev pub symbol_part : Symbol → ProductionPart
 symbol_part s = token (kind.Symbol s)
 
 -- Returns the choice for a construct that opens a level of nesting, given the number of levels
--- left. The construct's parts have one level less. If no level is left, the construct is too deep
--- (LANGUAGE.md, Nesting and limits).
+-- left. `inside` returns the construct's parts, given the levels left inside the construct, which
+-- are one less. If no level is left, the construct is too deep (LANGUAGE.md, Nesting and limits).
 abbrev pub nested_choice : ℕ → (ℕ → List ProductionPart) → ProductionChoice
 nested_choice zero inside = too_deep
 nested_choice (suc room) inside = parts (inside room)
 
--- Returns whether the next token begins the item. If no token is left, the result is false.
+-- Returns whether the next token begins the item `i`. If no token is left, the result is false.
 abbrev pub is_item_next : Item → List (Terminal ℕ) → Bool
 is_item_next i [] = false
 is_item_next i (x ∷ tokens) = rank x == item_rank i
@@ -76,13 +76,14 @@ is_assignment_next (WordOrSymbol (kind.Symbol symbol.Becomes) ∷ tokens) = true
 is_assignment_next tokens = is_item_next selector tokens
 
 -- Returns the production of an item that consists of an operator and a construct of the sort `s`.
--- The operator is the next token.
+-- The next token must be the operator, so the value for any other token doesn't matter.
 abbrev pub operation_choice : Sort → ℕ → List (Terminal ℕ) → ProductionChoice
 operation_choice s room (WordOrSymbol k ∷ tokens) = parts (token k ∷ nonterminal s room ∷ [])
 operation_choice s room tokens = missing expected.Expression
 
--- Returns the production of an item, with `room` levels of nesting left. This function is used only
--- if the next token begins the item, so its value for other tokens doesn't matter.
+-- Returns the production of an item that the next tokens determine, with `room` levels of nesting
+-- left. This function is used only if the next token begins the item, so its value for any other
+-- token doesn't matter.
 abbrev pub chosen_item_production : Item → (room : ℕ) → List (Terminal ℕ) → ProductionChoice
 -- selector = "[" expression "]" | "." ident
 chosen_item_production selector room (WordOrSymbol (kind.Symbol symbol.LeftBracket) ∷ tokens) =
@@ -268,8 +269,8 @@ chosen_production module_text room tokens =
 
 -- ---- the stop: where and why the descent ends
 
--- States that this token matches this part of a production. No token matches a part that is a
--- construct.
+-- States that a token matches a part of a production. No token matches a part that is a construct,
+-- because a construct is first replaced by its own parts.
 abbrev pub MatchesPart : ProductionPart → Terminal ℕ → Type 0
 MatchesPart (token k) x = x ≡ WordOrSymbol k
 MatchesPart name x = (n : ℕ) × (x ≡ Name n)
@@ -277,17 +278,17 @@ MatchesPart number x = (n : ℕ) × (x ≡ Number n)
 MatchesPart (nonterminal s room) x = ⊥
 MatchesPart text_end x = x ≡ EndOfText
 
--- Returns this reserved word or symbol as an expected token, or None if the kind is an identifier
--- or an integer.
+-- Returns the reserved word or symbol of the given kind as an expected token. Returns None for the
+-- kind of an identifier or an integer.
 abbrev pub expected_token : TokenKind → Option Expected
 expected_token (kind.ReservedWord reserved_part) = Some (expected.Word reserved_part)
 expected_token (kind.Symbol symbol) = Some (expected.Symbol symbol)
 expected_token kind.Identifier = None
 expected_token (kind.Integer value) = None
 
--- Returns the token that is expected if this part is missing. The result is None for an integer,
--- because an integer is a part only if the next token is an integer. The result is also None for a
--- construct, because its own parts are read instead.
+-- Returns the token that a syntax error reports as expected if a part of a production is missing.
+-- The result is None for an integer, because an integer is a part only if the next token is an
+-- integer. The result is also None for a construct, because its own parts are read instead.
 abbrev pub expected_part : ProductionPart → Option Expected
 expected_part (token k) = expected_token k
 expected_part name = Some expected.Identifier
@@ -303,30 +304,30 @@ pub data Stop : Type 0 where
   Expects : ℕ → Expected → Stop
   Deep : ℕ → Stop
 
--- States that the descent reads these parts from these tokens and ends with this stop. The number
--- is the index of the first of these tokens in the text.
+-- States that the descent over a list of parts, reading from a list of tokens, ends with a given
+-- stop. The number is the index in the text of the first token in the list.
 pub data Descends : List ProductionPart → ℕ → List (Terminal ℕ) → Stop → Type 0 where
-  -- No part is left.
+  -- No part is left: the descent is done.
   done : {i : ℕ} {tokens : List (Terminal ℕ)} → Descends [] i tokens Done
-  -- The next token is the next part.
+  -- The next token matches the next part, so the descent continues after both.
   taken : {p : ProductionPart} {ps : List ProductionPart} {i : ℕ} {x : Terminal ℕ} {tokens : List (Terminal ℕ)}
       {o : Stop}
       → MatchesPart p x → Descends ps (i + 1) tokens o → Descends (p ∷ ps) i (x ∷ tokens) o
-  -- The next token isn't the next part.
+  -- The next token doesn't match the next part, so the descent stops and expects that part.
   other : {p : ProductionPart} {ps : List ProductionPart} {i : ℕ} {x : Terminal ℕ} {tokens : List (Terminal ℕ)}
       {e : Expected}
       → ¬ MatchesPart p x → expected_part p ≡ Some e → Descends (p ∷ ps) i (x ∷ tokens) (Expects i e)
-  -- The next part is a construct, so its own parts are read first.
+  -- The next part is a construct, so its own parts take its place.
   made : {s : Sort} {room : ℕ} {ps : List ProductionPart} {i : ℕ} {tokens : List (Terminal ℕ)} {o : Stop}
       (qs : List ProductionPart)
       → chosen_production s room tokens ≡ parts qs
       → Descends (qs ++ ps) i tokens o
       → Descends (nonterminal s room ∷ ps) i tokens o
-  -- The construct can't begin with the next token.
+  -- The next part is a construct that can't begin with the next token.
   absent : {s : Sort} {room : ℕ} {ps : List ProductionPart} {i : ℕ} {tokens : List (Terminal ℕ)}
       {e : Expected}
       → chosen_production s room tokens ≡ missing e → Descends (nonterminal s room ∷ ps) i tokens (Expects i e)
-  -- The construct opens a level of nesting, but no level is left.
+  -- The next part is a construct that opens a level of nesting, but no level is left.
   deep : {s : Sort} {room : ℕ} {ps : List ProductionPart} {i : ℕ} {tokens : List (Terminal ℕ)}
       → chosen_production s room tokens ≡ too_deep → Descends (nonterminal s room ∷ ps) i tokens (Deep i)
 
@@ -338,7 +339,7 @@ StopIsUnique =
     → Descends ps i tokens b
     → a ≡ b
 
--- States that the descent through a whole text ends with this stop. The end of the text counts as a
--- token. At most 100 levels of nesting are allowed.
+-- States that the descent through a whole text, read as a module, ends with the stop `o`. The end
+-- of the text is the last of `tokens`. At most 100 levels of nesting are allowed.
 abbrev pub DescendsText : List (Terminal ℕ) → Stop → Type 0
 DescendsText tokens o = Descends (nonterminal module_text max_nesting ∷ text_end ∷ []) 0 tokens o

@@ -24,8 +24,8 @@ use Rattle.ob0_parse_descent.specs.declared.refusal.Expected.TheVariants as expe
 use Rattle.ob0_parse_descent.specs.declared.refusal.ParseRefusal.{ParseRefusal}
 use Rattle.ob0_parse_descent.specs.declared.refusal.ParseRefusal.TheVariants.{Syntax, TooDeep, Memory}
 
--- Returns the token of this kind with the index `i`, as it is spelled by a tree whose leaves are
--- token indexes. Returns the end of the text for None.
+-- Returns the token with the index `i` and the given kind, as it is spelled by a tree whose leaves
+-- are token indexes. Returns the end of the text for None.
 abbrev pub terminal_or_end : ℕ → Option TokenKind → Terminal ℕ
 terminal_or_end i None = EndOfText
 terminal_or_end i (Some k) = index_terminal i k
@@ -35,8 +35,9 @@ terminal_or_end i (Some k) = index_terminal i k
 unfoldable pub rest : List Token → ℕ → List (Terminal ℕ)
 rest ts i = drop i (index_terminals ts)
 
--- States that the tokens begin with these parts. No tree among the parts is followed by a token
--- that can continue the tree.
+-- States that the tokens `w` begin with the parts in the list, in order. For each part that is a
+-- construct, `w` has a tree of at most the part's `room` levels, and the token after the tree can't
+-- continue it.
 abbrev pub BeginsWithParts : List ProductionPart → List (Terminal ℕ) → Type 0
 BeginsWithParts [] w = Unit {0}
 BeginsWithParts (token k ∷ ps) w = (z : List (Terminal ℕ)) × (w ≡ WordOrSymbol k ∷ z) × BeginsWithParts ps z
@@ -51,8 +52,9 @@ BeginsWithParts (nonterminal s room ∷ ps) w =
     × BeginsWithParts ps z
 BeginsWithParts (text_end ∷ ps) w = (z : List (Terminal ℕ)) × (w ≡ EndOfText ∷ z) × BeginsWithParts ps z
 
--- States that the list `tokens` ends with `after`. The tokens before `after` can't be the beginning of
--- these parts, whatever tokens follow.
+-- States that the list `tokens` ends with `after`, and that the tokens before `after` can't be the
+-- beginning of the parts `parts`, whatever tokens follow them. `fault` is the last token before
+-- `after`.
 pub record CantBegin (parts : List ProductionPart) (tokens after : List (Terminal ℕ)) : Type 0 where
   pub passed : List (Terminal ℕ)
   pub fault : Terminal ℕ
@@ -67,18 +69,19 @@ pub record HaveSameHead (xs w : List (Terminal ℕ)) : Type 0 where
   pub is : xs ≡ head ∷ following
   pub alike : w ≡ head ∷ other
 
--- States that the descent over the parts `ps`, starting at the token `at`, ends with the same stop as
--- the descent over the parts `following`, starting at the token `next`. This holds whatever parts
--- `more` follow both lists.
+-- States that two descents end with the same stop: the descent over the parts `ps`, starting at the
+-- token `at`, and the descent over the parts `following`, starting at the token `next`. This holds
+-- whatever parts `more` follow both lists.
 pub record StopsAlike (ps following : List ProductionPart) (ts : List Token) (at next : ℕ) : Type 0 where
   pub stops_as_following : (o : Stop) (more : List ProductionPart)
       → Descends (following ++ more) next (rest ts next) o
       → Descends (ps ++ more) at (rest ts at) o
 
 -- States that the tree `t` spells the tokens `at..next`, that the descent reads `t` there, and that
--- `t` has at most `room` levels of nesting. Also states that `t` is the only such tree (`only`). If a
--- list begins with these tokens and the token at `next`, then `t` is the only tree of its sort at the
--- beginning of the list that is followed by a token that can't continue it (`EndsConstruct`).
+-- `t` has at most `room` levels of nesting. The field `only` states that no other tree fits. Take
+-- any list of tokens that begins with these tokens and the token at `next`. If a tree of the same
+-- sort spells the beginning of this list, and the next token can't continue that tree
+-- (`EndsConstruct`), the tree is `t`.
 pub record IsReadTree {s : Sort} (t : Tree ℕ s) (room : ℕ) (ts : List Token) (at next : ℕ) : Type 0 where
   pub spelled : rest ts at ≡ spell t ++ rest ts next
   pub shallow : nesting t ≤ room
@@ -91,28 +94,29 @@ pub record IsReadTree {s : Sort} (t : Tree ℕ s) (room : ℕ) (ts : List Token)
   pub within : next ≤ length ts
   pub forward : at ≤ next
 
--- States that these parts can't begin with the tokens `at..=i` if the refusal is a syntax error or
--- too deep nesting at the token `i`. The end of the text counts as a token. For a failed allocation
--- it states nothing.
+-- States that the refusal of the parts `parts` reports the right token. If it is a syntax error or
+-- too deep nesting at the token `i`, the parts can't begin with the tokens `at..=i`. The end of the
+-- text counts as a token. For a failed allocation it states nothing.
 abbrev pub IsRightRefusalOfParts : List ProductionPart → List Token → ℕ → ParseRefusal → Type 0
 IsRightRefusalOfParts parts ts at (Syntax i expected) = (i ≤ length ts) × CantBegin parts (rest ts at) (rest ts (i + 1))
 IsRightRefusalOfParts parts ts at (TooDeep i) = (i ≤ length ts) × CantBegin parts (rest ts at) (rest ts (i + 1))
 IsRightRefusalOfParts parts ts at Memory = Unit {0}
 
--- States that the descent over these parts, starting at the token `at`, ends with this stop. This
--- holds whatever parts follow.
+-- States that the descent over the parts `parts`, starting at the token `at`, ends with the stop
+-- `o`, whatever parts follow `parts`.
 abbrev pub DescentStopsWith : List ProductionPart → List Token → ℕ → Stop → Type 0
 DescentStopsWith parts ts at o = (more : List ProductionPart) → Descends (parts ++ more) at (rest ts at) o
 
--- States that the descent over these parts, starting at the token `at`, stops as the refusal says.
--- For a failed allocation it states nothing.
+-- States that the descent over the parts `parts`, starting at the token `at`, stops at the token
+-- and for the reason that the refusal gives. For a failed allocation it states nothing.
 abbrev pub DescentStopsAsRefusalSays : List ProductionPart → List Token → ℕ → ParseRefusal → Type 0
 DescentStopsAsRefusalSays parts ts at (Syntax i expected) = DescentStopsWith parts ts at (Expects i expected)
 DescentStopsAsRefusalSays parts ts at (TooDeep i) = DescentStopsWith parts ts at (Deep i)
 DescentStopsAsRefusalSays parts ts at Memory = Unit {0}
 
--- States that the refusal `e` is right. These parts can't be read starting at the token `at`, and
--- the descent over the parts stops as `e` says. The refusal `Memory` is always right.
+-- States that the refusal `e` is right: the parts `parts` can't be read starting at the token `at`,
+-- and the descent over these parts stops at the token and for the reason that `e` gives. The
+-- refusal `Memory` is always right.
 pub record FailsToRead
     (parts : List ProductionPart) (ts : List Token) (at : ℕ) (e : ParseRefusal) : Type 0 where
   pub why : IsRightRefusalOfParts parts ts at e
@@ -132,33 +136,35 @@ abbrev pub Reads : {A : Type 0} {s : Sort}
 Reads view room ts at (Ok x) = IsReadTree (view x.0) room ts at x.1
 Reads {s = s} view room ts at (Err e) = FailsToRead (nonterminal s room ∷ []) ts at e
 
--- States that the token at the index `at` isn't `x`.
+-- States that the token at the index `at`, which may be the end of the text, isn't `x`.
 pub record IsOtherToken (x : Terminal ℕ) (ts : List Token) (at : ℕ) : Type 0 where
   pub fault : Terminal ℕ
   pub here : rest ts at ≡ fault ∷ rest ts (at + 1)
   pub differs : fault ≢ x
   pub within : at ≤ length ts
 
--- States that the token at the index `at` isn't an identifier.
+-- States that the token at the index `at`, which may be the end of the text, isn't an identifier (7
+-- is the rank of identifiers).
 pub record IsNoName (ts : List Token) (at : ℕ) : Type 0 where
   pub fault : Terminal ℕ
   pub here : rest ts at ≡ fault ∷ rest ts (at + 1)
   pub ranked : rank fault ≢ 7
   pub within : at ≤ length ts
 
--- States that the Bool is true exactly if this reserved word or symbol is at the index `at`.
+-- States that the Bool is true exactly if the token at the index `at` is the reserved word or
+-- symbol `k`.
 abbrev pub TellsIfTokenAt : TokenKind → List Token → ℕ → Bool → Type 0
 TellsIfTokenAt k ts at true = (rest ts at ≡ WordOrSymbol k ∷ rest ts (at + 1)) × (at < length ts)
 TellsIfTokenAt k ts at false = IsOtherToken (WordOrSymbol k) ts at
 
--- States that the Bool is true exactly if an identifier is at the index `at`.
+-- States that the Bool is true exactly if the token at the index `at` is an identifier.
 abbrev pub TellsIfNameAt : List Token → ℕ → Bool → Type 0
 TellsIfNameAt ts at true = (rest ts at ≡ Name at ∷ rest ts (at + 1)) × (at < length ts)
 TellsIfNameAt ts at false = IsNoName ts at
 
--- States that the result of reading this reserved word or symbol at the index `at` is right. If the
--- result is an index, the word or symbol is at `at`, and the index is `at + 1`. If the result is a
--- refusal, another token is at `at`, and the refusal says that the word or symbol is expected.
+-- States that the result of reading the reserved word or symbol `k` at the index `at` is right. If
+-- the result is an index, `k` is at `at`, and the index is `at + 1`. If the result is a refusal,
+-- another token is at `at`, and the refusal says that `k` is expected.
 abbrev pub ReadsToken : TokenKind → List Token → ℕ → Result ℕ ParseRefusal → Type 0
 ReadsToken k ts at (Ok next) =
     (rest ts at ≡ WordOrSymbol k ∷ rest ts next) × (at < length ts) × (next ≡ at + 1)
@@ -180,8 +186,8 @@ abbrev pub OpensLevel : ℕ → ℕ → Result ℕ ParseRefusal → Type 0
 OpensLevel at room (Ok inner) = room ≡ inner + 1
 OpensLevel at room (Err e) = (room ≡ 0) × (e ≡ TooDeep at)
 
--- States that the token at the index `at` is the whole factor `f`, and that the token after it
--- doesn't continue a construct of this level (see `EndsConstruct`).
+-- States that the token at the index `at` is the whole factor `f`, and that the next token can't
+-- continue a construct of the level `level` (see `EndsConstruct`).
 pub record IsSingleTokenFactor (level : ℕ) (f : Tree ℕ factor) (ts : List Token) (at : ℕ) : Type 0 where
   pub taken : (room : ℕ) → IsReadTree f room ts at (at + 1)
   pub stops : EndsConstruct level (rest ts (at + 1))
@@ -232,9 +238,9 @@ ReadsDesignator room ts at (Ok x) =
     × ¬ NextHasRank 1 (rest ts x.1)
 ReadsDesignator room ts at (Err e) = FailsToRead (name ∷ nonterminal (items selector) room ∷ []) ts at e
 
--- States that the operator found for a token of the kind `k` is right. If an operator was found,
--- `k` spells it. If no operator was found (None), the rank of `k` isn't `r`, the rank of these
--- operators.
+-- States that the operator found for a token of the kind `k` is right. `mark` returns the kind that
+-- spells an operator, and `r` is the rank of the operators. If an operator was found, `k` spells
+-- it. If no operator was found (None), the rank of `k` isn't `r`.
 abbrev pub IsOperatorOf : {A : Type 0} → (A → TokenKind) → ℕ → TokenKind → Option A → Type 0
 IsOperatorOf mark r k (Some a) = k ≡ mark a
 IsOperatorOf mark r k None = kind_rank k ≢ r

@@ -1,11 +1,11 @@
-//! Adds items to lists whose capacity doubles when it grows, beginning with room for one item.
+//! Adds items to lists that grow by doubling their capacity, beginning with room for one item.
 
 ghost use Rattle.std.specs.Prelude.{◌≡◌, ◌≤◌, ◌++◌, ◌∷◌, [], ◌<◌, OnErr, OnOk, vec_capacity, vec_len};
 
 use std::alloc::AllocError;
 
-/// Adds an item at the end of a list. Most lists of a tree hold one item, so the capacity grows as
-/// 1, 2, 4, 8 and so on. If an allocation fails, the list is unchanged.
+/// Adds an item at the end of a list. The list's capacity grows as 1, 2, 4, 8 and so on, because
+/// most lists of a tree hold only one item. If an allocation fails, the list is unchanged.
 pub fn push_doubling<T: Drop>(list: &mut Vec<T>, item: T) -> Result<(), AllocError>
     ensures added { OnOk result (list.new.items ≡ list.old.items ++ item ∷ []) }
     ensures same { OnErr result (list.new.items ≡ list.old.items) }

@@ -35,7 +35,8 @@ const ADDITION_STRENGTH: u8 = 3;
 /// The strength with which a relation binds the operand before it.
 const COMPARISON_STRENGTH: u8 = 4;
 
-/// The strength of all other tokens, which bind no operand before them.
+/// The strength of each token that neither begins a selector nor is an operator. Such a token binds
+/// no operand before it.
 const WEAKEST_STRENGTH: u8 = 5;
 
 /// The result of parsing a construct: the construct and the index of the token after it, or a
@@ -43,7 +44,7 @@ const WEAKEST_STRENGTH: u8 = 5;
 pub type ConstructResult<T> = Result<(T, usize), ParseRefusal>;
 
 /// The result of parsing an optional item: the item and the index of the token after it, or a
-/// refusal with the reason. The result is None if no such item begins at the token.
+/// refusal with the reason. The result is None if the token to parse doesn't begin such an item.
 pub type ItemResult<T> = Result<Option<(T, usize)>, ParseRefusal>;
 
 /// The parser: the tokens to parse, and the allocator for the trees.
@@ -70,7 +71,7 @@ impl<'t> Parser<'t> {
         }
     }
 
-    /// Returns whether the token at `at` is this reserved word.
+    /// Returns whether the token at `at` is the reserved word `word`.
     pub(crate) fn has_word_at(&self, at: usize, word: ReservedWord) -> bool
         requires { at ≤ length self.now.tokens.now }
         ensures { TellsIfTokenAt (kind.ReservedWord word) self.now.tokens.now at result }
@@ -78,7 +79,7 @@ impl<'t> Parser<'t> {
         self.kind(at) == Some(TokenKind::ReservedWord(word))
     }
 
-    /// Returns whether the token at `at` is this symbol.
+    /// Returns whether the token at `at` is the symbol `symbol`.
     pub(crate) fn has_symbol_at(&self, at: usize, symbol: Symbol) -> bool
         requires { at ≤ length self.now.tokens.now }
         ensures { TellsIfTokenAt (kind.Symbol symbol) self.now.tokens.now at result }
@@ -86,8 +87,8 @@ impl<'t> Parser<'t> {
         self.kind(at) == Some(TokenKind::Symbol(symbol))
     }
 
-    /// Returns `at + 1` if the token at `at` is this reserved word. Otherwise returns a syntax
-    /// error: this word is expected at `at`.
+    /// Returns `at + 1` if the token at `at` is the reserved word `word`. Otherwise returns a
+    /// syntax error: `word` is expected at `at`.
     pub fn expect_word(&self, at: usize, word: ReservedWord) -> Result<usize, ParseRefusal>
         requires { at ≤ length self.now.tokens.now }
         ensures { ReadsToken (kind.ReservedWord word) self.now.tokens.now at result }
@@ -99,8 +100,8 @@ impl<'t> Parser<'t> {
         }
     }
 
-    /// Returns `at + 1` if the token at `at` is this symbol. Otherwise returns a syntax error: this
-    /// symbol is expected at `at`.
+    /// Returns `at + 1` if the token at `at` is the symbol `symbol`. Otherwise returns a syntax
+    /// error: `symbol` is expected at `at`.
     pub fn expect_symbol(&self, at: usize, symbol: Symbol) -> Result<usize, ParseRefusal>
         requires { at ≤ length self.now.tokens.now }
         ensures { ReadsToken (kind.Symbol symbol) self.now.tokens.now at result }
@@ -112,8 +113,8 @@ impl<'t> Parser<'t> {
         }
     }
 
-    /// Returns `at` and `at + 1` if the token at `at` is an identifier. Otherwise returns a syntax
-    /// error: an identifier is expected at `at`.
+    /// If the token at `at` is an identifier, returns its index and the index of the next token.
+    /// Otherwise returns a syntax error: an identifier is expected at `at`.
     pub fn expect_identifier(&self, at: usize) -> ConstructResult<usize>
         requires { at ≤ length self.now.tokens.now }
         ensures { ReadsName self.now.tokens.now at result }
@@ -161,8 +162,8 @@ impl<'t> Parser<'t> {
         Ok((Names { first, more }, next))
     }
 
-    /// Parses an expression, `simple [relation simple]`. If the expression is a single token, its
-    /// tree is made directly.
+    /// Parses an expression, `simple [relation simple]`. If the expression is a single token,
+    /// returns its tree without parsing the parts.
     #[cycle(expressions)]
     #[inline(always)]
     pub(crate) fn parse_expression(&self, at: usize, room: u32) -> ConstructResult<Expression>
@@ -194,7 +195,8 @@ impl<'t> Parser<'t> {
     }
 
     /// Returns the expression that consists only of the simple expression `side`, without a
-    /// relation. If `side` is a single factor, that factor isn't boxed.
+    /// relation. If `side` is a single factor, the result is an `Expression::Factor`, which needs
+    /// no box.
     #[inline(always)]
     fn expression_without_relation(&self, side: SimpleExpression) -> Result<Expression, AllocError>
         ensures { IfOk result (λ e. expression_of e ≡ compares (simple_of side) none) }
@@ -230,8 +232,9 @@ impl<'t> Parser<'t> {
     }
 
     /// Returns the factor that consists only of the token at `at`. Returns None if that token is
-    /// neither an identifier nor an integer. Also returns None if the next token's binding strength
-    /// is at most `level`, because the next token may then continue the construct.
+    /// neither an identifier nor an integer. Also returns None if the `binding_strength` of the
+    /// next token is at most `level`: that token may then continue the construct that the caller
+    /// parses.
     #[inline(always)]
     fn single_token_factor(&self, at: usize, level: u8) -> Option<Factor>
         requires within { at ≤ length self.now.tokens.now }
@@ -260,7 +263,8 @@ impl<'t> Parser<'t> {
         }
     }
 
-    /// Parses a simple expression. If the expression is a single token, its tree is made directly.
+    /// Parses a simple expression. If it is a single token, returns its tree directly, otherwise
+    /// calls `parse_simple`.
     #[cycle(expressions)]
     #[inline(always)]
     fn parse_simple_fast(&self, at: usize, room: u32) -> ConstructResult<SimpleExpression>
@@ -286,7 +290,8 @@ impl<'t> Parser<'t> {
         ))
     }
 
-    /// Parses a term. If the term is a single token, its tree is made directly.
+    /// Parses a term. If it is a single token, returns its tree directly, otherwise calls
+    /// `parse_term`.
     #[cycle(expressions)]
     #[inline(always)]
     fn parse_term_fast(&self, at: usize, room: u32) -> ConstructResult<Term>
@@ -300,7 +305,8 @@ impl<'t> Parser<'t> {
         Ok((Term { first, more }, at + 1))
     }
 
-    /// Parses a factor. If the factor is a single token, its tree is made directly.
+    /// Parses a factor. If it is a single token, returns its tree directly, otherwise calls
+    /// `parse_factor`.
     #[cycle(expressions)]
     #[inline(always)]
     fn parse_factor_fast(&self, at: usize, room: u32) -> ConstructResult<Factor>

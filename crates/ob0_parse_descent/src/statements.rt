@@ -36,8 +36,9 @@ impl<'t> Parser<'t> {
         Ok((Statement::Empty, at))
     }
 
-    /// Parses an assignment or a call. Both begin with an identifier. If selectors follow that
-    /// identifier, `:=` must follow the selectors.
+    /// Parses an assignment or a call, beginning at the identifier `at`. It is an assignment if
+    /// `:=` follows the identifier and its selectors. Otherwise it must be a call, and the
+    /// identifier must have no selectors.
     fn parse_assignment_or_call(&self, at: usize, room: u32) -> ConstructResult<Statement>
         requires { TellsIfNameAt self.now.tokens.now at true }
         ensures { Reads statement_of room self.now.tokens.now at result }

@@ -76,7 +76,8 @@ impl<'t> Parser<'t> {
         Ok(Some((fields, next)))
     }
 
-    /// Parses a group of fields of a record, `[names ":" type]`.
+    /// Parses a group of fields of a record, `[names ":" type]`. The group is empty if the token
+    /// `at` isn't an identifier.
     #[cycle(types)]
     fn parse_fields(&self, at: usize, room: u32) -> ConstructResult<Fields>
         requires { at ≤ length self.now.tokens.now }

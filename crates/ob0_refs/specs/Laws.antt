@@ -11,8 +11,8 @@ use Rattle.ob0_types.specs.CheckedModules.{IsWellTyped}
 use Rattle.ob0_refs.specs.Questions.{hover_at_offset, definition_at, references_at, answer_at_offset}
 use Rattle.ob0_refs.specs.declared.answers.Of.TheVariants as answer_of
 
--- states that the identifier at this byte offset has this span and refers to a field: the field
--- with this index in the record with the ordinal `k`
+-- states that the identifier at the byte offset `offset` has this span and refers to a field: the
+-- field with the index `index`, counted from 0, in the record with the ordinal `k`
 abbrev pub RefersToFieldAt : Resolution → ℕ → Span → ℕ → ℕ → Type 0
 RefersToFieldAt r offset span k index =
     answer_at_offset r offset ≡ Some record { span = span; of = answer_of.Field k index }
@@ -27,8 +27,9 @@ FieldsHaveDefinitions =
     → is_some (definition_at r offset) ≡ true
 
 -- States that renaming at this byte offset finds a field of the record with the ordinal `k`, and no
--- name. The renaming changes exactly the references to the field, including its declaration. The
--- identifier at the offset is one of them.
+-- name. The identifiers of this field (`field_tokens`), which the renaming changes, are exactly the
+-- references to the field, including its declaration. The identifier at the offset, with the span
+-- `span`, is one of these references.
 pub record RenamesFieldAt (r : Resolution) (offset : ℕ) (span : Span) (k : ℕ) : Type 0 where
   pub token : ℕ
   pub no_name : name_at_offset r.module_read offset ≡ None

@@ -15,7 +15,7 @@ declaring_span m ordinal =
     option_map (span_at m.source)
     (declaration_token (declaring_names (identifiers role.Declaring (tree_of m))) ordinal)
 
--- Returns the spans of the references to the declaration with the ordinal `d`. The declaring
--- identifier is among them if `include` is true.
+-- Returns the spans of the references to the declaration with the ordinal `d`, in text order. The
+-- declaring identifier is among the references if `include` is true.
 abbrev pub references_to : ParsedModule → ℕ → Bool → List Span
 references_to m d include = map (span_at m.source) (tokens_bound_to m d include)

@@ -42,7 +42,8 @@ abbrev pub answer_about_identifier : ParsedModule → ℕ → IdentifierMeaning 
 answer_about_identifier m token (Name ordinal) = name_answer m (record { token = token; ordinal = ordinal })
 answer_about_identifier m token (Field k) = field_answer m (record { token = token; owner = k })
 
--- returns the answer about the name or field at a byte offset, or None if there is neither
+-- returns the answer about the name or field at a byte offset, or None if there is no name or field
+-- at the offset
 abbrev pub answer_at_offset : Resolution → ℕ → Option answer.At
 answer_at_offset r offset =
     option_map (λ (x : ResolvedIdentifier). answer_about_identifier r.module_read x.token x.means) (identifier_meaning_at r offset)
@@ -56,8 +57,8 @@ renamable_span_of_identifier m token (Name ordinal) =
     if nat_lt ordinal predeclared_count then None else Some (span_at m.source token)
 renamable_span_of_identifier m token (Field k) = Some (span_at m.source token)
 
--- Returns the span of the name or field at a byte offset. Returns None if there is neither, or if
--- the name is predeclared.
+-- Returns the span of the name or field at a byte offset. Returns None if there is no name or field
+-- at the offset, or if the name is predeclared.
 abbrev pub renamable_span_at : Resolution → ℕ → Option Span
 renamable_span_at r offset =
     option_and_then (λ (x : ResolvedIdentifier). renamable_span_of_identifier r.module_read x.token x.means)
@@ -77,7 +78,7 @@ definition_of_identifier m token (Name ordinal) = declaring_span m ordinal
 definition_of_identifier m token (Field k) = field_definition m (record { token = token; owner = k })
 
 -- Returns the span of the identifier that declares the name or field at a byte offset. Returns None
--- if there is neither, or if the name is predeclared.
+-- if there is no name or field at the offset, or if the name is predeclared.
 abbrev pub definition_at : Resolution → ℕ → Option Span
 definition_at r offset =
     option_and_then (λ (x : ResolvedIdentifier). definition_of_identifier r.module_read x.token x.means)
@@ -90,39 +91,41 @@ abbrev pub tokens_without : Option ℕ → List ℕ → List ℕ
 tokens_without None tokens = tokens
 tokens_without (Some token) tokens = filter (λ other. not (other == token)) tokens
 
--- Returns the token indexes of all identifiers that refer to a field, in text order. If the Bool is
--- false, the declaring identifier is left out.
+-- Returns the token indexes of all identifiers that refer to a field, in text order. The identifier
+-- that declares the field is included only if the Bool is true.
 abbrev pub field_reference_tokens : Resolution → FieldName → Bool → List ℕ
 field_reference_tokens r x true = field_tokens r x.owner (token_text_at r.module_read.source x.token)
 field_reference_tokens r x false =
     tokens_without (field_declaring_token r.module_read x.owner (token_text_at r.module_read.source x.token))
     (field_tokens r x.owner (token_text_at r.module_read.source x.token))
 
--- Returns the spans of all identifiers that refer to a field, in text order. If `include` is false,
--- the declaring identifier is left out.
+-- Returns the spans of all identifiers that refer to a field, in text order. The identifier that
+-- declares the field is included only if `include` is true.
 abbrev pub field_reference_spans : Resolution → Bool → FieldName → List Span
 field_reference_spans r include x = map (span_at r.module_read.source) (field_reference_tokens r x include)
 
--- Returns the spans of the references to the name or field that an identifier refers to. If
--- `include` is false, the declaring identifier is left out.
+-- Returns the spans of the references to the name or field that the identifier with this token index
+-- and this meaning refers to. The declaring identifier is among the references if `include` is true.
 abbrev pub references_of_identifier : Resolution → Bool → ℕ → IdentifierMeaning → List Span
 references_of_identifier r include token (Name ordinal) = references_to r.module_read ordinal include
 references_of_identifier r include token (Field k) = field_reference_spans r include (record { token = token; owner = k })
 
 -- Returns the spans of the references to the name or field that an identifier refers to. If there
--- is no identifier (None), the list is empty. If `include` is false, the declaring identifier is
--- left out.
+-- is no identifier (None), the list is empty. The declaring identifier is among the references if
+-- `include` is true.
 abbrev pub references_of_optional_identifier : Resolution → Bool → Option ResolvedIdentifier → List Span
 references_of_optional_identifier r include None = []
 references_of_optional_identifier r include (Some x) = references_of_identifier r include x.token x.means
 
--- Returns the spans of the references to the name or field at a byte offset. If there is neither,
--- the list is empty. If `include` is false, the declaring identifier is left out.
+-- Returns the spans of the references to the name or field at a byte offset. If there is no name or
+-- field at the offset, the list is empty. The declaring identifier is among the references if
+-- `include` is true.
 abbrev pub references_at : Resolution → ℕ → Bool → List Span
 references_at r offset include = references_of_optional_identifier r include (identifier_meaning_at r offset)
 
--- States that these are the spans of the references to the name or field at a byte offset. If
--- `include` is false, the declaring identifier is left out.
+-- States that these are the spans of the references to the name or field at a byte offset. The list
+-- is empty if there is no name or field. The declaring identifier is among the references if
+-- `include` is true.
 abbrev pub AreReferencesAt : Resolution → ℕ → Bool → List Span → Type 0
 AreReferencesAt r offset include spans = spans ≡ references_at r offset include
 

@@ -21,9 +21,9 @@ pub(crate) fn declaration_span(names: &Resolved, ordinal: usize) -> Option<Span>
     }
 }
 
-/// Returns the spans of all references to the declaration with this ordinal, in text order. A
-/// procedure's closing name is also a reference. The declaring identifier is among them if
-/// `include` is true.
+/// Returns the spans of all references to the declaration with the ordinal `declaration`, in text
+/// order. A procedure's closing name is also a reference. The declaring identifier is among the
+/// references if `include` is true.
 pub(crate) fn references_to(
     alloc: Global,
     names: &Resolved,

@@ -1,8 +1,8 @@
-//! Makes the hover texts of names, according to their declarations.
+//! Makes the hover texts of names and fields, from their entries in the table of declarations.
 //!
-//! A procedure's signature doesn't have the names of the parameters. These names are the first
-//! names that the text declares after the procedure's name, as many as the signature has
-//! parameters. Predeclared names are recognized by their ordinals (0 to 6).
+//! A procedure's signature doesn't have the names of the parameters. So these names are taken from
+//! the text: they are the first names that the text declares after the procedure's name, as many as
+//! the signature has parameters. Predeclared names are recognized by their ordinals (0 to 6).
 
 ghost use Rattle.std.specs.Prelude.{◌≡◌, ◌+◌, ◌-◌, [], IfOk, Some, drop, map, option_map, string_bytes};
 ghost use Rattle.ob0_tree.specs.ParsedModule.{tree_of};
@@ -163,7 +163,8 @@ fn declarations_after<'r>(names: &'r Resolved<'_>, ordinal: usize) -> &'r [usize
 }
 
 /// Returns the parameters of a procedure for its hover text, each with its name and the text of its
-/// type. `following` has the token indexes of the declaring identifiers after the procedure's name.
+/// type. `formals` is the procedure's signature. `following` has the token indexes of the declaring
+/// identifiers after the procedure's name, the first of which are the parameters' names.
 fn hover_parameters_of<'s>(
     alloc: Global,
     known: &DeclarationTable,
@@ -182,7 +183,8 @@ fn hover_parameters_of<'s>(
     Ok(found)
 }
 
-/// Returns a parameter for a hover text, with this name and the text of its type.
+/// Returns a parameter for a hover text: the name `name`, the text of its type, and whether it is a
+/// VAR parameter.
 fn hover_parameter_of<'s>(
     alloc: Global,
     known: &DeclarationTable,

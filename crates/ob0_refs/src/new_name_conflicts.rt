@@ -12,10 +12,10 @@ use ob0_scope::captures as first_capture;
 use ob0_scope_table::Resolved;
 use std::alloc::{AllocError, Global};
 
-/// Returns the first conflict of the name `new` for `declaration`, or None if `new` is free. If
-/// another declaration of the same block has the name `new`, the conflict is at the identifier that
-/// declares `declaration`. Otherwise the conflict is at the first looked-up name, in text order,
-/// whose binding the renaming would change.
+/// Returns the first conflict of a renaming of the declaration with the ordinal `declaration` to
+/// `new`, or None if `new` is free. If another declaration of the same block has the name `new`,
+/// the conflict is at the identifier that declares `declaration`. Otherwise the conflict is at the
+/// first looked-up name, in text order, whose binding the renaming would change.
 pub fn captures(
     alloc: Global,
     names: &Resolved,

@@ -18,10 +18,10 @@ use ob0_types_fields::{FieldName, typed_field};
 use ob0_types_table::{DeclarationTable, TypeId};
 use std::alloc::{AllocError, Global};
 
-/// Returns the hover text of the identifier that contains a byte offset or ends there. The text of
-/// a name shows its declaration, and the text of a field shows its type. A closing name has the
-/// text of its procedure. Returns None if there is no such identifier, or if it is the module's
-/// name.
+/// Returns the hover text of the identifier that contains the byte offset `offset` or ends there.
+/// The text of a name shows its declaration, and the text of a field shows its type. A procedure's
+/// closing name has the same text as the procedure. Returns None if there is no such identifier, or
+/// if it is the module's name.
 pub fn hover(
     alloc: Global,
     well_typed: &WellTyped<'_>,
@@ -100,7 +100,8 @@ fn field_hover(
     }
 }
 
-/// Returns the hover text of a field's identifier, given its token index and the field's type.
+/// Returns the hover text of a field's identifier, given the identifier's token index (`token`) and
+/// the field's type (`of`).
 fn field_hover_with_type(
     alloc: Global,
     known: &DeclarationTable,

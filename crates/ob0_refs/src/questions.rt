@@ -3,8 +3,8 @@
 //!
 //! Each public function first finds the meaning of the identifier at the place
 //! (`identifier_meaning_at` of `ob0_types`). Then it has one case for a name and one for a field.
-//! The hover text is made in the same way (`place_hovers`). Renaming also uses this meaning, so it
-//! renames the name or field that these answers are about.
+//! The hover text is made in the same way (`place_hovers`). Renaming also uses
+//! `identifier_meaning_at`, so it renames the name or field that these answers are about.
 //!
 //! The references to a field are the identifiers that its renaming changes. References to a name
 //! take one pass over the table of ordinals, starting at the declaring token. References to a field
@@ -113,7 +113,8 @@ fn renamable_span_of_identifier(
 }
 
 /// Returns the span of the identifier that declares the name or field at a byte offset. A field is
-/// declared in its RECORD. Returns None if there is neither, or if the name is predeclared.
+/// declared in its RECORD. Returns None if there is no name or field at the offset, or if the name
+/// is predeclared.
 pub fn definition(well_typed: &WellTyped<'_>, offset: usize) -> Option<Span>
     ensures { result ≡ definition_at well_typed.now offset }
 {
@@ -149,7 +150,8 @@ fn field_definition(well_typed: &WellTyped<'_>, field: FieldName) -> Option<Span
 }
 
 /// Returns the spans of all references to the name or field at a byte offset, in text order. The
-/// declaring identifier is among them if `include` is true. If there is neither, the list is empty.
+/// declaring identifier is among the references if `include` is true. If there is no name or field
+/// at the offset, the list is empty.
 pub fn references(
     alloc: Global,
     well_typed: &WellTyped<'_>,
@@ -164,8 +166,8 @@ pub fn references(
     }
 }
 
-/// Returns the spans of the references to the name or field that an identifier refers to. The
-/// declaring identifier is among them if `include` is true.
+/// Returns the spans of the references to the name or field that the identifier `found` refers to.
+/// The declaring identifier is among the references if `include` is true.
 fn references_of_identifier(
     alloc: Global,
     well_typed: &WellTyped<'_>,
@@ -193,7 +195,7 @@ fn references_of_identifier(
 }
 
 /// Returns the spans of all identifiers that refer to the same field as `field`, in text order. The
-/// declaring identifier is among them if `include` is true.
+/// identifier that declares the field is included only if `include` is true.
 fn field_reference_spans(
     alloc: Global,
     well_typed: &WellTyped<'_>,
@@ -209,7 +211,7 @@ fn field_reference_spans(
 }
 
 /// Returns the token indexes of all identifiers that refer to the same field as `field`, in text
-/// order. The declaring identifier is among them if `include` is true.
+/// order. The identifier that declares the field is included only if `include` is true.
 fn field_reference_tokens(
     alloc: Global,
     well_typed: &WellTyped<'_>,

@@ -21,9 +21,9 @@ use Rattle.ob0_edits_tokens.specs.Replaced.{edit_at, range_and_text}
 use Rattle.ob0_language_fields.specs.Renaming.{IsFreeFieldName, with_renamed_field, is_duplicate_field}
 use Rattle.ob0_rename.specs.Renaming.{TargetsDeclaration, TargetsField, Renaming, field_tokens_to_rename, is_declared_as, renaming_target, module_of, nothing, occurrence_range, conflicting_field_range, conflicting_declaration_range, predeclared, text_after_renaming, tokens_to_rename, named_tree}
 
--- States that the edits write the new name at these tokens and change nothing else. Applied all at
--- once, they give a text with the tree `tree` and with at most `max_text` bytes. The tree is
--- well-typed and has the same runs as the module before the edits.
+-- States that the edits write the new name at the tokens with the indexes `tokens` and change
+-- nothing else. Applied all at once, the edits give a text with the tree `tree` and with at most
+-- `max_text` bytes. The tree is well-typed and has the same runs as the module before the edits.
 pub record WritesName (r : Renaming) (tokens : List ℕ) (tree : Tree Name module_text)
     (edits : List Edit) : Type 0 where
   pub short : length (text_after_renaming r tokens) ≤ max_text
@@ -38,17 +38,18 @@ pub record WritesName (r : Renaming) (tokens : List ℕ) (tree : Tree Name modul
 
 -- ---- answers to the renaming of a declaration
 
--- States that these edits rename the declaration `d`. The new name is an identifier and is free for
--- `d`: it causes no name conflict. The edits write it at every token that declares `d`, refers to
--- `d` or repeats its name after END. The edited text is the renamed module.
+-- States that the edits rename the declaration with the ordinal `d`. The new name is an identifier
+-- and is free for `d`: it causes no name conflict. The edits write the new name at every token that
+-- declares `d`, refers to `d` or repeats its name after END. If `d` already has the new name, there
+-- are no edits. The edited text is the renamed module.
 pub record RenamesDeclaration (r : Renaming) (d : ℕ) (edits : List Edit) : Type 0 where
   pub identifier : IsIdentifier r.new
   pub free : Free (named_tree r) d r.new
   pub writes : WritesName r (tokens_to_rename (module_of r) d r.new)
       (renamed (named_tree r) d r.new) edits
 
--- States that this is the first refusal that applies to the new name of the declaration `d`, in the
--- order of these cases.
+-- States that the given refusal is the first one that applies to the new name of the declaration
+-- with the ordinal `d`, in the order of the cases below.
 abbrev pub IsDeclarationRefusal : Renaming → ℕ → EditRefusal → Type 0
 IsDeclarationRefusal r d refusal.NoName = ⊥
 IsDeclarationRefusal r d refusal.Predeclared = ⊥
@@ -79,17 +80,19 @@ AnswersForDeclaration r d (Err why) = (why ≡ refusal.Memory) ⊎ IsDeclaration
 
 -- ---- answers to the renaming of a field
 
--- States that these edits rename the field `f` of the record `k`. The new name is an identifier and
--- is free for that field: no other field of the record has it. The edits write it at the field's
--- declaration and at all its selections. The edited text is the module with that field renamed.
+-- States that the edits rename the field `f` of the record with the ordinal `k`. The new name is an
+-- identifier and is free for that field: no other field of the record has it. The edits write the
+-- new name at the field's declaration and at all its selections. If the new name is `f`, there are
+-- no edits. The edited text is the module with that field renamed.
 pub record RenamesField (r : Renaming) (k : ℕ) (f : Name) (edits : List Edit) : Type 0 where
   pub identifier : IsIdentifier r.new
   pub free : IsFreeFieldName (named_tree r) k f r.new
   pub writes : WritesName r (field_tokens_to_rename r.names k f r.new)
       (with_renamed_field (named_tree r) k f r.new) edits
 
--- States that this is the first refusal that applies to the new name of the field `f` of the record
--- `k`, in the order of these cases. Only another field of this record conflicts with the new name.
+-- States that the given refusal is the first one that applies to the new name of the field `f` of
+-- the record with the ordinal `k`, in the order of the cases below. Only another field of that
+-- record can conflict with the new name.
 abbrev pub IsFieldRefusal : Renaming → ℕ → Name → EditRefusal → Type 0
 IsFieldRefusal r k f refusal.NoName = ⊥
 IsFieldRefusal r k f refusal.Predeclared = ⊥
@@ -116,15 +119,15 @@ AnswersForField r k f (Err why) = (why ≡ refusal.Memory) ⊎ IsFieldRefusal r 
 
 -- ---- answers to the renaming of the declaration or field at the place
 
--- States that this refusal applies to the new name of the declaration or field at the renaming's
--- place.
+-- States that the given refusal is the first one that applies to the new name, for the declaration
+-- or field at the renaming's place.
 abbrev pub IsTargetRefusal : Renaming → EditRefusal → Type 0
 IsTargetRefusal r why =
     ((d : ℕ) × TargetsDeclaration r d × IsDeclarationRefusal r d why)
     ⊎ ((k : ℕ) × ((f : Name) × TargetsField r k f × IsFieldRefusal r k f why))
 
--- States that this refusal applies to the renaming. Either the place is on no name and no field, or
--- the name at the place is predeclared, or the new name is refused.
+-- States that the given refusal is the one that applies to the renaming. Either the place is on no
+-- name and no field, or the name at the place is predeclared, or the new name is refused.
 abbrev pub IsRenameRefusal : Renaming → EditRefusal → Type 0
 IsRenameRefusal r refusal.NoName = renaming_target r ≡ nothing
 IsRenameRefusal r refusal.Predeclared = renaming_target r ≡ predeclared
@@ -137,7 +140,7 @@ IsRenameRefusal r refusal.Shadowed = ⊥
 IsRenameRefusal r refusal.CommentInside = ⊥
 IsRenameRefusal r refusal.Memory = ⊥
 
--- States that these edits rename the declaration or field at the renaming's place.
+-- States that the edits rename the declaration or field at the renaming's place.
 abbrev pub AreRenameEdits : Renaming → List Edit → Type 0
 AreRenameEdits r edits =
     ((d : ℕ) × TargetsDeclaration r d × RenamesDeclaration r d edits)

@@ -59,8 +59,9 @@ pub data RenameTarget : Type 0 where
   -- the field with this name, in the record with this ordinal
   field_of : ℕ → Name → RenameTarget
 
--- Returns the target for a name that is bound to the declaration with this ordinal. The target is
--- `predeclared` if the ordinal is below `predeclared_count`, otherwise it is the declaration.
+-- Returns the target for a name that is bound to the declaration with the ordinal `ordinal`. The
+-- target is `predeclared` if the ordinal is below `predeclared_count`, otherwise it is that
+-- declaration.
 abbrev pub ordinal_target : ℕ → RenameTarget
 ordinal_target ordinal = if nat_lt ordinal predeclared_count then predeclared else declaration ordinal
 
@@ -96,8 +97,8 @@ TargetsField r k f = renaming_target r ≡ field_of k f
 
 -- ---- the tokens at which the new name is written
 
--- Returns the index of the token that declares the object with this ordinal. Returns None if no
--- token declares it, as for a predeclared name.
+-- Returns the index of the token that is the name in the declaration with the ordinal `ordinal`.
+-- Returns None if there is no such token, as for a predeclared name.
 abbrev pub declaring_token : read.ParsedModule → ℕ → Option ℕ
 declaring_token m ordinal =
     declaration_token (declaring_names (identifiers role.Declaring (read.tree_of m))) ordinal
@@ -119,18 +120,19 @@ tokens_to_rename m d new = if is_declared_as m d new then [] else tokens_bound_t
 abbrev pub field_tokens_to_rename : Resolution → ℕ → Name → Name → List ℕ
 field_tokens_to_rename names k f new = if same_name new f then [] else field_tokens names k f
 
--- Returns the text, in bytes, after the new name is written in place of these tokens.
+-- Returns the text, in bytes, after the new name is written in place of the tokens with the indexes
+-- `tokens`.
 abbrev pub text_after_renaming : Renaming → List ℕ → List ℕ
 text_after_renaming r tokens = text_after_replacement (module_of r).source tokens r.new
 
 -- ---- conflicts of the new name
 
--- Returns the range of the token with this index.
+-- Returns the range of the token with the index `token`.
 abbrev pub token_range : Renaming → ℕ → Range
 token_range r token = range_of (width_of r.unit) r.text (span_at (module_of r).source token)
 
--- Returns the range of the identifier that declares another object with the new name in the block
--- that declares `d`. Returns None if there is no such object.
+-- Returns the range of the identifier that already declares the new name in the block of the
+-- declaration `d`. Returns None if no other declaration of that block has the new name.
 abbrev pub conflicting_declaration_range : Renaming → ℕ → Option Range
 conflicting_declaration_range r d =
     option_map (token_range r)

@@ -33,10 +33,11 @@ use std::alloc::Global;
 /// end.
 ///
 /// If several refusals apply, the first in this order is returned: `NoName` (the place is on no
-/// name, or on the module's name), `Predeclared`, `BadName`, `Duplicate`, `Captures`, `TooLong`.
-/// `Duplicate` has the range of the other declaration's name, or of the other field's name in the
-/// record. `Captures` has the range of the first occurrence that would be bound to another
-/// declaration. A field is never refused with `Captures`.
+/// name, or on the module's name), `Predeclared` (the name at the place is predeclared), `BadName`
+/// (`new` isn't an identifier), `Duplicate`, `Captures`, `TooLong`. `Duplicate` has the range of
+/// the other declaration's name, or of the other field's name in the record. `Captures` has the
+/// range of the first occurrence that would be bound to another declaration. A field is never
+/// refused with `Captures`.
 pub fn rename<T: TextStore>(
     alloc: Global,
     store: &T,
@@ -103,8 +104,8 @@ fn rename_declaration<T: TextStore>(
     }
 }
 
-/// Returns the refusal for a conflict of the new name. A conflict with a declaration gives
-/// `Duplicate` with the range of that declaration's name. A conflict at an occurrence gives
+/// Returns the refusal for the conflict `capture` of the new name. A conflict with a declaration
+/// gives `Duplicate` with the range of that declaration's name. A conflict at an occurrence gives
 /// `Captures` with the range of the occurrence, which would be bound to another declaration.
 fn refusal_of<T: TextStore>(store: &T, names: &Resolved, capture: FirstConflict) -> EditRefusal
     ensures duplicate { (other token : ℕ) → capture ≡ Duplicate other

@@ -19,9 +19,9 @@ use ob0_text::{Range, TextStore};
 use ob0_types::{ResolvedIdentifier, WellTyped, identifier_meaning_at};
 use std::alloc::{AllocError, Global};
 
-/// Returns the identifier at a byte offset with its meaning. Returns None if the offset is on no
-/// name and no field. The contract also promises that a field's name is an identifier by the
-/// scanner's rules.
+/// Returns the identifier at a byte offset with its meaning: a declared name or a field. Returns
+/// None if the offset is on neither. The contract also promises that a field's name is an
+/// identifier by the scanner's rules.
 pub(crate) fn identifier_with_meaning(
     well_typed: &WellTyped<'_>,
     offset: usize,
@@ -35,8 +35,9 @@ pub(crate) fn identifier_with_meaning(
     identifier_meaning_at(well_typed, offset)
 }
 
-/// Returns the indexes of the tokens at which a renaming of the declaration writes `new`, in text
-/// order. The list is empty if the declaration already has the name `new`.
+/// Returns the indexes of the tokens at which a renaming of a declaration writes `new`, in text
+/// order. `declaration` is the declaration's ordinal. The list is empty if the declaration already
+/// has the name `new`.
 pub(crate) fn tokens_to_rename(
     alloc: Global,
     names: &Resolved,
@@ -67,8 +68,8 @@ fn is_declared_as(names: &Resolved, declaration: usize, name: &str) -> bool
     }
 }
 
-/// Returns the range of the token with this index. For None, returns an empty range at the start of
-/// the text.
+/// Returns the range of the token with the index `token`. For None, returns an empty range at the
+/// start of the text.
 pub(crate) fn token_range<T: TextStore>(store: &T, tokens: &Tokens, token: Option<usize>) -> Range
     ensures { (index : ℕ)
         → token ≡ Some index

@@ -1,4 +1,5 @@
--- States that requests for a rename have an answer for each text.
+-- States that a request for a rename always has an answer: for each text, some list of edits is
+-- right. The statement rests on an assumption about well-typed texts (`WellTypedTextsHaveNames`).
 -- Rule: docs/PROTOCOL.md, Requests on documents 6.
 use Rattle.std.specs.Prelude.{ℕ, List}
 use Rattle.ob0_text.specs.declared.position_types.Position.{Position}

@@ -1,4 +1,5 @@
-//! Proves that requests for a rename have answers.
+//! Proves that a request for a rename always has an answer: for each text, some list of edits is
+//! right.
 
 ghost use Rattle.ob0_rename_answers.specs.RenameAnswers.{RenamingHasAnswers};
 

@@ -1,4 +1,5 @@
-//! Proves that each request for a rename has an answer.
+//! Proves that a request for a rename always has an answer: for each text, some list of edits is
+//! right.
 #![tactic(auto)]
 
 pub mod laws;

@@ -1,4 +1,5 @@
--- Defines facts about writers that append the texts of JSON values to the bytes of an output.
+-- States what it means to append the text of a JSON value, of list items or of an object's members
+-- to the bytes of an output.
 -- Rule: none; for the contracts of functions that write JSON.
 use Rattle.std.specs.Prelude.{◌≡◌, ◌++◌, ℕ, List, [], ◌∷◌, Bool, true, Option, Some, None, ⊤}
 use Rattle.std.specs.Str.{IsUtf8}
@@ -43,7 +44,7 @@ pub record AppendsItem (needs_comma : Bool) (value : Data) (old new : List ℕ) 
   pub text : new ≡ old ++ (comma_if needs_comma ++ compact_text value)
   pub reads : ReadsBack value
 
--- States that one member of an object is appended to `old`: the byte `before` (a bracket or a
+-- States that `new` is `old` followed by one member of an object: the byte `before` (a bracket or a
 -- comma), the name in quotes, a colon and the value's text. The value's text reads back as the
 -- value.
 pub record AppendsMember (before : ℕ) (name : List ℕ) (value : Data)
@@ -51,14 +52,16 @@ pub record AppendsMember (before : ℕ) (name : List ℕ) (value : Data)
   pub text : new ≡ old ++ before ∷ 34 ∷ (name ++ 34 ∷ 58 ∷ compact_text value)
   pub reads : ReadsBack value
 
--- States that these members of an object and the closing bracket are appended to `old`. The byte
--- `before` precedes the first member, and commas precede the others.
+-- States that `new` is `old` followed by these members of an object and the closing bracket. The
+-- byte `before` precedes the first member, and a comma precedes each later one. Each value's text
+-- reads back as the value.
 abbrev pub AppendsMembers : ℕ → Members → List ℕ → List ℕ → Type 0
 AppendsMembers before no_members old new = new ≡ old ++ 125 ∷ []
 AppendsMembers before (member name value members) old new =
     (mid : List ℕ) × AppendsMember before name value old mid × AppendsMembers 44 members mid new
 
--- Returns the JSON value of an optional value. None becomes null.
+-- Returns the JSON value of an optional value: `value a` for `Some a`, and the JSON value null for
+-- None.
 abbrev pub or_null : {A : Type 0} → (A → Data) → Option A → Data
 or_null value (Some a) = value a
 or_null value None = null

@@ -1,5 +1,5 @@
 -- Translates the code's messages, requests and notifications into the types of the specs.
--- Rule: none; for contracts: what values of the code mean.
+-- Rule: none; for the contracts of functions that read messages.
 use Rattle.std.specs.Prelude.{◌≡◌, ℕ, List, Option, Some, None, Result, Ok, Err, string_bytes, String, Vec, map, option_map}
 use Rattle.std.specs.Str.{chars}
 use Rattle.std.specs.declared.alloc.Global.{Global}

@@ -22,8 +22,8 @@ pub data Notification : Type 0 where
   unreadable : Option (List ℕ) → Notification
   other : Notification
 
--- Reads the member `range` of a change. Some None means that the change has no range. None means
--- that the range can't be read.
+-- Reads the member `range` of a change, which is optional. Returns Some None if the member is
+-- absent or null: the change then replaces the whole text. Returns None if the range can't be read.
 abbrev pub range_of_change : Option Data → Option (Option Range)
 range_of_change found =
     if is_absent_or_null found then Some None else option_map Some (option_and_then json_range found)
@@ -47,8 +47,8 @@ all_changes (item entry later) =
     option_and_then (λ change. option_map (λ changes. change ∷ changes) (all_changes later))
     (content_change entry)
 
--- Returns the changes in the list `contentChanges` of params. Returns None if the list or one of
--- its entries can't be read.
+-- Returns the changes in the list `contentChanges` of params, in order. Returns None if the list or
+-- one of its entries can't be read.
 abbrev pub changes_of : Data → Option (List TextChange)
 changes_of params =
     option_and_then all_changes (option_and_then as_array (get (codes "contentChanges") params))

@@ -14,12 +14,12 @@ use Rattle.ob0_rpc.specs.declared.clients.ClientFeatures.{ClientFeatures}
 use Rattle.ob0_rpc.specs.declared.incoming.RpcFault.{RpcFault}
 use Rattle.ob0_rpc.specs.declared.incoming.RpcFault.TheVariants.{UnknownMethod, BadParams}
 
--- A document and a position in it.
+-- A position in the document with this uri.
 pub record DocumentPlace : Type 0 where
   pub uri : List ℕ
   pub position : Position
 
--- A request of a known method. Its texts are bytes of UTF-8.
+-- A request whose method the server knows, with its params. Texts are bytes of UTF-8.
 pub data ClientRequest : Type 0 where
   initialize : ClientFeatures → ClientRequest
   shutdown : ClientRequest
@@ -53,17 +53,20 @@ abbrev pub is_equal_text : List ℕ → Option (List ℕ) → Bool
 is_equal_text text None = false
 is_equal_text text (Some other) = bytes_eq other text
 
--- Returns whether one of the items is this text.
+-- Returns whether one of these JSON values is a JSON string that equals `text`.
 abbrev pub has_text : List ℕ → Items → Bool
 has_text text no_items = false
 has_text text (item d ds) = is_equal_text text (as_str d) || has_text text ds
 
--- Returns whether the list exists and contains this text.
+-- Returns whether one of these JSON values is a JSON string that equals `text`. For None (there is
+-- no list), returns false.
 abbrev pub list_has_text : List ℕ → Option Items → Bool
 list_has_text text None = false
 list_has_text text (Some items) = has_text text items
 
--- Returns the capabilities that a client announces in the params of `initialize`.
+-- Returns the capabilities that a client announces in the params of `initialize`. A capability
+-- counts as absent if its value, or an object on the path to it, is absent or has another JSON type
+-- than expected.
 abbrev pub client_features : Data → ClientFeatures
 client_features params = record {
   offers_utf8 =

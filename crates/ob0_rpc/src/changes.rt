@@ -1,10 +1,10 @@
 //! Reads the changes of a document from the params of a notification.
 //!
-//! The text of a change isn't copied. The params are moved out of the message, and the text is
-//! moved out of the params. A member is moved out of an object only after the other members of the
-//! object have been read. A uri and a method are copied, because they are short and the value that
-//! contains them is still needed. A range that is null counts as absent: the change replaces the
-//! whole text. If a range can't be read, the whole notification can't be read.
+//! The text of a change may be long, so it isn't copied: it is moved out of the params. Moving a
+//! member out of an object consumes the object, so the object's other members are read first. A uri
+//! and a method are copied, because they are short and the value that contains them is still
+//! needed. A member `range` that is null counts as absent: the change replaces the whole text. If
+//! any range can't be read, the notification counts as unreadable.
 ghost use Rattle.std.specs.Prelude.{◌≡◌, IfOk, codes, option_and_then, option_map, map};
 ghost use Rattle.ob0_text.specs.OpenDocuments.{text_change_of};
 ghost use Rattle.serde_json.specs.Find.{get, as_array};
@@ -68,8 +68,9 @@ fn read_content_change(entry: Value) -> Option<Change>
     Some(Change { range, text })
 }
 
-/// Reads the member `range` of a change. `Some(None)` means that the change has no range. `None`
-/// means that the range can't be read.
+/// Reads the member `range` of a change, which is optional. Returns `Some(None)` if the member is
+/// absent or null: the change then replaces the whole text. Returns `None` if the range can't be
+/// read.
 fn read_range(member: Option<&Value>) -> Option<Option<Range>>
     ensures { result ≡ range_of_change (option_map (λ v. view v.now) member.entry) }
 {

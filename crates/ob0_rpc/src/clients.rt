@@ -1,4 +1,4 @@
-//! Reads the capabilities of clients.
+//! Reads the capabilities that a client announces in the params of `initialize`.
 //!
 //! A capability counts as absent if its value, or an object on the path to it, has another JSON
 //! type than expected.
@@ -9,7 +9,7 @@ ghost use Rattle.ob0_rpc.specs.Requesting.{client_features as client_in, has_tex
 
 use serde_json::Value;
 
-/// The capabilities that a client announces.
+/// The client's capabilities that matter to this server.
 #[derive(Clone, Copy, Debug, Drop, PartialEq, Eq)]
 pub struct ClientFeatures {
     /// The client offers positions in bytes of UTF-8.
@@ -91,7 +91,7 @@ fn is_true(member: Option<&Value>) -> bool
     }
 }
 
-/// Returns whether the member is a JSON object.
+/// Returns whether the member is a JSON object. An absent member gives false.
 fn is_object(member: Option<&Value>) -> bool
     ensures { result
         ≡ is_some (option_and_then as_object (option_map (λ v. view v.now) member.entry)) }
@@ -114,7 +114,7 @@ fn offers_utf8(params: &Value) -> bool
     }
 }
 
-/// Returns whether one of the items is this text.
+/// Returns whether one of these JSON values is a JSON string that equals `text`.
 fn has_text(items: &[Value], text: &str) -> bool
     ensures { result ≡ has_text text.now (items_view items.now) }
 {
@@ -126,7 +126,7 @@ fn has_text(items: &[Value], text: &str) -> bool
     false
 }
 
-/// Returns whether the item is this text.
+/// Returns whether this JSON value is a JSON string that equals `text`.
 fn is_equal_text(item: &Value, text: &str) -> bool
     ensures { result ≡ is_that_text text.now (as_str (view item.now)) }
 {

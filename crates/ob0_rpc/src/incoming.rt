@@ -1,4 +1,5 @@
-//! Reads the content of a message: the id, the method and the params. The params stay a JSON value.
+//! Reads the content of a message: the id, the method and the params. The params stay a JSON value,
+//! because their form depends on the method.
 ghost use Rattle.std.specs.Prelude.{◌≡◌, true, false, IfOk, MatchOption};
 ghost use Rattle.serde_json.specs.View.{view, number_view};
 ghost use Rattle.serde_json.specs.Data.{number};
@@ -97,7 +98,7 @@ impl<T: Drop> From<AllocFailed<T>> for RpcFault {
 
 /// Reads the content of one message: the bytes after the header. If the content isn't one JSON
 /// value in UTF-8, nested at most 127 deep, the fault is `NotJson`. If the JSON value isn't a
-/// message, the fault is `NotAMessage`.
+/// message, the fault is `NotAMessage`. If an allocation fails, it is `Memory`.
 pub fn read(alloc: Global, content: &[u8]) -> Result<Incoming, RpcFault>
     ensures { ReadsMessage content.now result }
 {

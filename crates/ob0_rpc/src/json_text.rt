@@ -1,9 +1,9 @@
 //! Writes JSON values directly into the text of a message.
 //!
 //! Each message that the server sends, and each part of it, has a type that defines its JSON value
-//! and writes it (`WriteJson`). No `Value` is made first. The contract of a writing function is
-//! `Appends` for its value: the value's compact text is appended, and it reads back as the value. A
-//! text without escapes is written in one piece.
+//! and writes it (`WriteJson`). No `serde_json::Value` is made first. The contract of a function
+//! that writes a JSON value is `Appends`: the function appends the value's compact text, and that
+//! text reads back as the value. A text in which no byte needs an escape is written in one piece.
 ghost use Rattle.std.specs.Prelude.{◌≡◌, ◌<◌, ◌≤◌, ◌^◌, ◌++◌, [], ◌∷◌, true, false, OnOk, map};
 ghost use Rattle.std.specs.Char.{digit_char};
 ghost use Rattle.json.specs.Print.{escape, escape_byte, escape_letter};
@@ -17,8 +17,7 @@ use std::alloc::AllocError;
 /// The most bytes that are reserved at once for the items of a list.
 const MAX_RESERVED_BYTES: usize = 1 << 26;
 
-/// A type whose values are written as JSON. A writing function that fails may leave any bytes in
-/// `out`.
+/// A type whose values can be written as JSON. After a failed write, `out` may contain any bytes.
 pub trait WriteJson {
     /// Returns the JSON value that is written for a value of this type.
     ghost value: { Self → Data };
@@ -151,8 +150,8 @@ pub fn begin_list(out: &mut Vec<u8>) -> Result<(), AllocError>
     write_piece(out, b"[")
 }
 
-/// Writes one item of a list. If `needs_comma` is true, the item isn't the first, and a comma is
-/// written before it.
+/// Writes one item of a list, after a comma if `needs_comma` is true. The caller sets `needs_comma`
+/// for each item except the first.
 #[inline(always)]
 pub fn write_item<W: WriteJson>(
     out: &mut Vec<u8>,
@@ -174,7 +173,8 @@ pub fn end_list(out: &mut Vec<u8>) -> Result<(), AllocError>
     write_piece(out, b"]")
 }
 
-/// Writes a piece of text unchanged: brackets, names of members, and the characters between them.
+/// Writes a piece of text unchanged, without escapes: for example a bracket, a comma, digits or the
+/// name of a member.
 pub(crate) fn write_piece(out: &mut Vec<u8>, piece: &[u8]) -> Result<(), AllocError>
     ensures { OnOk result (out.new.items ≡ out.old.items ++ piece.now) }
 {
@@ -190,7 +190,8 @@ fn write_json_string(out: &mut Vec<u8>, text: &str) -> Result<(), AllocError>
     write_piece(out, b"\"")
 }
 
-/// Writes the bytes of a text without quotes. Characters that need an escape are escaped.
+/// Writes a text as it stands in a JSON string, but without the quotes around it. Characters that
+/// need an escape are escaped.
 pub(crate) fn write_escaped(out: &mut Vec<u8>, text: &[u8]) -> Result<(), AllocError>
     ensures { OnOk result (out.new.items ≡ out.old.items ++ escape text.now) }
 {
@@ -247,8 +248,8 @@ fn write_escaped_byte(out: &mut Vec<u8>, byte: u8) -> Result<(), AllocError>
     Ok(())
 }
 
-/// Returns the character after the backslash in the short escape of a byte: `n` for a line feed.
-/// Returns 0 if the byte has no short escape.
+/// Returns the character after the backslash in the short escape of a byte, for example `n` for a
+/// line feed. Returns 0 if the byte has no short escape.
 fn short_escape_letter(byte: u8) -> u8
     ensures { result ≡ escape_letter byte }
 {

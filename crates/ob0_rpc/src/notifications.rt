@@ -12,7 +12,7 @@ use ob0_text::Change;
 use serde_json::Value;
 use std::alloc::{AllocError, Global};
 
-/// A notification of a client.
+/// A notification that the client has sent. `Other` is any method that the server ignores.
 #[derive(Drop)]
 pub enum ClientNotification {
     Exit,
@@ -38,7 +38,8 @@ pub enum ClientNotification {
 }
 
 /// Reads a notification from its method and its params. Texts of documents are moved out of the
-/// params, not copied. The only possible fault is `Memory`.
+/// params, not copied. Params that can't be read give `Unreadable`, and an unknown method gives
+/// `Other`, so the only possible fault is `Memory`.
 pub fn notice(alloc: Global, method: &str, params: Value) -> Result<ClientNotification, RpcFault>
     ensures { ReadsNotification method.now (view params) result }
 {

@@ -47,7 +47,8 @@ pub fn end_object(out: &mut Vec<u8>) -> Result<(), AllocError>
     write_piece(out, b"}")
 }
 
-/// A JSON object with exactly one member. The member's name may need escapes.
+/// A JSON object with exactly one member. The member's name may need escapes, because it can be any
+/// text, such as a uri.
 #[derive(Drop)]
 pub struct OneMemberObject<'a, W> {
     pub key: &'a str,

@@ -10,7 +10,7 @@ use crate::json_text::WriteJson;
 use crate::objects::{end_object, write_first_member, write_next_member};
 use std::alloc::{AllocError, Global};
 
-/// The answer to a request that succeeds: the id of the request, and the result.
+/// A success response: the answer to a request, with the request's id and the result.
 #[derive(Drop)]
 pub struct Response<'a, W> {
     pub id: &'a Id,

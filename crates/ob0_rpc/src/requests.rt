@@ -22,7 +22,7 @@ pub struct DocumentPosition {
     pub position: Position,
 }
 
-/// A request of a known method.
+/// A request whose method the server knows, with its params.
 #[derive(Drop)]
 pub enum ClientRequest {
     Initialize(ClientFeatures),

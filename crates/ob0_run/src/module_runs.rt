@@ -56,8 +56,8 @@ pub fn execute(
     ob0_run_machine::run(alloc, &program.code, input, calls, turns)
 }
 
-/// Runs a module on an input: lowers the module, and executes the program with these bounds on open
-/// calls and on iterations, as `execute` does.
+/// Runs a module on an input: lowers the module, and executes the program. `calls` and `turns` are
+/// the bounds on open calls and on iterations, as for `execute`.
 ///
 /// # Errors
 ///

@@ -1,16 +1,13 @@
 -- States where lowered code finds the variables and procedures of a module, and when a program
--- means a module. A placement has the place of each name of an environment: a slot for a variable,
--- a target for a procedure. `BlockIsPlaced` states the meaning of a block, and `HasRoutine` the
--- meaning of a procedure. Each has a parameter for the facts about the procedures inside. A
--- procedure's binding keeps the placement at the procedure's declaration (`BindingIsPlaced`).
--- `PlacementFits` recurses over the bindings of an activation, and uses this placement for the
--- activations further out. So no slot has to be translated back to an outer level. The code of a
--- module has to meet `ProgramMeans` for the module's numbered tree. A procedure may have any index,
--- if the entry of the routine table at this index means the procedure's block. Variables of the
--- module are `of_module`, at offsets that begin with 0. Variables of a procedure are `in_activation 0`,
--- after its value parameters. VAR parameters are `by_reference 0`, by their index among the VAR
--- parameters.
--- Rule: none; for contracts of lowering, against docs/LANGUAGE.md, Runs 6.
+-- means a module (`ProgramMeans`). A placement has the place of each name of an environment: a slot
+-- for a variable, a target for a procedure. Variables of the module are `of_module`, at offsets
+-- that begin with 0. Variables of a procedure are `in_activation 0`, after its value parameters.
+-- VAR parameters are `by_reference 0`, by their index among the VAR parameters. A procedure may
+-- have any index, if the entry of the routine table at this index means the procedure's block.
+-- `PlacementFits` states that each binding of an activation is placed right. A procedure's binding
+-- is judged by the placement at the procedure's declaration (`BindingIsPlaced`). So no slot has to
+-- be translated back to an outer level.
+-- Rule: docs/LANGUAGE.md, Runs 1, 6.
 use Rattle.std.specs.Prelude.{◌≡◌, ℕ, suc, ◌+◌, ◌≤◌, true, false, List, [], ◌∷◌, drop, slice_get, Some, Option, option_and_then}
 use Rattle.ob0_tree.specs.Tree.{Tree, begins, block, body, declares, declares_procedure, declares_variable, end, forms_block, item, items, maybe, module_text, more, none, one, procedure, variable}
 use Rattle.ob0_language_names.specs.Names.{Label, Naming, naming_by_label}
@@ -105,8 +102,8 @@ pub record PlacementState (N : Type 0) : Type 0 where
   pub cells : ℕ
   pub reference_places : ℕ
 
--- Adds the name `x` to a placement. A variable or a value parameter gets `n` cells, a VAR parameter
--- gets the next index.
+-- Adds the name `x` to a placement. A variable or a value parameter gets the next `n` cells, and
+-- `at` returns its slot from its offset. A VAR parameter gets the next index.
 abbrev pub place_name : {N : Type 0} → (ℕ → Slot) → Mode → N → ℕ → PlacementState N → PlacementState N
 place_name at by_value x n p =
     record p { placement = (x, in_slot (at p.cells)) ∷ p.placement; cells = p.cells + n }
@@ -184,7 +181,9 @@ abbrev pub label_table : List lowered.Routine → RoutineTable Label
 label_table routines = record { routines = routines; naming = naming_by_label }
 
 -- Runs 6: states that the routine at an index of the table means a procedure. The procedure is
--- declared in the environment `checked`, with the placement `placement`.
+-- declared in the environment `checked`, with the placement `placement`. `Means` is the fact that
+-- has to hold for the routine, in the environment and the placement that include the procedure and
+-- its parameters.
 pub record HasRoutine {N : Type 0} (table : RoutineTable N) (checked : TypeEnvironment N)
     (placement : Placement N) (x : N) (k : ℕ) (text : Tree N (item procedure)) (index : ℕ)
     (Means : TypeEnvironment N → PlacementState N → lowered.Routine → Type 0) : Type 0 where
@@ -274,8 +273,9 @@ abbrev mutual
       routine.cells routine.body b
 
 -- States that one binding is placed right, as seen from the activations `ls`. A variable's slot has
--- the address of the variable's place (Runs 1). A procedure's routine means the procedure's block
--- at the place of its declaration (Runs 6). Other bindings have no place.
+-- the address of the variable's place (Runs 1). A procedure's routine means the procedure's block,
+-- in the environment and a placement at the procedure's declaration (Runs 6). Other bindings have
+-- no place.
 abbrev pub BindingIsPlaced : {N : Type 0}
     → RoutineTable N
     → StoreTyping

@@ -70,14 +70,15 @@ step_offset (array_shape k n s) (at_index i) = i * size s
 step_offset (record_shape k fs) (at_field x) = field_offset fs x
 step_offset _ _ = 0
 
--- returns the offset of the part at the end of a path, in cells from the start of a value with the
--- type `s`
+-- Returns the offset of the part at the end of a path, in cells from the start of a value with the
+-- type `s`. The steps after one that selects no part are ignored.
 abbrev pub offset : List Step → Shape → ℕ
 offset [] s = 0
 offset (step ∷ path) s =
     step_offset s step + unwrap_or (option_map (offset path) (part_shape s step)) 0
 
--- returns the address of a place: the number of cells of a store before the place's first cell
+-- returns the address of a place: the number of cells before the place's first cell, in a store
+-- whose variables have these types
 abbrev pub address : StoreTyping → Place → ℕ
 address typing p =
     store_size (take p.variable typing)
@@ -87,6 +88,7 @@ address typing p =
 abbrev pub cells_at : ℕ → ℕ → List ℤ → List ℤ
 cells_at address n cells = take n (drop address cells)
 
--- returns a list of cells with the cells `new` written over its own, beginning at an address
+-- returns the list `cells`, in which the cells `new` have replaced as many cells, beginning at an
+-- address
 abbrev pub overwritten_cells : ℕ → List ℤ → List ℤ → List ℤ
 overwritten_cells address new cells = take address cells ++ (new ++ drop (address + length new) cells)

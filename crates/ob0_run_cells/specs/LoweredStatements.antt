@@ -1,6 +1,6 @@
--- States the meaning of lowered statements: they change cells, input and output as the statements
--- of a module change its state.
--- Rule: none; for contracts of lowering, against docs/LANGUAGE.md, Runs 5 to 9.
+-- States the meaning of lowered statements: they change the machine's cells, input and output as a
+-- module's statements change the module's store, input and output.
+-- Rule: docs/LANGUAGE.md, Runs 5 to 9.
 use Rattle.std.specs.Prelude.{◌≡◌, ℕ, ◌^◌, ◌<◌, true, List, [], ◌∷◌, ◌++◌, length, map, ℤ, Some}
 use Rattle.ob0_tree.specs.Tree.{Tree, else_part, elsif_part, expression, further_statement, items, maybe, selector, sequence, statement}
 use Rattle.ob0_language_types.specs.Expressions.{Meanings, a_procedure, a_variable}
@@ -82,8 +82,9 @@ CallsRepresent {N} checked targets b =
     (execution.levels_in_call b.levels (length low.cells) (targets x).up p) record low
     { cells = p.cells }) (b.enters x args s)
 
--- States that a body belongs to a checked module. Its variables are in their slots, its procedures
--- have their targets, and its store has fewer than 2^64 cells.
+-- States that a body belongs to a checked module. Its variables are in their slots, and its store
+-- has fewer than 2^64 cells. A call that enters a procedure's target has the effect of a call of
+-- the procedure.
 pub record ShowsBody {N : Type 0} (checked : TypeMeanings N) (slots : N → Slot) (targets : N → Target)
     (b : Body N) : Type 0 where
   pub names_fit : RunMeaningsAgree b.typing checked b.active
@@ -185,9 +186,9 @@ pub record IsAt {N : Type 0} (checked : TypeMeanings N) (slots : N → Slot) (q 
   pub is_variable : checked.object_for name ≡ Some (a_variable shape)
   pub place_means : PlaceMeans checked slots q s (place_of_designator name path)
 
--- States that a lowered argument means an argument for a parameter. The lowered argument is a place
--- for a VAR parameter. For any other parameter, it is a number, a truth, or the cells of an array
--- or a record.
+-- States that a lowered argument means an argument for a parameter. For a VAR parameter, the
+-- lowered argument is a place. For any other parameter, it is a number, a truth, or the cells of an
+-- array or a record.
 abbrev pub CodeMeansArgument : {N : Type 0}
     → TypeMeanings N
     → (N → Slot)

@@ -1,13 +1,12 @@
 -- States the meaning of lowered places, numbers and truths: they have the same outcome as the
 -- module's designators and expressions, at each moment of a run (`Moment`). A meaning is a relation
--- between lowered code and a function of the moment (`OutcomeByMoment`). This relation doesn't
--- mention the expression's tree. So operators need no types: a number of lowered code means a
--- number. Only places and variables need types. The value of an array or a record is in the cells
--- at a place (`HoldsValue`), even if its expression is in parentheses. Only a VAR argument has to
--- be a designator without operators (`IsAt`). While arguments are passed, their cells follow the
--- cells of the store (`passed_cells` of a moment). So a meaning also holds while arguments are passed. A
--- sign `+` is lowered to a sum with 0, which is in range exactly if the number is.
--- Rule: none; for contracts of lowering, against docs/LANGUAGE.md, Runs 2 to 4.
+-- between lowered code and a function from moments to outcomes (`OutcomeByMoment`), for example
+-- `NumberMeans`. This relation doesn't mention the tree of an expression, so operators need no
+-- types. Only places and variables need types. The value of an array or a record is in the cells at
+-- a place (`HoldsValue`), even if its expression is in parentheses. A moment may be one at which
+-- arguments are passed. The cells of these arguments then follow the cells of the store
+-- (`passed_cells`).
+-- Rule: docs/LANGUAGE.md, Runs 2 to 4.
 use Rattle.std.specs.Prelude.{◌≡◌, ℕ, zero, suc, ◌+◌, ◌^◌, ◌<◌, true, List, ◌++◌, ℤ, slice_index_or, Some}
 use Rattle.ob0_tree.specs.declared.tree.Relation.{Relation}
 use Rattle.ob0_tree.specs.declared.tree.Relation.TheVariants as relation
@@ -65,8 +64,9 @@ pub record Moment (N : Type 0) : Type 0 where
 abbrev pub cells_in : {N : Type 0} → Moment N → List ℤ
 cells_in m = all_cells m.store ++ m.passed_cells
 
--- States that a moment belongs to a checked module. Its store and names fit, its variables are in
--- their slots, and its store has fewer than 2^64 cells.
+-- States that a moment belongs to a checked module. The values in its store have the store's types,
+-- and its names have the meanings that the checker found. Each variable is in its slot, and the
+-- store has fewer than 2^64 cells.
 pub record Shows {N : Type 0} (checked : TypeMeanings N) (slots : N → Slot) (m : Moment N) : Type 0 where
   pub store_fits : StoreHasTypes m.typing m.store
   pub names_fit : RunMeaningsAgree m.typing checked m.active
@@ -95,7 +95,7 @@ abbrev pub OutcomeByMoment : Type 0 → Type 0 → Type 0
 OutcomeByMoment N A = Moment N → Outcome A
 
 -- states that a number of lowered code and the evaluation `value` have the same outcome, at each
--- moment of the module
+-- moment that belongs to the checked module (`Shows`)
 abbrev pub NumberMeans : {N : Type 0}
     → TypeMeanings N
     → (N → Slot)
@@ -108,7 +108,7 @@ NumberMeans {N} checked slots n value =
     → outcome_of number (machine.number m.levels (cells_in m) n) ≡ value m
 
 -- states that a truth of lowered code and the evaluation `value` have the same outcome, at each
--- moment of the module
+-- moment that belongs to the checked module (`Shows`)
 abbrev pub TruthMeans : {N : Type 0}
     → TypeMeanings N
     → (N → Slot)
@@ -125,9 +125,9 @@ abbrev pub PlaceOutcomeFits : StoreTyping → Shape → Outcome Place → Type 0
 PlaceOutcomeFits typing s (succeeds_with p) = PlaceHasType typing p s
 PlaceOutcomeFits typing s (ends_run_with e) = Unit {0}
 
--- States that a place of lowered code and the evaluation `value` agree at each moment of the
--- module. Both have the same address, or end the run with the same end. Also states that the place
--- that `value` returns holds values of a type.
+-- States that a place of lowered code and the evaluation `value` agree at each moment that belongs
+-- to the checked module (`Shows`). Both have the same address, or end the run with the same end.
+-- Also states that the place that `value` returns holds values of the type `s`.
 abbrev pub PlaceMeans : {N : Type 0}
     → TypeMeanings N
     → (N → Slot)
@@ -141,9 +141,9 @@ PlaceMeans {N} checked slots q s value =
     ≡ (value m >>= (λ p. succeeds_with (address m.typing p))))
     × PlaceOutcomeFits m.typing s (value m)
 
--- States that the evaluation `value` returns the value that is stored at a place, at each moment of
--- the module. The place is the one that the place `q` of lowered code means, and it holds values of
--- a type.
+-- States that the evaluation `value` returns the value that is stored at a place, at each moment
+-- that belongs to the checked module (`Shows`). The place is the one that the place `q` of lowered
+-- code means, and it holds values of the type `s`.
 abbrev pub HoldsValue : {N : Type 0}
     → TypeMeanings N
     → (N → Slot)
@@ -201,8 +201,8 @@ remaining_selectors rest m p =
     or_stuck (read_place m.store p) >>=
     (λ v. evaluate_selectors m.active m.store v rest >>= (λ steps. succeeds_with (extended_place p steps)))
 
--- States that there is an evaluation `so_far` for which `Means` holds. Followed by the rest of a
--- chain, it is the evaluation of the whole chain.
+-- States that there is an evaluation `so_far` for which `Means` holds. This evaluation, followed by
+-- the rest of a chain, has the outcome of the whole chain.
 abbrev pub StartsChain : {N A : Type 0}
     → TypeMeanings N
     → (N → Slot)

@@ -1,10 +1,11 @@
 -- States that each procedure and each block of a well-typed module is lowered to code that means
--- this procedure or block. A procedure gets an index at its heading, with a placeholder in the
--- table of procedures. At the procedure's end, its code is stored there. Clauses hold for any later
--- table that has the same code at each index from a given one to the end (`HasRoutinesFrom`). So
--- earlier code keeps its meaning, and no clause mentions the final table. `LowersProcedures` holds
--- for any statements and any further procedures of a block. The loop over the procedures of a block
--- composes these clauses (`goes_then`).
+-- this procedure or block. At its heading, a procedure gets an index in the table of procedures,
+-- with a placeholder there. At the procedure's end, its code replaces the placeholder. A clause
+-- about code holds for each table that has the procedures that were added together with this code
+-- (`HasRoutinesFrom`). So the code keeps its meaning while the table grows, and no clause mentions
+-- the final table. `LowersProcedures` is about some procedures of a block, and holds for any
+-- procedures and statements that follow in the block. The loop over a block's procedures composes
+-- such facts (`goes_then`).
 -- Rule: none; for contracts of lowering.
 use Rattle.std.specs.Prelude.{◌≡◌, ℕ, ◌≤◌, true, List, length, Some, slice_get}
 use Rattle.ob0_tree.specs.Tree.{Tree, block, body, items, maybe, procedure}
@@ -22,8 +23,8 @@ use Rattle.ob0_run_lowering.specs.PlacedNames.{Follows, LocatesAll, IsFrame, Pla
 use Rattle.ob0_run_lowering.specs.declared.programs.Lowering.{Lowering}
 use Rattle.ob0_run_lowering.specs.declared.visible_sites.Frame.{Frame}
 
--- states that a table has the code of the procedures `ps`, at each index of `ps` that is at least
--- `n`
+-- states that a table has the same procedures as the list `ps`, at each index in `ps` that is at
+-- least `n`
 abbrev pub HasRoutinesFrom : List lowered.Routine → ℕ → List Routine → Type 0
 HasRoutinesFrom table n ps =
     (i : ℕ) (e : Routine)
@@ -44,8 +45,8 @@ pub record BlockState : Type 0 where
   pub next : ℕ
 
 -- States that the remaining procedures `ps` and the statements of a block are well-typed in a
--- state. All names in scope have the objects of the table of declarations, and the places of the
--- table of sites.
+-- state. The table of declarations has the object of each name in scope, and of each name that
+-- these procedures declare. The table of sites has the place of each name in scope.
 pub record Ready (t : Tables) (sites : List Site) (depth : ℕ) (s : BlockState)
     (statements : Tree Label (maybe body)) (ps : Tree Label (items procedure)) : Type 0 where
   pub declared_there : AreDeclared (declared_object_in t) s.env
@@ -65,9 +66,10 @@ abbrev pub RestOfBlockMeans : List lowered.Routine
 RestOfBlockMeans table s code statements ps =
     RoutinesMeanProcedures (label_table table) s.env s.placement s.next code statements ps
 
--- States that the procedures `ps` of a block are lowered from a state, except the procedures `left`
--- at their end. This results in the state `now`. The added routines and any code that means `left`
--- in the state `now` together mean `ps` in the state before.
+-- States that lowering starts in the state `s` with the remaining procedures `ps` of a block, and
+-- reaches the state `now` with the remaining procedures `left`. `mean` is about each table that has
+-- the routines that were added: if the table and some code mean `left` in the state `now`, they
+-- mean `ps` in the state `s`.
 pub record LowersFromState (t : Tables) (w v : Lowering) (depth : ℕ) (s : BlockState)
     (statements : Tree Label (maybe body)) (ps left : Tree Label (items procedure)) : Type 0 where
   pub now : BlockState
@@ -77,9 +79,10 @@ pub record LowersFromState (t : Tables) (w v : Lowering) (depth : ℕ) (s : Bloc
       → RestOfBlockMeans table now code statements left
       → RestOfBlockMeans table s code statements ps
 
--- States that the procedures `ps` of a block are lowered, except the procedures `left` at their
--- end. This holds from each state and for any statements (`LowersFromState`). The tables of sites
--- and of procedures only grow.
+-- States that lowering starts with the remaining procedures `ps` of a block, and reaches the
+-- remaining procedures `left`. This holds for each state in which it starts, and for any statements
+-- of the block (`LowersFromState`). Also states that the tables of sites and of procedures only
+-- grow.
 pub record LowersProcedures (t : Tables) (w v : Lowering) (depth : ℕ) (ps left : Tree Label (items procedure))
     : Type 0 where
   pub on : (s : BlockState) (statements : Tree Label (maybe body))

@@ -1,5 +1,5 @@
--- Defines the code of a value by the value's type: the code of the value at a place, of an
--- operation, of a field, and of an element.
+-- Defines the code of values (`ExpressionCode`): of constants, of the value at a place, and of
+-- operations. Also defines the places of fields and elements (`FoundPlace`).
 -- Rule: none; for contracts of lowering.
 use Rattle.std.specs.Prelude.{◌≡◌, ℕ, ◌*◌, ◌%◌, ◌^◌, pos, Some, None, Option, option_map, if◌then◌else◌, nat_lt}
 use Rattle.ob0_tree.specs.declared.tree.Relation.{Relation}
@@ -18,16 +18,16 @@ use Rattle.ob0_run_machine.specs.Lowered as lowered
 use Rattle.ob0_run_cells.specs.Cells.{size, step_offset}
 use Rattle.ob0_run_cells.specs.Lowering.{OutcomeByMoment, NumberMeans, Slot, TruthMeans, HoldsValue, part_at, relation_of}
 
--- The code of an expression: a number, a truth, or the cells of an array or a record. The last case
--- is no code, which no expression of a well-typed module has.
+-- The code of an expression: a number, a truth, or the cells of an array or a record. In the last
+-- case there is no code. This doesn't occur for expressions of a well-typed module.
 pub data ExpressionCode : Type 0 where
   a_number : lowered.Number → ExpressionCode
   a_truth : lowered.Truth → ExpressionCode
   a_block : lowered.Place → (cells : ℕ) → ExpressionCode
   no_code : ExpressionCode
 
--- States that code means an evaluated value of a type. This is never true if the code is for a
--- value of another type, or is `no_code`.
+-- States that code has the outcome of the evaluation `value`, whose values have a given type. This
+-- is never true if the code is for a value of another type, or is `no_code`.
 abbrev pub CodeMeans : TypeMeanings Label → (Label → Slot) → ExpressionCode → Shape
     → OutcomeByMoment Label Value
     → Type 0
@@ -63,8 +63,8 @@ constant_code (truth b) = a_truth (lowered.constant b)
 constant_code (elements vs) = no_code
 constant_code (members k ms) = no_code
 
--- returns the code of a designator: of the constant's value if there is one, otherwise of the value
--- at the place that was found
+-- Returns the code of a designator. For a constant, this is the code of its value. For any other
+-- designator (None), it is the code of the value at the place that was found.
 abbrev pub named_code : Option Value → Option FoundPlace → ExpressionCode
 named_code (Some v) found = constant_code v
 named_code None found = code_at found
@@ -119,15 +119,16 @@ relation_code relation.Equal (a_truth t) (a_truth u) = a_truth (lowered.same t u
 relation_code relation.NotEqual (a_truth t) (a_truth u) = a_truth (lowered.different t u)
 relation_code _ _ _ = no_code
 
--- Returns the offset of an array's element, in cells, if the index is a literal below the array's
--- length. Returns None for any other index.
+-- Returns the offset of an array's element, in cells from the start of the array, if the index is a
+-- literal below the array's length. The offset wraps at 64 bits. Returns None for any other index.
 abbrev pub known_offset : lowered.Number → (length stride : ℕ) → Option ℕ
 known_offset (lowered.literal (pos i)) n s =
     if nat_lt i n then Some ((i * s) % 2 ^ 64) else None
 known_offset _ n s = None
 
--- Returns the place of an array's element. If the offset of the element is known, this is a part of
--- the array. Otherwise it is the element at an index that is evaluated during the run.
+-- Returns the place of an array's element. If the offset of the element is known, this is the place
+-- at this offset in the array. For None, it is the element at an index that is evaluated during the
+-- run.
 abbrev pub element_or_part : Option ℕ → lowered.Place → lowered.Number → (length stride : ℕ)
     → lowered.Place
 element_or_part None q i n s = lowered.element q i n s 0

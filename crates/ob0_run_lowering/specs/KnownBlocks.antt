@@ -1,9 +1,9 @@
 -- States that the bindings of a module agree with the table of its declarations. `BlockIsDeclared`
 -- recurses over the tree, and is about each environment in which procedures or statements of a
 -- block are checked. Each binding in this environment has an ordinal, and the object that the table
--- has at this ordinal. A well-typed module has this property (`module-declared`). In its numbered
--- tree ordinals descend in each environment, so a look-up of a name finds this binding. No other
--- fact about the order of ordinals is used.
+-- has at this ordinal. A well-typed module has this property (`module-declared`). In the module's
+-- numbered tree, the ordinals in each environment descend. So each ordinal is bound once, and a
+-- look-up of the ordinal finds its binding. No other fact about the order of ordinals is used.
 -- Rule: none; for contracts of lowering.
 use Rattle.std.specs.Prelude.{◌≡◌, ℕ, [], ◌∷◌, Some, Option}
 use Rattle.ob0_tree.specs.Tree.{Tree, block, items, procedure}
@@ -18,8 +18,8 @@ use Rattle.ob0_language_values.specs.Values.{Shape}
 abbrev pub ObjectByOrdinal : Type 0
 ObjectByOrdinal = ℕ → Option (Object Shape Signature)
 
--- States that each binding of an environment binds an ordinal to the object of the declaration with
--- this ordinal.
+-- States that each binding of an environment binds an ordinal to the object that `objects` returns
+-- for this ordinal.
 abbrev pub AreDeclared : ObjectByOrdinal → TypeEnvironment Label → Type 0
 AreDeclared objects [] = Unit {0}
 AreDeclared objects (b ∷ env) =

@@ -1,12 +1,10 @@
--- States that statements are lowered to code that means them in a scene. `HoldsInScene` is the form
--- of every clause about statements except the clause of `lower_body`. A clause of this form is about all
--- checked names, slots and targets that agree with the scene (`Sees`). It says that the code of a
--- tree means the tree, if the tree is well-typed (*fits*) with these names. Each law of
--- `ob0_run_cells` is lifted to this form once (`proofs/HoldsInScene`): if the whole fits, its parts
--- fit. The clause of `lower_body` states the meaning of a body by `CodeMeansBody` of `ob0_run_cells`. This
--- clause is about each environment and each placement that agree with the scene, if the body fits.
--- A tree that occurs in no well-typed module doesn't fit, so a clause about this tree holds for any
--- code.
+-- States that statements are lowered to code that means them in a scene. A clause about statements
+-- covers all checked names, slots and targets that agree with the scene (`Sees`). It says that the
+-- code of a tree means the tree, if the tree is well-typed with these names (`HoldsInScene`). If
+-- the tree isn't well-typed, nothing is claimed about its code. The parts of a well-typed tree are
+-- well-typed, so each law of `ob0_run_cells` is lifted to this form once (`proofs/HoldsInScene`).
+-- Only the clause of `lower_body` has another form (`LowersBody`): it is about each environment and
+-- each placement that agree with the scene.
 -- Rule: none; for contracts of lowering.
 use Rattle.std.specs.Prelude.{◌≡◌, ◌&&◌, Bool, List, [], IsTrue, Option, Some, None}
 use Rattle.std.specs.declared.alloc.Global.{Global}
@@ -35,13 +33,14 @@ HoldsInScene scene fits Means =
     → IsTrue (fits checked)
     → Means checked slots targets
 
--- States that a truth of lowered code means a condition in a scene.
+-- States that a truth of lowered code means a condition in a scene, if the condition is BOOLEAN.
 abbrev pub LowersCondition : Scene → lowered.Truth → Tree Label expression → Type 0
 LowersCondition scene t e =
     HoldsInScene scene (λ checked. condition_is_boolean checked e)
     (λ checked slots targets. TruthMeans checked slots t (value_of_expression e))
 
--- States that lowered arguments mean the arguments of a call in a scene.
+-- States that lowered arguments mean the arguments of a call in a scene, if the arguments match the
+-- parameters.
 abbrev pub LowersArguments : Scene
     → Signature
     → List lowered.LoweredArgument
@@ -51,7 +50,7 @@ LowersArguments scene signature cs es =
     HoldsInScene scene (λ checked. arguments_match checked signature es)
     (λ checked slots targets. CodeMeansArguments checked slots signature cs es)
 
--- States that an instruction means a statement in a scene.
+-- States that an instruction means a statement in a scene, if the statement is well-typed.
 abbrev pub LowersStatement : Scene → lowered.Instruction → Tree Label statement → Type 0
 LowersStatement scene c a =
     HoldsInScene scene (λ checked. statement_is_well_typed checked a)
@@ -62,34 +61,35 @@ abbrev pub given_arguments : Option (Vec Expression Global) → List Expression
 given_arguments None = []
 given_arguments (Some es) = es.items
 
--- States that an instruction means a statement in a scene. For None, states that the statement is
--- empty.
+-- States that an instruction means a statement in a scene, if the statement is well-typed. For None,
+-- states that the statement is empty.
 abbrev pub LowersOptionalStatement : Scene → Option lowered.Instruction → Tree Label statement → Type 0
 LowersOptionalStatement scene None a = a ≡ empty
 LowersOptionalStatement scene (Some c) a = LowersStatement scene c a
 
--- States that instructions mean a sequence of statements in a scene.
+-- States that instructions mean a sequence of statements in a scene, if the sequence is well-typed.
 abbrev pub LowersSequence : Scene → lowered.Instructions → Tree Label sequence → Type 0
 LowersSequence scene cs a =
     HoldsInScene scene (λ checked. sequence_is_well_typed checked a)
     (λ checked slots targets. CodeMeansSequence checked slots targets cs a)
 
--- States that instructions mean the statements after the first one of a sequence, in a scene.
+-- States that instructions mean the statements after the first one of a sequence in a scene, if
+-- these statements are well-typed.
 abbrev pub LowersFurtherStatements : Scene → lowered.Instructions → Tree Label (items further_statement)
     → Type 0
 LowersFurtherStatements scene cs rest =
     HoldsInScene scene (λ checked. further_statements_are_well_typed checked rest)
     (λ checked slots targets. CodeMeansFurtherStatements checked slots targets cs rest)
 
--- States that instructions mean an ELSE part in a scene. If there is no ELSE part, the instructions
--- have no effect.
+-- States that instructions mean an ELSE part in a scene, if the ELSE part is well-typed. If there
+-- is no ELSE part, states that the instructions have no effect.
 abbrev pub LowersElse : Scene → lowered.Instructions → Tree Label (maybe else_part) → Type 0
 LowersElse scene cs last =
     HoldsInScene scene (λ checked. else_is_well_typed checked last)
     (λ checked slots targets. CodeMeansElse checked slots targets cs last)
 
--- States that branches mean ELSIF parts, and that instructions mean the ELSE part after them, in a
--- scene.
+-- States that branches mean ELSIF parts in a scene, and that instructions mean the ELSE part after
+-- them, if all these parts are well-typed.
 abbrev pub LowersElsifs : Scene
     → lowered.Branches
     → lowered.Instructions

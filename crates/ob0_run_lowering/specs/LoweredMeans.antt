@@ -24,7 +24,8 @@ use Rattle.ob0_run_lowering.specs.declared.lowered.TypedPlace.{TypedPlace}
 use Rattle.ob0_run_lowering.specs.declared.lowered.LoweredExpression.{LoweredExpression}
 use Rattle.ob0_run_lowering.specs.declared.scene.Scene.{Scene}
 
--- States that the code `l` means an evaluated value of a type.
+-- States that the code `l` has the outcome of the evaluation `value`, whose values have the type
+-- `s`.
 abbrev pub LoweredMeans : TypeMeanings Label → (Label → Slot) → LoweredExpression → Shape → OutcomeByMoment Label Value → Type 0
 LoweredMeans checked slots l s value = CodeMeans checked slots (code_of l) s value
 

@@ -1,4 +1,5 @@
--- Relates an expression's code to its parts: its number, its truth, its argument or its place.
+-- Relates an expression's code, or the place that was found for a designator, to the number, truth,
+-- argument or place that lowering makes from it.
 -- Rule: none; for contracts of lowering.
 use Rattle.std.specs.Prelude.{◌≡◌, Option, Some, None}
 use Rattle.ob0_run_machine.specs.declared.code.Argument.{Argument}
@@ -21,8 +22,8 @@ abbrev pub KeepsTruth : LoweredExpression → Truth → Type 0
 KeepsTruth (code.Truth u) t = u ≡ t
 KeepsTruth _ t = Unit {0}
 
--- States that an argument passes the value of an expression, given the expression's code. If there
--- is no code, nothing is claimed.
+-- States that an argument passes the number, the truth or the cells that an expression's code
+-- computes. If there is no code, nothing is claimed.
 abbrev pub PassesCode : LoweredExpression → Argument → Type 0
 PassesCode (code.Number n) a = argument.Number n ≡ a
 PassesCode (code.Truth t) a = argument.Truth t ≡ a

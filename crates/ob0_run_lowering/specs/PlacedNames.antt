@@ -1,12 +1,12 @@
 -- States where lowered code finds the names of a block or a heading. The names are placed one by
--- one: a variable gets cells, a VAR parameter gets an index. The site of a name has the depth of the
--- activation to which the name belongs. The place of a name has the number of levels out instead, as
--- seen from one activation. Constants and types need no
--- code, so their place is `nowhere`, and `LocatesAll` claims nothing about them. `place_variable_declarations` and
+-- one: a variable gets cells, a VAR parameter gets an index. The site of a name has the depth of
+-- the activation to which the name belongs. The place of a name has the number of levels out
+-- instead, as seen from one activation. Constants and types need no code, so their place is
+-- `nowhere`, and `LocatesAll` claims nothing about them. `place_variable_declarations` and
 -- `place_sections` depend only on names and their sizes, so loops over names need no types or
 -- environments. The lemmas `groups_placed` and `sections_placed` show that these sizes are the
--- sizes of the declared types, if the declarations fit. A frame (`Frame`: depth, cells, VAR
--- parameters) has the counts of a placement so far, without its names (`IsFrame`).
+-- sizes of the declared types, if the declarations are well-typed. A frame (`Frame`: depth, cells,
+-- VAR parameters) has the counts of a placement so far, without its names (`IsFrame`).
 -- Rule: none; for contracts of lowering.
 use Rattle.std.specs.Prelude.{◌≡◌, ℕ, zero, suc, ◌≤◌, List, [], ◌∷◌, ◌++◌, length, if◌then◌else◌, ◌==◌, Some, None, Option}
 use Rattle.ob0_tree.specs.Tree.{Tree, declares_variable, end, further_section, items, more, then_section, variable}

@@ -1,5 +1,6 @@
--- Defines the facts that are needed to lower a body: the objects of declarations, their sites, and
--- the depth of the running activation.
+-- Defines the object, the slot and the target that a scene has for a name. A scene (`Scene`) is the
+-- data that is needed to lower a body. Also states that a scene is right for the checked names of a
+-- body (`Sees`).
 -- Rule: none; for contracts of lowering.
 use Rattle.std.specs.Prelude.{◌≡◌, ℕ, ◌-◌, List, slice_index_or, Some, None, Option}
 use Rattle.ob0_language_names.specs.Names.{Label, as_written, declared, label_text}

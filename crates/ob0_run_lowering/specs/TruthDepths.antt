@@ -33,14 +33,14 @@ abbrev pub or_depth_of : LoweredExpression → ℕ
 or_depth_of (code.Truth t) = or_depth t
 or_depth_of _ = 0
 
--- states that the first operand of a conjunction isn't a conjunction, and the first operand of a
--- disjunction isn't a disjunction
+-- States about an expression's code that, if it is a conjunction, its first operand isn't a
+-- conjunction. States the same for disjunctions.
 pub record IsFlat (l : LoweredExpression) : Type 0 where
   pub bounds_and_depth : and_depth_of l ≤ 1
   pub bounds_or_depth : or_depth_of l ≤ 1
 
--- States that the code `whole`, which has one more operand than `left`, is nested at most as deep
--- as `left`. If `left` isn't nested, `whole` may be nested once.
+-- States that the code `whole` of an operation is nested no deeper than the code `left` of its left
+-- operand, neither in conjunctions nor in disjunctions. A depth of 1 is always allowed.
 pub record IsNoDeeper (left whole : LoweredExpression) : Type 0 where
   pub bounds_and_depth : and_depth_of whole ≤ max 1 (and_depth_of left)
   pub bounds_or_depth : or_depth_of whole ≤ max 1 (or_depth_of left)

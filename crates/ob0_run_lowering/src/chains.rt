@@ -7,10 +7,11 @@
 //! assignments that the machine evaluates in fewer steps.
 //!
 //! Chains and nested pairs have the same meaning, so separate clauses state how deep the code is
-//! nested (`specs/TruthDepths`). One more operand makes a conjunction no deeper on the left, unless
-//! the left operand wasn't a conjunction (`IsNoDeeper`). So the first operand of a conjunction
-//! isn't a conjunction (`IsFlat`). `conjunction_of_two` and `disjunction_of_two` list each case of
-//! the left operand, since a proof knows nothing about an operand in a wildcard arm.
+//! nested (`specs/TruthDepths`). One more operand makes a conjunction no deeper on the left
+//! (`IsNoDeeper`). If a truth isn't a conjunction, one more operand makes it a conjunction of depth
+//! 1. So the first operand of a conjunction isn't a conjunction (`IsFlat`). The same holds for
+//! disjunctions. `conjunction_of_two` and `disjunction_of_two` list each case of the left operand,
+//! since a proof knows nothing about an operand in a wildcard arm.
 
 ghost use Rattle.std.specs.Prelude.{◌≡◌, ◌≤◌, IfOk, IfSome, max, suc};
 ghost use Rattle.ob0_run_machine.specs.Lowered as machine;
@@ -119,8 +120,9 @@ fn plain_operation(
 }
 
 /// Returns the operation on a variable and the number `right`. If `right` is an operation or a
-/// chain, the result is one chain, which evaluates the variable last. The variable has the same
-/// value then. For a quotient or a remainder, the result is a single operation.
+/// chain, the result is one chain, which evaluates the variable last. Its value is the same then,
+/// since the evaluation of `right` changes no variable. For a quotient or a remainder, the result
+/// is a single operation.
 fn operation_on_variable(
     alloc: Global,
     operator: Operator,

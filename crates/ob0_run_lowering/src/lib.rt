@@ -2,13 +2,13 @@
 //!
 //! There are three layers. The first lowers designators, expressions and arguments, the second the
 //! statements of a body, and the third declarations, blocks and procedures. The first two layers
-//! lower with a scene (`Scene`), which says where lowered code finds each name in a body. Their
-//! contracts hold if the scene has the object, the slot or the target of each checked name
-//! (`Sees`). A slot (`Slot`) is the place of a variable, a target (`Target`) is the procedure
-//! that a call enters. So these contracts mention no environments, placements or blocks. The third layer
-//! shows `Sees` at each body. If an expression has a type, its code means the expression
-//! (`LowersExpression`). If an expression has no type, nothing is claimed about its code. So every
-//! tree is accepted and lowered.
+//! lower with a scene (`Scene`), which says where lowered code finds each name in a body. A
+//! variable has a slot (`Slot`), which is its place. A procedure has a target (`Target`), which a
+//! call enters. The contracts of the first two layers hold if the scene has the object, the slot or
+//! the target of each checked name (`Sees`), so they mention no environments, placements or
+//! blocks. The third layer proves `Sees` for each body. If an expression has a type, its
+//! code means the expression (`LowersExpression`). If an expression has no type, nothing is claimed
+//! about its code. So every tree is accepted and lowered.
 #![tactic(auto)]
 
 mod chains;

@@ -5,9 +5,9 @@
 //! functions that compute it (`expression_code`), and each function here returns this code. An
 //! induction over trees (`proofs/TreesMean`) shows that the code means the tree, by the laws of
 //! `ob0_run_cells`. No proof about a function mentions moments of a run (`Moment`) or cells. The
-//! types of places come from the table of declarations. Only `bound` of `Sees` relates these types
-//! to the checked types. The table also has types of variables that aren't in scope, and nothing is
-//! claimed about these types.
+//! types of places come from the table of declarations. Only the field `bound` of `Sees`
+//! relates these types to the types that the checker found. The table also has types of variables
+//! that aren't in scope, and nothing is claimed about these types.
 
 ghost use Rattle.std.specs.Prelude.{◌≡◌, IfOk, Some, option_and_then, option_map, pos};
 ghost use Rattle.ob0_tree.specs.Places.{token_value_at};
@@ -86,7 +86,7 @@ impl<'s, 'k, 't> Scene<'s, 'k, 't> {
     }
 
     /// Returns the text of the field's name at a token. Returns the empty text if the token is
-    /// bound to a declaration, so that it isn't a field's name.
+    /// bound to a declaration, because it isn't a field's name then.
     fn field_name(&self, token: usize) -> &'t str
         ensures { result.now ≡ label_text (label_at_token self.now.resolved.now token) }
     {

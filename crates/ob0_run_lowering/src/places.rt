@@ -67,8 +67,8 @@ fn part_of_variable(alloc: Global, variable: Variable, offset: usize) -> Result<
 }
 
 /// Returns the place at an offset from the address that was passed for a VAR parameter. The
-/// parameter belongs to the activation `up` levels out. The place is a `Variable` if `up` is 0, and
-/// the index and the offset have at most 32 bits.
+/// parameter belongs to the activation `up` levels out. If `up` is 0, and the index and the offset
+/// have at most 32 bits, the place is a `Variable`. Otherwise it is a `Place::Passed`.
 pub(crate) fn reference(
     alloc: Global,
     up: usize,
@@ -159,8 +159,9 @@ fn count_links(chain: &Chain) -> usize
     chain.rest.len()
 }
 
-/// Returns the offset of an array's element whose index is a chain. Returns None unless the chain
-/// has no operations, and its first operand is a literal within the array.
+/// Returns the offset of an array's element whose index is a chain, in cells from the start of the
+/// array. The offset is known only if the chain has no operations, and its first operand is a
+/// literal below the array's length. Otherwise returns None.
 fn chain_offset(chain: &Chain, length: usize, stride: usize) -> Option<usize>
     ensures { result ≡ known_offset (chain_of chain.now) length stride }
 {
@@ -171,8 +172,8 @@ fn chain_offset(chain: &Chain, length: usize, stride: usize) -> Option<usize>
     None
 }
 
-/// Returns the offset of an array's element, in cells, if the index is a literal within the array.
-/// Returns None for any other index.
+/// Returns the offset of an array's element, in cells from the start of the array, if the index is
+/// a literal below the array's length. Returns None for any other index.
 fn known_offset(index: &Number, length: usize, stride: usize) -> Option<usize>
     ensures { result ≡ known_offset (number_of index.now) length stride }
 {
@@ -186,8 +187,8 @@ fn known_offset(index: &Number, length: usize, stride: usize) -> Option<usize>
     }
 }
 
-/// Returns the place of an element of the array at a place. If the index is a literal within the
-/// array, the element is a part of the array.
+/// Returns the place of an element of the array at a place. If the index is a literal below the
+/// array's length, this is a place at a known offset in the array (`part`).
 pub(crate) fn element(
     alloc: Global,
     array: Place,

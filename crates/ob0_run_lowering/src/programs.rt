@@ -23,8 +23,9 @@ use ob0_tree::{Block, Procedure};
 use ob0_types_table::DeclarationTable;
 use std::alloc::{AllocError, Global};
 
-/// The state while a module is lowered. `visible` has, for each declaration in scope, where lowered
-/// code finds it (its `Site`). `procedures` has the code of the procedures so far.
+/// The state while a module is lowered. `visible` has the site of each declaration in scope
+/// (`Site`), which says where lowered code finds the declaration. `procedures` has the code of the
+/// procedures so far.
 #[derive(Drop)]
 pub(crate) struct Lowering {
     pub(crate) visible: VisibleSites,

@@ -174,7 +174,7 @@ impl<'k> TypeLayouts<'k> {
     ghost use Rattle.ob0_types_table.specs.KnownTables.{shapes_of};
     ghost use Rattle.ob0_language_values.specs.Values.{at_field};
 
-    /// Computes the layouts of all types of the table.
+    /// Computes the layouts of all array and record types in the table `known`.
     ///
     /// # Errors
     ///
@@ -249,8 +249,8 @@ fn named_field_offset(known: &DeclarationTable, layouts: &[Layout], of: TypeId, 
     }
 }
 
-/// Returns the layouts of all types of the table, in the order of the table. Each layout results
-/// from the layouts before it.
+/// Returns the layouts of all array and record types in the table `known`, in the table's order.
+/// Each layout is computed from the layouts before it.
 fn lay_out_types(alloc: Global, known: &DeclarationTable) -> Result<Vec<Layout>, AllocError>
     ensures { IfOk result (λ layouts. HaveLayouts (shapes_of known.now) layouts.items) }
 {

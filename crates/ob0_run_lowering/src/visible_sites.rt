@@ -2,9 +2,11 @@
 //! its index. Keeps the site of each declaration in scope (`Site`), which says where lowered code
 //! finds the declaration.
 //!
-//! Each declaration of a module has an ordinal, which is its index in the table of sites. A binding
-//! records the site that it hides. At the end of the procedure the hidden site is restored. So one
-//! table is enough, and a procedure takes time only for the names that it declares.
+//! Each declaration of a module has an ordinal, which is its index in the table of sites. A
+//! declaration comes into scope when its site is stored at its ordinal. This is a binding. It hides
+//! the site that the ordinal had before, which is recorded (`HiddenSite`), and restored at the end
+//! of the procedure. So one table is enough, and a procedure takes time only for the names that it
+//! declares.
 
 ghost use Rattle.std.specs.Prelude.{◌≡◌, ◌≤◌, ◌+◌, ◌^◌, ℕ, suc, IfOk, OnOk, MatchOption, length, slice_set};
 ghost use Rattle.ob0_run_lowering.specs.Scenes.{site_at};
@@ -90,7 +92,8 @@ impl VisibleSites {
         }
     }
 
-    /// Extends the list of sites until it has an entry for an ordinal. Added entries are `Nowhere`.
+    /// Extends the list of sites with entries `Nowhere`, until it has an entry for an ordinal. Does
+    /// nothing if it has one already.
     fn make_room_for(&mut self, ordinal: usize) -> Result<(), AllocError>
         ensures same { OnOk result
             ((k : ℕ) → site_at self.new.sites.items k ≡ site_at self.old.sites.items k) }
@@ -182,10 +185,10 @@ impl VisibleSites {
         }
     }
 
-    /// Places the name that is declared at the token `name` in an activation. A VAR parameter gets
-    /// the next index, a variable or a value parameter gets cells. Returns the frame with this name
-    /// added. Fails if an allocation fails, or if a count of the frame would have more than 64
-    /// bits.
+    /// Places the name that is declared at the token `name` in an activation. A VAR parameter
+    /// (`by_place`) gets the next index among the VAR parameters, a variable or a value parameter
+    /// gets cells. Returns the frame with this name added. Fails if an allocation fails, or if a
+    /// count of the frame would have more than 64 bits.
     fn place_declared_name(
         &mut self,
         context: &LoweringContext<'_, '_, '_>,

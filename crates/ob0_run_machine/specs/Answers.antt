@@ -1,4 +1,5 @@
--- Converts the results of the machine's functions to outcomes of the definitions.
+-- Converts the results that the machine's functions return (`Result`, `FlatOutcome`, `Stop`) to the
+-- outcomes and ends of a run by which the meaning of code is defined (`StepResult`, `Halt`).
 -- Rule: none; for contracts of the machine's steps.
 use Rattle.std.specs.Prelude.{ℤ, List, Option, Some, None, Ok, Err, Result}
 use Rattle.ob0_run_machine.specs.declared.ending.EvaluationFault.{EvaluationFault}
@@ -19,8 +20,8 @@ end_of ending.Overflow = evaluation.Overflow
 end_of ending.Divisor = evaluation.Divisor
 end_of ending.Index = evaluation.Index
 
--- returns the end of a run for the reason for which a statement stopped, or None if an allocation
--- failed
+-- returns the end of the run for a statement's reason to stop, or None if the reason is a failed
+-- allocation
 abbrev pub end_of_stop : Stop → Option Halt
 end_of_stop stop.Overflow = Some evaluation.Overflow
 end_of_stop stop.Divisor = Some evaluation.Divisor
@@ -43,12 +44,13 @@ outcome_of flat_outcome.Overflow = ends evaluation.Overflow
 outcome_of flat_outcome.Divisor = ends evaluation.Divisor
 outcome_of flat_outcome.Index = ends evaluation.Index
 
--- Converts the result of an operation to an outcome. None, which is a result of more than 32 bits,
--- ends the run with Overflow.
+-- Converts the result of an operation on numbers to an outcome. None means that the result has more
+-- than 32 bits, and is converted to the end Overflow.
 abbrev pub number_or_overflow : Option ℤ → StepResult ℤ
 number_or_overflow None = ends evaluation.Overflow
 number_or_overflow (Some n) = gives n
 
--- returns the outcome of applying the link `l` to the number `left`
+-- Returns the outcome of applying a link to the number `left`, given the activations and the cells.
+-- A link is an operator with one operand.
 abbrev pub outcome_of_applied_link : Levels → List ℤ → Link → ℤ → StepResult ℤ
 outcome_of_applied_link ls cells l left = number ls cells (operation_with_link l (literal left))

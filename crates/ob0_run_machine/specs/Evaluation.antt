@@ -1,7 +1,6 @@
--- Defines the addresses of places, and the values of numbers and truths of lowered code, for given
--- activations and cells.
--- Rule: none; for contracts of the machine: what lowered expressions mean,
--- by the rules of docs/LANGUAGE.md, Runs 2 to 4.
+-- Defines the address of each place and the value of each INTEGER or BOOLEAN expression of lowered
+-- code. Both depend on the activations that the running code can see, and on the cells.
+-- Rule: docs/LANGUAGE.md, Runs 2 to 4.
 use Rattle.std.specs.Prelude.{ℕ, suc, zero, ◌+◌, ◌*◌, ◌%◌, ◌^◌, Bool, true, false, not, ◌&&◌, List, [], ◌∷◌, Option, None, Some, ℤ, pos, negsuc, ◌+ℤ◌, ◌-ℤ◌, ◌*ℤ◌, neg_ℤ, if◌then◌else◌, nat_lt, slice_index_or, int_lt, int_le, drop}
 use Rattle.ob0_language_values.specs.Division as division
 use Rattle.ob0_language_values.specs.Division.{checked_division}
@@ -9,7 +8,7 @@ pub use Rattle.ob0_language_values.specs.Values.{fits_in_32_bits, same_truth}
 use Rattle.ob0_run_machine.specs.Lowered.{Place, in_module, in_own_activation, outside, passed, element, Number, literal, cell, negative, operation, Operator, sum, difference, product, quotient, remainder, Comparator, equal, not_equal, less, less_equal, greater, greater_equal, Truth, constant, flag, negation, both, either, related, same, different}
 
 infixl 20 ◌>>=◌
--- The end of a run: Done, a fault, or a bound that was reached.
+-- The end of a run: Done, or the reason for which the run ended before the end of the program.
 pub data Halt : Type 0 where
   Done Overflow Divisor Index InputEnd CallBound TurnBound : Halt
 
@@ -23,13 +22,14 @@ abbrev pub ◌>>=◌ : {A B : Type 0} → StepResult A → (A → StepResult B) 
 ◌>>=◌ (gives a) next = next a
 ◌>>=◌ (ends e) next = ends e
 
--- an activation: the address of its first cell, and the addresses of its VAR parameters
+-- an activation: the address of its first cell, and the addresses that were passed for its VAR
+-- parameters
 pub record Level : Type 0 where
   pub base : ℕ
   pub addresses : List ℕ
 
 -- The activations that running code can see, as a list. The running activation is first. The
--- procedure of each activation is declared in the next activation.
+-- procedure of each activation is declared in the activation that comes next in the list.
 abbrev pub Levels : Type 0
 Levels = List Level
 
@@ -39,8 +39,9 @@ abbrev pub innermost_level : Levels → Level
 innermost_level [] = record { base = 0; addresses = [] }
 innermost_level (l ∷ ls) = l
 
--- returns the activation `up` levels out, or an activation with base 0 and no addresses if there
--- are fewer levels
+-- Returns the activation `up` levels out from the first one of a list, which is the first one
+-- itself if `up` is 0. If the list is too short, returns an activation with base 0 and no
+-- addresses.
 abbrev pub level_at : Levels → ℕ → Level
 level_at ls up = innermost_level (drop up ls)
 
@@ -48,8 +49,9 @@ level_at ls up = innermost_level (drop up ls)
 abbrev pub add_offset : ℕ → ℕ → ℕ
 add_offset address offset = (address + offset) % 2 ^ 64
 
--- Returns the address of the element at an index, given the address of the array's first element.
--- The run ends with Index if the index is negative or not below the length.
+-- Returns the address of an array's element, given the address of the array's first element, the
+-- array's length, the number of cells of each element (`stride`), and the index. The run ends with
+-- Index if the index is negative or not below the length.
 abbrev pub element_address : ℕ → ℕ → ℕ → ℤ → StepResult ℕ
 element_address address length stride (pos i) =
     if nat_lt i length then gives (add_offset address (i * stride)) else ends Index
@@ -64,7 +66,7 @@ abbrev pub checked_number : ℤ → StepResult ℤ
 checked_number n = if fits_in_32_bits n then gives n else ends Overflow
 
 -- Returns the result of a division as an outcome. None, which is the result for a divisor below 1,
--- ends the run with Divisor.
+-- ends the run with Divisor. A number of more than 32 bits ends the run with Overflow.
 abbrev pub division_outcome : Option ℤ → StepResult ℤ
 division_outcome None = ends Divisor
 division_outcome (Some n) = checked_number n
@@ -90,8 +92,8 @@ abbrev mutual
   address ls cells (element p i length stride offset) =
       address ls cells p >>= (λ a. number ls cells i >>= element_address (add_offset a offset) length stride)
 
-  -- Returns the value of a number. The run ends with a fault if an operation or an index in the
-  -- number has one.
+  -- Returns the value of an expression that is a `Number`. If an operation or an index in the
+  -- expression has a fault, the run ends with the first such fault.
   pub number : Levels → List ℤ → Number → StepResult ℤ
   number ls cells (literal n) = gives n
   number ls cells (cell p) = address ls cells p >>= (λ a. gives (cell_at cells a))
@@ -118,8 +120,9 @@ abbrev pub as_cell : Bool → ℤ
 as_cell false = pos 0
 as_cell true = pos 1
 
--- Returns the value of a truth. The right side of `both` or `either` is evaluated only if the left
--- side doesn't decide the value.
+-- Returns the value of an expression that is a `Truth`. The right side of `both` or `either` is
+-- evaluated only if the left side doesn't decide the value. The run ends with the first fault that
+-- occurs.
 abbrev pub truth : Levels → List ℤ → Truth → StepResult Bool
 truth ls cells (constant b) = gives b
 truth ls cells (flag p) = address ls cells p >>= (λ a. gives (is_true (cell_at cells a)))

@@ -1,9 +1,8 @@
--- Defines runs of lowered code, by big steps: of statements, calls and whole programs. A run
+-- Defines the runs of lowered statements, calls and whole programs, in big-step style. A run
 -- depends on the activations that the running code can see, on the cells, and on the rest of the
 -- input. It also depends on two bounds: `c` on the open calls, and `t` on the iterations of each
 -- execution of a loop.
--- Rule: none; for contracts of the machine: what lowered statements mean,
--- by the rules of docs/LANGUAGE.md, Runs 5 to 10.
+-- Rule: docs/LANGUAGE.md, Runs 5 to 10.
 use Rattle.std.specs.Prelude.{ℕ, zero, suc, ◌+◌, ◌-◌, ◌^◌, Bool, true, false, ◌&&◌, List, [], ◌∷◌, ◌++◌, length, take, drop, replicate, ℤ, pos, Some, None, Option, if◌then◌else◌, nat_le, nat_lt, slice_get, slice_set}
 use Rattle.ob0_run_machine.specs.Lowered.{LoweredArgument, by_place, by_number, by_truth, by_block, Instruction, stores_number, stores_truth, copies, reads, writes, writes_line, chooses, while_loop, repeat_loop, calls, Instructions, no_statement, next_statement, Branches, no_branch, branch, Routine, LoweredCode}
 use Rattle.ob0_run_machine.specs.Evaluation.{CallBound, Done, Halt, InputEnd, StepResult, Levels, TurnBound, address, as_cell, ends, gives, innermost_level, number, truth, ◌>>=◌}
@@ -77,8 +76,9 @@ abbrev pub block_at : List ℤ → (from n : ℕ) → List ℤ
 block_at cells from n =
     if nat_le (from + n) (length cells) then take n (drop from cells) else zeros n
 
--- Returns the run after `Read`, which stores the next number of the input at an address. If no
--- input is left, the run ends with InputEnd.
+-- Returns the progress of a run after `Read`, which stores the next number of the input in the cell
+-- at the address `a`. The list is the input that is left. If it is empty, the run ends with
+-- InputEnd.
 abbrev pub read_number : MachineState → ℕ → List ℤ → MachineProgress
 read_number s a [] = stopped InputEnd s.output
 read_number s a (n ∷ rest) = running (store_at (record s { input = rest }) a n)
@@ -143,8 +143,9 @@ execute_repeat (suc t) condition turn s =
 abbrev pub CallEffect : Type 0
 CallEffect = ℕ → Levels → MachineState → MachineProgress
 
--- returns the activations that a called procedure can see: its own activation with this base, then
--- the caller's activations except the first `up` ones
+-- returns the activations that a called procedure can see: its own, with this base and the
+-- addresses that were passed, then the activations `ls` that the caller can see, without the first
+-- `up`
 abbrev pub levels_in_call : Levels → (base up : ℕ) → CallArguments → Levels
 levels_in_call ls base up p = record { base = base; addresses = p.addresses } ∷ drop up ls
 
@@ -194,7 +195,8 @@ unfoldable mutual
       choose s (truth ls s.cells c) (execute_all enter t ls body)
       (execute_branches enter t ls rest otherwise)
 
--- Drops all cells except the first `n`. A run that has ended or has no room is unchanged.
+-- Drops all cells of a run's state except the first `n`. A run that has ended or has no room is
+-- unchanged.
 abbrev pub drop_variables : ℕ → MachineProgress → MachineProgress
 drop_variables n (running s) = running record s { cells = take n s.cells }
 drop_variables n (stopped e out) = stopped e out
@@ -215,9 +217,9 @@ unfolding execute_all
 activate enter t ls None s = running s
 activate enter t ls (Some p) s = run_with_cells p.cells (execute_all enter t ls p.body) s
 
--- Returns the effect of calls if `c` calls may still be opened, this one included. The procedure's
--- body runs, and then the cells of its activation are dropped. If `c` is 0, the run ends with
--- CallBound.
+-- Returns the effect of a call of one of the procedures in a list, if `c` calls may still be
+-- opened, including this call. The procedure's body runs, and then the cells of its activation are
+-- dropped. If `c` is 0, the run ends with CallBound.
 unfoldable pub call : List Routine → ℕ → ℕ → CallEffect
 unfolding activate
 call procedures zero t k ls s = stopped CallBound s.output
@@ -241,8 +243,8 @@ run_result no_room = None
 abbrev pub module_levels : Levels
 module_levels = record { base = 0; addresses = [] } ∷ []
 
--- Returns the run of a program on an input, with the bounds `c` on open calls and `t` on
--- iterations. Returns None if the run has no room for its cells.
+-- Returns the run of a program on an input, with the bounds `c` on open calls and `t` on the
+-- iterations of each execution of a loop. Returns None if the run has no room for its cells.
 unfoldable pub run : LoweredCode → List ℤ → ℕ → ℕ → Option MachineRun
 unfolding execute_all call
 run program input c t =

@@ -1,4 +1,5 @@
--- Converts the machine's activations and addresses of VAR parameters to lists.
+-- Converts the machine's activations (`Level`), and the addresses that it passes for VAR parameters
+-- (`VarAddresses`), to the lists that the definitions use.
 -- Rule: none; for contracts of the machine.
 use Rattle.std.specs.Prelude.{ℕ, List, Option, Some, None, [], ◌∷◌}
 use denote.Ref.{Bor}
@@ -13,8 +14,8 @@ abbrev mutual
   levels_of (code.Level' base addresses enclosing) =
       record { base = base; addresses = addresses.now } ∷ enclosing_levels enclosing
 
-  -- Returns the activations around an activation, the nearest first. There are none around the
-  -- module's activation.
+  -- Returns the activations that enclose an activation, the nearest first, given the activation's
+  -- field `enclosing`. No activation encloses the module's (None).
   pub enclosing_levels : code.Held-Level-enclosing → Levels
   enclosing_levels code.None' = []
   enclosing_levels (code.Some' pointer l) = levels_of l

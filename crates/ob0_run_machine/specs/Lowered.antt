@@ -1,13 +1,12 @@
 -- Defines lowered code, the form of a module that the machine executes. A variable is an offset in
 -- the cells of an activation. A designator is a place: the offset of a variable, the indices with
 -- the lengths of their arrays, and the offset of the selected part. A call refers to its procedure
--- by the procedure's index.
--- The definitions on lowered code hold for any code: they have no premises, and each case has a
--- meaning. If there is no cell at an address, a read there returns 0, and a write there changes
--- nothing. A block is copied only if all its cells exist at both places. If some cells of a block
--- argument don't exist, zeros are passed. A procedure that doesn't exist does nothing. An activation
--- that doesn't exist has base 0 and no addresses. Addresses wrap at 64 bits. So no index has to be
--- tested twice. Arguments are added one by one at the end of the cells, and each is evaluated over
+-- by the procedure's index. Any lowered code has a meaning, even code that no module is lowered to,
+-- so the definitions need no premises. If there is no cell at an address, a read there returns 0,
+-- and a write there changes nothing. A block is copied only if all its cells exist at both places.
+-- If some cells of a block argument don't exist, zeros are passed. A procedure that doesn't exist
+-- does nothing. An activation that doesn't exist has base 0 and no addresses. Addresses wrap at 64
+-- bits. Arguments are added one by one at the end of the cells, and each argument is evaluated over
 -- the cells so far (`pass_all`).
 -- Rule: none; for contracts of the machine: lowered code.
 use Rattle.std.specs.Prelude.{ℕ, Bool, List, ℤ}

@@ -1,10 +1,11 @@
--- States the meaning of the machine's state, and of the result of a step. The bound on iterations
--- is a parameter, so the state of the machine is only cells, input and output. The contracts of
--- steps that allocate nothing are equations (`progress_after_step`). The contracts of other steps
--- have a case for each result (`MachineSteps`, `Passes`). `MachineDoes` and the invariants of loops
--- (`InSequence`, `InBranches`, `InWhile`, `InRepeat`) are records, so their lemmas can have
--- implicit arguments. Each loop has one fact about the iterations so far. Each way to continue the
--- loop or to leave it has a lemma.
+-- States what the machine's state and the result of each of its steps mean for the run that
+-- `Execution` defines. The state has only cells, input and output, since the functions get the
+-- bound on iterations as a parameter. The contract of a step that allocates nothing is an equation
+-- (`progress_after_step`). The contract of any other step has a case for each result
+-- (`MachineSteps`, `Passes`). `MachineDoes` is a record, so lemmas about it can have implicit
+-- arguments. The same holds for the invariants of loops in `proofs/Executing` (`InSequence`,
+-- `InBranches`, `InWhile`, `InRepeat`). There is a lemma for each way to continue a loop or to
+-- leave it.
 -- Rule: none; for contracts of the machine.
 use Rattle.std.specs.Prelude.{◌≡◌, ℕ, ℤ, List, map, Ok, Err, None, Option, Some, Result, true}
 use denote.MutBor.{MutBor}
@@ -25,17 +26,16 @@ use Rattle.ob0_run_machine.specs.Lowered.{Branches, Routine, Instruction, Instru
 use Rattle.ob0_run_machine.specs.View.{program_of}
 use Rattle.ob0_run_machine.specs.declared.code.LoweredCode.{LoweredCode}
 
--- converts an item of the machine's output to an item of the definitions
+-- converts an `Item` of the machine's output to an `OutputItem`
 abbrev pub item_of : Item → OutputItem
 item_of (item.Number n) = number_out n
 item_of item.Line = line_out
 
--- converts the machine's output to the output of the definitions, item by item
+-- converts the list of the machine's output to a list of `OutputItem`, item by item
 abbrev pub output_items : List Item → List OutputItem
 output_items = map item_of
 
--- converts the machine to a state of the definitions: its cells, the rest of the input, and the
--- output so far
+-- returns the state that the machine is in: its cells, the rest of the input, and the output so far
 abbrev pub state_of : Machine → MachineState
 state_of m =
     record { cells = m.cells.items; input = m.input.now; output = output_items m.output.items }
@@ -47,8 +47,8 @@ abbrev pub progress_after_step : Result (Unit {0}) EvaluationFault → Machine �
 progress_after_step (Ok done) m = running (state_of m)
 progress_after_step (Err e) m = stopped (end_of e) (output_items m.output.items)
 
--- States that a run has ended with an end and the machine's output. Given None instead of an end,
--- states that an allocation has failed, and claims nothing about the progress.
+-- States that a run has ended with a given end and the machine's output. Given None instead of an
+-- end, states that an allocation has failed, and claims nothing about the progress.
 abbrev pub StopsRun : Option Halt → Machine → MachineProgress → Type 0
 StopsRun (Some e) m p = p ≡ stopped e (output_items m.output.items)
 StopsRun None m p = has_failed m.memory ≡ true
@@ -71,8 +71,9 @@ PerformsCalls post enters =
     (after : MutBor Machine)
     → post at k l r after → MachineSteps r after.now (enters k (levels_of l.now) (state_of at.now))
 
--- The type of the effect of a part of a program. The effect is a function. Given the effect of
--- calls and the state before, it returns the progress after.
+-- The type of the effect of a part of a program, for example of a statement. The effect is a
+-- function from the effect of calls, and the state before the part runs, to the progress of the run
+-- after the part.
 abbrev pub CodeEffect : Type 0
 CodeEffect = CallEffect → MachineState → MachineProgress
 
@@ -124,8 +125,8 @@ abbrev pub Passes : Result (Unit {0}) Stop → Memory → List ℤ → List ℕ 
 Passes (Ok done) memory cells addresses o = o ≡ gives (passed_arguments cells addresses)
 Passes (Err s) memory cells addresses o = StopsPassing (end_of_stop s) memory o
 
--- Returns the effect of adding the cells of a procedure's own variables and running its body. For
--- None, nothing happens.
+-- Returns the effect of a procedure's activation: the cells of the procedure's own variables are
+-- added, and then its body runs. If there is no procedure (None), nothing happens.
 abbrev pub activation_effect : Option Routine → ℕ → Levels → CodeEffect
 activation_effect o t ls enters s = activate enters t ls o s
 

@@ -1,4 +1,5 @@
--- Converts the ends and outcomes that the machine returns to the ends and runs of the definitions.
+-- Converts the values that the machine returns at the end of a run (`End`, `Outcome`) to the values
+-- by which runs are defined (`Halt`, `MachineRun`).
 -- Rule: none; for contracts: what values of the code mean.
 use Rattle.std.specs.Prelude.{◌≡◌, ℕ, IsErr, Ok, Err, None, Option, Result, Some}
 use Rattle.std.specs.declared.alloc.AllocError.{AllocError}
@@ -12,7 +13,7 @@ use Rattle.ob0_run_machine.specs.Execution.{MachineProgress, MachineRun, Machine
 use Rattle.ob0_run_machine.specs.Lowered.{LoweredCode}
 use Rattle.ob0_run_machine.specs.Machines.{output_items}
 
--- converts an end of a run that the machine returns to an end of the definitions
+-- converts an end of a run as the machine returns it (`End`) to an end as it is defined (`Halt`)
 abbrev pub meaning_of_end : End → Halt
 meaning_of_end code.Done = Done
 meaning_of_end code.Overflow = Overflow
@@ -35,7 +36,7 @@ abbrev pub IsEndOf : Result (Unit {0}) Stop → Result End AllocError → Type 0
 IsEndOf (Ok done) r = r ≡ Ok code.Done
 IsEndOf (Err s) r = ReturnsEnd (end_of_stop s) r
 
--- converts an outcome that the machine returns to a run of the definitions, with its output and its
+-- converts an outcome that the machine returns to a `MachineRun` with the same output and the same
 -- end
 abbrev pub run_of : Outcome → MachineRun
 run_of o = record { output = output_items o.output.items; ending = meaning_of_end o.end }

@@ -91,7 +91,8 @@ abbrev mutual
   first_of (first.Cell p) = lowered.cell (place_of p)
   first_of (first.Negative' pointer n) = lowered.negative (number_of n)
 
-  -- returns the lowered operation that applies a link to a number
+  -- returns the lowered operation that applies a link, which is an operator with one operand, to a
+  -- number
   pub operation_with_link : Link → lowered.Number → lowered.Number
   operation_with_link (link.SumLiteral n) left = lowered.operation lowered.sum left (lowered.literal n)
   operation_with_link (link.SumVariable v) left =

@@ -36,7 +36,8 @@ fn three_addresses(
 }
 
 impl VarAddresses {
-    /// Adds an address after the others.
+    /// Adds `address` after the addresses that were added before. Fails only if an allocation
+    /// fails. No allocation is needed for the first two addresses.
     #[inline(always)]
     pub(crate) fn push(&mut self, memory: &mut Memory, address: usize) -> Result<(), AllocError>
         ensures items { OnOk result

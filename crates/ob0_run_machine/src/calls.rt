@@ -25,7 +25,7 @@ fn procedure_at<'p>(procedures: &'p [Routine], procedure: usize) -> Option<&'p R
 }
 
 /// Adds the cells of a procedure's own variables at the end of all cells, and then runs the
-/// procedure's body. Does nothing for None.
+/// procedure's body. Does nothing if there is no procedure (None).
 fn activate<F: Fn(&mut Machine<'_>, usize, &Level<'_>) -> Result<(), Stop>>(
     procedure: Option<&Routine>,
     level: &Level<'_>,
@@ -59,8 +59,8 @@ fn drop_variables(machine: &mut Machine<'_>, level: &Level<'_>)
 }
 
 /// Calls the procedure at an index after its arguments have been passed. Drops the cells of the
-/// call when the call returns. `calls` is the number of calls that may still be opened, this one
-/// included. If `calls` is 0, the call ends the run with CallBound.
+/// call when the call returns. `calls` is the number of calls that may still be opened, including
+/// this call. If `calls` is 0, the call ends the run with CallBound.
 #[inline(never)]
 pub(crate) fn call(
     program: &LoweredCode,

@@ -9,8 +9,8 @@
 //!
 //! - A `Variable` has a single tag for its kind: a variable of the module, a variable of the
 //!   running activation, or a place at an offset from the address of a VAR parameter. A `Variable`
-//!   occurs as a number, as the target of an assignment, and as the array and the index of a
-//!   `VariableElement`.
+//!   occurs as a place, as a number, as an operand of a link or a comparison, as the target of an
+//!   assignment, and as the array or the index of a `VariableElement`.
 //! - The operations of a chain are links, which are applied to the result so far. A `Link` has the
 //!   operator and the kind of its operand, a literal or a variable, in one tag. Any other right
 //!   operand is evaluated by a called function (`apply_to_expression`). `v + i * j` is also a chain
@@ -21,9 +21,9 @@
 //!   `ComparedToLiteral`, `ComparedToVariable`). The same holds for an element compared with a
 //!   variable (`ElementToVariable`), for the assignment of TRUE or FALSE to an element
 //!   (`StoreConstant`), and for `~flag` (`Unset`).
-//! - Comparisons of variables are evaluated inline, flags and elements by small functions
-//!   (`evaluate_flag`, `compare_element`), all other conditions by a large function
-//!   (`evaluate_truth_flat`).
+//! - Constants and comparisons of variables are evaluated inline, flags and comparisons of elements
+//!   by small functions (`evaluate_flag`, `compare_element`), all other conditions by a large
+//!   function (`evaluate_truth_flat`).
 //!
 //! A long sum is a `Chain`, a long conjunction an `All`, and a long disjunction an `Any`. Each has
 //! the meaning of pairs that are nested on the left. A loop evaluates the operands, so a longer
@@ -49,8 +49,8 @@ pub enum Variable {
     Module(usize),
     InOwnActivation(usize),
     /// The index of a VAR parameter among the VAR parameters, and an offset from the address that
-    /// was passed for it. Both have 32 bits, so a `Variable` has 16 bytes. `Place::Passed` has
-    /// larger numbers.
+    /// was passed for it. Both have 32 bits, so that a `Variable` has 16 bytes. If one of them
+    /// needs more bits, the place is a `Place::Passed`.
     ByReference { index: u32, offset: u32 },
 }
 
@@ -107,7 +107,7 @@ pub struct Element {
 pub enum Number {
     Literal(i32),
     Variable(Variable),
-    /// The number in the cell at any other place.
+    /// The number in the cell at a place that isn't just a variable.
     Cell(Place),
     Negative(Box<Number>),
     /// One operation.
@@ -143,9 +143,9 @@ pub struct Chain {
     pub rest: Vec<Link>,
 }
 
-/// An operator with one operand: a literal, a variable or another number. This is the right
-/// operand, and the left operand is the result so far. In the cases whose name begins with
-/// `Variable`, the variable is the left operand, and the result so far is the right operand.
+/// An operator with one operand: a literal, a variable or another number. A link is applied to the
+/// result so far, which is the left operand. In the cases whose names begin with `Variable`, the
+/// variable is the left operand, and the result so far is the right operand.
 #[cycle(numbers)]
 #[derive(Drop)]
 pub enum Link {
@@ -324,7 +324,8 @@ pub struct LoweredCode {
     pub procedures: Vec<Routine>,
 }
 
-// `Drop` is written out. A derived `Drop` is proved again in each crate that drops such a value.
+// `Drop` is written out because a derived `Drop` is proved again in each crate that drops such a
+// value.
 impl Drop for LoweredCode {
     fn drop(self) {
         let LoweredCode {

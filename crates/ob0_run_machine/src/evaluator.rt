@@ -170,8 +170,9 @@ fn evaluate_negative(operand: &Number, level: &Level<'_>, cells: &[i32]) -> Flat
     }
 }
 
-/// Returns the value of an operation, or the fault that ends its evaluation. If the first operand
-/// is a variable, as in most operations, the function has no registers to save.
+/// Returns the value of an operation, or the fault that ends its evaluation. In most operations the
+/// first operand is a variable. All others are left to `evaluate_general_operation`, so this
+/// function has no registers to save.
 #[inline(never)]
 #[cycle(evaluation)]
 fn evaluate_operation(o: &Operation, level: &Level<'_>, cells: &[i32]) -> FlatOutcome<i32>
@@ -515,8 +516,8 @@ fn evaluate_different(
     Ok(!equal_truths(left, right))
 }
 
-/// Returns the conjunction of several truth values, which are evaluated from left to right. After
-/// the first FALSE nothing more is evaluated.
+/// Returns the conjunction of several truth values, or the first fault that occurs. The values are
+/// evaluated from left to right. After the first FALSE nothing more is evaluated.
 #[cycle(truths)]
 fn evaluate_all(
     several: &TruthList,
@@ -551,8 +552,8 @@ fn evaluate_and(
     }
 }
 
-/// Returns the disjunction of several truth values, which are evaluated from left to right. After
-/// the first TRUE nothing more is evaluated.
+/// Returns the disjunction of several truth values, or the first fault that occurs. The values are
+/// evaluated from left to right. After the first TRUE nothing more is evaluated.
 #[cycle(truths)]
 fn evaluate_any(
     several: &TruthList,

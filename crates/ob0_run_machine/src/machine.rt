@@ -1,4 +1,5 @@
-//! The machine: the cells of all variables, the rest of the input, and the output so far.
+//! Defines the machine's state (`Machine`), and the steps that change its cells, its input and its
+//! output.
 
 ghost use Rattle.std.specs.Prelude.{◌≡◌, ◌≤◌, OnErr, OnOk, length, slice_set, true, vec_capacity, vec_len};
 ghost use Rattle.ob0_run_machine.specs.Execution.{cells_after_copy, append_output, read_number};

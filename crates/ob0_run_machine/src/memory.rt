@@ -1,10 +1,10 @@
-//! The memory of a run. The lists of a run grow only here, so the memory knows whether an
-//! allocation has failed.
+//! Defines the memory of a run (`Memory`). The lists of a run grow only by functions in this file,
+//! so the memory knows whether an allocation has failed.
 //!
 //! A step may report a failed allocation only if `Memory::fail` was called (`MachineSteps`,
-//! `Passes`). So a fault or a bound can't be reported as a failed allocation. A function
-//! that grows a list fails only if the list had too little capacity (`full`). No contract states
-//! that the run needed the memory, or that the allocator refused the memory.
+//! `Passes`). So a fault or a bound can't be reported as a failed allocation. A
+//! function that grows a list fails only if the list had too little capacity (`full`). No contract
+//! states that the run needed the memory, or that the allocator refused the memory.
 
 ghost use Rattle.std.specs.Prelude.{◌≡◌, ◌+◌, ◌++◌, ◌∷◌, ◌<◌, ◌≤◌, ◌^◌, [], OnErr, OnOk, false, length, true, vec_capacity, vec_len};
 ghost use Rattle.ob0_run_machine.specs.Execution.{block_at, zeros};
@@ -55,8 +55,9 @@ impl Memory {
         }
     }
 
-    /// Adds `count` cells with the value 0 at the end. If `count` is at most `MAX_INLINE_ZEROS`,
-    /// as in most procedures, the cells are added one by one, without a function call.
+    /// Adds `count` cells with the value 0 at the end of `cells`. If `count` is at most
+    /// `MAX_INLINE_ZEROS`, as in most procedures, the cells are added one by one, without a
+    /// function call.
     #[inline(always)]
     pub(crate) fn push_zeros(
         &mut self,
@@ -95,8 +96,8 @@ impl Memory {
         }
     }
 
-    /// Adds at the end a copy of the `count` cells that begin at the address `from`. Adds `count`
-    /// zeros instead if fewer than `count` cells begin at this address.
+    /// Adds at the end of `cells` a copy of the `count` cells that begin at the address `from`.
+    /// Adds `count` zeros instead if fewer than `count` cells begin at this address.
     pub(crate) fn push_block(
         &mut self,
         cells: &mut Vec<i32>,

@@ -52,8 +52,8 @@ pub(crate) fn modulo(left: i32, right: i32) -> Result<i32, EvaluationFault>
 }
 
 /// Returns the sum, or None if it has more than 32 bits. The sum is computed in 64 bits, and one
-/// comparison decides whether it fits. This compiles to an addition and a jump on overflow.
-/// `checked_add` takes five instructions more.
+/// comparison decides whether it fits in 32 bits. This compiles to an addition and a jump on
+/// overflow. `checked_add` takes five instructions more.
 #[inline(always)]
 fn checked_sum(left: i32, right: i32) -> Option<i32>
     ensures { SomeIff result (FitsSigned w32 (left +ℤ right)) (left +ℤ right) }

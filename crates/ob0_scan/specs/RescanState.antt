@@ -47,15 +47,16 @@ pub record AreInOrder (tokens : List Token) (comments : List Span) : Type 0 wher
   pub comment_starts_ascend : IsNonDecreasingBy (λ (c : Span). c.start) comments
   pub comment_ends_ascend : IsNonDecreasingBy (λ (c : Span). c.end) comments
 
--- States that the span can be shifted by `added - removed` bytes: its start is at least `removed`,
--- and its end plus `added` fits in 32 bits.
+-- States that the span can be shifted by `added - removed` bytes without leaving the numbers from 0
+-- to 2^32 - 1: its start is at least `removed`, and its end plus `added` is below 2^32.
 pub record IsMovable (removed added : ℕ) (span : Span) : Type 0 where
   pub start_suffices : removed ≤ span.start
   pub ordered : span.start ≤ span.end
   pub small : span.end + added < 2 ^ 32
 
--- States that the scanner `s` has found no fault, and that the scanner `t` has read one more lexeme.
--- The lexeme begins at `s.at`. If it is a token or a comment, it is added to the list of `s`.
+-- States that the scanner `t` has the tokens and comments of the scanner `s`, and that one lexeme,
+-- which begins at `s.at`, is added if it is a token or a comment. White space adds nothing. The
+-- scanner `s` has found no fault.
 pub record AddsOneLexeme (s t : Scanner) : Type 0 where
   pub kind : LexemeKind
   pub len : ℕ
@@ -63,9 +64,9 @@ pub record AddsOneLexeme (s t : Scanner) : Type 0 where
   pub tokens : t.tokens.items ≡ s.tokens.items ++ token_at kind (span_from s.at len)
   pub comments : t.comments.items ≡ s.comments.items ++ comment_at kind (span_from s.at len)
 
--- States that the scanner `t` has the tokens and comments of the scanner `s`, followed by newly read
--- ones. If one of these begins behind the change, no old token or comment begins at the same place
--- in the old text.
+-- States that the scanner `t` has the tokens and comments of the scanner `s`, followed by newly
+-- read ones. If a newly read one begins behind the change, no old token or comment begins at the
+-- same place in the old text.
 pub record AddsNewLexemes (old : TextWithTokens) (from removed added : ℕ) (s t : Scanner) : Type 0 where
   pub tokens : List Token
   pub comments : List Span
@@ -75,8 +76,9 @@ pub record AddsNewLexemes (old : TextWithTokens) (from removed added : ℕ) (s t
   pub comments_new : All (λ (c : Span). IsNewBehindChange old from removed added c) comments
 
 -- States that a scan of the new text can stop at the byte offset `at`. This offset is behind the
--- change, and either the text ends there (at `end`) or an old token or comment begins there.
--- `tokens` and `comments` are the old ones that begin there or later.
+-- change. Either the new text ends there (`end` is its length in bytes), or an old token or comment
+-- begins at the same place in the old text. `tokens` and `comments` are the old ones that begin at
+-- this place or later.
 pub record CanStopAt (old : TextWithTokens) (end from removed added at : ℕ) (tokens : List Token)
     (comments : List Span) : Type 0 where
   pub behind_change : from + added ≤ at
@@ -86,8 +88,8 @@ pub record CanStopAt (old : TextWithTokens) (end from removed added at : ℕ) (t
       ⊎ IsTrue
       (first_token_begins_at (at + removed - added) tokens || first_comment_begins_at (at + removed - added) comments)
 
--- Returns the scan of the new text: the old tokens and comments in front of the change, the newly
--- read ones, and the old ones behind the change, with shifted spans.
+-- Returns the scan of the new text `new`: the old tokens and comments in front of the change, the
+-- newly read ones (in `b`), and the old ones behind the change, with shifted spans.
 abbrev pub with_middle : TextWithTokens → List ℕ → ℕ → ℕ → RescannedMiddle → TextWithTokens
 with_middle old new removed added b = record {
   text = new;

@@ -27,7 +27,8 @@ kind_without_value k = k
 abbrev pub kinds : List Token → List TokenKind
 kinds tokens = map (λ (t : Token). kind_without_value t.kind) tokens
 
--- Returns the spelling of an identifier, or the empty text for any other kind of token.
+-- Returns the spelling `text` of a token if the token is an identifier, or the empty text for any
+-- other kind of token.
 abbrev pub name_or_empty : TokenKind → List ℕ → List ℕ
 name_or_empty kind.Identifier text = text
 name_or_empty (kind.Integer value) text = []
@@ -77,8 +78,8 @@ pub record NoLexemeBeginsAt (s : TextWithTokens) (place : ℕ) : Type 0 where
   pub comments : All (λ (c : Span). c.start ≢ place) s.comments
 
 -- States that a span of the new text, if it begins behind the change, begins at a place at which no
--- token or comment of the old text begins. This is true of every span that begins before the end of
--- the changed bytes.
+-- token or comment of the old text begins. A span that begins before the end of the changed bytes
+-- always meets this condition.
 abbrev pub IsNewBehindChange : TextWithTokens → ℕ → ℕ → ℕ → Span → Type 0
 IsNewBehindChange old from removed added span =
     from + added ≤ span.start → NoLexemeBeginsAt old (span.start + removed - added)

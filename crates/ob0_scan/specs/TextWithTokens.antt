@@ -101,7 +101,7 @@ pub record IsRangeOf (text : List ℕ) (span : Span) : Type 0 where
   pub start : IsCharBoundary text span.start
   pub end : IsCharBoundary text span.end
 
--- States that `s` is the scan of this text.
+-- States that `s` is the scan of this text: the text itself with exactly its tokens and comments.
 pub record IsScanOf (text : List ℕ) (s : TextWithTokens) : Type 0 where
   pub of : s.text ≡ text
   pub scan : IsScan s

@@ -100,8 +100,8 @@ impl RescannedMiddle {
         )
     }
 
-    /// Returns whether the new tokens and the old tokens that they replace have the same
-    /// identifiers at the same places in the list.
+    /// Returns whether the new tokens and the old tokens that they replace are equally many, with
+    /// the same identifiers at the same places in the two lists.
     fn has_names_of(&self, new_text: &str, old: &Tokens) -> bool
         requires ordered { self.now.old_start.tokens ≤ self.now.old_end.tokens }
         requires inside { self.now.old_end.tokens ≤ length old.now.tokens }
@@ -159,8 +159,8 @@ fn is_same_word(new_text: &[u8], new: Token, old_text: &[u8], old: Token) -> boo
     new.kind == old.kind && is_same_spelling(new_text, new.span, old_text, old.span)
 }
 
-/// Returns whether two texts have equally many tokens, with identifiers at the same token indexes
-/// and with the same spellings.
+/// Returns whether two lists of tokens, each of its own text, are equally long and have identifiers
+/// with the same spellings at the same indexes.
 fn have_same_names(new_text: &[u8], new: &[Token], old_text: &[u8], old: &[Token]) -> bool
     ensures { result ≡ true → names_in new_text.now new.now ≡ names_in old_text.now old.now }
 {
@@ -277,8 +277,8 @@ impl From<AllocError> for RescanRefusal {
 /// Returns the tokens and comments of `new_text`, or its faults. `new_text` is the text of `old`
 /// with the `removed` bytes that start at the byte offset `from` replaced by `added` bytes. The old
 /// tokens and comments in front of the change are reused. The scan ends at the first place behind
-/// the change at which both texts have the beginning of a token or comment. The old tokens and
-/// comments that begin there or later are also reused.
+/// the change at which a token or comment begins in both texts. The old tokens and comments that
+/// begin there or later are also reused.
 pub fn rescan(
     alloc: Global,
     old: &Tokens,
@@ -301,10 +301,11 @@ pub fn rescan(
     }
 }
 
-/// Turns the old tokens and comments into the tokens and comments of `new_text`. Works like
-/// `rescan`, but in place: the old tokens in front of the change aren't copied. If the new text has
-/// faults, the faults are returned with the old tokens. If an allocation fails, the old tokens are
-/// lost.
+/// Turns the old tokens and comments into the tokens and comments of `new_text`. `from`, `removed`
+/// and `added` describe the change, as in `rescan`. In contrast to `rescan`, this function works in
+/// place: the old tokens in front of the change aren't copied. The result also compares the new
+/// tokens with the old tokens. If the new text has faults, the faults are returned with the old
+/// tokens. If an allocation fails, the old tokens are lost.
 pub fn rescan_in_place(
     alloc: Global,
     old: Tokens,

@@ -58,7 +58,8 @@ impl ReplacedRange {
         old.push_str(new)
     }
 
-    /// Returns the span in the new text of a span that lies behind the change in the old text.
+    /// Returns a span of the old text that lies behind the change, shifted to its place in the new
+    /// text.
     fn span_after_shift(self, span: Span) -> Span
         requires { IsMovable self.removed self.added span }
         ensures { result ≡ span_after_shift self.removed self.added span }

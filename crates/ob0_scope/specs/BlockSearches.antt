@@ -34,20 +34,20 @@ is_bound_to_declaration s i = same_ordinal (ordinal_in_search s i) s.declaration
 abbrev pub has_name_and_other_binding : BlockSearch → ℕ → Bool
 has_name_and_other_binding s i = same_name (token_text_at s.source i) s.new && not (is_bound_to_declaration s i)
 
--- Searches these tokens for the last one that has the sought name and isn't bound to the declaration itself. Returns
--- that token's ordinal, or `found` if there is no such token.
+-- Finds the last token in the list that is spelled like the sought name and isn't bound to the search's declaration
+-- (`s.declaration`). Returns the ordinal to which that token is bound, or `found` if there is no such token.
 abbrev pub last_namesake : BlockSearch → Option ℕ → List ℕ → Option ℕ
 last_namesake s found [] = found
 last_namesake s found (i ∷ is) = last_namesake s (if has_name_and_other_binding s i then ordinal_in_search s i else found) is
 
--- Finds the last of these tokens that has the sought name and isn't bound to the declaration whose block is searched.
--- Returns the ordinal to which this token is bound. Returns None if there is no such token, or if no token in the list
--- is bound to that declaration.
+-- Finds the last token in the list that is spelled like the sought name and isn't bound to the search's declaration
+-- (`s.declaration`). Returns the ordinal to which this token is bound. Returns None if there is no such token, or if no
+-- token in the list is bound to that declaration.
 abbrev pub namesake_among : BlockSearch → List ℕ → Option ℕ
 namesake_among s is = if list_any (is_bound_to_declaration s) is then last_namesake s None is else None
 
--- Returns the ordinal of the declaration that the search finds: in the block itself, otherwise in
--- the blocks inside it. Returns None if it finds no declaration.
+-- Returns the ordinal of the declaration that the search `s` finds in a block itself, otherwise in the blocks inside
+-- it. Returns None if the search finds no declaration.
 abbrev mutual
   -- returns the ordinal found among the parameters `own` and the names that a block declares,
   -- otherwise the ordinal found in the blocks inside it; None if there is none
@@ -56,7 +56,7 @@ abbrev mutual
       option_or (namesake_among s (own ++ block_names (forms_block (declares cs ts vs ps) statements)))
       (namesake_in_procedures s ps)
 
-  -- returns the ordinal found in the first of these procedures that has one; None if there is none
+  -- searches procedures in order until an ordinal is found in one, and returns this ordinal; None if there is none
   pub namesake_in_procedures : BlockSearch → Tree ℕ (items procedure) → Option ℕ
   namesake_in_procedures s end = None
   namesake_in_procedures s (more p rest) =

@@ -13,7 +13,7 @@ use Rattle.ob0_scope_table.specs.declared.resolved.Bindings.{Bindings}
 use Rattle.ob0_scope.specs.NewBody.{WasBoundBeforeNewBody}
 use Rattle.ob0_scope.specs.declared.body_range.BodyRange.{BodyRange}
 
--- the first identifier of a body, if one has been seen, and the body's occurrences so far
+-- the identifiers seen so far while a body is walked: the first one, if any, and all occurrences
 pub record NamesInBody : Type 0 where
   pub first : Option ℕ
   pub uses : List ℕ
@@ -22,7 +22,7 @@ pub record NamesInBody : Type 0 where
 abbrev pub no_names : NamesInBody
 no_names = record { first = None; uses = [] }
 
--- returns `first` if an identifier of the body has been seen before, otherwise `i`
+-- returns `first`, the first identifier seen in a body; if none has been seen (None), returns the identifier `i`
 abbrev pub first_or : Option ℕ → ℕ → Option ℕ
 first_or first i = if is_some first then first else Some i
 
@@ -40,7 +40,7 @@ with_name role.ClosingName i names = record names { first = first_or names.first
 with_name role.FieldName i names = record names { first = first_or names.first i }
 with_name role.ModuleName i names = record names { first = first_or names.first i }
 
--- returns the tokens of a list that are before a body in the text
+-- returns the tokens of a list that are before the replaced body in the text
 abbrev pub tokens_before_body : BodyRange → List ℕ → List ℕ
 tokens_before_body range [] = []
 tokens_before_body range (i ∷ is) =
@@ -50,15 +50,15 @@ tokens_before_body range (i ∷ is) =
 abbrev pub shifted_token : BodyRange → ℕ → ℕ
 shifted_token range i = min (i - range.old_closing + range.closing) (2 ^ 64 - 1)
 
--- returns the tokens of a list that are after a body in the text, with their new indexes
+-- returns the tokens of a list that are after the replaced body in the text, with their new indexes
 abbrev pub tokens_after_body : BodyRange → List ℕ → List ℕ
 tokens_after_body range [] = []
 tokens_after_body range (i ∷ is) =
     if nat_lt i range.old_closing then tokens_after_body range is
     else shifted_token range i ∷ tokens_after_body range is
 
--- returns the tokens of a list with their new indexes; `own`, the tokens in the new body, replace
--- the tokens in the old body
+-- returns a list of tokens of the old text with their indexes in the changed text; the tokens in the old body are
+-- replaced by `own`, the tokens in the new body
 abbrev pub carried_tokens : BodyRange → List ℕ → List ℕ → List ℕ
 carried_tokens range tokens own = tokens_before_body range tokens ++ (own ++ tokens_after_body range tokens)
 

@@ -38,7 +38,7 @@ tokens_with_ordinal omitted d i (ordinal ∷ ordinals) =
 abbrev pub tokens_bound_from : Option ℕ → ℕ → ℕ → List (Option ℕ) → List ℕ
 tokens_bound_from omitted d first ordinals = tokens_with_ordinal omitted d first (drop first ordinals)
 
--- returns the declaring token as the token to omit; None if `include` is true
+-- returns the token to omit from the tokens bound to a declaration: the declaring token, or None if `include` is true
 abbrev pub omitted_token : Bool → Option ℕ → Option ℕ
 omitted_token include declaring = if include then None else declaring
 

@@ -61,8 +61,8 @@ abbrev pub is_among : ℕ → List ℕ → Bool
 is_among i [] = false
 is_among i (x ∷ xs) = i == x || is_among i xs
 
--- States that renaming the declaration with ordinal `d`, to any name, writes this name at these tokens and changes
--- nothing else.
+-- States that renaming the declaration with ordinal `d` to any name writes this name at each token in the list `tokens`
+-- and changes nothing else.
 abbrev pub IsRenamedAt : ParsedModule → ℕ → List ℕ → Type 0
 IsRenamedAt m d tokens =
     (new : Name)

@@ -16,15 +16,16 @@ use Rattle.ob0_scope_table.specs.Resolution.{Resolution, ordinal_in}
 use Rattle.ob0_language_names.specs.Scopes.{Scope, label_from_ordinal, numbered, predeclared_count, renamed}
 use Rattle.ob0_scope_numbering.specs.Written.{Spellings, spelling_at}
 
--- returns the ordinal of the first declaration in a list that has the name `new` and isn't `d`;
--- None if there is none
+-- returns the ordinal of the first declaration in a scope that has the name `new` and an ordinal other than `d`; None
+-- if there is none
 abbrev pub other_with_name : Scope Name → ℕ → Name → Option ℕ
 other_with_name [] d new = None
 other_with_name (b ∷ own) d new =
     if same_name b.0 new && not (b.1 == d) then Some b.1 else other_with_name own d new
 
--- Returns the ordinal of a declaration with the name `new`, other than `d`, in a block that declares `d`. If several of
--- these blocks have one, the first block counts. Returns None if there is no such declaration.
+-- Searches a list of scopes, each with the declarations of one block. The first scope counts that has both the
+-- declaration with ordinal `d` and another declaration with the name `new`. Returns the ordinal of this other
+-- declaration, or None if there is no such scope.
 abbrev pub namesake_in : List (Scope Name) → ℕ → Name → Option ℕ
 namesake_in [] d new = None
 namesake_in (own ∷ others) d new =
@@ -64,8 +65,8 @@ spellings_after_rename r d new =
 abbrev pub OccursNowhere : TextWithTokens → Name → Type 0
 OccursNowhere source x = (i : ℕ) → same_name (token_text_at source i) x ≡ false
 
--- States that the table has, for each identifier, the ordinal to which it is bound after the declaration `d` is renamed
--- to `new`.
+-- States that the table `ordinals` has, for each identifier, the ordinal to which it is bound after the declaration `d`
+-- is renamed to `new`.
 abbrev pub IsRenumbering : Resolution → ℕ → Name → List (Option ℕ) → Type 0
 IsRenumbering r d new ordinals =
     numbered (renamed (named_tree_of r.module_read) d new)

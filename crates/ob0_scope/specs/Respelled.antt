@@ -17,8 +17,8 @@ pub record AreNamedAlike (old new : TextWithTokens) : Type 0 where
   pub same_names : names_in new.text new.tokens ≡ names_in old.text old.tokens
 
 -- States that the bindings of a module that has no fault of scopes are also the bindings of the same tree with the
--- tokens of another text. The tokens of both texts must have the same kinds, and their identifiers the same spellings. The
--- tree must spell the other text's tokens.
+-- tokens of another text. The tokens of both texts must have the same kinds, and their identifiers the same spellings.
+-- The tree must also be the tree of the other text's module.
 abbrev pub BindingsDependOnNames : Type 0
 BindingsDependOnNames =
     (old new : TextWithTokens) (tree : ModuleTree) (b : Bindings)
@@ -38,7 +38,7 @@ pub record AreMoved (old new : TextWithTokens) (b c : Bindings) : Type 0 where
 
 -- States that the bindings of a module are also the bindings of the same tree with the tokens of another text, except
 -- that each fault moves to the same token of the other text. The tokens of both texts must have the same spellings. The
--- tree must spell the other text's tokens.
+-- tree must also be the tree of the other text's module.
 abbrev pub BindingsMoveWithTokens : Type 0
 BindingsMoveWithTokens =
     (old new : TextWithTokens) (tree : ModuleTree) (b c : Bindings)

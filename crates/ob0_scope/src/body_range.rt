@@ -29,7 +29,7 @@ pub(crate) struct ReplacedBody<'t> {
     pub(crate) closing: usize,
 }
 
-/// The first identifier of a body, if one has been seen, and the body's occurrences so far.
+/// The identifiers seen so far while a body is walked: the first one, if any, and all occurrences.
 #[derive(Drop)]
 pub(crate) struct BodyNames {
     pub(crate) first: Option<usize>,
@@ -73,9 +73,10 @@ impl BodyNames {
     }
 }
 
-/// Returns the body that contains the token `low`, if there is one. The result is in the first
+/// Searches a block for the body that contains the token `low`. The result is in the block's first
 /// procedure whose closing name isn't before `low`. If there is no such procedure, the result is
-/// this block's own body. `own` is this block's closing name.
+/// the block's own body. If no body contains `low`, the result may be any body of the block. `own`
+/// is the token of the block's closing name.
 #[cycle(blocks)]
 pub(crate) fn find_body_in_block<'t>(inner: &'t Block, own: usize, low: usize) -> ReplacedBody<'t>
     ensures statements { body_of result.statements.now
@@ -94,8 +95,8 @@ pub(crate) fn find_body_in_block<'t>(inner: &'t Block, own: usize, low: usize) -
     }
 }
 
-/// Returns the body that contains the token `low`, if there is one: the body of this procedure, or
-/// of a procedure inside it.
+/// Searches a procedure for the body that contains the token `low`: its own body, or the body of a
+/// procedure inside it. If no body contains `low`, the result may be any of these bodies.
 #[cycle(blocks)]
 fn find_body_in_procedure<'t>(p: &'t Procedure, low: usize) -> ReplacedBody<'t>
     ensures statements { body_of result.statements.now
@@ -127,7 +128,7 @@ impl BodyRange {
             .saturating_add(self.closing)
     }
 
-    /// Appends the tokens of the list `tokens` that are before the body in the text.
+    /// Appends to `out` the tokens of the list `tokens` that are before the body in the text.
     fn append_tokens_before(self, out: &mut Vec<usize>, tokens: &[usize]) -> Result<(), AllocError>
         ensures { OnOk result (out.new.items ≡ out.old.items ++ tokens_before_body self tokens.now) }
     {
@@ -139,8 +140,8 @@ impl BodyRange {
         Ok(())
     }
 
-    /// Appends the tokens of the list `tokens` that are after the body in the text, with their new
-    /// indexes.
+    /// Appends to `out` the tokens of the list `tokens` that are after the body in the text, with
+    /// their new indexes.
     fn append_tokens_after(self, out: &mut Vec<usize>, tokens: &[usize]) -> Result<(), AllocError>
         ensures { OnOk result (out.new.items ≡ out.old.items ++ tokens_after_body self tokens.now) }
     {
@@ -152,8 +153,8 @@ impl BodyRange {
         Ok(())
     }
 
-    /// Returns a list of tokens with their new indexes. `own`, the tokens in the new body, replace
-    /// the tokens in the old body.
+    /// Returns the list `tokens`, which has token indexes of the old text, with the indexes in the
+    /// changed text. The tokens in the old body are replaced by `own`, the tokens in the new body.
     pub(crate) fn carry_tokens(
         self,
         alloc: Global,
@@ -169,8 +170,8 @@ impl BodyRange {
         Ok(all)
     }
 
-    /// Returns the table of ordinals of the old module with each entry at its token's new index.
-    /// The entries of the new body are None.
+    /// Returns the table `old`, which has the ordinals of the old module by token, with each entry
+    /// at its token's new index. The entries of the new body are None.
     pub(crate) fn carry_ordinals(
         self,
         alloc: Global,

@@ -21,7 +21,7 @@ use std::alloc::{AllocError, Global};
 
 /// Returns the bindings of a module after tokens of one body changed. `old` has the bindings before
 /// the change. The changed tokens have the indexes from `low` up to, but not including,
-/// `_changed_end`, which only the contract uses. Only that body is numbered again.
+/// `_changed_end`, which only the contract uses. Only the changed body is numbered again.
 pub fn rebind_body(
     alloc: Global,
     read: &Module<'_>,
@@ -54,8 +54,9 @@ pub fn rebind_body(
 }
 
 /// Returns the bindings of a module after the statements of one body were replaced. `old` has the
-/// bindings before the replacement. Only that body is numbered again. If it has no identifiers, all
-/// names are bound from scratch.
+/// bindings before the replacement. `same` gives the tokens before and after the replaced
+/// statements. Only the new body is numbered again. If it has no identifiers, all names are bound
+/// from scratch.
 pub fn rebind_new_body(
     alloc: Global,
     read: &Module<'_>,
@@ -82,9 +83,9 @@ pub fn rebind_new_body(
     carry_unchanged_bindings(alloc, read, &old, range, &names.uses)
 }
 
-/// Returns the bindings of a module after the statements in a range of tokens were replaced. `old`
-/// has the bindings before the replacement, and `own` the occurrences in the new statements. Only
-/// the names in these statements are bound again.
+/// Returns the bindings of a module after the statements of one body were replaced. `old` has the
+/// bindings before the replacement. `range` is the token range of the new statements, and `own` has
+/// their occurrences. Only the names in the new statements are bound again.
 fn carry_unchanged_bindings(
     alloc: Global,
     read: &Module<'_>,

@@ -25,8 +25,8 @@ use std::alloc::{AllocError, Global};
 use std::collections::BTreeSet;
 use std::marker::Model;
 
-/// The greatest number of names that are compared with one another. If there are more names, they
-/// are inserted into a set.
+/// The greatest number of names in a block or record that are compared with one another. If there
+/// are more names, they are inserted into a set.
 const MAX_PAIRWISE: usize = 16;
 
 /// The duplicate declarations and wrong closing names that were found so far.
@@ -61,8 +61,10 @@ pub(crate) fn check_declarations<'t>(
     Ok(checks.into_faults())
 }
 
-/// Returns the duplicate declarations and wrong closing names of a module. `known` must contain
-/// such a fault exactly if the module has one. If `known` contains none, the module isn't walked.
+/// Returns the duplicate declarations and wrong closing names of a module after a change. `known`
+/// has the faults from before the change. It must contain a duplicate declaration or wrong closing
+/// name exactly if the changed module has one. If `known` contains no such fault, the module isn't
+/// walked.
 pub(crate) fn recheck_declarations<'t>(
     alloc: Global,
     read: &'t Module<'t>,
@@ -114,7 +116,7 @@ fn duplicate_fault(tokens: &Tokens, name: usize) -> Fault
     }
 }
 
-/// Returns whether one of these identifiers has the spelling `text`.
+/// Returns whether one of the identifiers in `names` has the spelling `text`.
 fn contains_spelling(tokens: &Tokens, names: &[usize], text: &str) -> bool
     ensures { result ≡ is_among text.now (map (token_text_at tokens.now) names.now) }
 {

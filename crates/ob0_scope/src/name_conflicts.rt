@@ -62,8 +62,8 @@ pub fn captures(
     }
 }
 
-/// Returns true only if no token of the text has this spelling. For an empty name the result is
-/// false.
+/// Returns true only if no token of the text has the spelling `name`. If `name` is empty, the
+/// result is false.
 fn occurs_nowhere(tokens: &Tokens, name: &str) -> bool
     ensures { result ≡ true → OccursNowhere tokens.now name.now }
 {
@@ -98,9 +98,9 @@ fn first_captured_occurrence(
     }
 }
 
-/// Returns the index of the first occurrence, among all occurrences in text order, to which this
-/// table gives another ordinal than the module's own table. Returns None if there is no such
-/// occurrence.
+/// Returns the index of the first occurrence, among all occurrences in text order, to which the
+/// table `ordinals` gives another ordinal than the module's own table. Returns None if there is no
+/// such occurrence.
 fn first_changed_occurrence(names: &Resolved, ordinals: &[OrdinalEntry]) -> Option<usize>
     ensures { result
         ≡ position_from (λ token. not
@@ -206,9 +206,9 @@ impl<'t> NamesakeSearch<'t> {
         if is_here { found } else { None }
     }
 
-    /// Searches a block, then the blocks inside it. Returns the ordinal of the declaration that is
-    /// found, or None if no declaration is found. `own` has the tokens of the parameters, which
-    /// count as declared in the block.
+    /// Searches a block, then the blocks inside it, for the other declaration with the sought name.
+    /// Returns its ordinal, or None if no such declaration is found. `own` has the tokens of the
+    /// parameters, which count as declared in the block.
     #[cycle(blocks)]
     fn find_in_block(
         &self,
@@ -228,9 +228,9 @@ impl<'t> NamesakeSearch<'t> {
         Ok(found)
     }
 
-    /// Searches the block of a procedure. The procedure's parameters count as declared in the
-    /// block. Returns the ordinal of the declaration that is found, or None if no declaration is
-    /// found.
+    /// Searches the block of a procedure, and the blocks inside it, for the other declaration with
+    /// the sought name. Returns its ordinal, or None if no such declaration is found. The
+    /// procedure's parameters count as declared in the block.
     #[cycle(blocks)]
     fn find_in_procedure(&self, alloc: Global, p: &Procedure) -> Result<Option<usize>, AllocError>
         ensures { IfOk result (λ other. other ≡ namesake_in_procedure self.now (procedure_of p.now)) }

@@ -1,6 +1,6 @@
 //! Finds the name at a place of a module's text, and the tokens that refer to a declaration.
 //!
-//! The definitions pair each identifier of the tree, with its role and token, with its label in the
+//! In the definitions, each identifier of the tree has a role, a token, and a label from the
 //! numbered tree. The definitions don't use a table of ordinals. The code doesn't walk the tree. It
 //! reads the tokens that are bound to a declaration from the table of ordinals, starting at the
 //! declaring token.
@@ -66,7 +66,8 @@ pub fn tokens_bound_to(
     )
 }
 
-/// Returns the declaring token as the token to omit, or None if `include` is true.
+/// Returns the token to omit from the tokens bound to a declaration. This is the declaring token,
+/// or None if `include` is true, because then it is included.
 fn omitted_token(include: bool, declaring: Option<usize>) -> Option<usize>
     ensures { result ≡ omitted_token include declaring }
 {
@@ -84,8 +85,8 @@ fn first_bound_token(declaring: Option<usize>) -> usize
     }
 }
 
-/// Returns the tokens with indexes of at least `first` that a table of ordinals binds to a
-/// declaration, except the token `omitted`.
+/// Returns the tokens that the table `ordinals` binds to the declaration with the ordinal
+/// `declaration`, in text order. Tokens before `first` and the token `omitted` are left out.
 fn tokens_bound_from(
     alloc: Global,
     ordinals: &[OrdinalEntry],

@@ -7,7 +7,8 @@ use ob0_scan::{Fault, FaultCode, Tokens};
 use ob0_scope_table::{OrdinalEntry, ordinal_at, token_span};
 use std::alloc::AllocError;
 
-/// Appends a fault `Undeclared` for each of these occurrences that has no ordinal in the table.
+/// Appends a fault `Undeclared` for each token in `occurrences` that has no ordinal in the table
+/// `ordinals`.
 pub(crate) fn report_undeclared(
     faults: &mut Vec<Fault>,
     tokens: &Tokens,

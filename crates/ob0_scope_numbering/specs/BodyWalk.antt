@@ -39,15 +39,16 @@ with_procedure_skipped x v = with_visible_name x (predeclared_count + length v.d
 module _ {M : Type 0} (put_ordinal : ℕ → Option ℕ → M → M) (all : List ℕ) (low : ℕ) where
   abbrev mutual
     -- Visits a block: its constants, types and variables, and then only the first procedure whose
-    -- closing name isn't before the token `low`. If there is no such procedure, visits the block's
-    -- statements.
+    -- closing name is at or after the token `low`. If there is no such procedure, visits the block's
+    -- own statements.
     pub renumber_block : Tree ℕ block → WalkState M → WalkState M
     renumber_block (forms_block (declares cs ts vs ps) statements) v =
         renumber_procedures ps statements
         (visit_variable_section put_ordinal vs (visit_type_section put_ordinal ts (visit_constant_section put_ordinal cs v)))
 
-    -- Visits the first procedure whose closing name isn't before the token `low`. The procedures
-    -- before it only become visible. If there is no such procedure, visits the statements.
+    -- Visits the first of these procedures whose closing name is at or after the token `low`. The
+    -- names of the earlier procedures only become visible. If there is no such procedure, visits the
+    -- statements of the procedures' block.
     pub renumber_procedures : Tree ℕ (items procedure) → Tree ℕ (maybe body) → WalkState M → WalkState M
     renumber_procedures end statements v = visit_part put_ordinal statements v
     renumber_procedures (more p ps) statements v =
@@ -73,7 +74,7 @@ initial_walk_over writing table =
       marks = table;
     }
 
--- Returns the state after the walk to the body that contains the token `low`. `all` has the
--- declaring tokens of the whole module.
+-- Returns the state after the walk to the body that contains the token `low`, in which the ordinals
+-- are entered into a table. `all` has the declaring tokens of the whole module, in text order.
 abbrev pub renumber_module : List ℕ → ℕ → Tree ℕ module_text → tabling.WalkState → tabling.WalkState
 renumber_module all low (is_module x b closing) v = renumber_block tabling.put_ordinal all low b v

@@ -27,8 +27,8 @@ pub record WalkState (M : Type 0) : Type 0 where
 abbrev pub with_visible_name : {M : Type 0} → ℕ → ℕ → WalkState M → WalkState M
 with_visible_name i ordinal v = record v { scope = (spelling_at v.writing i, ordinal) ∷ v.scope }
 
--- Makes the names of the declarations so far visible, in order. The first `first` declarations are
--- left out. Predeclared names don't count as declarations here.
+-- Makes the names of the declarations so far visible, in order, except for the first `first` of these
+-- declarations. Predeclared names don't count as declarations here.
 abbrev pub with_visible_names_from : {M : Type 0} → ℕ → WalkState M → WalkState M
 with_visible_names_from first v =
     record v {

@@ -15,6 +15,7 @@ abbrev pub with_marks : List (Option ℕ) → List OrdinalMark → List (Option 
 with_marks table [] = table
 with_marks table (m ∷ ms) = with_marks (slice_set table m.token m.ordinal) ms
 
--- returns a mark that gives this token the ordinal 0
+-- returns a mark that gives this token the ordinal 0, for tables that only record which tokens are
+-- looked-up names
 abbrev pub zero_mark_at : ℕ → OrdinalMark
 zero_mark_at token = record { token = token; ordinal = Some 0 }

@@ -113,12 +113,13 @@ visit_procedure = visit.visit_procedure put_ordinal
 abbrev pub visit_module : Tree ℕ module_text → WalkState → WalkState
 visit_module = visit.visit_module put_ordinal
 
--- returns the state after making the name of a declaration visible, in the walk that fills a table
+-- Returns the state after making the name of a declaration visible, in the walk that fills a table. The two numbers are
+-- the declaring token and the declaration's ordinal.
 abbrev pub with_visible_name : ℕ → ℕ → WalkState → WalkState
 with_visible_name = visit.with_visible_name
 
 -- Returns the state after making the declarations so far visible, in the walk that fills a table.
--- The number says how many of the first declarations are left out.
+-- The number says how many of these declarations, counted from the first, are left out.
 abbrev pub with_visible_names_from : ℕ → WalkState → WalkState
 with_visible_names_from = visit.with_visible_names_from
 
@@ -127,11 +128,13 @@ with_visible_names_from = visit.with_visible_names_from
 abbrev pub truncate_scope : ℕ → WalkState → WalkState
 truncate_scope = visit.truncate_scope
 
--- returns the state after the heading of a procedure, in the walk that fills a table
+-- Returns the state after the heading of a procedure, in the walk that fills a table. The two numbers are the
+-- declarations and the bindings before the procedure.
 abbrev pub state_after_heading : ℕ → ℕ → WalkState → WalkState
 state_after_heading = visit.state_after_heading
 
--- returns the state after the block of a procedure, in the walk that fills a table
+-- Returns the state after the block of a procedure, in the walk that fills a table. The three numbers are the token
+-- of the procedure's name, the procedure's ordinal, and the number of bindings before the procedure.
 abbrev pub leave_block : ℕ → ℕ → ℕ → WalkState → WalkState
 leave_block = visit.leave_block
 

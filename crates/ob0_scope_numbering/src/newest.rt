@@ -86,8 +86,9 @@ fn slot_of(name: &str) -> usize {
     (name_fingerprint(name).wrapping_mul(0x9E37_79B9_7F4A_7C15) >> 54) as usize
 }
 
-/// Returns a table of recent names with position 0 in each slot. A slot's position is used only if
-/// the sought name is at this position in the list.
+/// Returns a table of recent names in which each slot has position 0, because no name was looked up
+/// yet. That is harmless, because a look-up compares the name at a slot's position with the sought
+/// name (`find_in_recent`).
 fn empty_recent_slots(alloc: Global) -> Result<Vec<usize>, AllocError> {
     vec![in alloc; 0; RECENT_SLOTS]
 }
@@ -100,11 +101,10 @@ pub(crate) struct NameEntry<'t> {
     newest: Option<usize>,
 }
 
-/// A list of names with their newest bindings, each name once. The name that a renaming introduces
-/// is first. The other names follow in the order in which they were first bound. A name's position
-/// is
-/// found in logarithmic time, whatever the names are. A name that was looked up recently is
-/// usually found at once.
+/// A list of names with their newest bindings, each name once (`entries`). The name that a renaming
+/// introduces is first. The other names follow in the order in which they were first bound. The map
+/// `name_positions` gives a name's position in `entries` in logarithmic time, whatever the names
+/// are. The table `recent` usually gives the position of a recently found name at once.
 #[derive(Drop)]
 pub(crate) struct NewestBindings<'t> {
     entries: Vec<NameEntry<'t>>,
@@ -158,8 +158,8 @@ impl<'t> NewestBindings<'t> {
         self.entries[0].newest
     }
 
-    /// Returns the position of a name if the recent names have it in this slot. Otherwise returns
-    /// None.
+    /// Returns the position of `name` in the list if the slot `slot` of the table of recent names
+    /// has this position. Otherwise returns None.
     #[inline(always)]
     fn find_in_recent(&self, slot: usize, name: &'t str) -> Option<usize>
         ensures { IfSome result (λ name_position. position_of_name self.now name.now ≡ Some name_position) }
@@ -175,7 +175,7 @@ impl<'t> NewestBindings<'t> {
         }
     }
 
-    /// Writes the position of a name into a slot of the recent names.
+    /// Writes a name's position in the list into a slot of the table of recent names.
     fn remember_position(&mut self, slot: usize, name_position: usize)
         ensures { self.new ≡ self.old }
     {
@@ -184,7 +184,8 @@ impl<'t> NewestBindings<'t> {
         }
     }
 
-    /// Returns the position of a name, or None if the name isn't in the list.
+    /// Returns the position of a name in the list, or None if the name isn't in the list. Searches
+    /// the table of recent names first, and then the map.
     #[inline(always)]
     fn find_name_position(&mut self, name: &'t str) -> Option<usize>
         ensures found { result ≡ position_of_name self.old name.now }
@@ -197,8 +198,8 @@ impl<'t> NewestBindings<'t> {
         }
     }
 
-    /// Looks up the position of a name in the map, and writes it into this slot of the recent
-    /// names. Returns None if the name isn't in the list.
+    /// Returns the position of a name in the list, found in the map. Writes the position into the
+    /// slot `slot` of the table of recent names. Returns None if the name isn't in the list.
     #[cold]
     fn find_in_map(&mut self, slot: usize, name: &'t str) -> Option<usize>
         ensures found { result ≡ position_of_name self.old name.now }

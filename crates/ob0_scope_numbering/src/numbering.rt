@@ -2,15 +2,15 @@
 //! declaration: the declaration's number in text order, after the predeclared names.
 //!
 //! Expressions, types and statements declare nothing. The walk of `ob0_tree` visits them, with
-//! `Numbering` as its `Visitor`. The contract of each function is an equation between whole states:
-//! `self.new ≡ visit_constant c self.old`. With such contracts, most descents and loops over
-//! declarations need no proof file.
+//! `Numbering` as its `Visitor`. The contract of each function is an equation between whole states,
+//! for example `self.new ≡ visit_constant c self.old`. With such contracts, most functions that
+//! visit declarations need no proof file.
 //!
-//! Names become visible in the order of their ordinals (`make_names_visible_from`), for
-//! constants, for groups of variables, and after a procedure's heading. After a heading, the
-//! bindings of the parameters are removed. Then `make_names_visible_from` binds the procedure, and
-//! after the procedure its parameters. So a parameter with the procedure's name hides the
-//! procedure.
+//! `make_names_visible_from` makes declared names visible, in the order of their ordinals. It is
+//! called after each constant, each type, and each group of variables or parameters. It is also
+//! called after a procedure's heading, once the bindings of the parameters are removed. There it
+//! binds the procedure's name first, and then the parameters again. So a parameter with the
+//! procedure's name hides the procedure.
 //!
 //! Each identifier's ordinal is written into the table, at the index of the identifier's token, as
 //! soon as the ordinal is known. The entries of fields and of the module's name are None. The
@@ -50,10 +50,11 @@ use std::alloc::{AllocError, Global};
 use std::marker::Model;
 
 /// The state of the walk inside a module. `table` has the ordinal of each identifier visited so
-/// far, at the index of its token. `declarations` and `occurrences` have the tokens of the
-/// declaring and of the looked-up names so far. `declaration` is the ordinal of a renamed
-/// declaration, or None if nothing is renamed. `ordinals` has the ordinals before the renaming. The
-/// identifiers that have the ordinal `declaration` there get the declaration's new name.
+/// far, at the index of its token. `visible` has the names that are visible at the present place.
+/// `declarations` has the tokens of the declaring names so far, and `occurrences` the tokens of
+/// the looked-up names. `declaration` is the ordinal of a renamed declaration, or None if nothing
+/// is renamed. `ordinals` has each token's ordinal before the renaming: an identifier whose ordinal
+/// in this list is `declaration` gets the name that the renaming introduces.
 #[derive(Drop)]
 pub struct Numbering<'t> {
     tokens: &'t Tokens,
@@ -111,8 +112,9 @@ fn ordinal_at_index(index: usize) -> usize
     PREDECLARED_COUNT + index
 }
 
-/// Returns a scope in which only the predeclared names are bound. The scope also has the name `new`
-/// that a renaming introduces, but it isn't bound to the renamed declaration yet.
+/// Returns a scope in which only the predeclared names are bound, to the ordinals 0 to 6. The scope
+/// also keeps `new`, the name that a renaming introduces. This name isn't bound to the renamed
+/// declaration yet.
 fn scope_with_predeclared_names<'t>(
     alloc: Global,
     new: &'t str,
@@ -275,8 +277,8 @@ impl<'t> Numbering<'t> {
         }
     }
 
-    /// Makes the names of the declarations so far visible, in order. The first `first` declarations
-    /// are left out.
+    /// Makes the names of the declarations so far visible, in order, except for the first `first`
+    /// of these declarations.
     fn make_names_visible_from(&mut self, first: usize) -> Result<(), AllocError>
         ensures { OnOk result (self.new ≡ with_visible_names_from first self.old) }
     {
@@ -507,9 +509,9 @@ impl<'t> Numbering<'t> {
         self.make_name_visible(token, ordinal_at_index(next))
     }
 
-    /// Visits again a procedure's name, its parameters, and the parts of its block that
-    /// `revisit_block` visits on the way to the token `low`. `all` has the declaring tokens of the
-    /// whole module, in text order.
+    /// Visits a procedure again, on the way to the body that contains the token `low`: its name,
+    /// its parameters, and the parts of its block that `revisit_block` visits. `all` has the
+    /// declaring tokens of the whole module, in text order.
     #[cycle(blocks_again)]
     fn revisit_procedure(
         &mut self,
@@ -529,9 +531,11 @@ impl<'t> Numbering<'t> {
         self.revisit_block(&p.block, all, low)
     }
 
-    /// Visits a block again: its constants, types and variables, and then only the first procedure
-    /// whose closing name isn't before the token `low`. If there is no such procedure, visits the
-    /// block's statements. `all` has the declaring tokens of the whole module, in text order.
+    /// Visits a block again, on the way to the body that contains the token `low`. Visits the
+    /// block's constants, types and variables. Then visits only the first procedure whose closing
+    /// name is at or after `low`. The names of the earlier procedures only become visible. If there
+    /// is no such procedure, visits the block's own statements. `all` has the declaring tokens of
+    /// the whole module, in text order.
     #[cycle(blocks_again)]
     fn revisit_block(&mut self, inner: &Block, all: &[usize], low: usize) -> Result<(), AllocError>
         ensures { OnOk result

@@ -11,8 +11,8 @@ use std::alloc::{AllocError, Global};
 use std::marker::Model;
 
 /// A binding of a name to an ordinal. `name_position` is the name's position in the list of names
-/// (`NewestBindings`). `hidden` is the index of the older binding that this binding hides, or None
-/// if there is none.
+/// (`NewestBindings`). `hidden` is the index of the older binding that this binding hides,
+/// or None if it hides no binding.
 #[derive(Drop)]
 pub(crate) struct Binding<'t> {
     name: &'t str,

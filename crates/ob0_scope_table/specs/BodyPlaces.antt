@@ -14,8 +14,8 @@ use Rattle.ob0_scope_table.specs.declared.one_body.BodyPlace.{BodyPlace}
 abbrev pub module_tree_of : ModuleTree → Tree ℕ module_text
 module_tree_of t = is_module t.name (block_of t.block) t.closing
 
--- Returns the place of a body with these statements, in a block with this closing name, if the
--- condition `condition` is true. Returns None if it is false or the statements have no identifier.
+-- Returns the place of a body with these statements, in a block with this closing name. Returns None
+-- if `condition` is false, or if the statements have no identifier.
 abbrev pub body_place_if : Bool → Tree ℕ (maybe body) → ℕ → Option BodyPlace
 body_place_if condition statements closing =
     if condition
@@ -24,15 +24,16 @@ body_place_if condition statements closing =
     else None
 
 -- Returns the place of the body, in this block or a procedure inside it, that contains the tokens
--- from `low` up to, but not including, `high`. `closing` is the token of the block's closing name.
--- Returns None if no body contains the tokens.
+-- from `low` up to, but not including, `high`. `closing` is the token of the block's closing name. The
+-- caller checks that `high` is at or before `closing`. Returns None if no body contains the tokens.
 abbrev pub body_place_in_block : ℕ → ℕ → ℕ → Tree ℕ block → Option BodyPlace
 body_place_in_block low high closing b =
     body_place_if (is_in_block low high b) (body_at_path_in_block (path_to_body_in_block low b) b)
     (closing_name_in_block (path_to_body_in_block low b) closing b)
 
 -- Returns the place of the body, in this procedure or one inside it, that contains the tokens from
--- `low` up to, but not including, `high`. Returns None if no body contains them.
+-- `low` up to, but not including, `high`. The caller checks that `high` is at or before the
+-- procedure's closing name. Returns None if no body contains the tokens.
 abbrev pub body_place_in_procedure : ℕ → ℕ → Tree ℕ (item procedure) → Option BodyPlace
 body_place_in_procedure low high p =
     body_place_if (is_in_procedure low high p) (body_at_path_in_procedure (path_to_body_in_procedure low p) p)

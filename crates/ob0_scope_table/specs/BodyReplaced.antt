@@ -1,6 +1,6 @@
--- Defines a module in which the statements of one body were replaced, so that its number of tokens
--- may differ. Also defines the path to that body, the module without the body, and the parts that
--- both versions of the module share.
+-- Defines a module in which the statements of one body were replaced, so that the module may have
+-- more or fewer tokens than before. Also defines the path to that body in the tree, the module
+-- without the body, and the body's closing name.
 -- Rule: none; for contracts: a replacement of the tokens of one body.
 use Rattle.std.specs.Prelude.{◌≡◌, ◌<◌, ◌≤◌, ◌+◌, ◌-◌, ℕ, zero, suc, true, nat_lt, List, [], ◌∷◌, Option, Some, None, if◌then◌else◌, slice_get}
 use Rattle.ob0_scan.specs.Reused.{words_of_tokens}
@@ -17,7 +17,7 @@ use Rattle.ob0_scope_table.specs.OneBody.{closing_name, is_in_body, is_outside}
 abbrev pub PathToBody : Type 0
 PathToBody = List ℕ
 
--- returns the path to the same body after one more procedure is put before the procedures of the
+-- returns the path to the same body once another procedure is inserted before all procedures of the
 -- first block on the path
 abbrev pub shift_path : PathToBody → PathToBody
 shift_path [] = []
@@ -29,8 +29,9 @@ abbrev mutual
   pub path_to_body_in_block : ℕ → Tree ℕ block → PathToBody
   path_to_body_in_block low (forms_block (declares cs ts vs ps) statements) = path_to_body_in_procedures low ps
 
-  -- Returns the path into the first procedure whose closing name isn't before the token `low`. If
-  -- there is no such procedure, the path is empty.
+  -- Returns the path into the first procedure whose closing name is at or after the token `low`. If
+  -- there is no such procedure, the path is empty: it leads to the statements of the procedures' own
+  -- block.
   pub path_to_body_in_procedures : ℕ → Tree ℕ (items procedure) → PathToBody
   path_to_body_in_procedures low end = []
   path_to_body_in_procedures low (more p ps) =
@@ -53,8 +54,8 @@ abbrev mutual
   block_without (k ∷ path) (forms_block (declares cs ts vs ps) statements) =
       forms_block (declares cs ts vs (procedures_without k path ps)) statements
 
-  -- returns these procedures, but procedure `k`, counted from 0, is without the statements to which
-  -- the path leads from there
+  -- Returns these procedures, with one change: procedure `k`, counted from 0, loses the statements to
+  -- which the path leads from that procedure. Changes nothing if there is no procedure `k`.
   pub procedures_without : {N : Type 0}
       → ℕ
       → PathToBody
@@ -119,8 +120,8 @@ abbrev mutual
 abbrev pub closing_name_in_module : {N : Type 0} → PathToBody → Tree N module_text → N
 closing_name_in_module path (is_module x b closing) = closing_name_in_block path closing b
 
--- Returns the new index of a token whose index in the old text is `i`. The token must be outside
--- the replaced range.
+-- Returns the index in the new text of the token that has the index `i` in the old text. The token
+-- must be outside the replaced tokens, which are `s.prefix..s.old_suffix` in the old text.
 abbrev pub moved_token_index : SameParts → ℕ → ℕ
 moved_token_index s i = if nat_lt i s.prefix then i else s.new_suffix + (i - s.old_suffix)
 

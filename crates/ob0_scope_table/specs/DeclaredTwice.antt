@@ -39,8 +39,8 @@ abbrev pub closing_name_faults : TextWithTokens → ℕ → ℕ → List Fault
 closing_name_faults source x closing =
     fault_unless (same_name (token_text_at source x) (token_text_at source closing)) (end_name_fault source closing)
 
--- Returns the faults of a record's duplicate fields, followed by the faults of the records inside
--- it.
+-- Returns the faults of duplicate fields in a written type: of an outer record first, then of the
+-- records inside it.
 abbrev mutual
   -- returns the faults of duplicate fields in a written type: of an outer record first, then of the
   -- records inside it
@@ -81,8 +81,8 @@ duplicate_field_faults_in_formals source (more (then_section s) fs) =
 -- Returns the faults of a block's duplicate names, followed by the faults of its types, variables
 -- and procedures.
 abbrev mutual
-  -- Returns the faults of a block. `own` has the tokens of the names of its procedure's parameters,
-  -- which count as declared in the block.
+  -- Returns the faults of a block. If it is a procedure's block, `own` has the tokens of the names of
+  -- the procedure's parameters, which count as declared in the block.
   pub block_declaration_faults : TextWithTokens → List ℕ → Tree ℕ block → List Fault
   block_declaration_faults source own (forms_block (declares cs ts vs ps) statements) =
       duplicate_faults source [] (own ++ block_names (forms_block (declares cs ts vs ps) statements))

@@ -1,4 +1,5 @@
--- Defines the entries of a table of ordinals. An ordinal is a declaration's number.
+-- Defines how an entry of a table of ordinals is stored as a number of 32 bits. An ordinal is a
+-- declaration's number.
 -- Rule: none; for contracts: ordinals in 32 bits.
 use Rattle.std.specs.Prelude.{ℕ, zero, suc, min, Option, Some, None, option_map}
 

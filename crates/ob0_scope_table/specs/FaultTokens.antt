@@ -33,17 +33,17 @@ fault_at source f =
           record { start = (span_at source f.first).start; end = (span_at source f.last).end };
     }
 
--- Returns the index of the first token that begins at or after the byte offset `byte_offset`, or the
--- number of tokens if there is none. Also returns the number of tokens for offset 0. No token has
--- this index, so `span_at` returns an empty span at offset 0 for it.
+-- Returns the index of the first token that begins at or after the byte offset `byte_offset`. Returns
+-- the number of tokens if there is no such token, and for the offset 0. No token has the index that
+-- is returned for the offset 0. So `span_at` turns this index back into a span at the offset 0.
 abbrev pub index_starting_at : List Token → ℕ → ℕ
 index_starting_at tokens byte_offset =
     if byte_offset == 0 then length tokens
     else prefix_len (λ (t : Token). nat_lt t.span.start byte_offset) tokens
 
--- Returns the index of the first token that ends at or after the byte offset `byte_offset`, or the number
--- of tokens if there is none. Also returns the number of tokens for offset 0, because no token ends
--- there.
+-- Returns the index of the first token that ends at or after the byte offset `byte_offset`. Returns
+-- the number of tokens if there is no such token. Also returns the number of tokens for the offset
+-- 0, because no token ends there.
 abbrev pub index_ending_at : List Token → ℕ → ℕ
 index_ending_at tokens byte_offset =
     if byte_offset == 0 then length tokens

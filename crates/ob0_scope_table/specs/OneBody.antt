@@ -17,7 +17,8 @@ is_outside low high token = nat_lt token low || nat_le high token
 abbrev pub closing_name : {N : Type 0} → Tree N (item procedure) → N
 closing_name (declares_procedure x fs b closing) = closing
 
--- returns whether the list has an identifier, and the token of the first one is at or before `low`
+-- Returns whether the first identifier in the list is at or before the token `low`. The list has
+-- each identifier's role and token. Returns false if the list is empty.
 abbrev pub begins_at_or_before : ℕ → List (Role × ℕ) → Bool
 begins_at_or_before low [] = false
 begins_at_or_before low (x ∷ xs) = nat_le x.1 low
@@ -25,23 +26,26 @@ begins_at_or_before low (x ∷ xs) = nat_le x.1 low
 -- Returns whether the tokens from `low` up to, but not including, `high` are inside the statements
 -- of one block.
 abbrev mutual
-  -- returns whether the tokens from `low` up to, but not including, `high` are in the statements of
-  -- a block, or of a block inside it
+  -- Returns whether the tokens from `low` up to, but not including, `high` are in the statements of
+  -- a block, or of a block inside it. The caller checks that `high` is at or before the closing name
+  -- of the outer block.
   pub is_in_block : ℕ → ℕ → Tree ℕ block → Bool
   is_in_block low high (forms_block (declares cs ts vs ps) statements) =
       is_in_procedures low high ps statements
 
-  -- Returns whether the tokens from `low` up to, but not including, `high` are in a body of the
-  -- first procedure whose closing name isn't before `low`. If there is no such procedure, returns
-  -- whether `low` is at or after the first identifier of the block's own statements.
+  -- Skips the procedures that end before the token `low` (their closing names are before it). If
+  -- the list has another procedure, returns whether the tokens from `low` up to, but not including,
+  -- `high` are in the statements of that procedure's block, or of a block inside it. Otherwise,
+  -- returns whether `low` is at or after the first identifier of the block's own statements.
   pub is_in_procedures : ℕ → ℕ → Tree ℕ (items procedure) → Tree ℕ (maybe body) → Bool
   is_in_procedures low high end statements = begins_at_or_before low (identifiers role.Declaring statements)
   is_in_procedures low high (more p ps) statements =
       if nat_lt (closing_name p) low then is_in_procedures low high ps statements
       else nat_le high (closing_name p) && is_in_procedure low high p
 
-  -- returns whether the tokens from `low` up to, but not including, `high` are in the statements of
-  -- a procedure's block, or of a block inside it
+  -- Returns whether the tokens from `low` up to, but not including, `high` are in the statements of
+  -- a procedure's block, or of a block inside it. The caller checks that `high` is at or before the
+  -- procedure's closing name.
   pub is_in_procedure : ℕ → ℕ → Tree ℕ (item procedure) → Bool
   is_in_procedure low high (declares_procedure x fs b closing) = is_in_block low high b
 
@@ -50,9 +54,10 @@ abbrev mutual
 abbrev pub is_in_body : ℕ → ℕ → Tree ℕ module_text → Bool
 is_in_body low high (is_module x b closing) = nat_le high closing && is_in_block low high b
 
--- States that the tokens of the module `m` and of the text `old` have the same kinds, one by one.
--- The tokens from `low` up to, but not including, `high` are inside one body. All other tokens also
--- have the same spellings in both texts.
+-- States that the text of the module `m` differs from the text `old` only in the spellings of tokens
+-- in one body. The tokens of both texts have the same kinds, one by one. The tokens from `low` up
+-- to, but not including, `high` are inside one body of `m`. All other tokens also have the same
+-- spellings in both texts.
 pub record IsBodyChange (old : TextWithTokens) (m : ParsedModule) (low high : ℕ) : Type 0 where
   pub old_scan : IsScan old
   pub new_scan : IsScan m.source

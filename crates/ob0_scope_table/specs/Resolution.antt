@@ -20,8 +20,8 @@ use Rattle.ob0_language_names.specs.ConsistentNames.{has_consistent_names}
 use Rattle.ob0_scope_table.specs.DeclaredTwice.{declaration_faults}
 use Rattle.ob0_scope_table.specs.Spans as spans
 
--- Returns the ordinal that a table has at a token. Returns None if the token has no ordinal, or if
--- the token is outside the table.
+-- Returns the ordinal that the table `ordinals` has for the token with the index `token`. Returns
+-- None if the token has no ordinal, or if the index is outside the table.
 abbrev pub ordinal_in : List (Option ℕ) → ℕ → Option ℕ
 ordinal_in ordinals token = slice_index_or ordinals token None
 
@@ -40,15 +40,16 @@ declaring_names ((role.ClosingName, n) ∷ xs) = declaring_names xs
 declaring_names ((role.FieldName, n) ∷ xs) = declaring_names xs
 declaring_names ((role.ModuleName, n) ∷ xs) = declaring_names xs
 
--- Returns the token that declares the object with this ordinal. Returns None for a predeclared
--- name, and if there is no such ordinal.
+-- Returns the token at which the name with the ordinal `ordinal` is declared, given the tokens of all
+-- declaring names in text order. Returns None for a predeclared name, and if no declaration has this
+-- ordinal.
 abbrev pub declaration_token : List ℕ → ℕ → Option ℕ
 declaration_token declarations ordinal =
     if nat_lt ordinal predeclared_count
     then None
     else slice_get declarations (ordinal - predeclared_count)
 
--- returns whether this is the label of an unbound name
+-- returns whether a label is the label of an unbound name: a spelling instead of an ordinal
 abbrev pub is_unbound : Label → Bool
 is_unbound (declared k) = false
 is_unbound (as_written x) = true
@@ -67,7 +68,8 @@ is_undeclared_fault fault = elim (fault.code) [ code.Undeclared ↦ true | _ ↦
 abbrev pub span_at : TextWithTokens → ℕ → Span
 span_at source token = spans.span_at source token
 
--- returns a fault `Undeclared` for each of these looked-up names that has no ordinal in the table
+-- returns a fault `Undeclared` for each of these looked-up names (given by their tokens) that has no
+-- ordinal in the table
 abbrev pub undeclared_faults_by_table : TextWithTokens → List (Option ℕ) → List ℕ → List Fault
 undeclared_faults_by_table source ordinals [] = []
 undeclared_faults_by_table source ordinals (token ∷ tokens) =
@@ -75,10 +77,10 @@ undeclared_faults_by_table source ordinals (token ∷ tokens) =
     else record { code = code.Undeclared; span = span_at source token }
     ∷ undeclared_faults_by_table source ordinals tokens
 
--- A module with its resolved names. `ordinals` has the ordinal (the declaration's number), or None,
--- at each token. `declarations` has
--- the tokens of the declaring names in text order. The first of these names has the ordinal
--- `predeclared_count`. `uses` has the tokens of the looked-up names in text order.
+-- A module with its resolved names. `ordinals` has an entry for each token: the ordinal (the number)
+-- of the identifier's declaration, or None. `declarations` has the tokens of the declaring names in
+-- text order. The first of these names has the ordinal `predeclared_count`. `uses` has the tokens of
+-- the looked-up names in text order, and `faults` the faults of names.
 pub record Resolution : Type 0 where
   pub module_read : ParsedModule
   pub ordinals : List (Option ℕ)
@@ -86,9 +88,10 @@ pub record Resolution : Type 0 where
   pub uses : List ℕ
   pub faults : List Fault
 
--- States that the module's numbered tree (`numbered`), in which each bound name is replaced by its
--- declaration's ordinal, results from this table of ordinals: each identifier of the module's tree
--- is replaced by its label (`label_at`).
+-- States that the table of ordinals gives each identifier the label that the scope rules give it.
+-- Replacing each identifier of the module's tree by its label in the table (`label_at`) must result
+-- in the numbered tree (`numbered`), in which each bound name is replaced by its declaration's
+-- ordinal.
 abbrev pub IsNumberingTable : ParsedModule → List (Option ℕ) → Type 0
 IsNumberingTable m ordinals =
     numbered (named_tree_of m) ≡ mapped_tree (label_at m.source ordinals) (token_value_at m.source) (tree_of m)
@@ -110,8 +113,9 @@ IsBindingTable m ordinals =
     relabel_module naming_by_spelling ordinal_and_spelling (named_tree_of m)
     ≡ mapped_tree (binding_at m.source ordinals) (token_value_at m.source) (tree_of m)
 
--- Returns a fault `Undeclared` for each of these looked-up names whose label is an unbound name. A
--- looked-up name and its label have the same index in the two lists.
+-- Returns a fault `Undeclared` for each of these looked-up names that is unbound according to its
+-- label (`is_unbound`). The lists have the tokens of the looked-up names and their labels, in the
+-- same order.
 abbrev pub undeclared_faults_by_labels : TextWithTokens → List ℕ → List Label → List Fault
 undeclared_faults_by_labels source [] labels = []
 undeclared_faults_by_labels source (token ∷ tokens) [] = []
@@ -126,8 +130,9 @@ abbrev pub undeclared_faults : ParsedModule → List Fault
 undeclared_faults m = undeclared_faults_by_labels m.source (occurrences (tree_of m)) (bindings (named_tree_of m))
 
 -- States that these are the faults of a module's names. Duplicate declarations and wrong closing
--- names come first. A fault for each undeclared name follows, in text order. There are faults of
--- the first two kinds exactly if a name is declared twice or a closing name is wrong.
+-- names come first (`declaration_faults`). A fault for each undeclared name follows, in text order.
+-- The list has no fault of the first two kinds exactly if no name is declared twice in a block or
+-- record, and all closing names are right.
 pub record AreFaultsOf (m : ParsedModule) (faults : List Fault) : Type 0 where
   pub by_kind : faults ≡ declaration_faults m ++ undeclared_faults m
   pub declared_twice : list_any is_declaration_fault faults ≡ not (has_consistent_names (named_tree_of m))

@@ -18,7 +18,7 @@ pub struct FaultByTokens {
     pub last: usize,
 }
 
-/// Returns each fault of a text with the tokens at which it begins and ends.
+/// Returns each of these faults with the tokens at which it begins and ends, in the same order.
 pub fn faults_by_tokens(
     alloc: Global,
     tokens: &Tokens,
@@ -49,7 +49,8 @@ fn find_fault_tokens(tokens: &Tokens, fault: &Fault) -> FaultByTokens
     }
 }
 
-/// Returns these faults with their spans in the text, computed from their first and last tokens.
+/// Returns these faults with their spans in the text that has the tokens `tokens`, in the same
+/// order. The spans are computed from the faults' first and last tokens.
 pub fn faults_at_tokens(
     alloc: Global,
     tokens: &Tokens,
@@ -80,8 +81,9 @@ fn fault_from_tokens(tokens: &Tokens, fault: &FaultByTokens) -> Fault
 }
 
 /// Returns the index of the first token that begins at or after the offset `byte_offset`, found by
-/// binary search. Returns the number of tokens if there is none. Also returns the number of tokens
-/// for offset 0. No token has this index, so `token_span` returns an empty span at offset 0 for it.
+/// binary search. Returns the number of tokens if there is no such token, and for the offset 0. No
+/// token has the index that is returned for the offset 0. So `token_span` turns this index back
+/// into a span at the offset 0.
 fn find_token_starting_at(tokens: &[Token], byte_offset: usize) -> usize
     ensures { IsNonDecreasingBy (λ (t : token.Token). t.span.start) tokens.now
         → result ≡ index_starting_at tokens.now byte_offset }
@@ -93,8 +95,8 @@ fn find_token_starting_at(tokens: &[Token], byte_offset: usize) -> usize
 }
 
 /// Returns the index of the first token that ends at or after the offset `byte_offset`, found by
-/// binary search. Returns the number of tokens if there is none. Also returns the number of tokens
-/// for offset 0, because no token ends there.
+/// binary search. Returns the number of tokens if there is no such token. Also returns the number
+/// of tokens for the offset 0, because no token ends there.
 fn find_token_ending_at(tokens: &[Token], byte_offset: usize) -> usize
     ensures { IsNonDecreasingBy (λ (t : token.Token). t.span.end) tokens.now
         → result ≡ index_ending_at tokens.now byte_offset }

@@ -1,4 +1,6 @@
 //! Finds the body (the statements of one block) that contains a range of tokens, if there is one.
+//! A body contains the range if the range begins at or after the body's first identifier and ends
+//! before the closing name of the body's block.
 
 ghost use Rattle.std.specs.Prelude.{◌≡◌};
 ghost use Rattle.ob0_tree.specs.ParsedModule.{tree_of};
@@ -18,9 +20,9 @@ pub struct BodyPlace {
     pub closing: usize,
 }
 
-/// Returns whether the tokens from `low` up to, but not including, `high` are inside the statements
-/// of one block. These tokens must begin at or after the first identifier of the statements, and
-/// end before the block's closing name.
+/// Returns whether one body contains the tokens from `low` up to, but not including, `high`. This
+/// means that `low` is at or after the body's first identifier, and `high` is at or before the
+/// closing name of the body's block.
 pub fn is_in_body(read: &Module<'_>, low: usize, high: usize) -> bool
     ensures { result ≡ is_in_body low high (tree_of read.now) }
 {
@@ -51,7 +53,8 @@ pub fn body_place_in_module(read: &Module<'_>, low: usize, high: usize) -> Optio
 
 /// Returns the place of the body, in this block or a procedure inside it, that contains the tokens
 /// from `low` up to, but not including, `high`. `closing` is the token of the block's closing name.
-/// Returns None if no body contains the tokens.
+/// The caller checks that `high` is at or before `closing`. Returns None if no body contains the
+/// tokens.
 #[cycle(places)]
 fn body_place_in_block(b: &Block, closing: usize, low: usize, high: usize) -> Option<BodyPlace>
     ensures { result ≡ body_place_in_block low high closing (block_of b.now) }
@@ -68,7 +71,8 @@ fn body_place_in_block(b: &Block, closing: usize, low: usize, high: usize) -> Op
 }
 
 /// Returns the place of the body, in this procedure or one inside it, that contains the tokens from
-/// `low` up to, but not including, `high`. Returns None if no body contains them.
+/// `low` up to, but not including, `high`. The caller checks that `high` is at or before the
+/// procedure's closing name. Returns None if no body contains the tokens.
 #[cycle(places)]
 fn body_place_in_procedure(p: &Procedure, low: usize, high: usize) -> Option<BodyPlace>
     ensures { result ≡ body_place_in_procedure low high (procedure_of p.now) }

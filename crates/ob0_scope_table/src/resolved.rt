@@ -55,7 +55,8 @@ impl<'t> Model for Resolved<'t> {
 impl<'t> Resolved<'t> {
     ghost use Rattle.ob0_scope_table.specs.Bindings.{resolution_with};
 
-    /// Joins a module and its bindings. The result owns the bindings.
+    /// Joins a module and its bindings. The bindings must be correct for the module
+    /// (`IsResolution`). The result owns the bindings.
     pub fn new(module: &'t Module<'t>, bindings: Bindings) -> Resolved<'t>
         requires { IsResolution (resolution_with «module».now bindings) }
         ensures { result ≡ resolution_with «module».now bindings }
@@ -66,7 +67,8 @@ impl<'t> Resolved<'t> {
         }
     }
 
-    /// Joins a module and its bindings. The result borrows the bindings.
+    /// Joins a module and its bindings. The bindings must be correct for the module
+    /// (`IsResolution`). The result borrows the bindings.
     pub fn from_parts(module: &'t Module<'t>, bindings: &'t Bindings) -> Resolved<'t>
         requires { IsResolution (resolution_with «module».now bindings.now) }
         ensures { result ≡ resolution_with «module».now bindings.now }
@@ -150,8 +152,8 @@ impl<'t> Resolved<'t> {
         self.bindings().declarations.as_slice()
     }
 
-    /// Returns the index of the token that declares the object with this ordinal. Returns None for
-    /// a predeclared name, and if there is no such ordinal.
+    /// Returns the index of the token at which the name with this ordinal is declared. Returns None
+    /// for a predeclared name, and if no declaration has this ordinal.
     pub fn declaring_token(&self, ordinal: usize) -> Option<usize>
         ensures { result ≡ declaration_token self.now.declarations ordinal }
     {

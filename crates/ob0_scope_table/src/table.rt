@@ -11,8 +11,8 @@ use crate::ordinal_entry::OrdinalEntry;
 use ob0_scan::{Span, Tokens};
 use ob0_tree::token_text_at;
 
-/// Returns the ordinal that a table has at a token. Returns None if the token has no ordinal, or if
-/// the token is outside the table.
+/// Returns the ordinal that the table `ordinals` has for the token with the index `token`. Returns
+/// None if the token has no ordinal, or if the index is outside the table.
 pub fn ordinal_at(ordinals: &[OrdinalEntry], token: usize) -> Option<usize>
     ensures { result ≡ ordinal_in ordinals.now token }
 {
@@ -22,7 +22,7 @@ pub fn ordinal_at(ordinals: &[OrdinalEntry], token: usize) -> Option<usize>
     }
 }
 
-/// Returns whether `found` is the ordinal `ordinal`. Returns false if `found` is None.
+/// Returns whether the optional ordinal `found` equals `ordinal`. Returns false if `found` is None.
 pub fn same_ordinal(found: Option<usize>, ordinal: usize) -> bool
     ensures { result ≡ same_ordinal found ordinal }
 {

@@ -1,5 +1,5 @@
 -- Defines the counts of a device's reads.
--- Rule: none; for contracts: the calls of a device.
+-- Rule: none; for the contracts of functions that read from a device.
 use Rattle.std.specs.Prelude.{◌+◌, ◌-◌, ◌^◌, ℕ, min, max}
 
 -- The number of reads that were made, and the length in bytes of the longest buffer that was passed

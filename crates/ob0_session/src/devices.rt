@@ -49,7 +49,7 @@ pub trait OutputDevice {
     ghost has_failed: { Self → Bool };
 
     /// Writes a prefix of the bytes, and returns the number of bytes written. If `buf` isn't empty,
-    /// at least one byte is written.
+    /// the call writes at least one byte or fails.
     fn write(&mut self, buf: &[u8]) -> Result<usize, DeviceFault>
         ensures bound { WritesAtMost result buf.now }
         ensures progress { IfOk result (λ count. buf.now ≢ [] → 0 < count) }

@@ -36,8 +36,8 @@ pub record RequestedActions : Type 0 where
   pub range : Range
   pub only : Option (List (List ℕ))
 
--- Translates the program's `ActionsRequest`, about a document of this version, into a
--- `RequestedActions`.
+-- Translates the code's `ActionsRequest` into a `RequestedActions`. The request is about a document
+-- of this version.
 abbrev pub actions_request_view : ActionsRequest → ℤ → RequestedActions
 actions_request_view r version =
     record {
@@ -49,7 +49,8 @@ actions_request_view r version =
       only = kinds_view r.only.now;
     }
 
--- Returns whether this kind of actions includes inlining.
+-- Returns whether this kind of actions includes inlining: `refactor.inline`, `refactor` and the
+-- empty text do.
 abbrev pub is_inlining_kind : List ℕ → Bool
 is_inlining_kind kind =
     bytes_eq kind [] || bytes_eq kind (codes "refactor") || bytes_eq kind (codes "refactor.inline")
@@ -78,24 +79,26 @@ actions_offset unit text range =
 
 -- ---- the message
 
--- Returns the title of the action that inlines at one use (`OneUse`) or at every use (`Everywhere`).
+-- Returns the title of the action that inlines a constant at one use (`OneUse`) or at every use
+-- (`Everywhere`).
 abbrev pub title : Inlining → List ℕ
 title OneUse = codes "Inline here"
 title Everywhere = codes "Inline everywhere"
 
--- Returns the JSON value of the code action with these edits, in the form that the client accepts.
+-- Returns the JSON value of the code action that applies these edits, in the form that the client
+-- accepts. The action's title depends on `how`.
 abbrev pub action_of : RequestedActions → Inlining → List Edit → Data
 action_of requested how edits =
     action_value (workspace_edit requested.client requested.uri requested.version edits) (title how)
 
--- Returns a list of one action, which applies these edits. If the edits are None, they are refused,
--- and the list is empty.
+-- Returns a list with the JSON value of one code action, which applies these edits. If the edits
+-- are None, the inlining is refused, and the list is empty.
 abbrev pub action_values : RequestedActions → Inlining → Option (Vec Edit Global) → List Data
 action_values requested how (Some edits) = action_of requested how edits.items ∷ []
 action_values requested how None = []
 
--- Returns the JSON array of the offered actions: to inline at one use, then to inline everywhere.
--- An action whose edits are None isn't offered.
+-- Returns the JSON array of the offered actions: to inline a constant at one use, then to inline it
+-- everywhere. An action whose edits are None isn't offered.
 abbrev pub actions_array : RequestedActions
     → Option (Vec Edit Global)
     → Option (Vec Edit Global)
@@ -116,8 +119,8 @@ pub record ListsInlinings (unit : Unit) (requested : RequestedActions) (text : L
       everywhere
   pub listed : value ≡ actions_array requested here everywhere
 
--- States that the value lists the offered actions. The list is empty if the request doesn't include
--- inlining, or if the text isn't a well-typed module.
+-- States that the JSON value is the list of the offered actions. The list is empty if the request
+-- doesn't include inlining, or if the text isn't a well-typed module.
 abbrev pub ListsActions : Unit → RequestedActions → List ℕ → Data → Type 0
 ListsActions unit requested text value =
     ListsInlinings unit requested text value

@@ -1,5 +1,5 @@
--- Defines the diagnostics of a text. An analysis reports complaints: diagnostics that have byte
--- offsets (`ReportedDiagnosis`). A `Diagnostic` has positions instead.
+-- Defines the diagnostics of a text. An analysis reports diagnoses, which have byte offsets
+-- (`ReportedDiagnosis`). A `Diagnostic`, which is sent to the client, has positions instead.
 -- Rule: docs/PROTOCOL.md, Publishing 3, JSON shapes 2.
 use Rattle.std.specs.Prelude.{◌≡◌, ℕ, ℤ, List, Some, map}
 use Rattle.ob0_rpc.specs.Writing.{Writes}
@@ -10,8 +10,9 @@ use Rattle.ob0_analysis.specs.Diagnosed.{ReportedDiagnosis, Reports}
 use Rattle.ob0_analysis.specs.Texts.{utf8}
 use Rattle.ob0_session_json.specs.Shapes.{Diagnostic, publication}
 
--- Returns the diagnostic for a complaint about the text. The diagnostic has the complaint's code and
--- message, and the positions at which the complaint starts and ends.
+-- Returns the diagnostic for a diagnosis of the text: the same code and message, with positions in
+-- place of the byte offsets at which the diagnosis starts and ends. Positions are counted in this
+-- unit.
 abbrev pub diagnostic_of : Unit → List ℕ → ReportedDiagnosis → Diagnostic
 diagnostic_of unit text c = record {
   code = c.code;

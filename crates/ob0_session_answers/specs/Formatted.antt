@@ -14,9 +14,9 @@ use Rattle.ob0_analysis.specs.Texts.{utf8}
 use Rattle.ob0_edits.specs.Layouts.{IsTooLongFormatted, FormatsIn}
 use Rattle.ob0_session_json.specs.Shapes.{edits_value, edit_refusal}
 
--- States that the message answers a request with this id to format the text. The message contains
--- the edits, or it refuses the request because the formatted text is too long or because the text
--- isn't a well-typed module.
+-- States that the message answers a request with this id to format the text with this indentation.
+-- The message contains the edits, or it refuses the request because the formatted text is too long
+-- or because the text isn't a well-typed module.
 abbrev pub AnswersFormatting : Unit → Data → Indent → List ℕ → Data → Type 0
 AnswersFormatting unit id indent text message =
     ((edits : List Edit)

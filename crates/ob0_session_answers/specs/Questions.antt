@@ -52,16 +52,16 @@ value_or_null None = null
 abbrev pub offset_in : Unit → List ℕ → DocumentPlace → ℕ
 offset_in unit text at = offset_of (width_of unit) text at.position
 
--- States that the value lists, in text order, the locations of all references to the name or field
--- at the position. `include` says whether the list contains the declaration.
+-- States that the JSON value lists, in text order, the locations of all references to the name or
+-- field at the position. `include` says whether the list contains the declaration.
 abbrev pub AnswersReferences : Unit → List ℕ → DocumentPlace → Bool → Resolution → Data → Type 0
 AnswersReferences unit text at include names value =
     (spans : List Span)
     × AreReferencesAt names (offset_in unit text at) include spans
     × (value ≡ array (items_of (map (span_location unit at.uri text) spans)))
 
--- States that the value answers the question about a well-typed module. `names` is the resolution
--- of the module's names.
+-- States that the JSON value answers the question about a text that is a well-typed module. `names`
+-- is the resolution of the module's names.
 abbrev pub AnswersInModule : Unit → List ℕ → DocumentPlace → NameQuestion → Resolution → Data → Type 0
 AnswersInModule unit text at hover_question names value =
     value
@@ -88,7 +88,8 @@ ill_typed_answer prepare_rename_question = null
 
 -- ---- the answer to a question about a text
 
--- States that the value answers the question about a position in this text.
+-- States that the JSON value answers the question about a position in this text. If the text isn't
+-- a well-typed module, the value is `ill_typed_answer`.
 abbrev pub AnswersQuestion : Unit → List ℕ → DocumentPlace → NameQuestion → Data → Type 0
 AnswersQuestion unit text at question value =
     ((names : Resolution)

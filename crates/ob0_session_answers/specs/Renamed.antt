@@ -42,9 +42,10 @@ abbrev pub edits_for_client : RequestedRename → List Edit → Data
 edits_for_client requested edits =
     workspace_edit requested.client requested.at.uri requested.version edits
 
--- States that the message answers the request for renaming in a document with this text. The message
--- contains the edits, or it refuses the new name, or it refuses the request because the text isn't a
--- well-typed module. Positions are counted in this unit.
+-- States that the message answers the request for renaming in a document with this text. The
+-- message contains the edits, or it refuses the renaming for a reason (`IsRenameRefusedIn`), or it
+-- refuses the request because the text isn't a well-typed module. Positions are counted in this
+-- unit.
 abbrev pub AnswersRenaming : Unit → RequestedRename → List ℕ → Data → Type 0
 AnswersRenaming unit requested text message =
     ((edits : List Edit)

@@ -1,10 +1,10 @@
 //! Answers requests for code actions, which inline a constant at one use or everywhere.
 //!
 //! `inline_edits` of `ob0_edits` computes the edits. A range may end before its start, so the byte
-//! offsets of both are compared (`actions_position`, `actions_offset`). No law about the order of
-//! positions is needed. An action's title and edits depend on its `Inlining` (`OneUse` or
-//! `Everywhere`). To add an action, add a variant of `Inlining` and its title (`title_of` and
-//! `title`).
+//! offsets of its start and its end are compared (`actions_position`, `actions_offset`). Because
+//! offsets are compared, no law about the order of positions is needed. An action's title and edits
+//! depend on its `Inlining` (`OneUse` or `Everywhere`). To add an action, add a variant of
+//! `Inlining` and its title (`title_of` and `title`).
 
 ghost use Rattle.std.specs.Prelude.{◌≡◌, IfOk, map, string_bytes};
 ghost use Rattle.std.specs.List.{list_any};
@@ -80,8 +80,9 @@ impl<'a> ActionsRequest<'a> {
         self.client.accepts_literal_actions && allows_inlining(self.only)
     }
 
-    /// Returns the answer that lists the offered actions: to inline at this use, then to inline
-    /// everywhere. An action whose edits are None isn't offered.
+    /// Returns the answer that lists the offered actions: to inline a constant at this use, then to
+    /// inline it everywhere. `found` has the edits of both actions. An action whose edits are None
+    /// isn't offered.
     fn answer_with_actions(
         &self,
         alloc: Global,
@@ -132,8 +133,8 @@ impl<'a> ActionsRequest<'a> {
         answer_text(alloc, self.id, &actions.as_slice())
     }
 
-    /// Returns the code action that applies these edits to this version of the document. `how`
-    /// decides its title.
+    /// Returns the code action that applies these edits to this version of the document. The
+    /// action's title depends on `how`.
     fn action<'b>(&'b self, version: i64, how: Inlining, edits: &'b [Edit]) -> CodeAction<'b>
         ensures { code_action_view result ≡ action_of (actions_request_view self.now version) how edits.now }
     {
@@ -168,7 +169,7 @@ fn allows_inlining(only: &Option<Vec<String>>) -> bool
     }
 }
 
-/// Returns whether one of these kinds of actions includes inlining.
+/// Returns whether at least one of these kinds of actions includes inlining.
 fn has_inlining_kind(kinds: &[String]) -> bool
     ensures { result ≡ list_any of_kind (map string_bytes kinds.now) }
 {
@@ -180,14 +181,16 @@ fn has_inlining_kind(kinds: &[String]) -> bool
     false
 }
 
-/// Returns whether this kind of actions includes inlining.
+/// Returns whether this kind of actions includes inlining: `refactor.inline`, `refactor` and the
+/// empty text do.
 fn is_inlining_kind(kind: &str) -> bool
     ensures { result ≡ of_kind kind.now }
 {
     kind == "" || kind == "refactor" || kind == "refactor.inline"
 }
 
-/// Returns the title of the action that inlines at one use (`OneUse`) or at every use (`Everywhere`).
+/// Returns the title of the action that inlines a constant at one use (`OneUse`) or at every use
+/// (`Everywhere`).
 fn title_of(how: Inlining) -> &'static str
     ensures { result.now ≡ title how }
 {

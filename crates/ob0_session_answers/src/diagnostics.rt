@@ -91,8 +91,8 @@ fn sorted_offsets_of(alloc: Global, reported: &[Diagnosis]) -> Result<Vec<usize>
     Ok(offsets)
 }
 
-/// Turns each diagnosis into a diagnostic. The positions of its start and its end are looked up in
-/// `positions`, the positions of the byte offsets `offsets` in ascending order.
+/// Turns each diagnosis, which has byte offsets, into a diagnostic with positions. The list
+/// `positions` has the position of each byte offset in `offsets`, which is in ascending order.
 fn attach_positions<T: TextStore>(
     alloc: Global,
     store: &T,

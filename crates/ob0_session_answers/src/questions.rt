@@ -82,8 +82,8 @@ impl Question for ReferencesQuestion {
     }
 }
 
-/// The question for the span of the name or field at a byte offset. The answer is None if that name
-/// or field can't be renamed.
+/// The question for the span of the name or field at a byte offset. The answer is None if there is
+/// no name or field, or if the name is predeclared and so can't be renamed.
 #[derive(Drop)]
 struct RenamableQuestion {
     offset: usize,
@@ -185,7 +185,8 @@ impl<'a, T: TextStore> DocumentRequest<T> for ReferencesRequest<'a> {
 }
 
 /// A request for the range of the name or field at a position of a document. The answer is null if
-/// that name or field can't be renamed.
+/// the text isn't a well-typed module, if there is no name or field, or if the name is predeclared
+/// and so can't be renamed.
 #[derive(Drop)]
 pub struct PrepareRenameRequest<'a> {
     pub id: &'a Id,
@@ -277,8 +278,8 @@ fn range_answer<T: TextStore>(
     }
 }
 
-/// Returns the answer to a references request: the locations of these spans in the document. If the
-/// spans are in text order, their positions are found in one pass over the text.
+/// Returns the answer to a references request: the locations of these spans in the document with
+/// this uri. If the spans are in text order, their positions are found in one pass over the text.
 fn locations_answer<T: TextStore>(
     alloc: Global,
     id: &Id,

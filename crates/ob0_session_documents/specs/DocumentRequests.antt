@@ -8,8 +8,8 @@ use Rattle.ob0_session_documents.specs.declared.document_requests.RequestOutcome
 use Rattle.ob0_session_documents.specs.declared.document_requests.RequestOutcome.TheVariants.{Answered, OutOfStep, Unopened}
 
 -- States that a request about the document with this uri may have this outcome. If the document is
--- in step, the outcome is a message that answers the request for the document's version and text.
--- Otherwise the outcome is `OutOfStep`, or `Unopened` if the document isn't open.
+-- in step, the outcome is a message that answers the request for the document's version and text
+-- (`answers`). Otherwise the outcome is `OutOfStep`, or `Unopened` if the document isn't open.
 abbrev pub IsOutcomeOfRequest : (ℤ → Unit → List ℕ → List ℕ → Type 0)
     → OpenDocuments
     → List ℕ

@@ -1,5 +1,5 @@
 -- Defines which analyses are kept, and for which texts.
--- Rule: none; for contracts: what the session keeps of the open documents.
+-- Rule: none; for the contracts of functions that keep or drop analyses.
 use Rattle.std.specs.Prelude.{◌≡◌, ◌⊎◌, ℕ, ℤ, List, Contains, Option, Some, None, String, string_bytes}
 use Rattle.std.specs.Str.{chars}
 use Rattle.std.specs.declared.alloc.Global.{Global}

@@ -2,8 +2,8 @@
 //! recently.
 //!
 //! Contracts see only the documents, so `ServerState` and all promises are the same as without
-//! analyses. The invariant says that each kept analysis is of the current text of its document
-//! (`AnalysesMatchTexts` of `specs/KeptAnalyses`). Before a document changes, its analysis is
+//! analyses. The invariant says that each kept analysis is the analysis of its document's current
+//! text (`AnalysesMatchTexts` of `specs/KeptAnalyses`). Before a document changes, its analysis is
 //! removed (`still_theirs` of `proofs/OtherDocuments`). After the change, the analysis of the
 //! resulting text is added. No texts are compared. One notification causes one analysis, however
 //! many changes the notification has.
@@ -21,8 +21,8 @@ use std::alloc::{AllocError, Global};
 use std::marker::Model;
 
 /// The open documents, and analyses of their texts. Contracts see only the documents. Each kept
-/// analysis is of the current text of its document, because a change first removes the analysis of
-/// the previous text.
+/// analysis is the analysis of its document's current text, because a change first removes the
+/// analysis of the previous text.
 #[derive(Drop)]
 pub struct AnalysedDocuments<T: TextStore> {
     alloc: Global,

@@ -1,10 +1,12 @@
 //! Keeps the analyses of the documents that were changed or asked about most recently.
 //!
-//! The contracts only limit which analyses are kept after a call: only analyses that were kept
-//! before (`AddsNoAnalysis`), only these without the analysis of one document (`KeepsOnlyOthers`),
-//! or only these and the added one (`AddsOnlyAnalysis`). So code that drops more analyses also
-//! meets the contracts. `put` drops the least recently used analyses if the total size is too
-//! large.
+//! The contracts only limit which analyses may be kept after a call:
+//! - `AddsNoAnalysis`: only analyses that were kept before the call;
+//! - `KeepsOnlyOthers`: only analyses of other documents that were kept before the call;
+//! - `AddsOnlyAnalysis`: only the added analysis, and analyses that were kept before the call.
+//!
+//! So a call may drop any number of analyses. `put` drops the least recently used analyses if the
+//! total size is too large.
 
 ghost use Rattle.std.specs.Prelude.{◌≡◌, ◌∷◌, ◌≤◌, [], IfSome, IfOk};
 ghost use Rattle.ob0_session_documents.specs.KeptAnalyses.{KeepsAnalysis, AddsOnlyAnalysis, AddsNoAnalysis, KeepsOnlyOthers};

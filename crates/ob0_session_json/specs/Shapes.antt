@@ -115,8 +115,8 @@ document_edit uri version es =
     object (member (codes "edits") (edits_value es)
     (member (codes "textDocument") (versioned_document uri version) no_members))
 
--- Returns the JSON value of the edits: {"documentChanges":[..]} if the client accepts that form,
--- otherwise {"changes":{u:[E,..]}}.
+-- Returns the JSON value of the edits of one document: {"documentChanges":[..]} if the client
+-- accepts that form, otherwise {"changes":{u:[E,..]}}, which has no version.
 abbrev pub workspace_edit : ClientFeatures → List ℕ → ℤ → List Edit → Data
 workspace_edit client uri version es =
     if client.accepts_document_changes

@@ -9,7 +9,7 @@ use ob0_text::Edit;
 use std::alloc::AllocError;
 
 /// The edits of one document. They are written in the form that the client accepts: with the
-/// document's uri and version, or with the uri only.
+/// document's uri and version (`documentChanges`), or with the uri only (`changes`).
 #[derive(Drop)]
 pub struct WorkspaceEdit<'a> {
     pub client: ClientFeatures,

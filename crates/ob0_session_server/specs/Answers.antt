@@ -76,7 +76,7 @@ pub data Reply : Type 0 where
   -- The offered code actions. Arguments: the unit of positions, the request and the characters of the text.
   offers_actions : Unit → RequestedActions → List ℕ → Reply
 
--- States that exactly one content is sent, and that it is the text of this message.
+-- States that `sent` consists of exactly one content, which is the text of this message.
 abbrev pub Sends : Data → List (List ℕ) → Type 0
 Sends message sent = (bytes : List ℕ) × (sent ≡ bytes ∷ []) × Writes message bytes
 
@@ -165,8 +165,8 @@ abbrev pub react_to_formatting : ServerState → Data → List ℕ → Indent �
 react_to_formatting s id uri indent =
     react_about_document s id (document_at s.held uri) (λ version. formats_text s.held.unit id indent)
 
--- Returns the reaction to a request that has been read. If the request couldn't be read, returns
--- the reaction to that fault.
+-- Returns the reaction to a request that has been read (`Ok`), or to a request that couldn't be
+-- read because of a fault (`Err`).
 abbrev pub react_to_known_request : ServerState → Data → Result ClientRequest RpcFault → Reaction
 react_to_known_request s id (Ok (initialize client)) =
     record { after = state_after_initialize client; reply = says (result_message id (capabilities client)) }
@@ -210,8 +210,8 @@ end_status phase = 1
 abbrev pub react_to_exit : ServerState → Reaction
 react_to_exit s = reaction_with_phase (Ended (end_status s.phase)) s nothing
 
--- Returns the reply that publishes a document's diagnostics. Returns `nothing` if the document
--- isn't open or is out of step.
+-- Returns the reply that publishes the diagnostics of the document with this uri. Returns `nothing`
+-- if the document isn't open or is out of step.
 abbrev pub publication_reply : Unit → List ℕ → Option Document → Reply
 publication_reply unit uri (Some (InStep version text)) = diagnoses unit uri version text
 publication_reply unit uri (Some OutOfStep) = nothing
@@ -238,14 +238,14 @@ apply_notification s (unreadable (Some uri)) = reaction_with_documents (document
 apply_notification s (unreadable None) = reaction_without_change s nothing
 apply_notification s other = reaction_without_change s nothing
 
--- Returns the reaction to a notification in this phase. Unless the session runs, every notification except `exit` is
--- ignored.
+-- Returns the reaction to a notification in this phase. While the session runs, the notification is
+-- applied. In any other phase, `exit` ends the session, and every other notification is ignored.
 abbrev pub react_to_notification : Phase → ServerState → List ℕ → Data → Reaction
 react_to_notification Running s method params = apply_notification s (notification_by_method method params)
 react_to_notification phase s method params =
     if bytes_eq method (codes "exit") then react_to_exit s else reaction_without_change s nothing
 
--- ---- the replies to one content, and to a conversation of contents
+-- ---- the replies to the content of one message, and to the contents of a conversation
 
 -- Returns the reaction of a server in this state to a content with this meaning.
 abbrev pub react : ServerState → MessageMeaning → Reaction
@@ -255,8 +255,9 @@ react s response = reaction_without_change s nothing
 react s (request id method params) = react_to_request s.phase s id method params
 react s (notice method params) = react_to_notification s.phase s method params
 
--- States that a server in the state `before`, in which the session has neither ended nor failed, may
--- reply to this content with the messages `sent`. `after` is the server's next state.
+-- States that a server in the state `before` may reply to this content with the messages `sent`.
+-- The server is then in the state `after`. This is the case of `AnswersInPhase` in which the
+-- session has neither ended nor failed.
 abbrev pub AnswersBeforeEnd : ServerState → List ℕ → List (List ℕ) → ServerState → Type 0
 AnswersBeforeEnd before content sent after =
     (json : Option Data) × ReadsContent content json

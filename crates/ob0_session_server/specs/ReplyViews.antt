@@ -1,5 +1,5 @@
 -- States which messages and outcomes of the code are the replies and reactions of `Answers`.
--- Rule: none; for contracts: what values of the code mean.
+-- Rule: none; for the contracts of functions that answer messages.
 use Rattle.std.specs.Prelude.{◌≡◌, ℕ, ℤ, List, Option, Some, None, Vec, option_map, codes}
 use Rattle.std.specs.Option.{option_to_list}
 use Rattle.std.specs.declared.alloc.Global.{Global}
@@ -36,7 +36,7 @@ message_of OutOfStep = None
 message_of Unopened = None
 
 -- States that this message answers or refuses the request about the document with this uri, and
--- that the state is unchanged.
+-- that the state is unchanged. `answers` states which bytes answer the request.
 abbrev pub RepliesAboutDocument : (ℤ → Unit → List ℕ → List ℕ → Type 0)
     → ServerState
     → Data

@@ -111,8 +111,8 @@ impl<T: TextStore> Session<T> {
         }
     }
 
-    /// Returns the documents that the client has open. After a failed allocation nothing is
-    /// promised about them.
+    /// Returns the documents that the client has open. After a failed allocation they may differ
+    /// from the client's.
     pub fn documents(&self) -> &Documents<T>
         ensures { result.now ≡ self.now.held }
     {
@@ -162,7 +162,8 @@ impl<T: TextStore> Session<T> {
         }
     }
 
-    /// Processes one content, and returns the messages to send in reply: one or none.
+    /// Processes the content of one message, and returns the messages to send in reply: one or
+    /// none.
     fn answer_content(&mut self, content: &[u8]) -> Result<Vec<Vec<u8>>, AllocError>
         ensures { IfOk result
             (λ sent. AnswersBeforeEnd self.old content.now (map (λ v. v.items) sent.items) self.new) }
@@ -174,8 +175,8 @@ impl<T: TextStore> Session<T> {
         Ok(sent)
     }
 
-    /// Processes one content, and returns the message to send in reply, or None if there is no
-    /// reply.
+    /// Processes the content of one message, and returns the message to send in reply, or None if
+    /// there is no reply.
     fn reply_to_content(&mut self, content: &[u8]) -> Result<Option<Vec<u8>>, AllocError>
         ensures { IfOk result (λ sent. AnswersBeforeEnd self.old content.now
             (option_to_list (option_map (λ v. v.items) sent)) self.new) }
@@ -541,8 +542,8 @@ impl<T: TextStore> Session<T> {
     }
 }
 
-/// Returns the reply to a request about a document, from the request's outcome. The reply is the
-/// outcome's message, or a refusal if the document is out of step or isn't open.
+/// Returns the reply to a request about a document that has this outcome: the outcome's message, or
+/// a refusal if the document is out of step or isn't open. The result is never None.
 fn reply_for_outcome(
     alloc: Global,
     id: &Id,

@@ -62,7 +62,8 @@ pub enum Walk {
     Asking,
     /// Each question is asked, but a row may have no answer if an allocation fails.
     Refused,
-    /// Each row is a renaming, which is made through the analysis.
+    /// Each row is a renaming, which is made by a function that takes the analysis
+    /// (`rename_edits`).
     RenamingInAnalysis,
 }
 
@@ -146,8 +147,8 @@ fn has_expected_answer(alloc: Global, row: &QuestionCase, walk: Walk) -> bool {
     }
 }
 
-/// Returns the text and the expected answer of the first row with another answer. Two empty texts
-/// mean that there is no such row.
+/// Returns the text and the expected answer of the first row whose answer isn't the expected one.
+/// Returns two empty texts if there is no such row.
 pub fn first_wrong(
     alloc: Global,
     rows: &'static [QuestionCase],
@@ -166,8 +167,8 @@ pub fn at(line: u64, character: u64) -> Position {
     Position { line, character }
 }
 
-/// Returns the faults of an analysed text, one after another. The string is empty if the text has
-/// no faults.
+/// Returns the faults of an analysed text, one after another, in words (`push_fault`). The string
+/// is empty if the text has no faults.
 pub fn faults_of(alloc: Global, analysis: &Analysis) -> Result<String, AllocError> {
     let faults = analysis.diagnoses(alloc)?;
     reported_faults(alloc, faults.as_slice())

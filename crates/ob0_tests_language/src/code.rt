@@ -1,5 +1,5 @@
-//! Tests the nodes that statements are lowered to. No contract distinguishes a fused node from the nodes that it
-//! replaces: without the fusion the program would only be slower.
+//! Tests the nodes that statements are lowered to. No contract distinguishes a fused node from the
+//! nodes that it replaces. Without the fusion, programs would only be slower.
 
 use crate::asking::TestQuestion::Code;
 use crate::asking::{QuestionCase, Walk, first_wrong, rows};
@@ -9,9 +9,10 @@ use ob0_types::WellTyped;
 use std::alloc::{AllocError, Global};
 use std::process::Abort;
 
-/// Appends the names of nodes of a module's body. Each statement has its own node. A stored number
-/// or truth value also has its outermost node. An `If` or a `While` also has the outermost node of
-/// its condition, and the nodes of the statements directly in it.
+/// Appends the names of nodes in the lowered body of a module, each after a blank. These are the
+/// node of each statement, and the outermost node of a value that is stored by a `StoreNumber`,
+/// `StoreVariable` or `StoreTruth`. An `If` or a `While` is followed by the outermost node of its
+/// condition, and the nodes of the statements directly in it.
 pub fn push_code(
     alloc: Global,
     out: &mut String,

@@ -168,8 +168,8 @@ const COMMENTED: &str = "MODULE M; CONST c (* five *) = 5; (* on *) BEGIN Write(
 const SEVERAL: &str =
     "MODULE M; CONST a = 9; c = -5; d = c; BEGIN Write(a - c); Write(c DIV 3) END M.";
 
-/// A module that is nested as deep as it may be. If its constant is inlined, the value is written
-/// in parentheses, which nest one level deeper.
+/// A module that is nested as deep as allowed. If its constant is inlined, the value is written in
+/// parentheses, which nest one level deeper.
 const DEEP: &str = "MODULE M; CONST c = -1; VAR x: INTEGER; BEGIN x := \
     ((((((((((((((((((((((((((((((((((((((((((((((((((\
     ((((((((((((((((((((((((((((((((((((((((((((((((((c\

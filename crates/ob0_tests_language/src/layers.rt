@@ -19,8 +19,8 @@ use std::process::Abort;
 const TEXT: &str =
     "MODULE M; CONST c = 3; VAR x: INTEGER; BEGIN x := c; IF x = c THEN Write(x) END END M.";
 
-/// The ordinals of the declarations to which the occurrences of the text are bound: INTEGER, x, c,
-/// x, c, Write and x.
+/// The ordinals of the declarations to which the name occurrences in `TEXT` are bound, in text
+/// order: INTEGER, x, c, x, c, Write and x.
 static EXPECTED_ORDINALS: &[usize] = &[0, 8, 7, 8, 7, 5, 8];
 
 /// Returns whether the names of the module are bound to their declarations and no fault is

@@ -60,8 +60,9 @@ fn push_spans(out: &mut String, spans: &[Span]) -> Result<(), AllocError> {
     Ok(())
 }
 
-/// Appends the hover text at a byte offset and its range, with a remark if this isn't the range
-/// `name`. Appends nothing if there is no hover text.
+/// Appends the hover text at a byte offset, and the byte range for which it is shown. Appends a
+/// remark if this range isn't `name`, the range of the name. Appends nothing if there is no hover
+/// text.
 fn push_shown(
     alloc: Global,
     out: &mut String,
@@ -75,7 +76,8 @@ fn push_shown(
     }
 }
 
-/// Appends a hover text with its range, and a remark if this isn't the range `name`.
+/// Appends a hover text, and the byte range for which it is shown. Appends a remark if this range
+/// isn't `name`, the range of the name.
 fn push_hover(out: &mut String, shown: &Hover, name: Span) -> Result<(), AllocError> {
     if shown.span != name {
         out.push_str(", not at the name")?;

@@ -125,8 +125,8 @@ fn perform_act<T: TextStore>(
     Ok(true)
 }
 
-/// Performs the actions one after another. Returns whether each has its expected result, and the
-/// document then has the expected state.
+/// Performs the actions one after another. Returns whether each action has its expected result and
+/// leaves the document in the expected state.
 fn perform_acts<T: TextStore>(
     alloc: Global,
     documents: &mut Documents<T>,

@@ -82,8 +82,8 @@ impl Stores {
         self.whole.replace(range, new)
     }
 
-    /// Replaces the two units that begin at this line and column, in both stores. Returns whether both
-    /// stores have the same text and replaced the same bytes.
+    /// Replaces the two units that begin at this line and column by a short text, in both stores.
+    /// Returns whether both stores have the same text and replaced the same bytes.
     fn change(&mut self, line: u64, column: u64) -> Result<bool, AllocError> {
         let range = range_of((line, column), (line, column.saturating_add(2)));
         let bytes = self.lines.replace_at(range, "é-")?;

@@ -74,8 +74,9 @@ fn outcome_in_place(
     }
 }
 
-/// Returns whether `found`, the result of a scan that keeps the old tokens, has the outcome
-/// `outcome`. It is compared with `scanned`, the result of a scan from scratch.
+/// Returns whether a scan that keeps the old tokens, with the result `found`, has the outcome
+/// `outcome`. To find this out, `found` is compared with `scanned`, the result of a scan from
+/// scratch.
 fn has_outcome(
     found: &Result<Rescan, ScanRefusal>,
     scanned: &Result<Tokens, ScanRefusal>,
@@ -135,8 +136,8 @@ fn compare(
     }
 }
 
-/// Replaces `middle` by `other` in the text `front`, `middle`, `following`. Scans the text again in
-/// both ways (`rescan_both`), and returns the outcome.
+/// Replaces `middle` by `other` in the text that consists of `front`, `middle` and `following`.
+/// Scans the new text again in both ways (`rescan_both`), and returns the outcome.
 fn change(
     alloc: Global,
     front: &str,

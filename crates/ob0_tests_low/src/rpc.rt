@@ -26,7 +26,7 @@ enum MessageSubject {
 }
 
 /// A message that is sent. A name with `Note` means a notification, and `Refusal` is a refusal.
-/// Each other message is an answer whose result is this value.
+/// Each other message is an answer, and its name describes the answer's result.
 #[derive(Clone, Copy)]
 enum Message {
     Nothing,

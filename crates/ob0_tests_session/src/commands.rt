@@ -1,5 +1,5 @@
-//! Tests command lines, and commands whose writers pass written bytes on only when they are
-//! flushed.
+//! Tests how command lines are read, and that commands flush their output. The writers of these
+//! tests pass written bytes on only when they are flushed.
 
 use crate::devices::{Count, Counter, Source};
 use ob0_cli::{CommandFault, CommandLine, command};
@@ -41,8 +41,9 @@ const RENAME_WORD: CommandLine<'static> = CommandLine::Rename {
 /// A command line, the bytes of its file and the bytes of the standard input.
 type Call = (CommandLine<'static>, &'static [u8], &'static [u8]);
 
-/// Performs a call of which only `flushes` flushes succeed. Returns the status, and the number of
-/// bytes that are passed on. A command line without a file isn't performed; its status is 2.
+/// Performs a call with a writer whose first `flushes` flushes succeed, and no others. Returns the
+/// status, and the number of bytes that the writer passed on. A command line without a file isn't
+/// performed; its status is 2.
 fn outcome_of(alloc: Global, call: Call, flushes: u32) -> (u8, usize) {
     let (line, file, bytes) = call;
     let Some(_path) = line.file() else {
@@ -64,8 +65,8 @@ fn outcome_of(alloc: Global, call: Call, flushes: u32) -> (u8, usize) {
     (status, printed.passed_on)
 }
 
-/// A call, the number of flushes that succeed, the expected status, and the expected number of
-/// bytes that are passed on.
+/// Calls, each with the number of flushes that succeed, the expected status, and the expected
+/// number of bytes that the writer passes on.
 static CALLS: &[(Call, u32, (u8, usize))] = &[
     (
         (CHECK, b"", b""),
@@ -81,7 +82,7 @@ static CALLS: &[(Call, u32, (u8, usize))] = &[
 ];
 
 /// Returns the index, from 0, of the first call that doesn't have its expected outcome. Returns
-/// None if all calls have it.
+/// None if all calls have their expected outcomes.
 fn first_wrong_call(alloc: Global, calls: &[(Call, u32, (u8, usize))]) -> Option<usize> {
     for i in 0..calls.len() {
         if outcome_of(alloc, calls[i].0, calls[i].1) != calls[i].2 {
@@ -97,7 +98,8 @@ fn commands_print_what_they_flush(rt: HostRuntime) {
     assert!(rt; number.is_none(), "call {number:?}");
 }
 
-/// Returns the kind of a command line, such as `serve`.
+/// Returns the kind of a command line, such as `serve`. A run of the file `m` with the default
+/// bounds is `run m`.
 fn word_of(line: &CommandLine<'_>) -> &'static str {
     match line {
         CommandLine::Serve => "serve",

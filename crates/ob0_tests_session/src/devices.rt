@@ -1,4 +1,5 @@
-//! Defines a reader and a writer that fail after some calls.
+//! Defines devices that fail: a reader that fails after some calls, and a writer that fails after
+//! some bytes or flushes.
 
 use std::io::{self, Read, Write};
 
@@ -22,8 +23,8 @@ impl<'a> Read for Source<'a> {
     }
 }
 
-/// The counts of a writer: the bytes that were written, how many of them are passed on, the bytes that can still be
-/// written, and the flushes that still succeed.
+/// The counts of a `Counter`: the written bytes, how many of them it has passed on, how many more
+/// bytes it accepts, and how many more flushes succeed.
 #[derive(Clone, Copy)]
 pub struct Count {
     pub written: usize,
@@ -44,8 +45,8 @@ impl Count {
     }
 }
 
-/// A writer that only counts bytes. A write fails if no more bytes can be written. Written bytes
-/// are passed on only when the writer is flushed.
+/// A writer that stores nothing: it only counts the written bytes, in `count`. A write fails if no
+/// more bytes are accepted. Written bytes count as passed on once the writer is flushed.
 #[derive(Drop)]
 pub struct Counter<'a> {
     pub count: &'a mut Count,

@@ -66,8 +66,8 @@ pub struct Story {
 #[derive(Clone, Copy, PartialEq, Eq)]
 pub enum StepsResult {
     AsExpected,
-    /// The steps are as expected up to an allocation that fails. Each later step returns that the
-    /// world or the session has ended.
+    /// The steps are as expected up to an allocation that fails. Each step after that returns that
+    /// the world or the session has ended.
     Refused,
     Ended,
     Unexpected,

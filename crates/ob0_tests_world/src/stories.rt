@@ -16,7 +16,7 @@ const LAID_OUT: &str =
     "MODULE M;\nVAR\n  n: INTEGER;\n  PROCEDURE P;\n  BEGIN\n    Write(n)\n  END P;\n\
     BEGIN\n  Read(n);\n  WHILE n > 0 DO\n    n := n - 1;\n    WriteLn\n  END;\n  P\nEND M.\n";
 
-/// A module with comments in which nothing is formatted.
+/// An unformatted module with comments.
 const CROWDED: &str =
     "MODULE M;VAR x:INTEGER;BEGIN x:=-1;IF x<0 THEN Write(x)(* a (* b *) c *)END;WriteLn END M.(* end *)";
 
@@ -77,7 +77,8 @@ const REOPENED: &[(Act, ShortReport)] = moments![
     Apply(1) => Nothing
 ];
 
-/// Returns all stories. (An expression that refers to the table itself is as expensive to prove as the table is long.)
+/// Returns all stories. (Proofs of a function that mentions a table take longer the longer the
+/// table is. So only this function mentions `STORIES`.)
 pub fn stories() -> &'static [Story] {
     STORIES
 }

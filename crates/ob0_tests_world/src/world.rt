@@ -22,7 +22,7 @@ enum Manner {
 #[derive(Clone, Copy)]
 struct Outcome(StepsResult, u64, usize, usize);
 
-/// The outcome of a story that doesn't run as expected: its numbers say nothing.
+/// The outcome of a story that doesn't run as expected. Its numbers have no meaning.
 const UNEXPECTED_OUTCOME: Outcome = Outcome(StepsResult::Unexpected, 0, 0, 0);
 
 /// Returns whether the edits found are the first of the expected edits, in order.
@@ -164,7 +164,8 @@ fn a_refused_event_ends_a_world(rt: HostRuntime) {
     assert!(rt; name.is_empty(), "{name}");
 }
 
-/// Runs the first story, and returns the outcome. Returns `UNEXPECTED_OUTCOME` if there is no story.
+/// Runs the first story and returns its outcome. If there is no story, returns
+/// `UNEXPECTED_OUTCOME`.
 fn run_first(alloc: Global, manner: Manner) -> Outcome {
     match stories().first() {
         Some(story) => run_story(alloc, story, manner),

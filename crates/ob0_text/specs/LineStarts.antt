@@ -1,13 +1,14 @@
 -- Defines the byte offsets at which the lines of a text start. A line starts after an LF, and after
 -- a CR that no LF follows. So the two bytes next to an offset decide whether a line starts there.
 -- The text's start counts as an offset after an LF. So the whole text's starts are `starts_after 0
--- (LF ∷ bytes) []` (`StartLaws.table`), which is proved character by character
--- (`following_ends`). If a run of bytes has two parts, the starts in the first part come first,
--- then the starts in the second part (`following-append`). Whether a line starts at the end of a
--- run depends on the first byte after the run, and on no later byte (`following-next`). The starts
--- shift with the run's offset (`following-moved`). So a change keeps the starts in front of it,
--- tests its own bytes and one byte on either side, and shifts the starts behind it
--- (`table-mended`). A CR and an LF that a change joins or separates need no separate case.
+-- (LF ∷ bytes) []` (`table`), which is proved character by character (`following_ends`). If a run
+-- of bytes has two parts, the starts in the first part come first, then the starts in the second
+-- part (`following-append`). Whether a line starts at the end of a run depends on the first byte
+-- after the run, and on no later byte (`following-next`). The starts shift with the run's offset
+-- (`following-moved`). So the code for a change keeps the starts in front of the change, tests the
+-- inserted bytes and one byte on either side, and shifts the starts behind the change
+-- (`table-mended`). A CR and an LF that a change joins or separates need no separate case. The
+-- names in parentheses are declared in `StartLaws`.
 -- Rule: docs/PROTOCOL.md, Positions 2 (by bytes, for the table of lines).
 use Rattle.std.specs.Prelude.{◌≡◌, ℕ, suc, ◌+◌, ◌-◌, ◌<◌, ◌≤◌, if◌then◌else◌, List, [], ◌∷◌, ◌++◌, length, map, reverse, slice_index, refl}
 use Rattle.std.specs.Str.{chars}
@@ -46,9 +47,9 @@ AreAllBelow bound ns = (k : ℕ) → k < length ns → slice_index ns k < bound
 abbrev pub AreAllAtLeast : ℕ → List ℕ → Type 0
 AreAllAtLeast bound ns = (k : ℕ) → k < length ns → bound ≤ slice_index ns k
 
--- States that the first part has the length `count`, however the list is split into starts below
--- the offset and starts at or above the offset. So in an ascending list, `count` is the number of
--- starts below the offset.
+-- States that in an ascending list of starts, `count` is the number of starts below `offset`. More
+-- precisely: if `starts` is a list of numbers below `offset` followed by a list of numbers at or
+-- above `offset`, the first of these lists has `count` numbers.
 abbrev pub IsCountBefore : List ℕ → ℕ → ℕ → Type 0
 IsCountBefore starts offset count =
     (front back : List ℕ) → starts ≡ front ++ back → AreAllBelow offset front → AreAllAtLeast offset back
@@ -65,9 +66,9 @@ coded_text_in_unit =
     code_by (List ℕ × Unit) (coded× (coded_list coded_ℕ) coded_position_unit) (λ t. (t.text, t.unit))
     (λ p. record { text = p.0; unit = p.1 }) (λ t. refl)
 
--- Returns the line starts that two lists store. `front` has the starts of the first lines. `back`
--- has the other starts, the last line first, each as its distance from the end of the text. `len`
--- is the length of the text in bytes.
+-- Returns the line starts that the two lists of a line table store. `front` has the starts of the
+-- first lines. `back` has the other starts, the last line first, each as its distance from the end
+-- of the text. `len` is the length of the text in bytes.
 abbrev pub stored_starts : ℕ → List ℕ → List ℕ → List ℕ
 stored_starts len front back = front ++ map (λ d. len - d) (reverse back)
 

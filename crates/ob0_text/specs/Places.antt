@@ -1,10 +1,10 @@
 -- Defines the invariants of passes over a text: what a pass at a place knows about the rest of the
--- text. `CanCountPositions` says that the position of each later offset can be counted from the place.
--- `CanFindOffsets` says that the offset of the sought position, and of each later position, can be found
--- in the rest. For each kind of step a lemma shows that the step preserves the invariant
--- (`PositionSteps`, `PlaceSteps`). So stopping and resuming a pass needs no separate case. A pass
--- towards a position knows nothing about positions between CR and LF, so `CanFindOffsets` covers only
--- positions at or after the sought one.
+-- text. `CanCountPositions` says that the position of each later offset can be counted from the
+-- place. `CanFindOffsets` says that the offset of the sought position, and of each later position,
+-- can be found in the rest. For each kind of step a lemma shows that the step preserves the
+-- invariant (`PositionSteps`, `PlaceSteps`). So stopping and resuming a pass needs no separate
+-- case. A pass towards a position doesn't count the characters of earlier lines, so
+-- `CanFindOffsets` covers only positions at or after the sought one.
 -- Rule: none; for private contracts of passes over a text.
 use Rattle.std.specs.Prelude.{◌≡◌, ℕ, ◌+◌, ◌-◌, ◌<◌, ◌≤◌, ◌⊎◌, if◌then◌else◌, ◌==◌, List, ◌++◌, length, drop}
 use Rattle.std.specs.Str.{IsUtf8, chars}

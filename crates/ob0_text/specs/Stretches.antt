@@ -1,4 +1,4 @@
--- Defines pieces of a line: consecutive characters other than LF and CR, which are counted
+-- Defines pieces of a line: consecutive characters other than LF and CR, whose units are counted
 -- together.
 -- Rule: none; for private contracts of passes over a text.
 use Rattle.std.specs.Prelude.{◌≡◌, ℕ, ◌+◌, ◌-◌, ◌<◌, ◌≤◌, false, ◌||◌, ◌==◌, if◌then◌else◌, nat_lt, nat_le, List, length, take, drop, sum_by}

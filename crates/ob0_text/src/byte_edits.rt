@@ -42,7 +42,8 @@ struct ByteEdit<'e> {
 }
 
 /// Returns the store's text with all edits applied. The range of each edit refers to the text
-/// before all edits. If two ranges share a character, the fault is `Overlap`.
+/// before all edits. If two ranges share a character, the fault is `Overlap`. If an allocation
+/// fails, the fault is `Memory`.
 pub fn patch<T: TextStore>(alloc: Global, store: &T, edits: &[Edit]) -> Result<String, PatchFault>
     ensures ok { IfOk result (λ text. patched (width_of (T.unit_of store.now)) (T.content store.now)
         edits.now
@@ -67,6 +68,7 @@ pub fn patch<T: TextStore>(alloc: Global, store: &T, edits: &[Edit]) -> Result<S
 }
 
 /// Returns the edits with byte offsets instead of positions, in text order: by start, then by end.
+/// Edits with the same start and end keep the order of the list.
 fn sorted_cuts<'e, T: TextStore>(
     alloc: Global,
     store: &T,

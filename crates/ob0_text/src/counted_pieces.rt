@@ -18,15 +18,17 @@ ghost use Rattle.ob0_text.specs.Stretches.{IsPieceOfLine, IsStretch};
 use crate::position_types::Unit;
 use crate::stretches::{STRETCH_BYTES, Stretch, next_stretch, units_of};
 
-/// Consecutive characters of a line whose units have been counted. The characters begin at the byte
-/// offset `start`. `end_and_units` has the byte offset of their end and the number of their units.
+/// Consecutive characters of a line whose units (`Unit`) have been counted. The characters begin at
+/// the byte offset `start`. `end_and_units` has the byte offset of their end and the number of
+/// their units.
 #[derive(Clone, Copy, Drop)]
 pub struct CountedPiece {
     pub start: usize,
     pub end_and_units: Stretch,
 }
 
-/// Returns an empty piece at the text's start. It is a piece of a line of every text.
+/// Returns an empty piece at the text's start, for use when nothing has been counted. It is a
+/// correct counted piece of every text.
 pub fn empty_counted_piece() -> CountedPiece
     ensures { (width : ℕ → ℕ) (text : List ℕ)
         → IsPieceOfLine width text result.start result.end_and_units }
@@ -39,8 +41,9 @@ pub fn empty_counted_piece() -> CountedPiece
 
 impl CountedPiece {
     /// Returns this piece if it ends at or before the byte offset `offset`, otherwise an empty
-    /// piece. If this piece is a piece of a line of some text, the result is a piece of a line of
-    /// every text with the same first `offset` bytes.
+    /// piece. So the result stays correct when the text behind `offset` changes: if this piece is a
+    /// piece of a line of some text, the result is a piece of a line of every text with the same
+    /// first `offset` bytes.
     pub fn kept_if_before(self, offset: usize) -> CountedPiece
         ensures { (width : ℕ → ℕ) (text rest : List ℕ)
             → IsPieceOfLine width text self.start self.end_and_units
@@ -74,9 +77,9 @@ pub fn count_up_to(text: &str, unit: Unit, start: usize, last: CountedPiece, uni
     extend_to(text, unit, start, nothing, units)
 }
 
-/// Returns the piece `from` without its last characters, so that at most `units` units are left. A
-/// piece with at most `units` units is returned unchanged. The characters are removed from the end
-/// in steps of at most 64 bytes.
+/// Returns the piece `from`, which begins at the byte offset `start`, without its last characters,
+/// so that at most `units` units are left. A piece with at most `units` units is returned
+/// unchanged. The characters are removed from the end in steps of at most 64 bytes.
 fn shorten_to(text: &str, unit: Unit, start: usize, from: Stretch, units: u64) -> Stretch
     requires start { start ≤ length text.now }
     requires is { IsPieceOfLine (width_of unit) text.now start from }
@@ -96,8 +99,8 @@ fn shorten_to(text: &str, unit: Unit, start: usize, from: Stretch, units: u64) -
     kept
 }
 
-/// Returns the piece without its last characters, at most 64 bytes of them. Returns None if nothing
-/// would be left.
+/// Returns `piece`, which begins at the byte offset `start`, without its last characters. At most
+/// 64 bytes are removed. Returns None if nothing would be left.
 fn without_last_bytes(text: &str, unit: Unit, start: usize, piece: Stretch) -> Option<Stretch>
     requires { IsPieceOfLine (width_of unit) text.now start piece }
     ensures is { IfSome result (IsPieceOfLine (width_of unit) text.now start) }
@@ -122,8 +125,8 @@ fn without_last_bytes(text: &str, unit: Unit, start: usize, piece: Stretch) -> O
     })
 }
 
-/// Returns the piece `from` extended by the stretches after it, as long as the result has at most
-/// `units` units.
+/// Returns the piece `from`, which begins at the byte offset `start`, extended by the stretches
+/// after it. It is extended as long as the result has at most `units` units.
 fn extend_to(text: &str, unit: Unit, start: usize, from: Stretch, units: u64) -> Stretch
     requires few { from.units ≤ units }
     requires is { IsPieceOfLine (width_of unit) text.now start from }
@@ -140,8 +143,8 @@ fn extend_to(text: &str, unit: Unit, start: usize, from: Stretch, units: u64) ->
     counted
 }
 
-/// Returns the stretch after a piece. Returns None if both together might have more than `units`
-/// units, or if `next_stretch` returns None.
+/// Returns the stretch that begins at the end of `piece`. Returns None if both together might have
+/// more than `units` units, or if `next_stretch` returns None.
 fn stretch_after(text: &str, unit: Unit, piece: Stretch, units: u64) -> Option<Stretch>
     ensures is { IfSome result (IsStretch (width_of unit) text.now piece.end) }
     ensures fits { IfSome result (λ s. piece.units + (s.end - piece.end) ≤ units) }

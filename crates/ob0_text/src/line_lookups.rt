@@ -46,8 +46,8 @@ pub fn offset_in(text: &str, table: &LineTable, unit: Unit, position: Position) 
     place_of_position(text, table, unit, position).offset
 }
 
-/// The byte offsets at which a range starts and ends, and a counted piece of a line. The next
-/// search can begin at the end of this piece.
+/// The byte offsets at which a range starts and ends, and a counted piece of the line in which it
+/// starts. The search for the next change's range can begin at the end of this piece.
 #[derive(Clone, Copy, Drop)]
 pub struct RangeOffsets {
     pub start: usize,
@@ -57,7 +57,7 @@ pub struct RangeOffsets {
 
 /// Returns the byte offsets of a range's start and end. The search for the start begins with
 /// `last`, the piece of a line that was counted last. If the range's end is in the same line as its
-/// start and not before it, the search for the end begins at the range's start.
+/// start and not before the start, the search for the end begins at the range's start.
 pub fn range_offsets(
     text: &str,
     table: &LineTable,
@@ -276,8 +276,8 @@ pub fn line_in<'a>(text: &'a str, table: &LineTable, k: usize) -> Option<&'a str
     Some(&text[table.at(k)..end])
 }
 
-/// Returns the byte offset at which line `k`, counted from 0, ends with its ending. The result is
-/// the start of the next line, or the text's length `len` if line `k` is the last one.
+/// Returns the byte offset of the end of line `k`, counted from 0, its ending included. The result
+/// is the start of the next line, or the text's length `len` if line `k` is the last one.
 fn line_end_offset(table: &LineTable, len: usize, k: usize) -> usize
     requires { k < length table.now.starts }
     ensures next { k + 1 < length table.now.starts → result ≡ slice_index table.now.starts (k + 1) }

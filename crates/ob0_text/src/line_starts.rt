@@ -16,9 +16,10 @@ pub fn line_starts_of(alloc: Global, text: &str) -> Result<Vec<usize>, AllocErro
     Ok(starts)
 }
 
-/// Returns the byte offsets at which lines start in the text in which `new` has replaced the bytes
-/// `from..to`. The result has only offsets from the start of `new` to its end, both included. These
-/// starts also depend on the byte before `from` and on the bytes behind `to`.
+/// Returns the line starts that a change adds. The change replaces the bytes `from..to` of `text`
+/// by `new`. The result has the byte offsets in the changed text at which a line starts, from the
+/// start of `new` to its end, both included. These starts also depend on the byte before `from` and
+/// on the bytes from `to` on, which are unchanged.
 pub fn line_starts_in_change(
     alloc: Global,
     text: &str,

@@ -24,9 +24,9 @@ use crate::stores::TextStore;
 use std::alloc::{AllocError, Global};
 use std::marker::Model;
 
-/// A text with the table of its lines. A look-up counts the characters of one line only. If a
-/// change is in the line of the previous change, the search for it passes only over the text
-/// between the two changes.
+/// A text with the table of its lines. A look-up counts only the characters of one line. If a
+/// change starts in the same line as the previous change, the search for its start passes only over
+/// the text between the two changes.
 #[derive(Drop)]
 pub struct Lines {
     text: String,

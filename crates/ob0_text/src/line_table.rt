@@ -1,13 +1,13 @@
 //! Keeps the table of a text's lines, in two parts.
 //!
-//! The starts up to the end of the last change are kept as byte offsets. The starts behind that
-//! place are kept as distances in bytes from the text's end, last line first. So a change doesn't
-//! alter the stored distances of the lines behind it (`with_the_end` in `LineTables`). A change
-//! takes time for the starts that it adds or removes, and for the starts between its place and the
-//! previous change's place. `move_starts_to_back` and `move_starts_to_front` move the starts
-//! between these two places from one part to the other. Their contracts say that the list of all
-//! starts is unchanged. If changes alternate between two distant places, each change moves all
-//! starts between these places.
+//! The table lists where each line starts. The starts up to the end of the last change are kept as
+//! byte offsets. The starts behind that place are kept as distances in bytes from the text's end,
+//! last line first. So a change doesn't alter the stored distances of the lines behind it (proved
+//! as `with_the_end` in `LineTables`). A change takes time for the starts that it adds or removes,
+//! and for the starts between its place and the previous change's place. `move_starts_to_back` and
+//! `move_starts_to_front` move the starts between these two places from one part to the other.
+//! Their contracts say that the list of all starts is unchanged. If changes alternate between two
+//! distant places, each change moves all starts between these places.
 //!
 //! `replace_untrimmed` allocates all memory first: for the new starts, for both parts of the table,
 //! then for the text. After that no allocation can fail, as the contracts of `reserve` and
@@ -26,8 +26,9 @@ use std::marker::Model;
 
 /// The byte offsets at which a text's lines start, in text order. `front` has the starts up to the
 /// end of the last change, as byte offsets. `back` has the starts behind that place, last line
-/// first, as distances in bytes from the text's end. So a change moves only the starts between its
-/// place and the previous change's place. `len` is the text's length in bytes.
+/// first, as distances in bytes from the text's end. So a change only moves the starts between its
+/// place and the previous change's place from one list to the other. `len` is the text's length in
+/// bytes.
 #[derive(Drop)]
 pub struct LineTable {
     front: Vec<usize>,
@@ -165,9 +166,9 @@ impl LineTable {
     }
 }
 
-/// Moves starts from the end of the front part to the back part until at most `count` starts are
-/// left in the front part. The two parts together have the same starts as before, even if an
-/// allocation fails.
+/// Moves line starts from the end of `front` to `back`, until at most `count` starts are left in
+/// `front`. The two lists together have the same line starts as before, even if an allocation
+/// fails. `len` is the text's length in bytes.
 fn move_starts_to_back(
     front: &mut Vec<usize>,
     back: &mut Vec<usize>,
@@ -190,9 +191,9 @@ fn move_starts_to_back(
     Ok(())
 }
 
-/// Moves starts from the back part to the end of the front part until the front part has at least
-/// `count` starts or the back part is empty. The two parts together have the same starts as before,
-/// even if an allocation fails.
+/// Moves line starts from `back` to the end of `front`, until `front` has at least `count` starts
+/// or `back` is empty. The two lists together have the same line starts as before, even if an
+/// allocation fails. `len` is the text's length in bytes.
 fn move_starts_to_front(
     front: &mut Vec<usize>,
     back: &mut Vec<usize>,

@@ -2,12 +2,13 @@
 //!
 //! There are two kinds of passes: to a byte offset (`advance_to_offset`) and to a position
 //! (`advance_to_position`). Both first advance by stretches of a line: runs of up to 64 bytes
-//! (`stretches.rt`). Then the pass to an offset advances over ASCII bytes, even across lines
-//! (`skip_ascii`), because the places of edits are close together. This pass decodes only CR and
-//! characters outside ASCII. The pass to a position decodes each remaining character. If the pass
-//! began in the position's line, fewer than 64 characters remain. The pass to an offset preserves
-//! the invariant `CanCountFrom`, and the pass to a position preserves `CanSeekFrom`. `StretchSteps`
-//! proves that a step over a whole stretch preserves both, because a step over one character does.
+//! (`stretches.rt`). Then the pass to an offset advances over ASCII bytes (`skip_ascii`). It
+//! continues even across lines, because the next offset is usually only a few lines further on.
+//! This pass decodes only CR and characters outside ASCII. The pass to a position decodes each
+//! remaining character. If the pass began in the position's line, fewer than 64 characters remain
+//! to be decoded. The pass to an offset preserves the invariant `CanCountFrom`, and the pass to a
+//! position preserves `CanSeekFrom`. `StretchSteps` proves that a step over a whole stretch
+//! preserves both, because a step over one character does.
 
 ghost use Rattle.std.specs.Prelude.{◌≡◌, ◌↔◌, ◌==◌, ◌||◌, ◌+◌, ◌-◌, ◌<◌, ◌≤◌, IfOk, IfSome, IsTrue, None, map};
 ghost use Rattle.std.specs.Str.{IsCharBoundary, chars};
@@ -37,7 +38,7 @@ pub const START: PlaceInText = PlaceInText {
 };
 
 /// Returns the position of each byte offset, in the order of the list. If the offsets ascend, a
-/// single pass finds all of them.
+/// single pass over the text finds all positions.
 pub fn positions_of(
     alloc: Global,
     text: &str,
@@ -60,7 +61,7 @@ pub fn positions_of(
 }
 
 /// Returns the byte offset of each position, in the order of the list. If the positions ascend, a
-/// single pass finds all of them.
+/// single pass over the text finds all offsets.
 pub fn offsets_of(
     alloc: Global,
     text: &str,
@@ -141,9 +142,9 @@ fn width(c: char, unit: Unit) -> u64
     }
 }
 
-/// Advances from the place `from` to a byte offset, and returns the place there. If the offset is
-/// inside a character, the result is the place before that character. If the offset is after the
-/// text's end, the result is the text's end.
+/// Advances from the place `from` to a byte offset, and returns the place there. `from` must be at
+/// or before the offset. If the offset is inside a character, the result is the place before that
+/// character. If the offset is after the text's end, the result is the text's end.
 pub fn advance_to_offset(text: &str, unit: Unit, from: PlaceInText, offset: usize) -> PlaceInText
     requires place { CanCountFrom (width_of unit) text.now from }
     requires following { from.offset ≤ offset }
@@ -160,8 +161,8 @@ pub fn advance_to_offset(text: &str, unit: Unit, from: PlaceInText, offset: usiz
     place
 }
 
-/// Advances from the place `from` by whole stretches of its line, but not beyond the byte offset
-/// `offset`. Returns the place reached.
+/// Advances from the place `from` by whole stretches (`Stretch`) of its line, but not beyond the
+/// byte offset `offset`. Returns the place reached.
 fn skip_stretches_to(text: &str, unit: Unit, from: PlaceInText, offset: usize) -> PlaceInText
     requires place { CanCountFrom (width_of unit) text.now from }
     requires following { from.offset ≤ offset }
@@ -298,8 +299,9 @@ pub fn advance_to_position(
     }
 }
 
-/// Advances from the place `from` by whole stretches of the position's line, but not beyond the
-/// position. Returns the place reached. If `from` is in another line, the result is `from`.
+/// Advances from the place `from` by whole stretches (`Stretch`) of the position's line, but not
+/// beyond the position. Returns the place reached. If `from` is in another line, the result is
+/// `from`.
 fn skip_stretches(text: &str, unit: Unit, from: PlaceInText, position: Position) -> PlaceInText
     requires place { CanSeekFrom (width_of unit) text.now position from }
     ensures place { CanSeekFrom (width_of unit) text.now position result }
@@ -315,8 +317,8 @@ fn skip_stretches(text: &str, unit: Unit, from: PlaceInText, position: Position)
     place
 }
 
-/// Returns the stretch that begins at a place. Returns None if the place isn't in the position's
-/// line, if the stretch might end after the position, or if `next_stretch` returns None.
+/// Returns the stretch that begins at `place`. Returns None if `place` isn't in the line of
+/// `position`, if the stretch might end after `position`, or if `next_stretch` returns None.
 fn next_stretch_before(
     text: &str,
     unit: Unit,

@@ -2,12 +2,13 @@
 //!
 //! The changes in one notification are merged into one range of bytes that contains every change.
 //! The bytes in front of this range and behind it are unchanged (`CoversAllChanges`,
-//! `IsChangedAt`). `ReplacesRange` of `ob0_scan` requires this. `replace_at` of a store returns the
-//! bytes of one change, and `merged_with` joins the bytes of two changes. `merged_with` compares
-//! the two ranges in the text between the two changes: the bytes behind both ranges are unchanged.
-//! A change of the whole text replaces all bytes. The contract allows a range with more bytes than
-//! necessary. A smaller range only saves time. If the text before the changes wasn't known, the
-//! result is None, because no part of that text is known to be unchanged.
+//! `IsChangedAt`). `rescan` of `ob0_scan` requires this (`ReplacesRange`). `replace_at` of a store
+//! returns the bytes that one change replaces. `merged_with` joins the ranges of two changes. It
+//! compares them in the text between the two changes, in which the first range has the bytes that
+//! were added and the second range has the bytes that are removed. The bytes behind both ranges are
+//! unchanged. A change of the whole text replaces all bytes. `CoversAllChanges` allows a range with
+//! more bytes than necessary, because a smaller range only saves time. If the text before the
+//! changes wasn't known, the result is None, because no part of that text is known to be unchanged.
 
 ghost use Rattle.std.specs.Prelude.{◌≡◌, ℕ, List, Option, is_some};
 ghost use Rattle.ob0_text.specs.ChangedBytes.{CoversAllChanges, IsChangedAt};

@@ -31,7 +31,8 @@ pub(crate) fn trim_text(text: &mut String)
     }
 }
 
-/// Returns whether a quarter of a capacity is more than the used part and `MAX_SPARE` together.
+/// Returns whether so little of a capacity is used that memory should be released: a quarter of the
+/// capacity is more than the used part and `MAX_SPARE` together.
 fn is_sparse(capacity: usize, used: usize) -> bool {
     capacity / 4 > used.saturating_add(MAX_SPARE)
 }

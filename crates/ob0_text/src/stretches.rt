@@ -26,9 +26,9 @@ pub struct Stretch {
 /// The greatest number of bytes in a stretch.
 pub(crate) const STRETCH_BYTES: usize = 64;
 
-/// Returns the stretch of up to 64 bytes that begins at the byte offset `from`. The stretch has at
-/// most `room` bytes. Returns None if fewer than 64 bytes follow, if `room` is less than 64, or if
-/// one of the bytes is LF or CR.
+/// Returns the stretch that begins at the byte offset `from`: as many whole characters as 64 bytes
+/// can hold. Returns None if fewer than 64 bytes follow `from`, if `room` is less than 64, or if
+/// the stretch would contain LF or CR. So a stretch never has more than `room` bytes.
 pub fn next_stretch(text: &str, unit: Unit, from: usize, room: u64) -> Option<Stretch>
     requires { IsCharBoundary text.now from }
     ensures is { IfSome result (λ s. IsStretch (width_of unit) text.now from s) }

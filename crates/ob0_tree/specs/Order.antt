@@ -9,13 +9,13 @@ use Rattle.ob0_tree.specs.declared.tree.Role.{Role}
 use Rattle.ob0_tree.specs.declared.tree.Role.TheVariants as role
 use Rattle.ob0_tree.specs.Tree.{Sort, Tree, identifiers}
 
--- States that the numbers are strictly ascending, at least `low` and less than `high`. Also states
--- that `low` is at most `high`.
+-- States that the numbers in the list are strictly ascending, and that each is at least `low` and
+-- less than `high`. Also states that `low` is at most `high`, even if the list is empty.
 abbrev pub AreAscending : ℕ → List ℕ → ℕ → Type 0
 AreAscending low [] high = low ≤ high
 AreAscending low (x ∷ xs) high = (low ≤ x) × AreAscending (x + 1) xs high
 
--- Returns the names of these identifiers, without the roles, in the same order.
+-- Returns the names in a list of identifiers, without their roles, in the same order.
 abbrev pub names_without_roles : {N : Type 0} → List (Role × N) → List N
 names_without_roles xs = map (λ x. x.1) xs
 
@@ -23,13 +23,14 @@ names_without_roles xs = map (λ x. x.1) xs
 abbrev pub identifier_names : {N : Type 0} {s : Sort} → Tree N s → List N
 identifier_names t = names_without_roles (identifiers role.Declaring t)
 
--- Returns a list that contains only the index `i` if this is the kind of an identifier. Otherwise
--- returns the empty list.
+-- Returns a list that contains only the index `i` if the given kind is `Identifier`. For any other
+-- kind, returns the empty list.
 abbrev pub identifier_index : ℕ → TokenKind → List ℕ
 identifier_index i kind.Identifier = i ∷ []
 identifier_index i k = []
 
--- Returns the indexes of the identifiers among these tokens. The first token has the index `i`.
+-- Returns the indexes of the identifiers in a list of tokens, in order. The first token of the list
+-- has the index `i`.
 abbrev pub identifier_indexes_from : ℕ → List Token → List ℕ
 identifier_indexes_from i [] = []
 identifier_indexes_from i (t ∷ ts) = identifier_index i t.kind ++ identifier_indexes_from (i + 1) ts

@@ -1,4 +1,5 @@
--- Defines a module that was parsed from a text.
+-- Defines a parsed module: a text and the tree that the code made of it. Also states when this tree
+-- is right (`IsParsed`).
 -- Rule: none; for contracts: a module that was read from a text.
 use Rattle.std.specs.Prelude.{◌≡◌, ℕ, List, [], ◌∷◌, ◌++◌}
 use Rattle.ob0_scan.specs.TextWithTokens.{TextWithTokens}
@@ -18,7 +19,7 @@ pub record ParsedModule : Type 0 where
   pub block : Block
   pub closing : ℕ
 
--- Returns the parsed module with this text and this tree.
+-- Returns the parsed module with the text `s` and the tree `t`.
 abbrev pub parsed_module : TextWithTokens → ModuleTree → ParsedModule
 parsed_module s t = record { source = s; name = t.name; block = t.block; closing = t.closing }
 
@@ -30,8 +31,8 @@ tree_of m = is_module m.name (block_of m.block) m.closing
 abbrev pub named_tree_of : ParsedModule → Tree (List ℕ) module_text
 named_tree_of m = tree_with_names m.source (tree_of m)
 
--- States that the text is a module with this tree, and that each identifier and integer in `tree_of
--- m` is the index of its token.
+-- States that the text of `m` is a module and that `named_tree_of m` is its tree. Also states that
+-- each identifier and integer in `tree_of m` is the index of its token.
 pub record IsParsed (m : ParsedModule) : Type 0 where
   pub module_of : ModuleOf m.source (named_tree_of m)
   pub places : spell (tree_of m) ++ (EndOfText ∷ []) ≡ index_terminals m.source.tokens

@@ -9,15 +9,15 @@ use Rattle.ob0_scan.specs.TextWithTokens.{TextWithTokens, text_in_span}
 use Rattle.ob0_tree.specs.Lexeme.{Terminal, Name, Number, WordOrSymbol, EndOfText}
 use Rattle.ob0_tree.specs.Tree.{Sort, Tree, mapped_tree}
 
--- Returns the token of this kind with the index `i`, as it is spelled by a tree whose leaves are
--- token indexes. An identifier has `i` as its name, and an integer has `i` as its number.
+-- Returns the token with the index `i` and the given kind, as it is spelled by a tree whose leaves
+-- are token indexes. An identifier has `i` as its name, and an integer has `i` as its number.
 abbrev pub index_terminal : ℕ → TokenKind → Terminal ℕ
 index_terminal i kind.Identifier = Name i
 index_terminal i (kind.Integer value) = Number i
 index_terminal i k = WordOrSymbol k
 
--- Returns the tokens as they are spelled by a tree whose leaves are token indexes, followed by the
--- end of the text. The first token has the index `i`.
+-- Returns the tokens of a list as they are spelled by a tree whose leaves are token indexes,
+-- followed by the end of the text. The first token of the list has the index `i`.
 abbrev pub index_terminals_from : ℕ → List Token → List (Terminal ℕ)
 index_terminals_from i [] = EndOfText ∷ []
 index_terminals_from i (t ∷ ts) = index_terminal i t.kind ∷ index_terminals_from (i + 1) ts

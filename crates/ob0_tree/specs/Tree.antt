@@ -14,7 +14,8 @@ use Rattle.ob0_tree.specs.declared.tree.Role.{Role}
 use Rattle.ob0_tree.specs.declared.tree.Role.TheVariants as role
 use Rattle.ob0_tree.specs.Lexeme.{Terminal, Name, Number, WordOrSymbol, relation_token, sign_tokens, add_operator_token, multiply_operator_token}
 
--- An item: a part of a production that may be repeated or omitted.
+-- The kinds of items. An item is a part of a grammar production that may be repeated or omitted,
+-- such as a selector or an ELSE part.
 pub data Item : Type 0 where
   selector : Item
   multiplier : Item
@@ -38,8 +39,8 @@ pub data Item : Type 0 where
   procedure : Item
   body : Item
 
--- The sort of a tree: one item, a list of items of the same kind, an optional item, or another
--- nonterminal of the grammar.
+-- The sort of a tree: one item, a list of items of the same kind, an optional item, or a
+-- nonterminal of the grammar, such as an expression or a block.
 pub data Sort : Type 0 where
   item : Item → Sort
   items : Item → Sort
@@ -58,8 +59,8 @@ pub data Sort : Type 0 where
   block : Sort
   module_text : Sort
 
--- A syntax tree of a sort, with a value of the type `N` for each identifier and a number for each
--- integer. The number is the integer's value or the index of its token.
+-- A syntax tree of the given sort. Each identifier in the tree is a value of the type `N`: its text
+-- or the index of its token. Each integer is a number: its value or the index of its token.
 pub data Tree (N : Type 0) : Sort → Type 0 where
   none : {i : Item} → Tree N (maybe i)
   one : {i : Item} → Tree N (item i) → Tree N (maybe i)
@@ -123,7 +124,7 @@ pub data Tree (N : Type 0) : Sort → Type 0 where
   forms_block : Tree N declarations → Tree N (maybe body) → Tree N block
   is_module : N → Tree N block → N → Tree N module_text
 
--- Returns a list of one token: the reserved word or symbol of this kind.
+-- Returns a list of one token: the reserved word or symbol of the kind `k`.
 abbrev pub single_token : {N : Type 0} → TokenKind → List (Terminal N)
 single_token k = WordOrSymbol k ∷ []
 
@@ -341,8 +342,8 @@ mapped_tree f g (begins s) = begins (mapped_tree f g s)
 mapped_tree f g (forms_block ds b) = forms_block (mapped_tree f g ds) (mapped_tree f g b)
 mapped_tree f g (is_module name b closing) = is_module (f name) (mapped_tree f g b) (f closing)
 
--- Returns the identifiers of a tree in text order, each with its role. The first argument matters
--- only if the tree is itself a list of names: it is the role of these names. In a larger tree, the
+-- Returns the identifiers of a tree in text order, each with its role. The role `r` is used only if
+-- the tree is itself a list of names: `r` is then the role of these names. In a larger tree, the
 -- construct around a list of names decides their role.
 abbrev pub identifiers : {N : Type 0} {s : Sort} → Role → Tree N s → List (Role × N)
 identifiers r none = []

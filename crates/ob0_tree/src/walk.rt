@@ -1,11 +1,12 @@
 //! Visits the identifiers of a module in text order, with any `Visitor`.
 //!
 //! Each `Visitor` defines a ghost function `seen`, which returns the visitor's state after one
-//! identifier. A walk leads to the state that results from applying `seen` to each identifier of
-//! the tree, in text order. In proofs, the invariants of the recursive functions take the generic
-//! parameters `g` first, and `g.V.Visitor.seen` is the visitor's `seen`. A visitor with a `Vec`
-//! needs a model (`Model`), because an equation of two `Vec` values would also compare their
-//! capacities.
+//! identifier. A walk over a part of the tree leaves the visitor in the state that results from
+//! applying `seen` to each identifier of that part, in text order. In proofs, the invariants of the
+//! recursive functions take the generic parameters `g` first, and `g.V.Visitor.seen` is the
+//! visitor's `seen`. A visitor that contains a `Vec` needs a model (`Model`). Without one, an
+//! equation between two states of the visitor would also compare the capacities of their `Vec`
+//! values.
 
 #![tactic(auto, using(std::proofs::lemmas::Grind::common_steps, crate::proofs::Visits::visited_append))]
 
@@ -24,21 +25,22 @@ use crate::tree::{
 };
 use std::alloc::AllocError;
 
-/// A state that a walk changes at each identifier of a part of a module. The walk visits the
-/// identifiers in text order.
+/// A state that a walk over a module, or over a part of one, updates at each identifier. The walk
+/// visits the identifiers in text order.
 pub trait Visitor {
     /// Returns the state after the visit of an identifier. The arguments are the identifier's role,
     /// the index of its token and the state before the visit.
     ghost seen: { Role → ℕ → Self → Self };
 
-    /// Visits an identifier, given its role and the index of its token. On success, the state
-    /// afterwards is the one that `seen` returns.
+    /// Updates the state for one identifier, given its role and the index of its token. On success,
+    /// the updated state is the one that `seen` returns.
     fn see_identifier(&mut self, role: Role, token: usize) -> Result<(), AllocError>
         ensures { OnOk result (self.new ≡ seen role token self.old) };
 }
 
 impl<'t> Module<'t> {
-    /// Visits every identifier of the module, in text order.
+    /// Visits every identifier of the module, in text order. If a visit fails, stops and returns
+    /// its error.
     pub fn visit<V: Visitor>(&self, visitor: &mut V) -> Result<(), AllocError>
         ensures { OnOk result (visitor.new ≡ state_after_visit V.seen (tree_of self.now) visitor.old) }
     {
@@ -221,7 +223,7 @@ fn walk_elsifs<V: Visitor>(visitor: &mut V, parts: &Vec<Elsif>) -> Result<(), Al
     Ok(())
 }
 
-/// Visits a list of names in text order, each with the role `role`.
+/// Visits each name of the list `ns`, in text order, with the role `role`.
 fn walk_names<V: Visitor>(visitor: &mut V, role: Role, ns: &Names) -> Result<(), AllocError>
     ensures { OnOk result (visitor.new ≡ state_after_identifiers V.seen (identifiers role (names_of ns.now)) visitor.old) }
 {

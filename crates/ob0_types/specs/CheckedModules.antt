@@ -19,8 +19,8 @@ pub record CheckedModule : Type 0 where
   pub faults : List Fault
   pub known : Option Tables
 
--- States that the faults are the module's first 100 faults, in order, and that there are none exactly if the module is
--- well-typed. If there is a table, it has the module's declarations. If there are no faults, there is a table.
+-- States that `c.faults` has the module's first 100 faults, in order, and is empty exactly if the module is well-typed.
+-- If there is a table, it has the module's declarations. If there are no faults, there is a table.
 pub record IsChecked (c : CheckedModule) : Type 0 where
   pub resolved : IsResolution c.names
   pub reported : (c.faults ≡ []) ↔ WellTyped (named_tree_of c.names.module_read)
@@ -29,28 +29,30 @@ pub record IsChecked (c : CheckedModule) : Type 0 where
   pub few : length c.faults ≤ max_faults
   pub first : AreFirstFaults c.names c.faults
 
--- states that this module and these faults, together with some table of declarations or None, are a checked module
+-- states that the module `names` and the faults `faults`, with some table of declarations or None, form a checked
+-- module (`IsChecked`)
 abbrev pub AreCheckedFaults : Resolution → List Fault → Type 0
 AreCheckedFaults names faults =
     (known : Option Tables) × IsChecked (record { names = names; faults = faults; known = known })
 
--- joins a module to the result of checking its types
+-- returns the checked module that consists of a module and the result of checking it
 abbrev pub checked_module : Resolution → ModuleTypes → CheckedModule
 checked_module names types = record { names = names; faults = types.faults.items; known = types.known }
 
 -- States that `types` is the result of checking a module. If the module has no fault, the lists of fields have the
--- module's fields. Each body with a fault of types is listed among the faulty bodies.
+-- module's fields. Each body with a fault of types is listed in `types.bodies_with_faults`.
 pub record AreTypesOf (names : Resolution) (types : ModuleTypes) : Type 0 where
   pub checked : IsChecked (checked_module names types)
   pub fields : types.faults.items ≡ [] → AreFieldListsOf names types.fields
   pub bodies_with_faults : AllPass (is_among types.bodies_with_faults.items) (faulty_bodies names)
 
--- States that the table is None or has the module's declarations, and that it isn't None if the module is well-typed.
+-- States that the table `known` has the module's declarations or is None. If the module is well-typed, the table isn't
+-- None.
 pub record IsTableIfTyped (names : Resolution) (known : Option Tables) : Type 0 where
   pub holds : IfSome known (HasDeclarations (named_tree_of names.module_read))
   pub kept : WellTyped (named_tree_of names.module_read) → is_some known ≡ true
 
--- states that these are the module's fields if the module is well-typed
+-- states that the lists `fields` have the module's fields if the module is well-typed
 abbrev pub AreFieldsIfTyped : Resolution → FieldLists → Type 0
 AreFieldsIfTyped names fields =
     WellTyped (named_tree_of names.module_read) → AreFieldListsOf names fields
@@ -60,7 +62,8 @@ pub record IsWellTyped (names : Resolution) : Type 0 where
   pub resolved : IsResolution names
   pub well_typed : WellTyped (named_tree_of names.module_read)
 
--- states that the module is well-typed, and that these are its declarations and its fields
+-- states that the module is well-typed, that the table `known` has its declarations, and that the lists `fields` have
+-- its fields
 pub record AreTableAndFieldsOf (names : Resolution) (known : Tables) (fields : FieldLists) : Type 0 where
   pub well_typed : IsWellTyped names
   pub declarations : HasDeclarations (named_tree_of names.module_read) known

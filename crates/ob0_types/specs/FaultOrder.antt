@@ -43,7 +43,7 @@ place_cmp x y = ordering_then (nat_cmp x.span.start y.span.start) (nat_cmp x.spa
 abbrev pub fault_cmp : Fault → Fault → Ordering
 fault_cmp x y = ordering_then (place_cmp x y) (nat_cmp (code_number x.code) (code_number y.code))
 
--- states that `faults` has the first 100 of the faults `found`, after these are sorted by `fault_cmp`
+-- states that `faults` has the first 100 faults of the list `found` once this list is sorted by `fault_cmp`
 pub record AreFirstOf (found faults : List Fault) : Type 0 where
   pub all : List Fault
   pub joined : IsPermutation found all
@@ -56,6 +56,6 @@ pub record AreFirstOf (found faults : List Fault) : Type 0 where
 abbrev pub faults_in : Resolution → List Fault
 faults_in r = module_faults r ++ filter is_declaration_fault r.faults
 
--- states that these are the first 100 faults of the module, in the order of `fault_cmp`
+-- states that the list `faults` has the first 100 faults of the module, in the order of `fault_cmp`
 abbrev pub AreFirstFaults : Resolution → List Fault → Type 0
 AreFirstFaults r faults = AreFirstOf (faults_in r) faults

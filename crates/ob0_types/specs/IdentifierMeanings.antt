@@ -18,8 +18,8 @@ resolved_name n = record { token = n.token; means = Name n.ordinal }
 abbrev pub resolved_field : FieldName → ResolvedIdentifier
 resolved_field x = record { token = x.token; means = Field x.owner }
 
--- returns the name's identifier with its meaning if there is a name, otherwise the field's identifier with its meaning;
--- None if there is neither
+-- returns the identifier of the name, with its meaning, if a name was found, otherwise the identifier of the field,
+-- with its meaning; None if neither was found
 abbrev pub meaning_of_name_or_field : Option named.Named → Option FieldName → Option ResolvedIdentifier
 meaning_of_name_or_field (Some n) f = Some (resolved_name n)
 meaning_of_name_or_field None f = option_map resolved_field f

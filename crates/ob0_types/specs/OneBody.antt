@@ -32,8 +32,8 @@ abbrev mutual
       body_at_path_in_procedures low own ps statements
 
   -- Returns the body of the first procedure whose closing name isn't before `low`, or of a procedure inside it. If
-  -- there is no such procedure, returns the body of the surrounding block, with the closing name `own` and these
-  -- statements.
+  -- there is no such procedure, returns the body of the surrounding block: the closing name `own` and the statements
+  -- `statements`.
   pub body_at_path_in_procedures : ℕ → ℕ → Tree ℕ (items procedure) → Tree ℕ (maybe body) → OneBody
   body_at_path_in_procedures low own end statements = record { closing = own; statements = statements }
   body_at_path_in_procedures low own (more p ps) statements =

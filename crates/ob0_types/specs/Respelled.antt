@@ -12,16 +12,16 @@ use Rattle.ob0_scope_table.specs.declared.resolved.Bindings.{Bindings}
 use Rattle.ob0_types.specs.CheckedModules.{AreTypesOf}
 use Rattle.ob0_types.specs.declared.checked.ModuleTypes.{ModuleTypes}
 
--- states that `moved` equals `types`, except that the faults are moved from the text `old` to the same tokens of the
--- text `new`
+-- states that `moved` equals `types`, except that each fault is moved from its tokens in the text `old` to the same
+-- tokens of the text `new`
 pub record AreTypesMoved (old new : TextWithTokens) (types moved : ModuleTypes) : Type 0 where
   pub known : moved.known ≡ types.known
   pub fields : moved.fields ≡ types.fields
   pub bodies_with_faults : moved.bodies_with_faults ≡ types.bodies_with_faults
   pub faults : moved.faults.items ≡ moved_faults old new types.faults.items
 
--- States that the result of checking a text also holds for any text whose tokens have the same spellings and bindings.
--- Only the faults are moved to the same tokens of the other text.
+-- States that the result of checking a text also holds for another text whose tokens have the same spellings and
+-- bindings, except that each fault moves to the same token of the other text.
 abbrev pub TypesDependOnTokens : Type 0
 TypesDependOnTokens =
     (old new : TextWithTokens) (tree : ModuleTree) (b c : Bindings) (types moved : ModuleTypes)

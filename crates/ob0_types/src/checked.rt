@@ -34,9 +34,9 @@ use std::alloc::{AllocError, Global};
 use std::borrow::Cow;
 use std::marker::Model;
 
-/// The greatest number of faulty bodies in the previous text for which only these bodies and the
-/// changed body are checked again. If there are more, all bodies are checked, because searching a
-/// longer list for each body would cost as much.
+/// The limit on faulty bodies in the previous text. Up to this number, only the faulty bodies and
+/// the changed body are checked again. If there are more, all bodies are checked, because searching
+/// a longer list for each body would cost as much as checking all bodies.
 const MAX_FAULTY_BODIES: usize = 32;
 
 /// The result of checking a module. If the module is well-typed, `known` has the table of its
@@ -51,7 +51,7 @@ pub struct ModuleTypes {
     pub bodies_with_faults: Vec<usize>,
 }
 
-/// A module with the result of checking it, for example its faults.
+/// A module with its bindings and the result of checking it, for example its faults.
 #[derive(Drop)]
 pub struct Checked<'t> {
     resolved: &'t Resolved<'t>,
@@ -132,7 +132,7 @@ pub fn types_of<'t>(alloc: Global, resolved: &'t Resolved<'t>) -> Result<ModuleT
 /// Returns the result of checking a module after tokens of one body changed. No token with an index
 /// less than `low` has changed. `before` is the result before the change. The other bodies are
 /// checked again only if they had faults, or if more than 32 bodies had faults. If the module was
-/// valid before, only that body is searched for fields again.
+/// valid before, only the changed body is searched for fields again.
 pub fn types_after_body_change<'t>(
     alloc: Global,
     resolved: &'t Resolved<'t>,
@@ -155,9 +155,10 @@ pub fn types_after_body_change<'t>(
 }
 
 /// Returns the result of checking a module after the statements of one body were replaced, perhaps
-/// by a different number of tokens. If the module was valid before, only its declarations and that
-/// body are checked again, and if possible only that body is searched for fields. Otherwise the
-/// whole module is checked again.
+/// by a different number of tokens. `before` is the result before the replacement, and `same` gives
+/// the tokens that are the same before and after it. If the module was valid before, only its
+/// declarations and the new body are checked again, and if possible only the new body is searched
+/// for fields. Otherwise the whole module is checked again.
 pub fn types_with_new_body<'t>(
     alloc: Global,
     resolved: &'t Resolved<'t>,
@@ -193,7 +194,7 @@ fn types_from_new_body<'t>(
 }
 
 /// Returns the result of checking a module, given the module's report. If the module is well-typed,
-/// `fields` must have its fields, otherwise it may be any list.
+/// `fields` must have the module's fields. Otherwise `fields` may have any lists.
 fn types_from_report<'t>(
     resolved: &'t Resolved<'t>,
     report: Report,
@@ -243,8 +244,8 @@ fn fields_from_table<'t>(
 }
 
 /// Returns the lists of a module's fields after tokens of only one body changed. If the module was
-/// well-typed before, only that body is searched for fields again. If the module isn't well-typed
-/// after the change, the result may be any lists.
+/// well-typed before, only the changed body is searched for fields again. If the module isn't
+/// well-typed after the change, the result may be any lists.
 fn fields_after_body_change<'t>(
     alloc: Global,
     resolved: &'t Resolved<'t>,
@@ -308,7 +309,8 @@ fn fields_with_new_body<'t>(
 }
 
 /// Returns the first 100 faults of scopes and types, sorted by start, end and code. `of_types` has
-/// the faults of types and the undeclared names. The other faults of scopes are added.
+/// the faults of types and the undeclared names. The other faults of scopes, which are duplicate
+/// declarations and wrong closing names, are added.
 fn first_faults<'t>(
     resolved: &'t Resolved<'t>,
     of_types: Vec<Fault>,
@@ -478,9 +480,9 @@ impl<'t> WellTyped<'t> {
         }
     }
 
-    /// Returns the type of the declaration with this ordinal. The declaration is a type, a
-    /// variable, a parameter or a constant. Returns None for a procedure, and for a number that
-    /// isn't the ordinal of a declaration.
+    /// Returns the type of the declaration with this ordinal if it is a type, a variable, a
+    /// parameter or a constant. Returns None for a procedure, and for a number that isn't the
+    /// ordinal of a declaration.
     pub fn shape(&self, declaration: usize) -> Option<Shape<'t>>
         ensures { option_map shape_of result
             ≡ type_of_object (declared_object (named_tree_of self.now.module_read) declaration) }

@@ -1,5 +1,5 @@
-//! Finds fields in a well-typed module: the field at a place of the text, the identifiers of a
-//! field, and its declaration.
+//! Finds fields in a well-typed module: the field at a place of the text, all identifiers of a
+//! field, and the identifier that declares a field.
 
 ghost use Rattle.std.specs.Prelude.{◌≡◌, IfOk, IfSome, length};
 ghost use Rattle.ob0_tree.specs.Order.{AreIdentifierTokens, AreAscending, IsIdentifierToken};

@@ -19,7 +19,7 @@ use Rattle.ob0_types_check.specs.Known.{Facts, Form, KnownFormal, Meaning, Types
 use Rattle.ob0_types_check.specs.KnownDeclarations.{CompositeType, PartTypes, KnownField, of_elements, of_fields}
 
 -- States that the form of a type has the same parts as a shape. The function `shape` returns the shape of a type, or
--- None if the type is unknown. A scalar's form agrees with every shape, and the unknown form with none.
+-- None if the type is unknown. A scalar's form agrees with every shape. The unknown form agrees with no shape.
 abbrev pub FormAgrees : {T : Type 0} → (T → Option Shape) → Form T → Shape → Type 0
 FormAgrees shape a_scalar s = Unit {0}
 FormAgrees shape (an_array t) s =
@@ -32,7 +32,7 @@ FormAgrees shape (a_record fields) s =
 FormAgrees shape unknown_form s = ⊥
 
 -- States that types agree with their shapes. Equal types have the same shape, and the form of a type has the parts of
--- the type's shape.
+-- the type's shape. The unknown type has no shape.
 pub record TypesAgree {T : Type 0} (types : Types T) (shape : T → Option Shape) : Type 0 where
   pub integer : shape types.integer ≡ Some integer_shape
   pub boolean : shape types.boolean ≡ Some boolean_shape
@@ -147,8 +147,8 @@ as_record boolean_shape = None
 as_record (array_shape k n s) = None
 as_record (record_shape k fs) = Some (record_shape k fs)
 
--- Returns the shape of a type. The list has the shapes of the array and record types found so far, in order. Returns
--- None for the unknown type, and if the list has no such array or record type.
+-- Returns the shape of a type. `shapes` has the shapes of the array and record types found so far, in order. Returns
+-- None for the unknown type, and if `shapes` has no array or record at the type's index.
 abbrev pub shape_in : List Shape → TypeId → Option Shape
 shape_in shapes type.Integer = Some integer_shape
 shape_in shapes type.Boolean = Some boolean_shape

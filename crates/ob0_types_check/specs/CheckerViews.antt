@@ -34,7 +34,8 @@ entry_element_type None = type.Unknown
 entry_element_type (Some (made.Array a)) = a.element
 entry_element_type (Some (made.Record r)) = type.Unknown
 
--- returns the type of the first field with this name in a record; None if the entry is no record or has no such field
+-- returns the type of the first field with this name in an entry that is a record; None if the record has no such
+-- field, for any other entry, and for None
 abbrev pub entry_field_type : Option TypeEntry → Name → Option TypeId
 entry_field_type None x = None
 entry_field_type (Some (made.Array a)) x = None
@@ -70,14 +71,14 @@ meaning_view (declared.Constant v) = a_constant (option_map scalar_value v)
 meaning_view (declared.Variable t) = a_variable t
 meaning_view (declared.Procedure fs) = a_procedure (map formal_of fs.items)
 
--- returns the meaning of the name at a token; None if it is unbound or its declaration isn't known yet
+-- returns the meaning of the name at a token; None if the name is unbound or its declaration isn't known yet
 abbrev pub meaning_in_state : CheckerState → ℕ → Option meaning.Meaning
 meaning_in_state s token =
     option_and_then (λ k. slice_index_or s.meanings.items k None)
     (ordinal_in s.resolved.now.ordinals token)
 
--- returns the facts at a place according to the state of the code; if the Bool is true, names may
--- only refer to constants
+-- returns the facts at a place, given the state of the code's walk at this place; if the Bool is true, names may only
+-- refer to constants
 abbrev pub facts_in : CheckerState → Bool → Facts TypeId
 facts_in s only_constants = record {
   source = s.resolved.now.module_read.source;
@@ -138,15 +139,15 @@ heading_in s formals = record { formals = map formal_of formals; following = dec
 abbrev pub capped_size : Size → Size
 capped_size z = record { scalars = min z.scalars (2 ^ 64 - 1); depth = min z.depth (2 ^ 64 - 1) }
 
--- States that the code's `now` has the fields of `g` and their size, capped at 2^64 - 1. The code's state `s` is the
--- state after these fields.
+-- States that `now`, a value of the code, has the fields of `g` and their total size, capped at 2^64 - 1. `g` also has
+-- the state of the walk after these fields. The code's `s` is this state.
 pub record HasKnownFields (g : KnownFields) (s : CheckerState) (now : gathering.KnownFields) : Type 0 where
   pub fields : fields_in now.fields.items ≡ g.fields
   pub size : size_of now.size ≡ capped_size g.size
   pub following : declarations_in_state s ≡ g.following
 
--- States that the code has found the fields of `t` (`gathered`). The list `after` is the list `before` followed by the
--- faults of `t`.
+-- States that the code has found the fields of the result `t` and reported its faults. `gathered` has these fields. The
+-- list of faults was `before`, and `after` is this list followed by the faults of `t`.
 pub record AddsKnownFields
     (before after : List Fault) (s : CheckerState) (gathered : gathering.KnownFields)
     (t : Reported KnownFields) : Type 0 where

@@ -67,7 +67,7 @@ reported_variables p (more g rest) = do
   q ← reported_variable_group p g
   reported_variables q rest
 
--- the parameters of a heading found so far, and the state after them
+-- the parameters found so far in a procedure's heading, and the state after these parameters
 pub record KnownHeading : Type 0 where
   pub formals : List (KnownFormal TypeId)
   pub following : KnownDeclarations
@@ -136,15 +136,15 @@ unfoldable mutual
     with_procedures ← reported_procedures with_variables ps
     reported_body with_procedures statements
 
-  -- returns the faults of procedures, one after another, with the state after them; each procedure
-  -- can use the earlier ones and itself
+  -- returns the faults of procedures, one after another, with the state after them; each procedure can call itself and
+  -- the procedures before it
   pub reported_procedures : KnownDeclarations → Tree ℕ (items procedure) → Reported KnownDeclarations
   reported_procedures p end = without_fault p
   reported_procedures p (more d rest) = do
     q ← reported_procedure p d
     reported_procedures q rest
 
-  -- returns the faults of a procedure's parameters and then of its block, with the state after it
+  -- returns the faults of a procedure's parameters and then of its block, with the state after the procedure
   pub reported_procedure : KnownDeclarations → Tree ℕ (item procedure) → Reported KnownDeclarations
   reported_procedure p (declares_procedure x fs b closing) = do
     h ← reported_sections (record { formals = []; following = p }) (formal_sections fs)

@@ -14,8 +14,7 @@ Unless true A = Unit {0}
 Unless false A = A
 
 -- States that each token of a tree has the property `P`, except in the statements of some blocks. These are the blocks
--- whose closing names pass the test `left_out`. In `BlockHasExceptInBodies`, the ℕ is the token of the block's own
--- closing name.
+-- whose closing names pass the test `left_out`. `own` is the token of a block's closing name.
 abbrev mutual
   -- states that each token of a block has the property `P`, except in statements of blocks whose closing names pass
   -- `left_out`

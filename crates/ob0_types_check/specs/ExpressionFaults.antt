@@ -16,7 +16,8 @@ unfoldable mutual
     y ← reported_simple facts b
     relate_operands facts r x y
 
-  -- returns the faults of a simple expression, in the order first term, sign, other terms, and the resulting operand
+  -- returns the faults of a simple expression, and the resulting operand; the faults of the first term come before the
+  -- fault of the sign, and then the faults of the other terms follow
   pub reported_simple : {T : Type 0} → Facts T → Tree ℕ simple → Reported (Operand T)
   reported_simple facts (sum s t rest) = do
     x ← reported_term facts t

@@ -68,8 +68,8 @@ abbrev pub type_of_first_field : List KnownField → Name → Option TypeId
 type_of_first_field [] x = None
 type_of_first_field (f ∷ fields) x = if same_name x f.name then Some f.of else type_of_first_field fields x
 
--- returns the type of a field in a record's parts; None if the record has no such field, and for
--- the parts of an array
+-- returns the type of the first field with the name `x`, given the parts of a record; None if the record has no such
+-- field, and for the parts of an array
 abbrev pub field_type_of_parts : PartTypes → Name → Option TypeId
 field_type_of_parts (of_elements n t) x = None
 field_type_of_parts (of_fields fields) x = type_of_first_field fields x
@@ -99,12 +99,13 @@ types_so_far made =
       form = form_at made;
     }
 
--- returns the meaning of the name at a token; None if it is unbound or its declaration isn't known yet
+-- returns the meaning of the name at a token; None if the name is unbound or its declaration isn't known yet
 abbrev pub meaning_at : KnownDeclarations → ℕ → Option (Meaning TypeId)
 meaning_at p token =
     option_and_then (λ k. slice_index_or p.declared k None) (ordinal_in p.ordinals token)
 
--- returns the facts at a place; if the Bool is true, names may only refer to constants there
+-- returns the facts at a place, given the state at this place; if the Bool is true, names may only refer to constants
+-- there
 abbrev pub facts_at : KnownDeclarations → Bool → Facts TypeId
 facts_at p only_constants =
     record {
@@ -114,8 +115,8 @@ facts_at p only_constants =
       only_constants = only_constants;
     }
 
--- returns the state in which the declaration with this ordinal has this meaning; for None, returns
--- the state unchanged
+-- returns the state `p` with the meaning of the declaration with this ordinal set to `m`; for None, returns the state
+-- unchanged
 abbrev pub with_meaning : KnownDeclarations → Meaning TypeId → Option ℕ → KnownDeclarations
 with_meaning p m None = p
 with_meaning p m (Some k) =
@@ -126,11 +127,12 @@ with_meaning p m (Some k) =
       made = p.made;
     }
 
--- returns the state in which the declaration at a token has this meaning; unchanged if the token has no ordinal
+-- returns the state `p` with the meaning of the name declared at a token set to `m`; if the token has no ordinal,
+-- returns the state unchanged
 abbrev pub define : KnownDeclarations → Meaning TypeId → ℕ → KnownDeclarations
 define p m token = with_meaning p m (ordinal_in p.ordinals token)
 
--- returns the state in which the declarations at these tokens all have this meaning
+-- returns the state `p` with the meaning of each name declared at one of these tokens set to `m`
 abbrev pub define_all : KnownDeclarations → Meaning TypeId → List ℕ → KnownDeclarations
 define_all p m [] = p
 define_all p m (x ∷ xs) = define_all (define p m x) m xs
@@ -148,7 +150,7 @@ abbrev pub composite_size : Option CompositeType → Size
 composite_size None = scalar_size
 composite_size (Some m) = m.size
 
--- returns the size of a type; an unknown type has no scalars
+-- returns the size of a type, given the array and record types found so far; the unknown type has no scalars
 abbrev pub size_at : List CompositeType → TypeId → Size
 size_at made type.Integer = scalar_size
 size_at made type.Boolean = scalar_size
@@ -160,7 +162,7 @@ size_at made type.Unknown = empty_size
 abbrev pub is_within_limits : Size → Bool
 is_within_limits z = nat_le z.scalars max_scalars && nat_le z.depth max_depth
 
--- a type, and the state after its text
+-- a type that is written in the text (`of`), and the state at the end of its text (`following`)
 pub record TypeWithState : Type 0 where
   pub of : TypeId
   pub following : KnownDeclarations
@@ -184,7 +186,8 @@ append_composite p ordinal parts size = record {
       };
 }
 
--- reports `TypeTooLarge` at the word ARRAY or RECORD, and returns an unknown type
+-- reports `TypeTooLarge` at `word`, the token ARRAY or RECORD of a type; returns the unknown type, with the state
+-- unchanged
 abbrev pub type_too_large : KnownDeclarations → ℕ → Reported TypeWithState
 type_too_large p word =
     record {

@@ -26,9 +26,10 @@ ModulesWithoutFaultPassTypeCheck =
     → module_faults r ≡ []
     → passes_type_check naming_by_spelling (named_tree_of r.module_read) ≡ true
 
--- States that the state after a module agrees with the module's declarations. The arrays and records of the state agree
--- with `shapes`. The meaning at each ordinal agrees with the object of the declaration with this ordinal. The ordinals
--- below 7 belong to the predeclared names. No other declaration is a standard procedure.
+-- States that the state `p`, at the end of a walk over the module `m`, agrees with the declarations of `m`. Each array
+-- or record type in `p` agrees with the shape at the same index of `shapes`. The meaning that `p` has for an ordinal
+-- agrees with the object that this ordinal has in `m`. The ordinals below 7 belong to the predeclared names. No other
+-- declaration is a standard procedure.
 pub record KnowsDeclarations (p : KnownDeclarations) (m : Tree Name module_text) : Type 0 where
   pub shapes : List Shape
   pub table : TableAgrees p.made shapes
@@ -42,8 +43,8 @@ pub record KnowsDeclarations (p : KnownDeclarations) (m : Tree Name module_text)
 abbrev pub HasDeclarations : Tree Name module_text → Tables → Type 0
 HasDeclarations m t = (k : ℕ) → declared_object_in t k ≡ declared_object m k
 
--- States that the state after a module has the meaning of each declaration if no fault of types and no undeclared name
--- is reported.
+-- States that if no fault of types and no undeclared name is reported for a module, the walk over the module has found
+-- the meaning of each declaration (`KnowsDeclarations`).
 abbrev pub WalkWithoutFaultFindsMeanings : Type 0
 WalkWithoutFaultFindsMeanings =
     (r : Resolution)

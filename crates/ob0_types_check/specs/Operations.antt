@@ -21,7 +21,7 @@ use Rattle.ob0_language_values.specs.Values.{Value, elements, members, negate, n
 use Rattle.ob0_language_values.specs.Values.{apply_sign as with_sign}
 use Rattle.ob0_types_check.specs.Known.{Facts, Form, Meaning, Operand, Reported, Types, a_constant, a_procedure, a_record, a_scalar, a_type, a_variable, an_array, unknown_form}
 
--- returns a result with its faults, preceded by the faults `before`
+-- returns the result `t` with the faults `before` put before its own faults
 abbrev pub with_earlier_faults : {A : Type 0} → List Fault → Reported A → Reported A
 with_earlier_faults before t = record { known = t.known; faults = before ++ t.faults }
 
@@ -49,7 +49,7 @@ token_before token = token - 1
 abbrev pub token_after : TextWithTokens → ℕ → ℕ
 token_after source token = if nat_lt token (length source.tokens) then token + 1 else token
 
--- returns a fault whose span extends from the start of one token to the end of another
+-- returns a fault whose span extends from the start of the token `first` to the end of the token `last`
 abbrev pub fault_between : TextWithTokens → FaultCode → ℕ → ℕ → Fault
 fault_between source c first last =
     record {
@@ -57,7 +57,7 @@ fault_between source c first last =
       span = record { start = (span_at source first).start; end = (span_at source last).end };
     }
 
--- returns a list of one fault, whose span extends from one token to another
+-- returns a list of one fault, whose span extends from the start of the token `first` to the end of the token `last`
 abbrev pub fault_at_tokens : {T : Type 0} → Facts T → FaultCode → ℕ → ℕ → List Fault
 fault_at_tokens facts c first last = fault_between facts.source c first last ∷ []
 
@@ -65,7 +65,7 @@ fault_at_tokens facts c first last = fault_between facts.source c first last ∷
 abbrev pub fault_at_token : {T : Type 0} → Facts T → FaultCode → ℕ → List Fault
 fault_at_token facts c token = fault_at_tokens facts c token token
 
--- returns a list of one fault, whose span is the whole operand
+-- returns a list of one fault, whose span is the whole expression of an operand
 abbrev pub fault_at_operand : {T : Type 0} → Facts T → FaultCode → Operand T → List Fault
 fault_at_operand facts c o = fault_at_tokens facts c o.first o.last
 
@@ -73,8 +73,8 @@ fault_at_operand facts c o = fault_at_tokens facts c o.first o.last
 abbrev pub may_be_same_type : {T : Type 0} → Types T → T → T → Bool
 may_be_same_type types s t = types.same s t || (types.same s types.unknown || types.same t types.unknown)
 
--- Requires the type `wanted` of an operand. A mismatch is reported if the operand's type is known and differs from a
--- known `wanted`. The result is `wanted` if the operand has this type, otherwise the unknown type.
+-- Requires the type `wanted` of an operand. A mismatch is reported if the operand's type and `wanted` are both known
+-- and differ. The result is `wanted` if the operand has this type, otherwise the unknown type.
 abbrev pub required_type : {T : Type 0} → Facts T → T → Operand T → Reported T
 required_type facts wanted o = record {
   known = if facts.types.same o.of wanted then wanted else facts.types.unknown;
@@ -140,7 +140,7 @@ abbrev pub prefixed_operand : {T : Type 0} → T → Option Value → Operand T 
 prefixed_operand of value o =
     record { of = of; value = value; may_be_variable = false; first = token_before o.first; last = o.last }
 
--- returns the faults of `+`, `-` and OR, and the resulting operand
+-- returns the faults of `+`, `-` or OR between two operands, and the resulting operand
 abbrev pub add_operands : {T : Type 0}
     → Facts T
     → AddOperator
@@ -151,7 +151,7 @@ add_operands facts o a b = do
   t ← required_type_of_both facts (operand_type_of_addition facts.types o) a b
   without_fault (joint_operand t (option_and_then (sum_value o b.value) a.value) a b)
 
--- returns the faults of `*`, DIV, MOD and `&`, and the resulting operand
+-- returns the faults of `*`, DIV, MOD or `&` between two operands, and the resulting operand
 abbrev pub multiply_operands : {T : Type 0}
     → Facts T
     → MultiplyOperator
@@ -162,7 +162,7 @@ multiply_operands facts o a b = do
   t ← required_type_of_both facts (operand_type_of_multiplication facts.types o) a b
   without_fault (joint_operand t (option_and_then (product_value o b.value) a.value) a b)
 
--- returns the faults of a relation, and the resulting operand
+-- returns the faults of a relation between two operands, and the resulting operand
 abbrev pub relate_operands : {T : Type 0}
     → Facts T
     → Relation
@@ -229,8 +229,9 @@ abbrev pub constant_name_operand : {T : Type 0} → Types T → Option Value →
 constant_name_operand types v token =
     record { of = value_type types v; value = v; may_be_variable = false; first = token; last = token }
 
--- Returns the operand of a name that must refer to a value, given its token and its meaning. A type or a procedure is a
--- fault. In a constant expression, a variable is also a fault. Undeclared names are reported elsewhere.
+-- Returns the operand of a name that must refer to a value, given the name's token and meaning. The name of a type or
+-- procedure is a fault. If only constants are allowed, the name of a variable is also a fault. Undeclared names are
+-- reported elsewhere. In all these cases the operand's type is unknown.
 abbrev pub operand_by_meaning : {T : Type 0} → Facts T → ℕ → Option (Meaning T) → Reported (Operand T)
 operand_by_meaning facts token None = without_fault (typed_name_operand facts.types.unknown token)
 operand_by_meaning facts token (Some (a_constant v)) = without_fault (constant_name_operand facts.types v token)
@@ -246,12 +247,12 @@ operand_by_meaning facts token (Some (a_procedure fs)) =
     record
     { known = typed_name_operand facts.types.unknown token; faults = fault_at_token facts code.WrongKind token }
 
--- returns the operand of the name at a token; the name must refer to a value
+-- returns the operand of the name at a token, with a fault if the name doesn't refer to a value
 abbrev pub name_operand : {T : Type 0} → Facts T → ℕ → Reported (Operand T)
 name_operand facts token = operand_by_meaning facts token (facts.object_for token)
 
--- returns the operand of a designator that extends the designator of `o` up to the token `last`, with the type `of` and
--- no constant value
+-- Returns the operand of a designator that extends the designator of `o` by a selector. `last` is the last token of
+-- that selector. The result has the type `of` and no value.
 abbrev pub extended_operand : {T : Type 0} → Operand T → T → ℕ → Operand T
 extended_operand o of last =
     record { of = of; value = None; may_be_variable = o.may_be_variable; first = o.first; last = last }
@@ -263,8 +264,9 @@ field_type_or_fault facts token None =
     record { known = facts.types.unknown; faults = fault_at_token facts code.NoField token }
 field_type_or_fault facts token (Some t) = without_fault t
 
--- Returns the type of the field with the name at a token, given the form of the type before the
--- `.`. If that type is known and not a record, `NotRecord` is reported at the `.`.
+-- Returns the type of the field with the name at a token, given the form of the type before the `.`. `NotRecord` is
+-- reported at the `.` if that type is known and isn't a record, and `NoField` at the name if the record has no such
+-- field. In both cases, and if the type before the `.` is unknown, the result is the unknown type.
 abbrev pub field_type_in_form : {T : Type 0} → Facts T → ℕ → Form T → Reported T
 field_type_in_form facts token (a_record fields) =
     field_type_or_fault facts token (fields (token_text_at facts.source token))
@@ -284,8 +286,8 @@ field_operand facts o token = do
   without_fault (extended_operand o t token)
 
 -- Returns the type of an element, given the index's operand `i`, the index's type `of`, and the form of the indexed
--- type. The result is the unknown type if the index isn't INTEGER. If the indexed type is known and not an array,
--- `NotArray` is reported at the `[`.
+-- type. The result is the unknown type if the index isn't INTEGER or the indexed type isn't an array. If the indexed
+-- type is known and isn't an array, `NotArray` is reported at the `[`.
 abbrev pub element_type_in_form : {T : Type 0} → Facts T → Operand T → T → Form T → Reported T
 element_type_in_form facts i of (an_array t) =
     without_fault (if facts.types.same of facts.types.integer then t else facts.types.unknown)

@@ -1,5 +1,5 @@
--- Laws about the reports of expressions and statements: these are well-typed if nothing is reported. `N` is the type of
--- names.
+-- Laws about the reports of expressions and statements: an expression or statement is well-typed if nothing is reported
+-- for it. `N` is the type of the names in a tree.
 -- Rule: none; laws of reported faults.
 use Rattle.std.specs.Prelude.{◌≡◌, ℕ, Bool, true, false, List, [], Option, Some, is_some}
 use Rattle.ob0_tree.specs.Places.{token_value_at}
@@ -16,14 +16,14 @@ use Rattle.ob0_types_check.specs.StatementFaults.{sequence_faults}
 use Rattle.ob0_types_check.specs.TypeFaults.{length_of, reported_constant}
 use Rattle.ob0_types_check.specs.Agreement.{FactsAgree, TableAgrees, TypesAgree, shape_in}
 
--- returns the meanings of names at a place; if the Bool is true, only constants have a meaning
+-- returns these meanings of names; if the Bool is true, only the meanings of constants are kept
 abbrev pub allowed_meanings : {N : Type 0} → Bool → TypeMeanings N → TypeMeanings N
 allowed_meanings true meaning = constant_meanings meaning
 allowed_meanings false meaning = meaning
 
--- States that an operand has the type and the value of its expression. The value is None if the expression isn't
--- constant or its evaluation fails. Otherwise the value has the operand's type. If `may_be_variable` is true, the
--- expression is a variable or parameter with its selectors.
+-- States that the operand `o` has the type and the value of the expression `e`. The value is None if the expression
+-- isn't constant or its evaluation fails. Otherwise the value is a scalar of the operand's type. If `may_be_variable`
+-- is true, the expression is a variable or parameter with its selectors.
 pub record OperandAgrees
     {T N P : Type 0} (shape : T → Option Shape) (meaning : Meanings N Shape P) (o : Operand T)
     (e : Tree N expression) : Type 0 where
@@ -35,7 +35,7 @@ pub record OperandAgrees
   pub placed : o.may_be_variable ≡ true → variable_type meaning (lone_designator e) ≡ Some of
 
 -- States that if no fault is reported for an expression, the operand found agrees with the expression. The facts known
--- at the expression must be right (`FactsAgree`).
+-- at the expression must be correct (`FactsAgree`).
 abbrev pub ExpressionsWithoutFaultAgree : Type 0 → Type 0
 ExpressionsWithoutFaultAgree N =
     (p : KnownDeclarations) (only_constants : Bool) (shapes : List Shape) (label : ℕ → N) (meaning : TypeMeanings N)
@@ -45,7 +45,8 @@ ExpressionsWithoutFaultAgree N =
     → OperandAgrees (shape_in shapes) (allowed_meanings only_constants meaning)
     (reported_expression (facts_at p only_constants) e).known (mapped_tree label (token_value_at p.source) e)
 
--- states that a constant's right side has a value, that this value is a scalar, and that it is the reported value
+-- states that the expression `e`, the right side of a constant's declaration, has a value, that this value is a scalar,
+-- and that `reported` is this value
 pub record ConstantAgrees
     {N : Type 0} (meaning : TypeMeanings N) (reported : Option Value) (e : Tree N expression)
     : Type 0 where
@@ -54,8 +55,8 @@ pub record ConstantAgrees
   pub given : constant_value meaning e ≡ Some value
   pub scalar : is_some (value_type value) ≡ true
 
--- States that the value found for a constant is the value of the constant's right side if no fault is reported there.
--- The facts known there must be right (`FactsAgree`).
+-- States that if no fault is reported for the right side of a constant's declaration, the value found is the value of
+-- the right side. The facts known at the right side must be correct (`FactsAgree`).
 abbrev pub ConstantsWithoutFaultAgree : Type 0 → Type 0
 ConstantsWithoutFaultAgree N =
     (p : KnownDeclarations) (shapes : List Shape) (label : ℕ → N) (meaning : TypeMeanings N) (e : Tree ℕ expression)
@@ -64,7 +65,8 @@ ConstantsWithoutFaultAgree N =
     → ConstantAgrees meaning (reported_constant (facts_at p true) e).known
     (mapped_tree label (token_value_at p.source) e)
 
--- states that the reported length of an array is the value of the length's expression, and is a valid length
+-- states that the value of the expression `e`, the length in an array type, is a valid length, and that `reported` is
+-- this length
 pub record LengthAgrees
     {N : Type 0} (meaning : TypeMeanings N) (reported : Option ℕ) (e : Tree N expression) : Type 0 where
   pub value : Value
@@ -73,8 +75,8 @@ pub record LengthAgrees
   pub given : constant_value meaning e ≡ Some value
   pub counted : array_length value ≡ Some length
 
--- States that the length found for an array is the value of the length's expression if no fault is reported for the
--- length. The facts known there must be right (`FactsAgree`).
+-- States that if no fault is reported for the length in an array type, the length found is the value of its expression.
+-- The facts known at that expression must be correct (`FactsAgree`).
 abbrev pub LengthsWithoutFaultAgree : Type 0 → Type 0
 LengthsWithoutFaultAgree N =
     (p : KnownDeclarations) (shapes : List Shape) (label : ℕ → N) (meaning : TypeMeanings N) (e : Tree ℕ expression)
@@ -85,7 +87,7 @@ LengthsWithoutFaultAgree N =
     (mapped_tree label (token_value_at p.source) e)
 
 -- States that statements are well-typed if no fault is reported for them. The facts known at the statements must be
--- right (`FactsAgree`).
+-- correct (`FactsAgree`).
 abbrev pub StatementsWithoutFaultAreTyped : Type 0 → Type 0
 StatementsWithoutFaultAreTyped N =
     (p : KnownDeclarations) (shapes : List Shape) (label : ℕ → N) (meaning : TypeMeanings N)

@@ -1,6 +1,6 @@
 -- The report of a module if only its declarations and certain bodies are walked, and the list of
 -- the walked bodies that have faults.
--- Rule: docs/LANGUAGE.md, Faults of scopes and types 2 to 11; what is reported where one body changed.
+-- Rule: docs/LANGUAGE.md, Faults of scopes and types 2 to 11.
 use Rattle.std.specs.Prelude.{◌≡◌, ℕ, Bool, true, false, ◌||◌, List, [], ◌∷◌, ◌++◌, MatchOption, nat_eq}
 use Rattle.std.specs.List.{list_any}
 use Rattle.ob0_scan.specs.declared.fault.Fault.{Fault}
@@ -19,19 +19,19 @@ use Rattle.ob0_types_check.specs.declared.reporting.Report.{Report}
 use Rattle.ob0_types_check.specs.declared.reporting.BodiesToWalk.{BodiesToWalk}
 use Rattle.ob0_types_check.specs.declared.reporting.checker_state.CheckerState.{CheckerState}
 
--- the state of a walk: the declarations so far, and the closing names of the bodies with a reported fault
+-- the state of a walk: the declarations found so far, and the closing names of the bodies in which a fault was reported
 pub record WalkProgress : Type 0 where
   pub so_far : KnownDeclarations
   pub bodies_with_faults : List ℕ
 
--- appends a body's closing name to the list if the body has faults
+-- appends `own`, the closing name of a body's block, to the list `bodies_with_faults` if the body's list of faults
+-- isn't empty
 abbrev pub with_faulty_body : List Fault → ℕ → List ℕ → List ℕ
 with_faulty_body [] own bodies_with_faults = bodies_with_faults
 with_faulty_body (fault ∷ faults) own bodies_with_faults = bodies_with_faults ++ own ∷ []
 
--- If the Bool is true, returns the faults of a body. If there are any, appends `own`, the closing
--- name of the body's block, to the faulty bodies. If the Bool is false, returns no fault and
--- changes nothing.
+-- If the Bool is true, returns the faults of a body. If there are any, appends `own`, the closing name of the body's
+-- block, to `bodies_with_faults`. If the Bool is false, returns no fault and changes nothing.
 abbrev pub report_body_if_wanted : Bool → ℕ → WalkProgress → Tree ℕ (maybe body) → Reported WalkProgress
 report_body_if_wanted false own w statements = without_fault w
 report_body_if_wanted true own w statements =
@@ -48,7 +48,8 @@ unfoldable mutual
   unfolding reported_constants reported_types reported_variables reported_sections reported_body
 
   -- Returns the faults of a block's declarations, and of its statements if the block's closing name `own` passes the
-  -- test `wanted`. The procedures inside the block are tested one by one.
+  -- test `wanted`. The statements of a procedure inside the block are walked only if the procedure's own closing name
+  -- passes the test.
   pub reported_block_with_bodies : (ℕ → Bool) → ℕ → WalkProgress → Tree ℕ block → Reported WalkProgress
   reported_block_with_bodies wanted own w (forms_block (declares cs ts vs ps) statements) = do
     with_constants ← reported_constants w.so_far (section_constants cs)
@@ -84,7 +85,7 @@ reported_module_with_bodies wanted r =
 abbrev pub every_body : ℕ → Bool
 every_body closing = true
 
--- returns the closing names of the bodies with a reported fault, in text order
+-- returns the closing names of a module's bodies in which a fault is reported, in text order
 abbrev pub faulty_bodies : Resolution → List ℕ
 faulty_bodies r = (reported_module_with_bodies every_body r).known.bodies_with_faults
 
@@ -101,16 +102,16 @@ AllPass test (closing ∷ others) = (test closing ≡ true) × AllPass test othe
 abbrev pub includes_body : BodiesToWalk → ℕ → Bool
 includes_body w closing = w.every_body || is_among w.these.now closing
 
--- States that an older version of the module exists whose faulty bodies are all wanted. Both versions are equal except
--- in the statements of wanted bodies.
+-- States that the module `r` has an older version (`old`), and that each faulty body of the older version passes the
+-- test `wanted`. The two versions are equal except in the statements of bodies that pass this test.
 pub record IncludesFaultyBodies (wanted : ℕ → Bool) (r : Resolution) : Type 0 where
   pub old : Resolution
   pub resolved : IsResolution old
   pub bodies_with_faults : AllPass wanted (faulty_bodies old)
   pub alike : AreEqualExceptBodies wanted old r
 
--- States that walking only the wanted bodies gives the same report as walking all bodies. The wanted bodies must
--- include every body that had a fault or changed.
+-- States that walking only the bodies that pass the test `wanted` gives the same report as walking all bodies. Every
+-- body that changed, and every body that had a fault before the change, must pass the test.
 abbrev pub SomeBodiesSuffice : Type 0
 SomeBodiesSuffice =
     (wanted : ℕ → Bool) (r : Resolution)
@@ -126,12 +127,13 @@ pub record IsReportOf (r : Resolution) (report : Report) : Type 0 where
       (λ t. (module_faults r ≡ []) × HasDeclarations (named_tree_of r.module_read) t)
   pub bodies_with_faults : report.bodies_with_faults.items ≡ faulty_bodies r
 
--- converts the state of the code's walk, with these faulty bodies, to a state of the definitions
+-- converts the state of the code's walk, with the closing names of the faulty bodies found so far, to a state of the
+-- definitions
 abbrev pub walk_progress_of : CheckerState → List ℕ → WalkProgress
 walk_progress_of s bodies_with_faults = record { so_far = declarations_in_state s; bodies_with_faults = bodies_with_faults }
 
--- states that a walk has ended with the faults of the module `r`, the state after the module, and the bodies with
--- faults
+-- States that a walk has reached the end of the module `r` and has found the module's faults (`found`) and the closing
+-- names of its faulty bodies. The code's state `s` has the module's declarations.
 pub record IsFinishedWalk
     (r : Resolution) (found : List Fault) (s : CheckerState) (bodies_with_faults : List ℕ) : Type 0 where
   pub faults : found ≡ module_faults r

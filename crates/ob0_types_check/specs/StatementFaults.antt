@@ -19,9 +19,9 @@ typed_expression_faults facts wanted e = (reported_expression facts e >>= requir
 abbrev pub condition_faults : {T : Type 0} → Facts T → Tree ℕ expression → List Fault
 condition_faults facts e = typed_expression_faults facts facts.types.boolean e
 
--- Returns the type of the name that is assigned to, given its token and its meaning. The name must
--- be a variable's or parameter's. For any other name the type is unknown, so its selectors and the
--- right side may have any type.
+-- Returns the type of the name that is assigned to, given its token and its meaning. A constant's name is reported as
+-- `NotVariable`, and a type's or procedure's name as `WrongKind`. An undeclared name is reported elsewhere. In all
+-- these cases the type is unknown, so the right side may have any type.
 abbrev pub target_type_by_meaning : {T : Type 0} → Facts T → ℕ → Option (Meaning T) → Reported T
 target_type_by_meaning facts token (Some (a_variable t)) = without_fault t
 target_type_by_meaning facts token (Some (a_constant v)) =
@@ -32,7 +32,8 @@ target_type_by_meaning facts token (Some (a_procedure fs)) =
     record { known = facts.types.unknown; faults = fault_at_token facts code.WrongKind token }
 target_type_by_meaning facts token None = without_fault facts.types.unknown
 
--- returns the type of the assigned name at a token, with a fault if the name isn't a variable's or parameter's
+-- returns the type of the name at a token that is assigned to, with a fault if the name refers to something other than
+-- a variable or parameter
 abbrev pub target_name_type : {T : Type 0} → Facts T → ℕ → Reported T
 target_name_type facts token = target_type_by_meaning facts token (facts.object_for token)
 
@@ -57,7 +58,7 @@ abbrev pub assignment_faults : {T : Type 0}
 assignment_faults facts target e = target.faults ++ typed_expression_faults facts target.known.of e
 
 -- Requires that an argument has the type of its parameter. An argument for a VAR parameter must also be a variable with
--- its selectors. Otherwise only `NotVariable` is reported, and the result is the unknown type.
+-- its selectors. If it isn't, only `NotVariable` is reported, and the result is the unknown type.
 abbrev pub required_type_of_argument : {T : Type 0} → Facts T → KnownFormal T → Operand T → Reported T
 required_type_of_argument facts f o =
     if f.by_place && not o.may_be_variable
@@ -91,8 +92,9 @@ untyped_argument_faults facts [] = []
 untyped_argument_faults facts (e ∷ es) = (reported_expression facts e).faults ++ untyped_argument_faults facts es
 
 -- Returns the faults of a call of the name at token `p`, given the name's meaning. A procedure needs as many arguments
--- as it has parameters. Otherwise only `ArgumentCount` is reported. If the name isn't a procedure's, the arguments may
--- have any type. An undeclared name is reported elsewhere.
+-- as it has parameters. If their numbers differ, only `ArgumentCount` is reported. A name that isn't a procedure's is
+-- reported as `WrongKind`. An undeclared name is reported elsewhere. In these two cases the arguments may have any
+-- type.
 abbrev pub call_faults_by_meaning : {T : Type 0}
     → Facts T
     → ℕ
@@ -138,7 +140,7 @@ unfoldable mutual
   sequence_faults facts (runs a rest) =
       statement_faults facts a ++ further_statement_faults facts rest
 
-  -- returns the faults of the statements of a sequence after the first
+  -- returns the faults of the statements that follow the first statement of a sequence
   pub further_statement_faults : {T : Type 0} → Facts T → Tree ℕ (items further_statement) → List Fault
   further_statement_faults facts end = []
   further_statement_faults facts (more (then_statement a) rest) =

@@ -25,14 +25,13 @@ type_by_meaning facts token None = without_fault facts.types.unknown
 abbrev pub type_named_at : {T : Type 0} → Facts T → ℕ → Reported T
 type_named_at facts token = type_by_meaning facts token (facts.object_for token)
 
--- returns the value of a constant expression if there is one; for None, reports `ConstFault` at the
--- operand `o`
+-- returns this value of a constant expression unchanged; for None, reports `ConstFault` at the expression's operand `o`
 abbrev pub value_or_fault : {T : Type 0} → Facts T → Operand T → Option Value → Reported (Option Value)
 value_or_fault facts o None = record { known = None; faults = fault_at_operand facts code.ConstFault o }
 value_or_fault facts o (Some v) = without_fault (Some v)
 
--- Returns the value of a constant expression, or reports `ConstFault`. If the expression's type is
--- unknown, it isn't evaluated. The result is None in both cases.
+-- Returns the value of a constant expression, given its operand. Reports `ConstFault` if the operand has no value. If
+-- the operand's type is unknown, nothing is reported. The result is None in both cases.
 abbrev pub operand_value : {T : Type 0} → Facts T → Operand T → Reported (Option Value)
 operand_value facts o =
     if facts.types.same o.of facts.types.unknown then without_fault None else value_or_fault facts o o.value
@@ -45,8 +44,8 @@ unfoldable pub reported_constant : {T : Type 0}
 unfolding reported_expression
 reported_constant facts e = reported_expression facts e >>= operand_value facts
 
--- returns the length of an array if there is one; for None, reports `ArrayLength` at the operand
--- `o`
+-- returns this length of an array unchanged; for None, reports `ArrayLength` at the operand `o` of the length's
+-- expression
 abbrev pub length_or_fault : {T : Type 0} → Facts T → Operand T → Option ℕ → Reported (Option ℕ)
 length_or_fault facts o None = record { known = None; faults = fault_at_operand facts code.ArrayLength o }
 length_or_fault facts o (Some n) = without_fault (Some n)

@@ -20,7 +20,7 @@ use Rattle.ob0_types_check.specs.StatementFaults.{sequence_faults, reported_targ
 use Rattle.ob0_types_check.specs.TypeFaults.{length_of, reported_constant}
 use Rattle.ob0_types_check.specs.Agreement.{FactsAgree, shape_in}
 
--- States that no fault is reported for an expression that has a type. The facts known at the expression must be right
+-- States that no fault is reported for an expression that has a type. The facts known at the expression must be correct
 -- (`FactsAgree`).
 abbrev pub TypedExpressionsHaveNoFault : Type 0 → Type 0
 TypedExpressionsHaveNoFault N =
@@ -31,8 +31,8 @@ TypedExpressionsHaveNoFault N =
     ≡ true
     → (reported_expression (facts_at p only_constants) e).faults ≡ []
 
--- States that no fault is reported for a constant expression that has a value. The facts known there must be right
--- (`FactsAgree`).
+-- States that no fault is reported for a constant expression that has a value. The facts known at the expression must
+-- be correct (`FactsAgree`).
 abbrev pub ValuedConstantsHaveNoFault : Type 0 → Type 0
 ValuedConstantsHaveNoFault N =
     (p : KnownDeclarations) (shapes : List Shape) (label : ℕ → N) (meaning : TypeMeanings N) (e : Tree ℕ expression)
@@ -40,7 +40,8 @@ ValuedConstantsHaveNoFault N =
     → is_some (constant_value meaning (mapped_tree label (token_value_at p.source) e)) ≡ true
     → (reported_constant (facts_at p true) e).faults ≡ []
 
--- States that no fault is reported for a valid array length. The facts known there must be right (`FactsAgree`).
+-- States that no fault is reported for a valid array length. The facts known at the length must be correct
+-- (`FactsAgree`).
 abbrev pub ValidLengthsHaveNoFault : Type 0 → Type 0
 ValidLengthsHaveNoFault N =
     (p : KnownDeclarations) (shapes : List Shape) (label : ℕ → N) (meaning : TypeMeanings N) (e : Tree ℕ expression)
@@ -51,7 +52,7 @@ ValidLengthsHaveNoFault N =
     → (reported_expression (facts_at p true) e >>= length_of (facts_at p false)).faults ≡ []
 
 -- States that no fault is reported for an assignment's target that is a variable or parameter with well-typed
--- selectors. The facts known there must be right (`FactsAgree`).
+-- selectors. The facts known at the target must be correct (`FactsAgree`).
 abbrev pub TypedTargetsHaveNoFault : Type 0 → Type 0
 TypedTargetsHaveNoFault N =
     (p : KnownDeclarations) (shapes : List Shape) (label : ℕ → N) (meaning : TypeMeanings N) (x : ℕ)
@@ -73,7 +74,7 @@ HaveDistinctOrdinals shapes =
     (i j k : ℕ) (s t : Shape) → slice_get shapes i ≡ Some s → slice_get shapes j ≡ Some t
     → ordinal_of_shape s ≡ Some k → ordinal_of_shape t ≡ Some k → i ≡ j
 
--- States that no fault is reported for well-typed statements. The facts known at the statements must be right
+-- States that no fault is reported for well-typed statements. The facts known at the statements must be correct
 -- (`FactsAgree`), and no two types may be made by the same word ARRAY or RECORD.
 abbrev pub TypedStatementsHaveNoFault : Type 0 → Type 0
 TypedStatementsHaveNoFault N =

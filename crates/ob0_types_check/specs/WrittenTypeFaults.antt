@@ -33,7 +33,7 @@ made_array_type ordinal o (Some n) element =
     make_type element.following (token_before o.first) ordinal (of_elements n element.of)
     (array_size n (size_at element.following.made element.of))
 
--- the fields of a record so far, their total size, and the state after them
+-- the fields of a record found so far, their total size, and the state after these fields
 pub record KnownFields : Type 0 where
   pub fields : List KnownField
   pub size : Size
@@ -47,8 +47,8 @@ no_known_fields p = record { fields = []; size = empty_size; following = p }
 abbrev pub sum_of_sizes : Size → Size → Size
 sum_of_sizes z w = record { scalars = z.scalars + w.scalars; depth = max z.depth w.depth }
 
--- Returns the fields so far with one more field of this type added, whose name is at the given token. The size of the
--- field's type is added to the total size.
+-- Returns the fields found so far with one more field of the type `t`, whose name is at the given token. The size of
+-- the field's type is added to the total size.
 abbrev pub with_known_field : TypeId → KnownFields → ℕ → KnownFields
 with_known_field t g token =
     record {
@@ -57,7 +57,7 @@ with_known_field t g token =
       following = g.following;
     }
 
--- Returns the fields so far with a field of this type added for each of these name tokens.
+-- Returns the fields found so far with one more field of the type `t` for each of these name tokens.
 abbrev pub with_known_fields : TypeId → KnownFields → List ℕ → KnownFields
 with_known_fields t g [] = g
 with_known_fields t g (x ∷ xs) = with_known_fields t (with_known_field t g x) xs
@@ -77,14 +77,14 @@ abbrev pub first_name : Tree ℕ names → ℕ
 first_name (listed x rest) = x
 
 -- Returns the token before a group of fields, which is RECORD or a semicolon. `following` is the token between this
--- group and the next one. `following` is used only if the group is empty.
+-- group and the next group, or 0 if no later group has a field. It is used only if this group is empty.
 abbrev pub token_before_group : Tree ℕ fields → ℕ → ℕ
 token_before_group (some_fields ns t) following = token_before (first_name ns)
 token_before_group no_fields following = token_before following
 
 -- Returns the token before these groups of fields. For all groups of a record, this token is the word RECORD. Between
--- this token and the first field's name there are only semicolons, one for each empty group. If there are no fields,
--- the result is 0. A record without fields is never too large, so nothing is reported at that token.
+-- this token and the first field's name there are only semicolons, one for each empty group before the name. If there
+-- are no fields, the result is 0. A record without fields is never too large, so nothing is reported at that token.
 abbrev pub record_keyword : Tree ℕ (items further_fields) → ℕ
 record_keyword end = 0
 record_keyword (more (then_fields g) rest) = token_before_group g (record_keyword rest)

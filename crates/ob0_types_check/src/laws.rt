@@ -8,25 +8,27 @@ ghost use Rattle.ob0_types_check.specs.WellTypedLaws.{TypedModulesHaveBoundNames
 ghost use Rattle.ob0_language_names.specs.Names.{Name};
 
 /// Proves that if no fault is reported for an expression, the type and value found for it are
-/// right. The law assumes that the facts known at the expression are right (`FactsAgree`).
+/// correct. The law assumes that the facts known at the expression are correct (`FactsAgree`).
 pub fn expressions_without_fault_agree()
     ensures { ExpressionsWithoutFaultAgree Name }
 {}
 
-/// Proves that if no fault is reported for a constant's right side, the value found is the value of
-/// that expression. The law assumes that the facts known there are right (`FactsAgree`).
+/// Proves that if no fault is reported for the right side of a constant's declaration, the value
+/// found is the value of the right side. The law assumes that the facts known at the right side are
+/// correct (`FactsAgree`).
 pub fn constants_without_fault_agree()
     ensures { ConstantsWithoutFaultAgree Name }
 {}
 
-/// Proves that if no fault is reported for an array's length, the length found is the value of the
-/// length's expression. The law assumes that the facts known there are right (`FactsAgree`).
+/// Proves that if no fault is reported for the length in an array type, the length found is the
+/// value of its expression. The law assumes that the facts known at that expression are correct
+/// (`FactsAgree`).
 pub fn lengths_without_fault_agree()
     ensures { LengthsWithoutFaultAgree Name }
 {}
 
 /// Proves that statements are well-typed if no fault is reported for them. The law assumes that the
-/// facts known at the statements are right (`FactsAgree`).
+/// facts known at the statements are correct (`FactsAgree`).
 pub fn statements_without_fault_are_typed()
     ensures { StatementsWithoutFaultAreTyped Name }
 {}
@@ -50,32 +52,32 @@ pub fn walk_without_fault_finds_meanings()
 {}
 
 /// Proves that no fault is reported for an expression that has a type. The law assumes that the
-/// facts known at the expression are right (`FactsAgree`).
+/// facts known at the expression are correct (`FactsAgree`).
 pub fn typed_expressions_have_no_fault()
     ensures { TypedExpressionsHaveNoFault Name }
 {}
 
 /// Proves that no fault is reported for a constant expression that has a value. The law assumes
-/// that the facts known at the expression are right (`FactsAgree`).
+/// that the facts known at the expression are correct (`FactsAgree`).
 pub fn valued_constants_have_no_fault()
     ensures { ValuedConstantsHaveNoFault Name }
 {}
 
 /// Proves that no fault is reported for a valid array length. The law assumes that the facts known
-/// at the length are right (`FactsAgree`).
+/// at the length are correct (`FactsAgree`).
 pub fn valid_lengths_have_no_fault()
     ensures { ValidLengthsHaveNoFault Name }
 {}
 
 /// Proves that no fault is reported for an assignment's target if the target is a variable or
 /// parameter with well-typed selectors. The law assumes that the facts known at the target are
-/// right (`FactsAgree`).
+/// correct (`FactsAgree`).
 pub fn typed_targets_have_no_fault()
     ensures { TypedTargetsHaveNoFault Name }
 {}
 
 /// Proves that no fault is reported for well-typed statements. The law assumes that the facts known
-/// at the statements are right (`FactsAgree`), and that no two types are made by the same word
+/// at the statements are correct (`FactsAgree`), and that no two types are made by the same word
 /// ARRAY or RECORD.
 pub fn typed_statements_have_no_fault()
     ensures { TypedStatementsHaveNoFault Name }
@@ -92,9 +94,9 @@ pub fn typed_modules_have_no_fault()
     ensures { TypedModulesHaveNoFault }
 {}
 
-/// Proves that walking only certain bodies gives the same report as walking all of them. The walked
-/// bodies must include every body whose tokens changed and every body that had a fault before the
-/// change.
+/// Proves that, after a change of a module's text, a walk over only some bodies gives the same
+/// report as a walk over all bodies. The walked bodies must include every body whose tokens changed
+/// and every body that had a fault before the change.
 pub fn some_bodies_suffice()
     ensures { SomeBodiesSuffice }
 {}

@@ -14,31 +14,31 @@
 //! spans. They also give the result of the production, for example the type of an expression. A
 //! `Reported` is such a result with its faults. The operator `>>=` puts the faults of one step
 //! before the faults of the next step. Statements have faults but no result. The contract of a
-//! function that returns a value has one clause, `ReturnsAndReports before after x t`. The
-//! clause states that the function returns the result `x` of `t` and appends the faults of `t` to
-//! the list `before`. An operand has a value if its expression is constant. So one walk over an
-//! expression finds its type, its value, whether it may be a variable, and its first and last
-//! token.
+//! function that returns a value has one clause, `ReturnsAndReports before after x t`. Here `t` is
+//! the `Reported` of the definitions. The clause states that the function returns the result `x` of
+//! `t` and appends the faults of `t` to the list `before`. One walk over an expression finds its
+//! operand: its type, its value if it is constant, whether it may be a variable, and its first and
+//! last token.
 //!
 //! The definitions work over any representation of types that has an unknown type (`Types`). One
 //! such representation is the code's `TypeId`, which refers to array and record types by their
-//! indexes in a list (`known_types`). Another is `Option Shape`, without a list. None represents
-//! the unknown type there.
+//! indexes in a list (`known_types`). Another is `Option Shape`, which needs no list. In this
+//! representation None is the unknown type.
 //!
 //! The faults of written types, declarations and blocks depend on a state, `KnownDeclarations`.
 //! This state has the meanings of the declarations, by ordinal, and a list of the array and record
-//! types with their parts. `declarations_in_state` converts the code's `CheckerState` to such a
-//! state, so the definitions of expressions and statements don't mention `CheckerState`.
+//! types with their parts. `declarations_in_state` converts the code's `CheckerState` to a
+//! `KnownDeclarations`. So the definitions of the faults don't mention `CheckerState`.
 //! `CheckerState` and the list of faults are separate values. The functions for expressions and
 //! statements take `&self` and the list. The functions for declarations take a `Reporter`, which
 //! has both.
 //!
-//! The trees of the definitions don't contain the tokens ARRAY and RECORD. So definitions and code
-//! find these tokens in the same way. ARRAY is the token before the array's length. Between RECORD
-//! and the name of the first field there are only semicolons, one for each empty group of fields
-//! (`record_keyword`). Every token has a next token, because `token_after` returns the end of the
-//! text unchanged. Every fault has a place, because `span_at` returns the start of the text if
-//! there is no token.
+//! The trees of the definitions don't contain the tokens ARRAY and RECORD. Definitions and code
+//! both find these tokens from their neighbors. ARRAY is the token before the array's length.
+//! Between RECORD and the name of the first field there are only semicolons, one for each empty
+//! group of fields before that name (`record_keyword`). Every token has a next token, because
+//! `token_after` returns the end of the text unchanged. Every fault has a place, because `span_at`
+//! returns the start of the text if there is no token.
 //!
 //! A body declares nothing. So if only the tokens of one body changed, the facts at every other
 //! place are unchanged. Any other body that had no faults still has none (`some_bodies_suffice`).
@@ -96,8 +96,8 @@ pub struct Report {
     pub bodies_with_faults: Vec<usize>,
 }
 
-/// The bodies to walk: all bodies, or only those in `these`. A body is given by the token index of
-/// its block's closing name.
+/// The bodies to walk: all bodies if `every_body` is true, otherwise only the bodies in the list
+/// `these`. Each body in the list is given by the token index of its block's closing name.
 #[derive(Clone, Copy)]
 struct BodiesToWalk<'b> {
     every_body: bool,
@@ -105,7 +105,7 @@ struct BodiesToWalk<'b> {
 }
 
 impl<'b> BodiesToWalk<'b> {
-    /// Returns whether the body of the block with this closing name is to be walked.
+    /// Returns whether to walk the body of the block whose closing name is the token `closing`.
     fn includes_body(&self, closing: usize) -> bool
         ensures { result ≡ includes_body self.now closing }
     {
@@ -127,9 +127,10 @@ pub fn report_faults<'t>(alloc: Global, resolved: &'t Resolved<'t>) -> Result<Re
     report_wanted_bodies(alloc, resolved, &every_body)
 }
 
-/// Returns the same report as `report_faults`, but walks only the declarations and these bodies,
-/// given by their closing names. These bodies must include every body that changed and every body
-/// that had a fault of types before the change.
+/// Returns the report of a module after a change. The report is the same as `report_faults`
+/// returns, but only the declarations and the bodies in the list `bodies` are walked. Each body in
+/// the list is given by the token of its block's closing name. The list must include every body
+/// that changed and every body that had a fault of types before the change.
 pub fn report_some_bodies<'t>(
     alloc: Global,
     resolved: &'t Resolved<'t>,
@@ -149,8 +150,8 @@ pub fn report_some_bodies<'t>(
 }
 
 /// Returns the same report as `report_faults`, but walks only the declarations and the statements
-/// of the block with this closing name. Without these statements, the module must pass the type
-/// check.
+/// of one block. `closing` is the token of this block's closing name. Without these statements, the
+/// module must pass the type check.
 pub fn report_one_body<'t>(
     alloc: Global,
     resolved: &'t Resolved<'t>,
@@ -169,8 +170,8 @@ pub fn report_one_body<'t>(
     report_wanted_bodies(alloc, resolved, &only)
 }
 
-/// Returns the report of a module, walking only the declarations and the wanted bodies. The other
-/// bodies must have no faults of types.
+/// Returns the report of a module, but walks only the declarations and the bodies that `wanted`
+/// includes. All other bodies must have no faults of types.
 fn report_wanted_bodies<'t>(
     alloc: Global,
     resolved: &'t Resolved<'t>,
@@ -239,8 +240,8 @@ impl<'t> Reporter<'t> {
         })
     }
 
-    /// Returns the report after the walk has ended. The table of declarations is made only if there
-    /// is no fault.
+    /// Returns the report of a module whose walk has ended. The report has a table of declarations
+    /// only if there is no fault.
     fn into_report(
         self,
         resolved: &'t Resolved<'t>,
@@ -274,7 +275,8 @@ impl<'t> Reporter<'t> {
     }
 }
 
-/// Returns the faults `Undeclared` from the module's faults of scopes, in the same order.
+/// Returns the faults with the code `Undeclared` among the module's faults of scopes, in the same
+/// order.
 fn undeclared_name_faults(alloc: Global, resolved: &Resolved) -> Result<Vec<Fault>, AllocError>
     ensures { IfOk result (λ faults. faults.items ≡ filter is_undeclared_fault resolved.now.faults) }
 {
@@ -287,7 +289,8 @@ fn undeclared_name_faults(alloc: Global, resolved: &Resolved) -> Result<Vec<Faul
     Ok(faults)
 }
 
-/// Appends one unknown meaning (None) for each of these declarations.
+/// Appends None, an unknown meaning, to `meanings` once for each declaration in the list
+/// `declarations`.
 fn add_unknown_meanings(
     meanings: &mut Vec<Option<Meaning>>,
     declarations: &[usize],

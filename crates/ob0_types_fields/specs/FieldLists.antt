@@ -1,5 +1,5 @@
 -- The lists of a module's field identifiers, and how these lists change when the text changes.
--- Rule: none; for contracts: fields in lists.
+-- Rule: none; for contracts about lists of fields.
 use Rattle.std.specs.Prelude.{◌≡◌, ◌==◌, ◌+◌, ◌-◌, ◌^◌, ℕ, List, [], ◌∷◌, ◌++◌, length, min, nat_le, nat_lt, set, if◌then◌else◌}
 use Rattle.std.specs.List.{filter}
 use Rattle.ob0_scan.specs.declared.tokens.SameParts.{SameParts}
@@ -18,7 +18,8 @@ pub record FieldLists : Type 0 where
   pub declared : List FieldName
   pub all : List FieldName
 
--- returns the list `all` if the list `declared` isn't empty, otherwise an empty list
+-- returns the list `all` of a module's field identifiers; returns an empty list if the list
+-- `declared` is empty, because a module that declares no field can't select one
 abbrev pub all_if_declared : List FieldName → List FieldName → List FieldName
 all_if_declared declared all = if length declared == 0 then [] else all
 
@@ -37,15 +38,15 @@ field_lists_of t r = record {
 abbrev pub AreFieldListsOf : Resolution → FieldLists → Type 0
 AreFieldListsOf r f = (f.declared ≡ declared_fields r.module_read) × (f.all ≡ field_identifiers r)
 
--- returns the first list after its items are overwritten by the items of the second list, starting
--- at index `k` of the first list; items that would lie after its end are ignored
+-- returns the list `xs` after items of another list are written over its items, from index `k` on;
+-- items that would lie after the end of `xs` are ignored
 abbrev pub overwritten_fields : List FieldName → ℕ → List FieldName → List FieldName
 overwritten_fields xs k [] = xs
 overwritten_fields xs k (y ∷ ys) = overwritten_fields (set xs k y) (k + 1) ys
 
--- States that the list `all` consists of `before`, then old fields at the same tokens as the fields
--- in `others`, and then `after`. Also states that the tokens of `all` are in strictly ascending
--- order.
+-- States that the list `all` consists of `before`, then `replaced_fields`, and then `after`. The
+-- fields in `others` are at the same tokens as `replaced_fields`, so `others` can replace them. The
+-- tokens of `all` are in strictly ascending order.
 pub record HasSameTokensWith (all before others after : List FieldName) : Type 0 where
   pub replaced_fields : List FieldName
   pub token_limit : ℕ
@@ -53,11 +54,11 @@ pub record HasSameTokensWith (all before others after : List FieldName) : Type 0
   pub is_concatenation : all ≡ before ++ (replaced_fields ++ after)
   pub same : token_indexes all ≡ token_indexes (before ++ (others ++ after))
 
--- returns the fields of a list whose tokens come before the token with index `token`
+-- returns the fields of the list `xs` whose token indexes are less than `token`
 abbrev pub fields_before : ℕ → List FieldName → List FieldName
 fields_before token xs = filter (λ x. nat_lt x.token token) xs
 
--- returns the fields of a list whose tokens are at or after the token with index `token`
+-- returns the fields of the list `xs` whose token indexes are `token` or more
 abbrev pub fields_from : ℕ → List FieldName → List FieldName
 fields_from token xs = filter (λ x. nat_le token x.token) xs
 
@@ -66,7 +67,8 @@ fields_from token xs = filter (λ x. nat_le token x.token) xs
 abbrev pub new_token_index : SameParts → ℕ → ℕ
 new_token_index s i = min (moved_token_index s i) (2 ^ 64 - 1)
 
--- returns an old field identifier with the index that its token has in the new text
+-- returns the field identifier `x` of the old text with the index that its token has in the new
+-- text; `s` specifies the unchanged tokens
 abbrev pub moved_field : SameParts → FieldName → FieldName
 moved_field s x = record { token = new_token_index s x.token; owner = x.owner }
 

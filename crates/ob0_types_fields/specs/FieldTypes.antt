@@ -26,9 +26,9 @@ first_name_listed (listed x rest) = x
 
 -- Returns the types that the words ARRAY and RECORD of a tree construct, in text order, with None
 -- for an unknown type. `m` has the meanings of names. If the tree is a written type, `t` is the
--- type that the written type denotes. If the tree is a group of fields, `t` is the type of their
--- record. Otherwise `t` isn't used. Names that are declared together have the same type, so only
--- the first name is looked up.
+-- type that the written type denotes. If the tree is one or more groups of fields, `t` is the type
+-- of their record. For any other tree, `t` isn't used. Names that are declared together have the
+-- same type, so only the first name is looked up.
 abbrev pub constructed_types : {N P : Type 0} {s : Sort}
     → Meanings N Shape P
     → Option Shape
@@ -101,8 +101,8 @@ typed_field_by_objects objects r x =
 abbrev pub typed_field : Resolution → FieldName → Option TypedField
 typed_field r x = typed_field_by_objects (declared_object (named_tree_of r.module_read)) r x
 
--- States that `typed_field` finds the field and its type for each field identifier of a well-typed
--- module.
+-- States that, for each field identifier of a well-typed module, `typed_field` returns a field and
+-- its type, and not None.
 abbrev pub FieldsHaveTypes : Type 0
 FieldsHaveTypes =
     (r : Resolution) → IsResolution r → WellTyped (named_tree_of r.module_read)

@@ -43,7 +43,8 @@ tokens_of_field source k x (found ∷ rest) =
 abbrev pub field_tokens : Resolution → ℕ → Name → List ℕ
 field_tokens r k x = tokens_of_field r.module_read.source k x (field_identifiers r)
 
--- returns the first identifier in the list that contains the byte offset `offset` or ends there; None if there is none
+-- returns the first identifier in a list of field identifiers that contains the byte offset `offset` or ends there;
+-- None if there is none
 abbrev pub field_at_offset : TextWithTokens → ℕ → List FieldName → Option FieldName
 field_at_offset source offset [] = None
 field_at_offset source offset (x ∷ xs) =
@@ -63,11 +64,11 @@ AreInTextOrder source xs = AreAscending 0 (token_indexes xs) (length source.toke
 abbrev pub field_at : Resolution → ℕ → Option FieldName
 field_at r offset = field_at_offset r.module_read.source offset (field_identifiers r)
 
--- ---- the identifiers that declare fields; `k` is the ordinal of the first ARRAY or RECORD of the visited part
+-- ---- the identifiers that declare fields; `k` is the number of words ARRAY and RECORD before the visited part
 
 abbrev mutual
-  -- returns the fields that the declarations of a block declare, in text order; `k` is the ordinal of the block's first
-  -- ARRAY or RECORD
+  -- returns the fields that the declarations of a block declare, in text order; `k` is the number of words ARRAY and
+  -- RECORD before the block
   pub fields_declared_in_block : ℕ → Tree ℕ block → List FieldName
   fields_declared_in_block k (forms_block (declares cs ts vs ps) statements) =
       fields_in_types k (section_types ts)
@@ -75,14 +76,15 @@ abbrev mutual
       (section_variables vs)
       ++ fields_declared_in_procedures (constructors_before_procedures k (forms_block (declares cs ts vs ps) statements)) ps)
 
-  -- returns the fields that procedures declare, in text order; `k` is the ordinal of their first ARRAY or RECORD
+  -- returns the fields that procedures declare, in text order; `k` is the number of words ARRAY and RECORD before the
+  -- procedures
   pub fields_declared_in_procedures : ℕ → Tree ℕ (items procedure) → List FieldName
   fields_declared_in_procedures k end = []
   fields_declared_in_procedures k (more p rest) =
       fields_declared_in_procedure k p ++ fields_declared_in_procedures (k + procedure_constructor_count p) rest
 
-  -- returns the fields that a procedure declares: its parameters' fields, then its block's fields; `k` is the ordinal
-  -- of the procedure's first ARRAY or RECORD
+  -- returns the fields that a procedure declares: its parameters' fields, then its block's fields; `k` is the number of
+  -- words ARRAY and RECORD before the procedure
   pub fields_declared_in_procedure : ℕ → Tree ℕ (item procedure) → List FieldName
   fields_declared_in_procedure k (declares_procedure x fs b closing) =
       fields_in_sections k (formal_sections fs)

@@ -21,16 +21,18 @@ use Rattle.ob0_language_values.specs.Values.{Shape, integer_shape}
 use Rattle.ob0_types_fields.specs.declared.field_name.FieldName.{FieldName}
 use Rattle.ob0_types_fields.specs.Owners.{IsOwnerTable}
 
--- returns the token indexes of the identifiers in a list, each without an owner
+-- returns the identifiers of a list without their roles: each is a pair of the identifier's token index and None,
+-- because it has no owner
 abbrev pub unowned_identifiers : List (Role × ℕ) → List (ℕ × Option ℕ)
 unowned_identifiers xs = map (λ x. (x.1, None)) xs
 
--- returns the token indexes of the identifiers in a tree that has no fields, each without an owner
+-- returns the identifiers of a tree that has no field identifiers, in text order; each is a pair of the identifier's
+-- token index and None, because it has no owner
 abbrev pub identifiers_without_owners : {s : Sort} → Tree ℕ s → List (ℕ × Option ℕ)
 identifiers_without_owners t = unowned_identifiers (identifiers role.Declaring t)
 
--- returns the type of a designator including one more selector; `s` is the type before this selector; returns None if
--- `s` is unknown (None) or has no such field or element
+-- returns the type of a designator including one more selector, given the type `s` before this selector; returns None
+-- if `s` is unknown (None) or has no such field or element; for a tree that isn't a selector, returns `s`
 abbrev pub type_after_selector : {P : Type 0} {i : Item}
     → Meanings ℕ Shape P
     → Option Shape
@@ -87,82 +89,83 @@ owners_in_tree m s (else_branch a) = owners_in_tree m None a
 owners_in_tree m s (begins a) = owners_in_tree m None a
 owners_in_tree m s t = identifiers_without_owners t
 
--- Returns the identifiers of a type or of a part of a type, with their owners. `k` is the ordinal of the first ARRAY or
--- RECORD of this part. `r` is the ordinal of the record that a group of fields belongs to.
+-- Returns the identifiers of a type or of a part of a type, with their owners. `k` is the number of words ARRAY and
+-- RECORD before this part. `r` is the ordinal of the record that a group of fields belongs to.
 abbrev mutual
-  -- returns the identifiers of a written type: its name, the identifiers in an array's length and
-  -- element type, or the identifiers in a record's groups of fields
+  -- returns the identifiers of a written type with their owners: its name, the identifiers in an array's length and
+  -- element type, or the identifiers in a record's groups of fields; `k` is the number of words ARRAY and RECORD before
+  -- the type
   pub owners_in_type : ℕ → Tree ℕ written_type → List (ℕ × Option ℕ)
   owners_in_type k (named_type x) = (x, None) ∷ []
   owners_in_type k (array_type e t) = identifiers_without_owners e ++ owners_in_type (suc k) t
   owners_in_type k (record_type g rest) =
       owners_in_group k (suc k) g ++ owners_in_groups k (suc k + group_constructor_count g) rest
 
-  -- returns the identifiers of a group of fields: the names of the fields, whose owner is `r`, and
-  -- the identifiers of their type
+  -- returns the identifiers of a group of fields with their owners: the names of the fields, whose owner is the record
+  -- with ordinal `r`, and the identifiers of their type; `k` is the number of words ARRAY and RECORD before this type
   pub owners_in_group : ℕ → ℕ → Tree ℕ fields → List (ℕ × Option ℕ)
   owners_in_group r k no_fields = []
   owners_in_group r k (some_fields ns t) = map (λ x. (x, Some r)) (names_in_list ns) ++ owners_in_type k t
 
   -- returns the identifiers in a record's groups of fields after the first group, with their owners; the record has
-  -- ordinal `r`
+  -- ordinal `r`, and `k` is the number of words ARRAY and RECORD before these groups
   pub owners_in_groups : ℕ → ℕ → Tree ℕ (items further_fields) → List (ℕ × Option ℕ)
   owners_in_groups r k end = []
   owners_in_groups r k (more (then_fields g) rest) =
       owners_in_group r k g ++ owners_in_groups r (k + group_constructor_count g) rest
 
--- returns the identifiers of type declarations with their owners; `k` is the ordinal of their first
--- ARRAY or RECORD
+-- returns the identifiers of type declarations with their owners; `k` is the number of words ARRAY and RECORD before
+-- the declarations
 abbrev pub owners_in_types : ℕ → Tree ℕ (items type_definition) → List (ℕ × Option ℕ)
 owners_in_types k end = []
 owners_in_types k (more (declares_type x u) ds) =
     (x, None) ∷ (owners_in_type k u ++ owners_in_types (k + constructor_count u) ds)
 
--- returns the identifiers of a TYPE section with their owners; `k` is the ordinal of its first
--- ARRAY or RECORD
+-- returns the identifiers of a TYPE section with their owners; `k` is the number of words ARRAY and RECORD before the
+-- section
 abbrev pub owners_in_type_section : ℕ → Tree ℕ (maybe type_definitions) → List (ℕ × Option ℕ)
 owners_in_type_section k none = []
 owners_in_type_section k (one (declares_types ts)) = owners_in_types k ts
 
--- returns the identifiers of variable declarations with their owners; `k` is the ordinal of their
--- first ARRAY or RECORD
+-- returns the identifiers of variable declarations with their owners; `k` is the number of words ARRAY and RECORD
+-- before the declarations
 abbrev pub owners_in_variables : ℕ → Tree ℕ (items variable) → List (ℕ × Option ℕ)
 owners_in_variables k end = []
 owners_in_variables k (more (declares_variable ns u) gs) =
     (identifiers_without_owners ns ++ owners_in_type k u) ++ owners_in_variables (k + constructor_count u) gs
 
--- returns the identifiers of a VAR section with their owners; `k` is the ordinal of its first ARRAY
--- or RECORD
+-- returns the identifiers of a VAR section with their owners; `k` is the number of words ARRAY and RECORD before the
+-- section
 abbrev pub owners_in_variable_section : ℕ → Tree ℕ (maybe variables) → List (ℕ × Option ℕ)
 owners_in_variable_section k none = []
 owners_in_variable_section k (one (declares_variables vs)) = owners_in_variables k vs
 
--- returns the identifiers of a section of parameters with their owners; `k` is the ordinal of its
--- first ARRAY or RECORD
+-- returns the identifiers of a section of parameters with their owners; `k` is the number of words ARRAY and RECORD
+-- before the section
 abbrev pub owners_in_section : ℕ → Tree ℕ section → List (ℕ × Option ℕ)
 owners_in_section k (value_section ns u) = identifiers_without_owners ns ++ owners_in_type k u
 owners_in_section k (variable_section ns u) = identifiers_without_owners ns ++ owners_in_type k u
 
--- returns the identifiers of the sections of parameters after the first section, with their owners; `k` is the ordinal
--- of their first ARRAY or RECORD
+-- returns the identifiers of the sections of parameters after the first section, with their owners; `k` is the number
+-- of words ARRAY and RECORD before these sections
 abbrev pub owners_in_sections : ℕ → Tree ℕ (items further_section) → List (ℕ × Option ℕ)
 owners_in_sections k end = []
 owners_in_sections k (more (then_section f) fs) =
     owners_in_section k f ++ owners_in_sections (k + constructor_count (section_type f)) fs
 
--- returns the identifiers of formal parameters with their owners; `k` is the ordinal of their first
--- ARRAY or RECORD
+-- returns the identifiers of formal parameters with their owners; `k` is the number of words ARRAY and RECORD before
+-- the parameters
 abbrev pub owners_in_formals : ℕ → Tree ℕ (maybe formals) → List (ℕ × Option ℕ)
 owners_in_formals k none = []
 owners_in_formals k (one no_formals) = []
 owners_in_formals k (one (some_formals f fs)) =
     owners_in_section k f ++ owners_in_sections (k + constructor_count (section_type f)) fs
 
--- Returns the identifiers of a block or of procedures, with their owners. `k` is the ordinal of the first ARRAY or
--- RECORD of the block or the procedures.
+-- Returns the identifiers of a block or of procedures, with their owners. `k` is the number of words ARRAY and RECORD
+-- before the block or the procedures.
 abbrev mutual
   -- returns the identifiers of a block with their owners: first the identifiers in its declarations, then the
-  -- identifiers in its statements
+  -- identifiers in its statements; `k` is the number of words ARRAY and RECORD before the block
   pub owners_in_block : {P : Type 0} → Meanings ℕ Shape P → ℕ → Tree ℕ block → List (ℕ × Option ℕ)
   owners_in_block m k (forms_block (declares cs ts vs ps) statements) =
       (identifiers_without_owners cs ++ (owners_in_type_section k ts
@@ -170,7 +173,8 @@ abbrev mutual
       ++ owners_in_procedures m (constructors_before_procedures k (forms_block (declares cs ts vs ps) statements)) ps)))
       ++ owners_in_tree m None statements
 
-  -- returns the identifiers of the procedures of a block with their owners, in text order
+  -- returns the identifiers of the procedures of a block with their owners, in text order; `k` is the number of words
+  -- ARRAY and RECORD before the procedures
   pub owners_in_procedures : {P : Type 0}
       → Meanings ℕ Shape P
       → ℕ
@@ -181,7 +185,7 @@ abbrev mutual
       owners_in_procedure m k p ++ owners_in_procedures m (k + procedure_constructor_count p) rest
 
   -- returns the identifiers of a procedure with their owners: its name, then the identifiers in its parameters and its
-  -- block, then its closing name
+  -- block, then its closing name; `k` is the number of words ARRAY and RECORD before the procedure
   pub owners_in_procedure : {P : Type 0}
       → Meanings ℕ Shape P
       → ℕ
@@ -218,14 +222,14 @@ owners_in_resolution r =
     owners_in_module (meanings_by_token (declared_object (named_tree_of r.module_read)) r)
     (tree_of r.module_read)
 
--- states that, for each token in the list, the table and the list give the same owner
+-- states that, for each token in the list, the table and the list give the same owner, or both give none
 abbrev pub AgreesWithOwnerList : (ℕ → Option ℕ) → List (ℕ × Option ℕ) → Type 0
 AgreesWithOwnerList table [] = Unit {0}
 AgreesWithOwnerList table (x ∷ xs) = (table x.0 ≡ x.1) × AgreesWithOwnerList table xs
 
--- States that a table has the owners of all fields of a well-typed module (`IsOwnerTable`) if it agrees with the list
--- `owners_in_resolution`. For each identifier in the list, the table and the list must give the same owner. This holds
--- because at each place a name means the object of its declaration.
+-- States that a table has the owners of all field identifiers of a well-typed module (`IsOwnerTable`) if it agrees with
+-- the list `owners_in_resolution`. The table agrees if it has, at the token of each identifier in the list, the same
+-- owner as the list.
 abbrev pub AgreeingTableIsOwnerTable : Type 0
 AgreeingTableIsOwnerTable =
     (r : Resolution) (owners : List (Option ℕ))
@@ -240,14 +244,14 @@ fields_with_owners [] = []
 fields_with_owners ((x, None) ∷ xs) = fields_with_owners xs
 fields_with_owners ((x, Some k) ∷ xs) = record { token = x; owner = k } ∷ fields_with_owners xs
 
--- returns the table after the owner of each of the listed field identifiers is entered at the index of the identifier's
--- token
+-- returns the table `table` after the owners of these field identifiers are entered in it, each at the index of the
+-- identifier's token
 abbrev pub table_with_owners : List (Option ℕ) → List FieldName → List (Option ℕ)
 table_with_owners table [] = table
 table_with_owners table (f ∷ fs) = table_with_owners (set table f.token (Some f.owner)) fs
 
--- States that a table has the owners of all fields of a well-typed module after the module's field identifiers are
--- entered in it. Before that, the table has one entry for each token and no owners.
+-- States that a table with the owners of all field identifiers of a well-typed module is an owner table
+-- (`IsOwnerTable`). The table is made by entering these owners in a table that has None for each token.
 abbrev pub EnteredFieldsCompleteOwnerTable : Type 0
 EnteredFieldsCompleteOwnerTable =
     (r : Resolution)
@@ -266,8 +270,8 @@ field_if_owned x (Some k) = record { token = x; owner = k } ∷ []
 
 -- Returns the field identifiers in a statement, in a part of a statement or in a list of selectors.
 abbrev mutual
-  -- returns the field identifiers in a statement or a part of a statement, in text order; parts without fields give an
-  -- empty list
+  -- returns the field identifiers in a statement or a part of a statement, in text order; an empty list if there are
+  -- none; the fields of selectors are found with their designator, by `fields_in_path`
   pub fields_in_tree : {P : Type 0} {s : Sort} → Meanings ℕ Shape P → Tree ℕ s → List FieldName
   fields_in_tree m none = []
   fields_in_tree m (one a) = fields_in_tree m a
@@ -319,10 +323,11 @@ abbrev mutual
 abbrev pub fields_at_tokens : ℕ → List ℕ → List FieldName
 fields_at_tokens r xs = map (λ x. record { token = x; owner = r }) xs
 
--- Returns the fields that a written type or a part of it declares. `k` is the ordinal of the first ARRAY or RECORD of
+-- Returns the fields that a written type or a part of it declares. `k` is the number of words ARRAY and RECORD before
 -- this part. `r` is the ordinal of the record that a group of fields belongs to.
 abbrev mutual
-  -- returns the fields that a written type declares, in text order; an array's length declares no fields
+  -- returns the fields that a written type declares, in text order; `k` is the number of words ARRAY and RECORD before
+  -- the type; an array's length declares no fields
   pub fields_in_type : ℕ → Tree ℕ written_type → List FieldName
   fields_in_type k (named_type x) = []
   fields_in_type k (array_type e t) = fields_in_type (suc k) t
@@ -342,29 +347,29 @@ abbrev mutual
   fields_in_groups r k (more (then_fields g) rest) =
       fields_in_group r k g ++ fields_in_groups r (k + group_constructor_count g) rest
 
--- returns the fields that type declarations declare; `k` is the ordinal of their first ARRAY or
--- RECORD
+-- returns the fields that type declarations declare; `k` is the number of words ARRAY and RECORD before the
+-- declarations
 abbrev pub fields_in_types : ℕ → Tree ℕ (items type_definition) → List FieldName
 fields_in_types k end = []
 fields_in_types k (more (declares_type x u) ds) =
     fields_in_type k u ++ fields_in_types (k + constructor_count u) ds
 
--- returns the fields that variable declarations declare; `k` is the ordinal of their first ARRAY or
--- RECORD
+-- returns the fields that variable declarations declare; `k` is the number of words ARRAY and RECORD before the
+-- declarations
 abbrev pub fields_in_variables : ℕ → Tree ℕ (items variable) → List FieldName
 fields_in_variables k end = []
 fields_in_variables k (more (declares_variable ns u) gs) =
     fields_in_type k u ++ fields_in_variables (k + constructor_count u) gs
 
--- returns the fields that sections of parameters declare; `k` is the ordinal of their first ARRAY
--- or RECORD
+-- returns the fields that sections of parameters declare; `k` is the number of words ARRAY and RECORD before the
+-- sections
 abbrev pub fields_in_sections : ℕ → Tree ℕ (items further_section) → List FieldName
 fields_in_sections k end = []
 fields_in_sections k (more (then_section f) fs) =
     fields_in_type k (section_type f) ++ fields_in_sections (k + constructor_count (section_type f)) fs
 
 abbrev mutual
-  -- returns the fields that a block declares and selects; `k` is the ordinal of the block's first ARRAY or RECORD
+  -- returns the fields that a block declares and selects; `k` is the number of words ARRAY and RECORD before the block
   pub fields_in_block : {P : Type 0} → Meanings ℕ Shape P → ℕ → Tree ℕ block → List FieldName
   fields_in_block m k (forms_block (declares cs ts vs ps) statements) =
       (fields_in_types k (section_types ts)
@@ -373,8 +378,8 @@ abbrev mutual
       ++ fields_in_procedures m (constructors_before_procedures k (forms_block (declares cs ts vs ps) statements)) ps))
       ++ fields_in_tree m statements
 
-  -- returns the fields that procedures declare and select, in text order; `k` is the ordinal of
-  -- their first ARRAY or RECORD
+  -- returns the fields that procedures declare and select, in text order; `k` is the number of words ARRAY and RECORD
+  -- before the procedures
   pub fields_in_procedures : {P : Type 0}
       → Meanings ℕ Shape P
       → ℕ
@@ -384,8 +389,8 @@ abbrev mutual
   fields_in_procedures m k (more p rest) =
       fields_in_procedure m k p ++ fields_in_procedures m (k + procedure_constructor_count p) rest
 
-  -- returns the fields of a procedure: its parameters' fields, then its block's fields; `k` is the ordinal of the
-  -- procedure's first ARRAY or RECORD
+  -- returns the fields of a procedure: its parameters' fields, then its block's fields; `k` is the number of words
+  -- ARRAY and RECORD before the procedure
   pub fields_in_procedure : {P : Type 0}
       → Meanings ℕ Shape P
       → ℕ
@@ -399,7 +404,8 @@ abbrev mutual
 abbrev pub fields_in_module : {P : Type 0} → Meanings ℕ Shape P → Tree ℕ module_text → List FieldName
 fields_in_module m (is_module x b closing) = fields_in_block m 0 b
 
--- States that the code's walk over a module finds exactly the identifiers that have an owner, in the same order.
+-- States that the code's walk over a module (`fields_in_module`) finds exactly the identifiers of the list
+-- `owners_in_resolution` that have an owner, in the same order.
 abbrev pub WalkFindsAllFields : Type 0
 WalkFindsAllFields =
     (r : Resolution)

@@ -33,7 +33,8 @@ abbrev pub state_after_constructors : SearchState → List (Option Shape) → Se
 state_after_constructors s [] = s
 state_after_constructors s (t ∷ ts) = state_after_constructors (state_after_constructor s t) ts
 
--- returns the found type; None if the word isn't found yet or constructs an unknown type
+-- returns the type that a search has found; None if the sought ARRAY or RECORD isn't found yet or constructs an unknown
+-- type
 abbrev pub found_type : SearchState → Option Shape
 found_type (is_found found) = found
 found_type (is_skipping n) = None
@@ -43,7 +44,7 @@ found_type (is_skipping n) = None
 abbrev pub constructor_walk_meanings : ConstructorWalk → Meanings ℕ Shape Signature
 constructor_walk_meanings w = meanings_by_token (declared_object_in w.table.now) w.resolved.now
 
--- returns the shape of a type in the walk's table of declarations; None if there is no type
+-- returns the shape of the type `of` in the walk's table of declarations; None if `of` is None
 abbrev pub shape_in_walk : ConstructorWalk → Option TypeId → Option Shape
 shape_in_walk w of = option_map (type_shape (shapes_of w.table.now)) of
 

@@ -14,8 +14,9 @@ use ob0_tree::{
 };
 use std::alloc::AllocError;
 
-/// Appends one field identifier for each of the listed names. The fields belong to the record with
-/// ordinal `owner`.
+/// Appends to `found` one field identifier for each name in `listed`. The fields belong to the
+/// record with ordinal `owner`: the number of words ARRAY and RECORD that precede this record in
+/// the module.
 fn add_named_fields(
     found: &mut FieldNameList,
     owner: usize,
@@ -50,8 +51,9 @@ fn take_next_ordinal(word_count: &mut usize) -> Result<usize, AllocError>
     }
 }
 
-/// Appends the fields that a written type declares. `word_count` counts the words ARRAY and RECORD
-/// that precede the type in the module. On return, `word_count` also counts the words in the type.
+/// Appends to `found` the fields that the written type `t` declares. `word_count` counts the words
+/// ARRAY and RECORD that precede `t` in the module. On return, `word_count` also counts the words
+/// in `t`.
 #[cycle(types)]
 pub(crate) fn add_type_fields(
     found: &mut FieldNameList,
@@ -94,10 +96,10 @@ fn add_record_fields(
     Ok(())
 }
 
-/// Appends the fields of one group (`x, y: T`), then the fields that the group's type declares.
-/// `owner` is the ordinal of the record that contains the group. `word_count` counts the words
-/// ARRAY and RECORD that precede the group in the module. On return, `word_count` also counts the
-/// words in the group.
+/// Appends to `found` the fields of one group (`x, y: T`), then the fields that the group's type
+/// declares. `owner` is the ordinal of the record that contains the group: the number of words
+/// ARRAY and RECORD before this record. `word_count` counts the words ARRAY and RECORD that precede
+/// the group in the module. On return, `word_count` also counts the words in the group.
 #[cycle(types)]
 fn add_group_fields(
     found: &mut FieldNameList,

@@ -2,22 +2,24 @@
 //!
 //! `check` of `ob0_types` makes the lists once for each module. `check` walks the declarations
 //! first. If no field is declared, the walk over the whole module is skipped, because every
-//! selected field is declared (`fields_are_declared`). So a module without RECORD costs only the
-//! walk over its declarations. The laws about fields require that the module is well-typed.
+//! selected field of a well-typed module is declared (`fields_are_declared`). So a module without
+//! RECORD costs only the walk over its declarations.
 //!
-//! If tokens of one body have changed, but not their kinds, the body's fields are found again
-//! (`ModuleFields::with_changed_body`). These fields are at the same tokens as before, because the
-//! grammar determines which identifiers are fields (`fields_match_grammar`). So each found field
-//! replaces an old one, and no other field moves.
+//! If tokens of one body have changed, but not their kinds, the fields that the body selects are
+//! found again (`ModuleFields::with_changed_body`). They are at the same tokens as before, because
+//! the grammar determines which identifiers of a well-typed module are fields
+//! (`fields_match_grammar`). So each found field replaces an old one, and all other fields keep
+//! their tokens.
 //!
-//! If the statements of one body were replaced, perhaps by a different number of tokens, the body's
-//! fields are also found again (`ModuleFields::with_replaced_body`). The fields before the body are
-//! kept. The fields after the body get the new indexes of their tokens.
+//! If the statements of one body were replaced, perhaps by a different number of tokens, the fields
+//! that the body selects are also found again (`ModuleFields::with_replaced_body`). The fields
+//! before the body are kept. The fields after the body get the new indexes of their tokens.
 //!
-//! A list doesn't contain its text, so a caller may use the list with another text. A token index
-//! that this text doesn't have gets the empty span at the text's start. So the contract of
-//! `ModuleFields::identifier_at` has a premise (`AreInTextOrder`). A module's fields satisfy this
-//! premise (`fields_ascend`).
+//! A list has token indexes but not the text, so a caller may use the list with another text. If
+//! that text has no token with such an index, the code treats the field as an empty span at the
+//! text's start. Therefore, the contract of `ModuleFields::identifier_at` has a premise: the
+//! indexes ascend and are indexes of the text's tokens (`AreInTextOrder`). The lists of a module's
+//! own fields satisfy this premise (`fields_ascend`).
 
 ghost use Rattle.std.specs.Prelude.{◌≡◌, ◌++◌, List, [], false, true, map, nat_lt, IfOk, OnOk};
 ghost use Rattle.std.specs.List.{position_from};
@@ -46,7 +48,7 @@ use std::alloc::{AllocError, Global};
 use std::marker::Model;
 
 /// Two lists of field identifiers of a module, each in text order. `declared` has the identifiers
-/// that declare a field. `all` also has the identifiers that select a field.
+/// that declare a field. `all` has these and the identifiers that select a field.
 #[derive(Drop)]
 pub struct ModuleFields {
     declared: FieldNameList,
@@ -72,9 +74,9 @@ impl ModuleFields {
         }
     }
 
-    /// Returns the two lists of a module's field identifiers. `table` is the table of the module's
-    /// declarations. If no field is declared, both lists are empty, and the search for selected
-    /// fields is skipped.
+    /// Returns the lists `declared` and `all` of the module `resolved`. `table` is the table of the
+    /// module's declarations. If no field is declared, both lists are empty, and the search for
+    /// selected fields is skipped.
     pub fn from_resolved<'a, 't>(
         alloc: Global,
         table: &'a DeclarationTable,
@@ -87,9 +89,10 @@ impl ModuleFields {
         Ok(ModuleFields { declared, all })
     }
 
-    /// Returns the two lists for a changed text. In one body's statements some tokens differ from
-    /// the old text, but the number of tokens is the same. The fields that these statements select
-    /// are found again. The found fields replace the old fields at the same tokens.
+    /// Returns the lists for a changed text, given the lists for the old text (`self`). The two
+    /// texts differ only in tokens of one body, and this body's fields are at the same tokens in
+    /// both texts. `statements` has the body's statements in the changed text. The fields that
+    /// these statements select are found again and replace the old fields at the same tokens.
     pub fn with_changed_body<'a, 't>(
         self,
         alloc: Global,
@@ -113,11 +116,11 @@ impl ModuleFields {
         Ok(ModuleFields { declared, all })
     }
 
-    /// Returns the two lists for a changed text, in which the statements of one body were replaced.
-    /// `place` is the place of the body in the changed text, and `same` specifies the unchanged
-    /// tokens. Fields before the body's first identifier are kept. Fields after the body get the
-    /// new indexes of their tokens, which are at most 2^64 - 1. A walk finds the fields in the new
-    /// statements.
+    /// Returns the lists for a changed text in which the statements of one body were replaced,
+    /// given the lists for the old text (`self`). `place` is the place of the body in the changed
+    /// text, and `same` specifies the unchanged tokens. Fields before the body's first identifier
+    /// are kept. A walk finds the fields in the new statements. Fields after the body get the new
+    /// indexes of their tokens, which are at most 2^64 - 1.
     pub fn with_replaced_body<'a, 't>(
         self,
         alloc: Global,
@@ -149,9 +152,9 @@ impl ModuleFields {
         Ok(ModuleFields { declared, all })
     }
 
-    /// Returns the first field identifier that contains the byte offset `offset` or ends there.
-    /// Returns None if there is none. `tokens` must be the tokens of the text that has these
-    /// fields.
+    /// Returns the first field identifier in the list `all` that contains the byte offset `offset`
+    /// or ends there. Returns None if there is none. `tokens` must be the tokens of the text for
+    /// which the list was made.
     pub fn identifier_at(&self, tokens: &Tokens, offset: usize) -> Option<FieldName>
         ensures { AreInTextOrder tokens.now self.now.all
             → result ≡ field_at_offset tokens.now offset self.now.all }
@@ -198,8 +201,9 @@ impl ModuleFields {
     }
 }
 
-/// Replaces fields of the list `all` by the fields in `found`. A replaced field has the same token
-/// as the field that replaces it. The replaced fields must be consecutive in `all`.
+/// Replaces fields of the list `all` by the fields in `found`. Each field in `found` replaces the
+/// field of `all` that is at the same token. The replaced fields must be consecutive in `all`,
+/// which must be in text order.
 fn replace_at_tokens(all: &mut FieldNameList, found: &[FieldName])
     ensures { (before after : List FieldName) → HasSameTokensWith all.old.items before found.now after
         → all.new.items ≡ before ++ (found.now ++ after) }
@@ -213,8 +217,8 @@ fn replace_at_tokens(all: &mut FieldNameList, found: &[FieldName])
     }
 }
 
-/// Returns the number of fields in the list `all` whose tokens come before `token`. The list must
-/// be sorted by token.
+/// Returns the number of fields in the list `all` whose token indexes are less than `token`. The
+/// list must be sorted by token index.
 fn count_fields_before(all: &[FieldName], token: usize) -> usize
     ensures { IsNonDecreasingBy (λ x. x.token) all.now
         → IsPartitionPoint (λ x. nat_lt x.token token ≡ true)
@@ -261,7 +265,7 @@ fn old_token_index(token: usize, same: SameParts) -> usize
         .saturating_add(same.old_suffix)
 }
 
-/// Appends to `found` the items of the list `fields` whose tokens come before `token`.
+/// Appends to `found` the items of the list `fields` whose token indexes are less than `token`.
 fn add_fields_before(
     found: &mut FieldNameList,
     fields: &[FieldName],
@@ -277,9 +281,9 @@ fn add_fields_before(
     Ok(())
 }
 
-/// Appends to `found` the items of the list `fields` whose tokens are at or after `token` in the
-/// old text. Each appended item gets the index of its token in the new text. `same` specifies the
-/// unchanged tokens.
+/// Appends to `found` the items of the list `fields` whose token indexes in the old text are
+/// `token` or more. Each appended item gets the index of its token in the new text. `same`
+/// specifies the unchanged tokens.
 fn add_moved_fields(
     found: &mut FieldNameList,
     fields: &[FieldName],

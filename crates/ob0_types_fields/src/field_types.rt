@@ -77,7 +77,7 @@ fn constructed_type<'a, 't>(
 /// The state of a search for the word ARRAY or RECORD with a given ordinal.
 #[derive(Clone, Copy)]
 enum Search {
-    /// The word isn't found yet: this many words ARRAY and RECORD must be skipped first.
+    /// The word isn't found yet. The number is how many more words ARRAY and RECORD come before it.
     Skipping(usize),
     /// The word is found: the type that it constructs, or None if this type is unknown.
     Found(Option<TypeId>),
@@ -104,7 +104,8 @@ impl Search {
     }
 }
 
-/// The module in which an ARRAY or RECORD is searched, with the table of the module's declarations.
+/// The module in which a walk searches for an ARRAY or RECORD, with the table of the module's
+/// declarations.
 #[derive(Clone, Copy)]
 struct ConstructorWalk<'a, 't> {
     table: &'a DeclarationTable,
@@ -143,8 +144,9 @@ impl<'a, 't> ConstructorWalk<'a, 't> {
             .field_type(of?, token_text_at(self.resolved.tokens(), name))
     }
 
-    /// Returns the state of the search after the words ARRAY and RECORD of the written type `t`.
-    /// `of` is the type that `t` denotes, or None if this type is unknown.
+    /// Returns the state of the search after the words ARRAY and RECORD of the written type `t`,
+    /// given the state `search` before them. `of` is the type that `t` denotes, or None if this
+    /// type is unknown.
     #[cycle(types)]
     fn search_type(&self, search: Search, of: Option<TypeId>, t: &WrittenType) -> Search
         ensures { search_view_in_walk self.now result

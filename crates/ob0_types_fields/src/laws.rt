@@ -8,22 +8,22 @@ ghost use Rattle.ob0_types_fields.specs.Identifiers.{DuplicateHasDeclaringToken,
 ghost use Rattle.ob0_types_fields.specs.Owned.{WalkFindsAllFields, AgreeingTableIsOwnerTable, EnteredFieldsCompleteOwnerTable};
 ghost use Rattle.ob0_types_fields.specs.Owners.{RenamingFollowsOwners};
 
-/// Proves that a table is an owner table of a well-typed module if it agrees with the list
-/// `owners_in_resolution`. At the token of each identifier, the table and the list must give the
-/// same owner. The list is computed from the objects of declarations.
+/// Proves that a table gives the record of each field identifier of a well-typed module
+/// (`IsOwnerTable`) if it agrees with the list `owners_in_resolution`. For each identifier in this
+/// list, the table must have the same record as the list, or no record if the list has none.
 pub fn agreeing_table_is_owner_table()
     ensures { AgreeingTableIsOwnerTable }
 {}
 
-/// Proves that a table is an owner table of a well-typed module once the owners of all its field
-/// identifiers are entered in the table. Before that, the table must have one entry for each token
-/// and no owners.
+/// Proves that an owner table (`IsOwnerTable`) of a well-typed module can be made in two steps.
+/// First, a table is made with one empty entry for each token. Then the ordinal of each field
+/// identifier's record is entered at the identifier's token.
 pub fn entered_fields_complete_owner_table()
     ensures { EnteredFieldsCompleteOwnerTable }
 {}
 
-/// Proves that the code's walk over a module finds exactly the identifiers that have an owner, in
-/// text order.
+/// Proves that the code's walk over a module finds exactly the identifiers that declare or select a
+/// field of a known record, in text order. The walk is defined by `fields_in_module`.
 pub fn walk_finds_all_fields()
     ensures { WalkFindsAllFields }
 {}
@@ -53,8 +53,8 @@ pub fn fields_match_grammar()
     ensures { FieldsMatchGrammar }
 {}
 
-/// Proves that the function `typed_field` of the definitions finds the field and the type of each
-/// field identifier of a well-typed module.
+/// Proves that, for each field identifier of a well-typed module, the definition `typed_field`
+/// returns the identifier's field and the field's type, and not None.
 pub fn fields_have_types()
     ensures { FieldsHaveTypes }
 {}

@@ -35,6 +35,6 @@ abbrev pub designator_of_simple : {N : Type 0}
 designator_of_simple (sum None t end) = designator_of_term t
 designator_of_simple _ = None
 
--- returns the trees of these expressions, in order, in which each name is replaced by its label
+-- returns the trees of the expressions in a list, in order; in these trees each name is replaced by its label
 abbrev pub labelled_expressions : Resolution → List Expression → List (Tree Label expression)
 labelled_expressions r es = map (λ e. tree_with_labels r (expression_of e)) es

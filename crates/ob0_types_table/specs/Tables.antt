@@ -59,8 +59,8 @@ abbrev pub type_of_entry : code.TypeEntry → ℕ → TypeId
 type_of_entry (made.Array a) place = type.Array place
 type_of_entry (made.Record r) place = type.Record place
 
--- returns the shapes `known`, followed by the shapes of these entries; each entry may refer only to
--- entries before it
+-- returns the shapes `known` of a table's first entries, followed by the shapes of the further entries in the list;
+-- each entry may refer only to entries before it
 abbrev pub extended_shapes : List Shape → List code.TypeEntry → List Shape
 extended_shapes known [] = known
 extended_shapes known (m ∷ ms) = extended_shapes (known ++ entry_shape known m ∷ []) ms
@@ -71,8 +71,8 @@ IsTypeAmongEntries n (type.Array i) = i < n
 IsTypeAmongEntries n (type.Record i) = i < n
 IsTypeAmongEntries n _ = Unit {0}
 
--- states that the element type of an array, or the type of each field of a record, refers to no entry except the first
--- `n`
+-- states that the element type of an array, or the type of each field of a record, refers to no entry of the table, or
+-- to one of the first `n` entries
 abbrev pub PartsAreAmongEntries : ℕ → code.TypeEntry → Type 0
 PartsAreAmongEntries n (made.Array a) = IsTypeAmongEntries n a.element
 PartsAreAmongEntries n (made.Record r) = All (λ f. IsTypeAmongEntries n f.of) r.fields

@@ -76,7 +76,7 @@ pub struct FormalParameter {
     pub of: TypeId,
 }
 
-/// A predeclared procedure, which reads or writes.
+/// A predeclared procedure. It reads a number, writes a number, or ends a line of the output.
 #[derive(Clone, Copy, PartialEq, Eq)]
 pub enum StandardProcedure {
     Read,
@@ -87,7 +87,7 @@ pub enum StandardProcedure {
 /// The object to which a declared name refers, with its type, value or parameters.
 #[derive(Drop)]
 pub enum Object {
-    /// A name that refers to this type.
+    /// A type's name. The variant has the type to which the name refers.
     Named(TypeId),
     Constant(Scalar),
     /// A constant whose right side has a fault.
@@ -154,7 +154,7 @@ impl DeclarationTable {
         DeclarationTable { shapes, objects }
     }
 
-    /// Returns the length of the list of objects, which has one item for each ordinal.
+    /// Returns the number of ordinals in the table, which has one object or None for each ordinal.
     pub fn count(&self) -> usize
         ensures { result ≡ length self.now.objects }
     {

@@ -1,4 +1,4 @@
-//! The values of integer tokens.
+//! Returns the values of integer tokens.
 
 ghost use Rattle.std.specs.Prelude.{◌≡◌, ◌≤◌, pos};
 ghost use Rattle.ob0_tree.specs.Places.{token_value_at, kind_value_or_zero};

@@ -36,14 +36,14 @@ publication_of m =
       no_diagnostics = m.empty;
     }
 
--- returns these contents as lists of bytes, in order
+-- returns the bytes of each content, in order
 abbrev pub content_bytes : List (Vec ℕ Global) → List (List ℕ)
 content_bytes contents = map (λ v. v.items) contents
 
--- returns the applied edits in `p`, the results that the code returns
+-- returns, as edits of the model, the applied edits in the results `p` that `play` returns
 abbrev pub played_edits : played.Played → List Applied
 played_edits p = map applied_of p.applied.items
 
--- returns the publications in `p`, the results that the code returns
+-- returns, as publications of the model, the publications in the results `p` that `play` returns
 abbrev pub played_publications : played.Played → List PublicationWithText
 played_publications p = map publication_of p.made.items

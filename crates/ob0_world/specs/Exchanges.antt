@@ -1,7 +1,8 @@
 -- Defines the exchanges of a session and an editor that keeps ob0's rules, and states the
--- guarantees for them. The session may be any that the protocol (`Answers`) allows. An exchange has
--- this session in place of the model's server. An ask is a request whose answer the editor may
--- apply: a rename, an inlining or a formatting. A content is the bytes of one message.
+-- guarantees for them. An exchange is like a state of the model (`EditorAndServer`). It has a
+-- session in place of the model's server, and contents in place of the messages. A content is the
+-- bytes of one message. The session may be any that the protocol (`Answers`) allows. An ask is a
+-- request whose answer the editor may apply: a rename, an inlining or a formatting.
 -- Rule: LSP 3.17; for a law of every editor with a session.
 use Rattle.std.specs.Prelude.{◌≡◌, ◌⊎◌, ◌<◌, ◌≤◌, ◌==◌, map, filter_map, ⊤, ℕ, ℤ, List, [], ◌∷◌, ◌++◌, All, fold, Bool, true, false, Option, Some, None, MatchOption, option_map, option_and_then, Result, Ok, Err, if◌then◌else◌, codes}
 use Rattle.std.specs.Str.{bytes_eq}
@@ -62,8 +63,8 @@ same_id (number_id n) (text_id t) = false
 same_id (text_id s) (number_id m) = false
 same_id (text_id s) (text_id t) = bytes_eq s t
 
--- A request that the editor sent: its id and, if it is an ask, the number of the ask (from 1). For
--- any other request the number is None.
+-- The id of a request that the editor sent. If the request is an ask, `ask` is its number, counted
+-- from 1. For any other request `ask` is None.
 pub record SentRequestId : Type 0 where
   pub id : RequestId
   pub ask : Option ℕ
@@ -74,12 +75,13 @@ abbrev pub ask_of_request_id : List SentRequestId → RequestId → Option (Opti
 ask_of_request_id [] id = None
 ask_of_request_id (s ∷ sent) id = if same_id s.id id then Some s.ask else ask_of_request_id sent id
 
--- Returns the number of the ask that has this JSON value as its id. None if no ask has this id.
+-- Returns the number of the ask that has this JSON value as its id. None if no request has this id,
+-- or if the first request with this id isn't an ask.
 abbrev pub ask_number_by_id : List SentRequestId → Data → Option ℕ
 ask_number_by_id sent id = option_and_then (λ ask. ask) (option_and_then (ask_of_request_id sent) (id_of_value id))
 
--- States that each ask among these messages gets an id that no earlier request has. The list `new`
--- is `ids` with these ids appended, in order.
+-- States that each ask among the messages `sent` gets an id that neither a request in `ids` nor an
+-- earlier ask in `sent` has. The list `new` is `ids` with the ids of these asks appended, in order.
 abbrev pub AssignsAskIds : List SentRequestId → List MessageToServer → List SentRequestId → Type 0
 AssignsAskIds ids [] new = new ≡ ids
 AssignsAskIds ids (notifies note ∷ sent) new = AssignsAskIds ids sent new
@@ -88,13 +90,14 @@ AssignsAskIds ids (requests k uri ask ∷ sent) new =
     × (ask_of_request_id ids id ≡ None)
     × AssignsAskIds (ids ++ record { id = id; ask = Some k } ∷ []) sent new
 
--- Returns `ids` with this id appended, as the id of a request that isn't an ask. For None (there is
--- no valid id), the list is unchanged.
+-- Returns `ids` with this id appended, as the id of a request that isn't an ask. For None (the
+-- message has no valid id), the list is unchanged.
 abbrev pub with_non_ask_id : List SentRequestId → Option RequestId → List SentRequestId
 with_non_ask_id ids None = ids
 with_non_ask_id ids (Some id) = ids ++ record { id = id; ask = None } ∷ []
 
--- states that there is no valid id (None), or that the request with this id isn't an ask
+-- States that the id is None, or that the first request in `ids` with this id isn't an ask. None
+-- means that the message has no valid id. If no request in `ids` has the id, the fact doesn't hold.
 abbrev pub IsNonAskId : List SentRequestId → Option RequestId → Type 0
 IsNonAskId ids None = ⊤
 IsNonAskId ids (Some id) = ask_of_request_id ids id ≡ Some None
@@ -111,9 +114,9 @@ pub record Exchange : Type 0 where
   pub announced : List AnnouncedDocument
   pub applied : List Applied
 
--- States that the session was initialized by a client that counts positions in this unit. No
--- document is open and no content waits. The list of used ids is empty, so the ids of the
--- initialization may be used again.
+-- States that the exchange `x` begins: a client that counts positions in `unit` has initialized the
+-- session. No document is open and no content waits. The list of used ids is empty, so the ids of
+-- the initialization may be used again.
 pub record BeginsExchange (unit : Unit) (x : Exchange) : Type 0 where
   pub client : ClientFeatures
   pub counts : unit_for client ≡ unit
@@ -153,9 +156,9 @@ IsReadOnlyRequest (Ok (asked.formatting uri indent)) = ⊤
 IsReadOnlyRequest (Err fault) = ⊤
 
 -- States that the message is outside the model. It opens, changes and closes no document, and
--- requests no edits that the editor applies. It is a request that changes nothing in the session
--- and doesn't have the id of an ask, a notification that the server ignores, a response, or JSON
--- that isn't a message.
+-- requests no edits that the editor applies. It is a response, JSON that isn't a message, a
+-- notification that the server ignores, or a request that changes nothing in the session and
+-- doesn't have an ask's id.
 abbrev pub IsUnmodeledMessage : List SentRequestId → MessageMeaning → Type 0
 IsUnmodeledMessage ids not_json = ⊥
 IsUnmodeledMessage ids not_a_message = ⊤
@@ -258,8 +261,8 @@ AreMessagesToSession client ids requested (None ∷ messages) [] = ⊥
 
 -- ---- turns, and the exchanges to which they lead
 
--- Returns the message to the editor in a content. None if the content has no such message. The
--- answer's id shows, by the list `ids`, which ask is answered.
+-- Returns the message to the editor that a content is, or None if it is no such message. The list
+-- `ids` says which ask has the id of an answer.
 abbrev pub message_to_editor_by_ids : List SentRequestId → List SentAsk → List ℕ → Option MessageToEditor
 message_to_editor_by_ids ids requested content = message_to_editor_by (ask_number_by_id ids) requested content
 
@@ -270,7 +273,7 @@ after_reading_if_any e None = e
 after_reading_if_any e (Some message) = after_reading e message
 
 -- States that the editor takes the first content that waits for it, and reads the message in this
--- content. If no content waits for the editor, nothing changes.
+-- content, if there is one. If no content waits for the editor, nothing changes.
 abbrev pub EditorReadsFirst : List (List ℕ) → Exchange → Exchange → Type 0
 EditorReadsFirst [] old new = new ≡ old
 EditorReadsFirst (content ∷ rest) old new =
@@ -348,10 +351,10 @@ AreMessagesToEditor ids requested [] (content ∷ contents) = ⊥
 AreMessagesToEditor ids requested (Some m ∷ messages) [] = ⊥
 AreMessagesToEditor ids requested (None ∷ messages) [] = ⊥
 
--- States that the same turns lead the model (`EditorAndServer`) to a state that matches this
--- exchange. The editors are the same, and the session has the documents of the model's server. The
--- waiting contents are the model's waiting messages. So the model's guarantees hold here
--- (`HoldsWithEditor`).
+-- States that `turns` can lead the model (`EditorAndServer`) to a state that matches the exchange
+-- `x`. The editors are the same, and the session has the documents of the model's server. The
+-- waiting contents are the model's waiting messages. So the model's guarantees hold for the
+-- exchange (`HoldsWithEditor`).
 pub record FollowsModel (unit : Unit) (turns : List Turn) (x : Exchange) : Type 0 where
   pub model : EditorAndServer
   pub leads : MayLeadTo (initial_editor_and_server unit) turns model
@@ -400,7 +403,7 @@ pub record EndsSession (id : Data) (before : ServerState) (sent : List (List ℕ
   pub ended : end.phase ≡ Ended 0
   pub held : end.held ≡ before.held
 
--- ---- the headline of every exchange, without a model
+-- ---- the guarantees for every exchange, stated without the model
 
 -- a published list of diagnostics: the document's uri, the document's version, and whether the list
 -- is empty
@@ -442,12 +445,13 @@ abbrev pub last_publication_of : List ℕ → List VersionedPublication → Opti
 last_publication_of uri published =
     fold (λ last p. if bytes_eq p.uri uri then Some p else last) None published
 
--- Returns the notifications in these contents that open, change or close documents.
+-- Returns the notifications about documents in these contents, in order. Each opens, changes or
+-- closes a document, or can't be read and so puts a document out of step.
 abbrev pub notifications_in : List (List ℕ) → List MessageToServer
 notifications_in contents = filter_map (message_to_server_in []) contents
 
--- States the guarantees for a session and an editor that keeps ob0's rules, whatever they have
--- exchanged.
+-- States the guarantees for an exchange of a session and an editor that keeps ob0's rules. `begin`
+-- is the exchange at its beginning, and `now` is the exchange after any turns.
 pub record HoldsOfExchange (begin now : Exchange) : Type 0 where
   -- each edit that the editor applied keeps the run
   pub applied : All KeepsTheRun now.applied
@@ -462,8 +466,9 @@ pub record HoldsOfExchange (begin now : Exchange) : Type 0 where
   pub right : AreCorrectFor (publications_in since) published_documents
   -- the contents that still wait for the session announce the other documents, `unpublished_documents`
   pub still_wait : map versioned_uri unpublished_documents ≡ versions_announced_in (notifications_in now.wire.to_server)
-  -- If no waiting content opens, changes or closes a document, the latest list of diagnostics of
-  -- each open document is for the document's present version and text.
+  -- If no notification about a document waits for the session, each open document has a list of
+  -- diagnostics. Its latest list has the document's present version, and is empty exactly when the
+  -- present text is a well-typed module.
   pub latest : notifications_in now.wire.to_server ≡ [] → (uri : List ℕ) (d : OpenDocument)
       → open_at now.editor uri ≡ Some d
       → MatchOption (last_publication_of uri (publications_in since)) ⊥
@@ -481,7 +486,8 @@ pub record HoldsOfExchange (begin now : Exchange) : Type 0 where
       → Conversation now.wire.session (shutdown ∷ exit ∷ []) sent end
       → EndsSession id now.wire.session sent end
 
--- states that the guarantees hold for every editor that keeps ob0's rules, and for every session
+-- states that the guarantees (`HoldsOfExchange`) hold for every exchange of a session and an editor
+-- that keeps ob0's rules
 abbrev pub HoldsForEveryExchange : Type 0
 HoldsForEveryExchange =
     (unit : Unit) (begin now : Exchange) (turns : List Turn)

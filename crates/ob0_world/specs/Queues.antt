@@ -1,11 +1,11 @@
--- Defines the state of the model (`ClientAndServer`) that the code's connection has, the invariant
--- of the code's connection, and the clauses of its private functions. No contract of a public
+-- Defines the state of the model (`ClientAndServer`) that the fields of a `Connection` mean, the
+-- connection's invariant, and the clauses of its private functions. No contract of a public
 -- function mentions these definitions. The messages of a queue are read from its contents
--- (`all_messages_to_server`, `all_messages_to_editor`). By the invariant, each content is a message.
--- A content keeps its meaning when the editor sends more requests (`proofs/Waiting`).
+-- (`all_messages_to_server`, `all_messages_to_editor`). By the invariant, each content is a
+-- message. A content keeps its meaning when the editor sends more requests (`proofs/Waiting`).
 -- `RunsWithEditor` states that the session serves this editor. According to the editor's
--- `initialize`, the session's client accepts edits with document versions, and literal code actions.
--- So a WorkspaceEdit is always written as `documentChanges`.
+-- `initialize`, the session's client accepts edits with document versions, and literal code
+-- actions. So a WorkspaceEdit is always written as `documentChanges`.
 -- Rule: none; for contracts: contents that wait, and what they say.
 use Rattle.std.specs.Prelude.{◌≡◌, ◌≤◌, ◌⊎◌, ℕ, ℤ, List, [], ◌∷◌, ◌++◌, map, length, All, Bool, true, Option, Some, None, Vec, option_and_then, filter_map}
 use Rattle.std.specs.declared.alloc.Global.{Global}
@@ -31,11 +31,13 @@ use Rattle.ob0_world.specs.Worlds.{Wire, Connection}
 abbrev pub Contents : Type 0
 Contents = List (Vec ℕ Global)
 
--- returns the messages to the server in these contents, given the editor's list of sent asks
+-- Returns the messages to the server in these contents, given the editor's list of sent asks. A
+-- content that isn't such a message is left out.
 abbrev pub all_messages_to_server : List SentAsk → Contents → List MessageToServer
 all_messages_to_server requested contents = filter_map (message_to_server_in requested) (content_bytes contents)
 
--- returns the messages to the editor in these contents, given the editor's list of sent asks
+-- Returns the messages to the editor in these contents, given the editor's list of sent asks. A
+-- content that isn't such a message is left out.
 abbrev pub all_messages_to_editor : List SentAsk → Contents → List MessageToEditor
 all_messages_to_editor requested contents = filter_map (message_to_editor_in requested) (content_bytes contents)
 
@@ -50,15 +52,16 @@ HasMessageToEditor requested content = (m : MessageToEditor) × (message_to_edit
 -- ---- the session
 
 -- States that the session is running, and that its client accepts edits with document versions and
--- literal code actions, as the model's editor does. Such a session writes a WorkspaceEdit with
--- versions, and offers literal code actions.
+-- literal code actions. The model's editor is such a client. Such a session writes a WorkspaceEdit
+-- with versions, and offers literal code actions.
 abbrev pub RunsWithEditor : ServerState → Type 0
 RunsWithEditor s =
     (s.phase ≡ Running)
     × (s.client.accepts_document_changes ≡ true)
     × (s.client.accepts_literal_actions ≡ true)
 
--- states that the session is running with such a client (`RunsWithEditor`), or has failed
+-- states that the session is running with a client like the model's editor (`RunsWithEditor`), or
+-- that the session has failed
 abbrev pub RunsWithEditorOrFailed : ServerState → Type 0
 RunsWithEditorOrFailed s = RunsWithEditor s ⊎ (s.phase ≡ Failed)
 
@@ -164,8 +167,8 @@ publication_in_first_content held requested [] = None
 publication_in_first_content held requested (content ∷ contents) =
     option_and_then (publication_in_message held) (message_to_editor_in requested content.items)
 
--- States that the content was put at the end of the queue, and that the report is `sent`. For None,
--- the queue is unchanged and the report is `nothing`.
+-- States that `new` is the queue `old` with the content at its end, and that the report is `sent`.
+-- For None, `new` is `old` and the report is `nothing`.
 abbrev pub QueuesContent : Contents → Option (Vec ℕ Global) → seen.Seen → Contents → Type 0
 QueuesContent old None seen new = (report_of seen ≡ nothing) × (new ≡ old)
 QueuesContent old (Some content) seen new = (report_of seen ≡ sent) × (new ≡ old ++ content ∷ [])

@@ -28,7 +28,10 @@ report_if_any (x ∷ xs) some none = some
 abbrev pub send_report : ActResult → Seen
 send_report done = report_if_any done.sent sent nothing
 
--- returns the report on an act that this editor performs
+-- Returns the report on an act that this editor performs. An act about a document is reported by
+-- `send_report`. Applying an answer is reported as `applies` if the edits are made, otherwise as
+-- `drops`. Discarding an answer is reported as `drops`. If the editor doesn't have the answer, the
+-- report is `nothing`.
 abbrev pub act_report : Editor → Act → Seen
 act_report e (open_document uri text) = send_report (act_result e (open_document uri text))
 act_report e (change_document uri how) = send_report (act_result e (change_document uri how))
@@ -61,7 +64,7 @@ event_report old (editor_acts act) new = act_report old.editor act
 event_report old serve new = serve_report old.to_server old.to_editor new.to_editor
 event_report old take_message new = take_report old.to_editor
 
--- states that the event happens and that this is the report on it
+-- states that the event leads from `old` to `new`, and that `seen` is the report on it
 abbrev pub HappensWithReport : ClientAndServer → Event → Seen → ClientAndServer → Type 0
 HappensWithReport old event seen new = Happens old event new × (seen ≡ event_report old event new)
 

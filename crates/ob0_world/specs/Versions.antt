@@ -1,7 +1,7 @@
--- Defines the versions that answers mention, and a client that compares versions. A real client
--- doesn't number the openings of a document, as the model's editor does. The version is enough,
--- because an answer mentions the document that was asked about, with the version that it had when
--- the request was sent.
+-- Defines the versions that answers mention, and a client that compares versions. The model's
+-- editor numbers the openings of a document, and a real client doesn't. Versions are enough for a
+-- real client, because an answer mentions the document that was asked about, with the version that
+-- this document had when the request was sent.
 -- Rule: none; laws of client and server, on LSP 3.17, OptionalVersionedTextDocumentIdentifier.
 use Rattle.std.specs.Prelude.{◌≡◌, ◌⊎◌, ⊤, ℕ, ℤ, List, [], ◌∷◌, All, Bool, Option, Some, None, option_and_then, option_map, if◌then◌else◌, codes}
 use Rattle.serde_json.specs.Data.{Data}
@@ -51,7 +51,8 @@ edit_in_result (inline_here position) value = edit_of_action (codes "Inline here
 edit_in_result (inline_all position) value = edit_of_action (codes "Inline everywhere") value
 edit_in_result (format indent) value = None
 
--- Returns the uri and the version that the answer to an ask mentions. None if it mentions none.
+-- Returns the uri and the version that the answer to an ask mentions. None if the answer doesn't
+-- mention both.
 abbrev pub answer_uri_and_version : Ask → Data → Option (List ℕ × ℤ)
 answer_uri_and_version ask answer =
     option_and_then edited_uri_and_version

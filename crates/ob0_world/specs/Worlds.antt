@@ -126,12 +126,13 @@ ConnectionCourse old (event ∷ events) new =
 
 -- ---- the results that `play` returns for a list of events
 
--- states that the code returns the applied edits and the publications of this state, in order
+-- states that the results `p` of the code have the applied edits and the publications of the state
+-- `w`, in order
 abbrev pub ResultsMatch : ClientAndServer → played.Played → Type 0
 ResultsMatch w p = (played_edits p ≡ w.applied) × (played_publications p ≡ w.made)
 
--- states that the code returns the contents that each side has taken, and the contents that wait
--- for the editor
+-- states that the results `p` of the code have the contents that each side has taken according to
+-- `w`, and the contents that wait for the editor
 abbrev pub ContentsMatch : Wire → played.Played → Type 0
 ContentsMatch w p =
     (content_bytes p.taken.items ≡ w.taken)
@@ -139,8 +140,8 @@ ContentsMatch w p =
     × (content_bytes p.unread.items ≡ w.to_editor)
 
 -- States the guarantees (`Headline`) for a list of events, and for the edits and publications that
--- the code returns. In these events a session, from its start, took and sent the contents that the
--- code returns.
+-- the code returns in `p`. Also states that a session took and sent the contents in `p` during
+-- these events, from the session's start.
 pub record Plays (unit : Unit) (events : List event.Event) (p : played.Played) : Type 0 where
   pub headline : Headline unit (map event_of events) (played_edits p) (played_publications p)
   pub begin : Connection
@@ -179,7 +180,7 @@ pub record World : Type 0 where
   -- true if a step has failed; an ended world makes no more steps
   pub ended : Bool
 
--- states that nothing has happened in this world yet
+-- states that no event has happened in this world yet: the editor has only initialized the session
 pub record IsNew (unit : Unit) (w : World) : Type 0 where
   pub begins : Begins unit w.connection
   pub none : w.steps ≡ 0
@@ -203,8 +204,8 @@ StepsUnlessEnded true old event seen new = ⊥
 abbrev pub WorldSteps : World → Event → Seen → World → Type 0
 WorldSteps old event seen new = StepsUnlessEnded old.ended old event seen new
 
--- states that the results, the exchanged contents and the contents that wait for the editor are
--- unchanged
+-- states that `old` and `new` have the same applied edits and publications, that each side has
+-- taken the same contents, and that the same contents wait for the editor
 pub record SameHistory (old new : Connection) : Type 0 where
   pub applied : new.model.applied ≡ old.model.applied
   pub made : new.model.made ≡ old.model.made
@@ -214,8 +215,8 @@ pub record SameHistory (old new : Connection) : Type 0 where
 
 -- States that a step fails with this fault. The first argument is true if the world had ended
 -- before the step. A step that fails with `Memory` isn't counted, and ends the world. The world
--- keeps its results and the exchanged contents. Each step of an ended world fails with `Ended` and
--- changes nothing.
+-- keeps its results and the exchanged contents (`SameHistory`). Each step of an ended world fails
+-- with `Ended` and changes nothing.
 abbrev pub FailsGivenEnded : Bool → World → WorldFault → World → Type 0
 FailsGivenEnded false old Memory new =
     SameHistory old.connection new.connection × (new.steps ≡ old.steps) × (new.ended ≡ true)

@@ -12,8 +12,8 @@ pub enum Event {
     /// If the document isn't open, nothing happens.
     ChangeDoc { uri: String, changes: Vec<Change> },
     CloseDoc { uri: String },
-    /// The editor sends this request about an open document. Such requests are numbered from 1, in
-    /// the order in which they are sent.
+    /// The editor sends this request about a document. If the document isn't open, nothing happens.
+    /// Asks are numbered from 1, in the order in which they are sent.
     Ask { uri: String, ask: Ask },
     /// The server takes the first message that waits for it, and sends its replies.
     Serve,

@@ -9,7 +9,7 @@
 //! contract.) The contract of a step distinguishes whether the world had ended before the step
 //! (`WorldSteps`, `WorldFails`).
 //!
-//! `Plays` states the headline, and that the events are a course of the connection
+//! `Plays` states the guarantees (`Headline`), and that the events are a course of the connection
 //! (`ConnectionCourse`) that starts with an initialized session (`Begins`). The code also returns
 //! the exchanged contents, which the contract requires to be a session's conversation. So a body
 //! that only invents edits and publications doesn't meet the contract.

@@ -13,8 +13,9 @@ use Rattle.ob0_world_rules.specs.Laws.{HasAnswers}
 abbrev pub EachAskHasAnswers : Type 0
 EachAskHasAnswers = (ask : Ask) → HasAnswers ask
 
--- States that each list of events leads from the start to some state. The formula is a double
--- negation. So a law about every course of events is about at least one.
+-- States that each list of events leads from the start to some state. So the laws about all courses
+-- of events aren't vacuous. The formula is a double negation: it is impossible that the events lead
+-- to no state.
 abbrev pub EachEventListHasACourse : Type 0
 EachEventListHasACourse =
     (unit : Unit) (events : List Event)

@@ -21,8 +21,7 @@ abbrev pub AreSameModule : ParsedModule → ParsedModule → Type 0
 AreSameModule m n = (m.source ≡ n.source) × (tree_of m ≡ tree_of n)
 
 -- States that a module's names are resolved in only one way: two resolutions of the same module
--- agree at each token. Both give the token the ordinal of the same declaration, or both give it
--- none.
+-- agree at each token. Both bind the token to the same declaration, or both leave it unbound.
 abbrev pub TableIsDetermined : Type 0
 TableIsDetermined =
     (r q : Resolution) → IsResolution r → IsResolution q
@@ -37,7 +36,7 @@ DiagnosesAreDetermined =
 
 -- ---- replies
 
--- states that a reply determines the contents that the session sends for this reply
+-- states that a reply (`Reply`) determines the contents that the session sends for it
 abbrev pub ReplyIsDetermined : Type 0
 ReplyIsDetermined =
     (reply : Reply) (sent other : List (List ℕ))

@@ -11,8 +11,7 @@ use ob0_scan::laws::{reported_faults_are_unique, scan_is_unique};
 use ob0_world::laws::holds_for_every_exchange;
 
 /// Proves that a module's names are resolved in only one way: two resolutions of the same module
-/// agree at each token. Both give the token the ordinal of the same declaration, or both give it
-/// none.
+/// agree at each token. Both bind the token to the same declaration, or both leave it unbound.
 pub fn table_is_determined()
     ensures { TableIsDetermined }
 {}
@@ -27,7 +26,7 @@ pub fn diagnoses_are_determined()
     refusal_is_unique();
 }
 
-/// Proves that a reply determines the contents that the session sends for this reply.
+/// Proves that a reply (`Reply`) determines the contents that the session sends for it.
 pub fn reply_is_determined()
     ensures { ReplyIsDetermined }
 {

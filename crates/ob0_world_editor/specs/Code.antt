@@ -1,5 +1,5 @@
--- Converts asks, answers, messages and applied edits of the code to the model. An ask is a request
--- whose answer the editor may apply.
+-- Converts asks, answers, messages and applied edits of the code to the model's
+-- (`ClientAndServer`). An ask is a request whose answer the editor may apply.
 -- Rule: none; for contracts: what values of the code mean.
 use Rattle.std.specs.Prelude.{pos, string_bytes}
 use Rattle.std.specs.Str.{chars}

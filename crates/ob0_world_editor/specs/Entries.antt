@@ -1,5 +1,5 @@
--- Defines the model's open documents for those that the code stores, and a code (`Coded`) for the
--- model's.
+-- Converts the open documents that the code stores to the model's open documents. Also defines an
+-- encoding (`Coded`) of the model's open documents.
 -- Rule: none; for contracts: what values of the code mean.
 use Rattle.std.specs.Prelude.{ℕ, ℤ, pos, List, map, string_bytes, String, refl}
 use Rattle.std.specs.Str.{chars}
@@ -13,18 +13,19 @@ abbrev pub open_document_of : stored.OpenDocument → OpenDocument
 open_document_of d =
     record { version = pos d.version; text = chars (string_bytes d.text); opening = d.opening }
 
--- returns the open documents as a map from the bytes of their uris
+-- returns the model's map of open documents for the entries of the code's map, each a uri and a
+-- document; the model's keys are the bytes of the uris
 abbrev pub editor_documents_of : {A : Type 0} → List (String A × stored.OpenDocument) → EditorDocuments
 editor_documents_of entries =
     map_of.from_entries (map (λ e. (string_bytes e.0, open_document_of e.1)) entries)
 
--- encodes an open document as the tuple of its fields
+-- encodes an open document as the tuple of its version, text and opening
 abbrev pub open_document_code : Coded OpenDocument
 open_document_code =
     code_by (ℤ × (List ℕ × ℕ)) (coded× coded_ℤ (coded× (coded_list coded_ℕ) coded_ℕ))
     (λ d. (d.version, (d.text, d.opening)))
     (λ p. record { version = p.0; text = p.1.0; opening = p.1.1 }) (λ d. refl)
 
--- encodes the open documents as a map of encoded documents
+-- encodes the model's map of open documents as a map of encoded documents
 abbrev pub open_documents_code : Coded EditorDocuments
 open_documents_code = map_of.code (coded_list coded_ℕ) open_document_code

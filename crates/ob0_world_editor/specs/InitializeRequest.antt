@@ -51,7 +51,7 @@ initialize_message unit =
     (object (member (codes "capabilities") (object (capabilities_for unit)) no_members))
     no_members))))
 
--- returns the features of the client that the server reads in this `initialize`
+-- returns the client's features, as the server reads them in the request `initialize` for this unit
 abbrev pub client_for : Unit → ClientFeatures
 client_for unit =
     record {

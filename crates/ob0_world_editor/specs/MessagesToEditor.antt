@@ -15,7 +15,7 @@ use Rattle.ob0_world_editor.specs.MessagesToServer.{request_number}
 
 -- ---- publications
 
--- returns whether a text was found and equals the given text
+-- returns whether the optional text is the given text; false for None
 abbrev pub is_given_text : List ℕ → Option (List ℕ) → Bool
 is_given_text text (Some found) = bytes_eq found text
 is_given_text text None = false
@@ -60,9 +60,9 @@ edits_in no_items = Some []
 edits_in (item d ds) = option_and_then (λ e. option_map (λ es. e ∷ es) (edits_in ds)) (edit_in d)
 
 -- Returns the list of edits of the document with this uri in a WorkspaceEdit. The third argument is
--- the value of `documentChanges`, or None if there is no such member. If it exists, the list is in
--- its first element. Otherwise the list is in `changes`, under the uri. None if there is no such
--- list.
+-- the value of `documentChanges`, or None if there is no such member. If there is such a member,
+-- the list is in its first element. Otherwise the list is in `changes`, under the uri. None if
+-- there is no such list.
 abbrev pub document_edit_items : List ℕ → Data → Option Data → Option Items
 document_edit_items uri edit (Some documents) =
     option_and_then as_array (option_and_then (get (codes "edits")) (at 0 documents))
@@ -109,8 +109,8 @@ abbrev pub answer_to : List SentAsk → Data → ℕ → Option MessageToEditor
 answer_to requested answer k =
     option_map (λ a. answers k (edits_for a.uri a.ask answer)) (request_numbered requested k)
 
--- Returns the answer to an ask that a JSON value means. `number_of` returns the number of the ask
--- whose answer has this id. None if the id is missing or belongs to no sent ask.
+-- Reads a JSON value as the answer to an ask. `number_of` converts an answer's id to the number of
+-- the answered ask. Returns None if the id is missing or belongs to no sent ask.
 abbrev pub answer_of_response : (Data → Option ℕ) → List SentAsk → Data → Option MessageToEditor
 answer_of_response number_of requested answer =
     option_and_then (answer_to requested answer)
@@ -118,23 +118,23 @@ answer_of_response number_of requested answer =
 
 -- ---- messages
 
--- Returns the publication that a notification means. None if its method isn't
--- `textDocument/publishDiagnostics` or it can't be read.
+-- Returns the publication that a notification means. None if the method isn't
+-- `textDocument/publishDiagnostics`, or if the params can't be read.
 abbrev pub publication_of_notification : Data → Option MessageToEditor
 publication_of_notification d =
     if is_given_text (codes "textDocument/publishDiagnostics") (text_member (codes "method") d)
     then option_and_then publication_of_params (get (codes "params") d) else None
 
 -- Returns the message to the editor that a JSON value means: a publication if the value has a
--- `method`, otherwise an answer. `number_of` returns the number of the ask whose answer has this
--- id. None if there is no such message.
+-- `method`, otherwise an answer. `number_of` converts an answer's id to the number of the answered
+-- ask. None if there is no such message.
 abbrev pub message_to_editor_of : (Data → Option ℕ) → List SentAsk → Data → Option MessageToEditor
 message_to_editor_of number_of requested d =
     if is_some (get (codes "method") d)
     then publication_of_notification d else answer_of_response number_of requested d
 
--- Returns the message to the editor in a content, given the list of sent asks. `number_of` returns
--- the number of the ask whose answer has this id. None if the content has no such message.
+-- Returns the message to the editor in a content, given the list of sent asks. `number_of` converts
+-- an answer's id to the number of the answered ask. None if the content has no such message.
 unfoldable pub message_to_editor_by : (Data → Option ℕ) → List SentAsk → List ℕ → Option MessageToEditor
 message_to_editor_by number_of requested content =
     if is_utf8 content

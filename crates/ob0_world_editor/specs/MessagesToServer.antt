@@ -1,5 +1,5 @@
--- Defines which message to the server a content is, by the definitions with which the server reads
--- contents.
+-- Defines the message of the model that a content to the server means. The message is found by the
+-- definitions with which the server reads contents.
 -- Rule: docs/PROTOCOL.md, Contents, JSON shapes 4.
 use Rattle.std.specs.Prelude.{◌≡◌, ⊤, ℕ, List, Option, Some, None, Ok, option_and_then, option_map, if◌then◌else◌}
 use Rattle.std.specs.Str.{is_utf8}

@@ -1,4 +1,4 @@
--- Defines the effect of each call of the code's editor, for contracts.
+-- Defines the effect of each call of the code's `Editor`, for the contracts of its functions.
 -- Rule: none; for contracts: what a call of the editor did.
 use Rattle.std.specs.Prelude.{◌≡◌, ◌<◌, ◌-◌, ◌^◌, ⊤, ℕ, Bool, true, false, pos, List, [], ◌∷◌, Vec, Option, Some, None, length, map, option_map, slice_get}
 use Rattle.std.specs.List.{remove}
@@ -36,17 +36,18 @@ IsSentContent requested (message ∷ more) None = ⊥
 IsSentContent requested (message ∷ more) (Some content) =
     IsMessageToServer requested message content.items × (more ≡ [])
 
--- States that `new` is the editor after this act, and that the content is the message that the act
--- sends. If the act sends no message, the content is None.
+-- States that `new` is the editor after the act with the result `done`, and that the content is the
+-- message that the act sends. If the act sends no message, the content is None.
 abbrev pub PerformsAct : ActResult → Option (Vec ℕ Global) → Editor → Type 0
 PerformsAct done content new = (new ≡ done.editor) × IsSentContent new.requested done.sent content
 
--- states that `new` is the editor after this act, which sent and applied nothing
+-- states that `new` is the editor after the act with the result `done`, and that the act sent and
+-- applied nothing
 abbrev pub IsSilent : ActResult → Editor → Type 0
 IsSilent done new = (new ≡ done.editor) × (done.sent ≡ []) × (done.applied ≡ [])
 
--- States that applying an answer has this outcome, and that `new` is the editor after it has
--- applied the answer. `held` is true if the editor had the answer.
+-- States that an act that applies an answer, with the result `done`, has this outcome in the code.
+-- `held` says whether the editor had the answer, and `new` is the editor after the act.
 abbrev pub IsApplyOutcome : ActResult → Bool → applying.ApplyOutcome → Editor → Type 0
 IsApplyOutcome done held applying.TheVariants.NotHeld new = IsSilent done new × (held ≡ false)
 IsApplyOutcome done held applying.TheVariants.Dropped new = IsSilent done new × (held ≡ true)
@@ -55,8 +56,9 @@ IsApplyOutcome done held (applying.TheVariants.Made applied content) new =
 
 -- ---- applying an answer, step by step
 
--- States that this is the index, from 0, of the first answer to ask `k`, and that removing it
--- leaves the other answers (`answers_except`). For None, states that there is no such answer.
+-- States that this is the index, from 0, of the first answer to ask `k`, and that removing the
+-- answer at this index leaves the other answers (`answers_except`). For None, states that there is
+-- no such answer.
 abbrev pub IsIndexOfAnswer : List answer.HeldAnswer → ℕ → Option ℕ → Type 0
 IsIndexOfAnswer answers k (Some i) =
     (i < length answers)
@@ -81,16 +83,16 @@ text_notification r =
     let a : Applied
     = applied_of r.applied in notifies (Changed a.uri (pos r.version) (whole_text_change a.after ∷ []))
 
--- states that the act gives the document the new text, applies the edit, and sends the notification
--- of the new text
+-- states that the act with the result `done` gives the document the new text in `r`, applies the
+-- edit in `r`, and sends the notification of the new text
 pub record Rewrites (old : Editor) (done : ActResult) (r : rewritten.RewrittenDocument) : Type 0 where
   pub text : done.editor ≡ with_text old r
   pub applied : done.applied ≡ applied_of r.applied ∷ []
   pub says : done.sent ≡ text_notification r ∷ []
   pub few : r.version < 2 ^ 63
 
--- states that the act gives the document this new text (`Rewrites`), or that there is neither an
--- act nor a new text
+-- states that the act gives the document this new text (`Rewrites`), or that both the act and the
+-- new text are None
 abbrev pub IsRewritten : Editor → Option ActResult → Option rewritten.RewrittenDocument → Type 0
 IsRewritten e None None = ⊤
 IsRewritten e None (Some r) = ⊥

@@ -6,8 +6,8 @@
 //! openings increased. The exception is `apply`, which first removes the answer. So after an error
 //! in `apply` the answer is lost.
 //!
-//! A document's text is a `String`, and a text store is made for each change or edit. So the editor
-//! needs no invariant about the units of its stores.
+//! A document's text is stored as a `String`. A text store is made only while changes or edits are
+//! applied. So the editor needs no invariant about the units of text stores.
 ghost use Rattle.std.specs.Prelude.{◌≡◌, IfOk, OnOk, OnErr, map, option_map, is_some, ◌<◌, ◌-◌, ◌^◌, pos, string_bytes};
 ghost use Rattle.std.specs.Str.{chars};
 ghost use Rattle.ob0_text.specs.OpenDocuments.{text_change_of};
@@ -190,8 +190,8 @@ impl Editor {
         read_message(self.alloc, self.requested.as_slice(), content)
     }
 
-    /// Keeps the answer to ask `number` if the answer has edits. Returns whether it has edits. On an
-    /// error the editor is unchanged.
+    /// Keeps the answer to ask `number` if the answer has edits. Returns whether the answer has
+    /// edits. On an error the editor is unchanged.
     pub fn keep(&mut self, number: u64, edits: Vec<Edit>) -> Result<bool, AllocError>
         ensures kept { OnOk result
             (self.new ≡ after_reading self.old (answers number (replacements edits.items))) }
@@ -244,9 +244,9 @@ impl Editor {
         Some(answer.edits)
     }
 
-    /// Returns the document of request `k` with these edits made. None if there is no such
-    /// document, if its opening or version has changed since the request, or if two edits share a
-    /// character.
+    /// Returns the document of request `k` with these edits made. None if there is no such request,
+    /// if its document isn't open, if the document's opening or version has changed since the
+    /// request, or if two edits share a character.
     fn rewrite(&self, k: u64, edits: &[Edit]) -> Result<Option<RewrittenDocument>, AllocError>
         requires { CountsCanGrow self.now }
         ensures { IfOk result (λ rewritten.
@@ -322,8 +322,8 @@ impl Editor {
     }
 }
 
-/// Returns a request about a document, with copies of the ask, the uri and the document's present
-/// state.
+/// Returns a sent ask: copies of the ask and the uri, and the document's present text, opening and
+/// version.
 fn sent_ask(
     alloc: Global,
     ask: &Ask,

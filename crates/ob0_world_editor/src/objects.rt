@@ -3,7 +3,8 @@
 //!
 //! Each message of the editor is a type with its own `write`. An object with one member is a
 //! `OneMemberObject`. An object with two or three members is written by one call of a function of
-//! this file. The proof of that `write` applies `object_of` to the clause of the call.
+//! this file. The proof of such a `write` applies the lemma `object_of` (ob0_rpc) to the contract
+//! of that function.
 //!
 //! Each `?` makes the proof much slower. So a `write` has no `?`, except for objects with four
 //! members and for the list of changes.

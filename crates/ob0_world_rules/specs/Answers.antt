@@ -1,4 +1,5 @@
--- Defines the answer to each ask of an editor.
+-- Defines the answer to each ask of an editor. An ask is a request for edits: a rename, an inlining
+-- or a formatting.
 -- Rule: docs/PROTOCOL.md, Requests on documents 6 to 10.
 use Rattle.std.specs.Prelude.{◌≡◌, ◌⊎◌, ℕ, List, [], Bool, Option, Some, None, IsTrue, ◌↔◌, Vec}
 use Rattle.std.specs.declared.alloc.Global.{Global}
@@ -23,7 +24,7 @@ abbrev pub position_offset : Unit → List ℕ → Position → ℕ
 position_offset unit text position = offset_of (width_of unit) text position
 
 -- States that these edits inline the constant whose name is at this position. `how` says whether
--- they replace only the use there, or all uses.
+-- the edits replace only the use at this position, or all uses.
 abbrev pub InlinesAt : Inlining → Unit → List ℕ → Position → List Edit → Type 0
 InlinesAt how unit text position edits =
     (found : Vec Edit Global)
@@ -63,6 +64,7 @@ IsAnswer unit (Some (InStep version text)) ask given = IsAnswerForText unit text
 IsAnswer unit (Some OutOfStep) ask given = given ≡ []
 IsAnswer unit None ask given = given ≡ []
 
--- states that `empty` is true exactly when the text is a well-typed module
+-- States that a list of diagnostics is correct for this text: the list is empty exactly when the
+-- text is a well-typed module. `empty` says whether the list is empty.
 abbrev pub IsEmptyIfWellTyped : List ℕ → Bool → Type 0
 IsEmptyIfWellTyped text empty = IsTrue empty ↔ WellTypedText text

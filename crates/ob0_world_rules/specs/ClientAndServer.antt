@@ -61,15 +61,15 @@ request_numbered requested (suc k) = slice_get requested k
 abbrev pub open_at : Editor → List ℕ → Option OpenDocument
 open_at e uri = map_of.get e.documents uri
 
--- ---- the queues
+-- ---- the messages in the queues
 
--- a message to the server
+-- a message to the server: a notification about a document, or an ask
 pub data MessageToServer : Type 0 where
   notifies : DocumentEvent → MessageToServer
   -- the ask's number, the document's uri, and the ask
   requests : ℕ → List ℕ → Ask → MessageToServer
 
--- a message to the editor
+-- a message to the editor: a publication of diagnostics, or the answer to an ask
 pub data MessageToEditor : Type 0 where
   -- The document's uri and version, and whether the list of diagnostics is empty. When a document
   -- is closed, an empty list without a version is published.

@@ -39,8 +39,8 @@ text_after_changes unit text changes = fold (changed_text unit) text changes
 
 -- ---- the law
 
--- states that the model's edited text (`text_after_edits`, for replacements) is the text that results from
--- the code's edits (`patched`)
+-- states that two definitions of an edited text agree: `text_after_edits` for the model's
+-- replacements, and `patched` for the code's edits
 abbrev pub EditedEqualsPatched : Type 0
 EditedEqualsPatched =
     (unit : Unit) (text : List ℕ) (edits : List Edit)

@@ -1,5 +1,5 @@
 -- Defines the rules for an editor: which moves it may make, and which messages it sends. The
--- model's editor (`act_result`) keeps these rules and makes each move in one way.
+-- model's editor (`act_result`) keeps these rules and makes each move in only one way.
 -- Rule: LSP 3.17, Text Document Synchronization, versioned documents.
 use Rattle.std.specs.Prelude.{◌≡◌, ◌+◌, ℕ, ℤ, List, [], ◌∷◌, ◌++◌, map, Some}
 use Rattle.std.specs.FinMap as map_of
@@ -66,9 +66,9 @@ changes_of (r ∷ more) = r.sent_changes ++ changes_of more
 -- ---- answers
 
 -- States that the edits of the answer to request `k` are made in the document that was asked about,
--- all at once. The document still has the text that it had when the request was sent. The first
--- changes that are sent make the edited text. The rest are later changes of the user, which an
--- editor may send together with the edits.
+-- all at once. The document still has the text that it had when the request was sent. The changes
+-- `first` make the edited text, and are sent first. The changes `next` are later changes of the
+-- user, which an editor may send together with the edits.
 pub record AppliesAnswer (e : Editor) (k : ℕ) (revisions : List Revision) (done : ActResult)
     (announced : List AnnouncedDocument) : Type 0 where
   pub edits : List Replacement

@@ -40,14 +40,13 @@ initial_editor_and_server unit =
       made = [];
     }
 
--- returns the messages of a queue without those outside the model (`None`)
+-- returns the messages of a queue, in order, without the messages outside the model (`None`)
 abbrev pub modeled_messages : {A : Type 0} → List (Option A) → List A
 modeled_messages [] = []
 modeled_messages (None ∷ queue) = modeled_messages queue
 modeled_messages (Some message ∷ queue) = message ∷ modeled_messages queue
 
--- returns the notifications of a queue without its requests; a notification opens, changes or
--- closes a document
+-- returns the notifications about documents in a queue, in order, without the asks
 abbrev pub notifications_among : List MessageToServer → List MessageToServer
 notifications_among [] = []
 notifications_among (notifies note ∷ queue) = notifies note ∷ notifications_among queue
@@ -149,8 +148,9 @@ pub record HoldsWithEditor (w : EditorAndServer) : Type 0 where
   pub latest : notifications_among (modeled_messages w.to_server) ≡ [] → AreUpToDate w.editor w.made
   -- the server will have the editor's documents once it has taken the messages that wait for it
   pub mirrors : Mirrors (model_state_of w)
-  -- The publications are for the first documents that the editor announced, one for each, in order.
-  -- The messages that still wait for the server announce the other documents.
+  -- The publications are for the first documents that the editor announced (`published`), one for
+  -- each, in order. The messages that still wait for the server announce the other documents
+  -- (`waiting`).
   pub published : List AnnouncedDocument
   pub waiting : List AnnouncedDocument
   pub all : w.announced ≡ published ++ waiting

@@ -39,7 +39,7 @@ AreUpToDate e made =
     → MatchOption (last_publication uri made) ⊥
     (λ m. (m.version ≡ d.version) × (m.text ≡ d.text))
 
--- ---- the headline
+-- ---- the guarantees for a list of events
 
 -- states the guarantees for a state to which events lead
 pub record Holds (w : ClientAndServer) : Type 0 where

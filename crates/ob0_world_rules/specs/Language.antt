@@ -32,7 +32,8 @@ pub record IsModuleText (tree : Tree Name module_text) (bytes : List ℕ) : Type
   pub short : length bytes ≤ max_text
   pub shallow : nesting tree ≤ max_nesting
 
--- In the rest of this file a text is a list of characters.
+-- In the definitions above, a text is a list of bytes. In the definitions below, it is a list of
+-- characters.
 
 -- states that the text is a module whose tree is well-typed (LANGUAGE.md, Scopes and Types)
 pub record WellTypedText (text : List ℕ) : Type 0 where

@@ -71,7 +71,8 @@ CourseIsDetermined =
     → Course w events other
     → end ≡ other
 
--- States that the ask has an answer for each unit and text. The formula is a double negation.
+-- States that the ask has an answer for each unit and text. The formula is a double negation: it is
+-- impossible that no list of edits is an answer.
 abbrev pub HasAnswers : Ask → Type 0
 HasAnswers ask =
     (unit : Unit) (text : List ℕ)
@@ -88,8 +89,9 @@ IsAnswerable (editor_acts (discard k)) = ⊤
 IsAnswerable serve = ⊤
 IsAnswerable take_message = ⊤
 
--- States that a list of events leads from the start to some state, if its asks have answers. The
--- formula is a double negation. So a law about every such course is about at least one.
+-- States that each list of events leads from the start to some state, if its asks have answers. So
+-- the laws about all courses of events aren't vacuous. The formula is a double negation: it is
+-- impossible that the events lead to no state.
 abbrev pub CourseExists : Type 0
 CourseExists =
     (unit : Unit) (events : List Event)

@@ -1,5 +1,5 @@
--- Defines the order of publications: each is made for the next document that the editor announced
--- to the server.
+-- Defines the order of publications: the n-th publication with a version is made for the n-th
+-- document that the editor announced to the server by opening or changing it.
 -- Rule: docs/PROTOCOL.md, Publishing 1.
 use Rattle.std.specs.Prelude.{◌≡◌, ⊤, ℕ, ℤ, List, [], ◌∷◌, ◌++◌, map, Option, Some, None}
 use Rattle.std.specs.List.{flat_map}
@@ -84,8 +84,9 @@ versions_announced_in (message ∷ queue) = versions_announced_by message ++ ver
 abbrev pub versioned_uri : AnnouncedDocument → List ℕ × ℤ
 versioned_uri t = (t.uri, t.document.version)
 
--- States that the publications were made for the first documents that the editor announced, one for
--- each, in order. The messages that still wait for the server announce the other documents.
+-- States that the publications `made` were made for the first documents that the editor announced
+-- (`announced`), one for each, in order. The messages that still wait for the server announce the
+-- other documents (`waiting`).
 pub record AreMadeInOrder (unit : Unit) (events : List Event) (made : List PublicationWithText) : Type 0 where
   pub announced : List AnnouncedDocument
   pub waiting : List AnnouncedDocument

@@ -36,8 +36,8 @@ pub fn course_is_determined()
     ensures { CourseIsDetermined }
 {}
 
-/// Proves that a list of events leads from the start to some state, if its asks have answers. So a
-/// law about every such course is about at least one.
+/// Proves that each list of events leads from the start to some state, if its asks have answers. So
+/// the laws about all courses of events aren't vacuous.
 pub fn course_exists()
     ensures { CourseExists }
 {}

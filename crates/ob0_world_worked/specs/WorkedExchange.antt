@@ -31,8 +31,8 @@ inlined_text =
     ++ (with_line_feed (codes "  Write(x)")
     ++ with_line_feed (codes "END M."))))))))
 
--- The edits of the inlining as changes of ranges. The later range comes first, so its change
--- doesn't move the other range.
+-- The edits of the inlining as changes of ranges. The change later in the text is made first, so
+-- that it doesn't move the range of the other change.
 abbrev pub worked_changes : List TextChange
 worked_changes =
     record { range = Some (range_on_line 6 7 8); text = codes "2" }

@@ -20,7 +20,7 @@ use std::alloc::{AllocError, Global};
 /// The meaning of a declared name, with its type, value or parameters.
 #[derive(Drop)]
 pub(crate) enum Meaning {
-    /// A name that refers to this type.
+    /// A type's name. The variant has the type to which the name refers.
     Named(TypeId),
     /// A constant with this value, or with None if its right side has a fault.
     Constant(Option<Scalar>),
@@ -79,8 +79,8 @@ const SCALAR_SIZE: Size = Size {
 };
 
 impl Size {
-    /// Returns the size of an array of `count` elements that each have this size. A number that
-    /// doesn't fit 64 bits becomes 2^64 - 1.
+    /// Returns the size of an array of `count` elements that each have this size. The number of
+    /// scalars and the depth are capped at 2^64 - 1.
     pub(crate) fn size_of_array(self, count: usize) -> Size
         ensures { size_of result ≡ capped_size (array_size count (size_of self)) }
     {
@@ -91,7 +91,7 @@ impl Size {
     }
 
     /// Returns the size of two parts together, such as two fields: the sum of their scalars and the
-    /// greater of their depths. A number that doesn't fit 64 bits becomes 2^64 - 1.
+    /// greater of their depths. The sum is capped at 2^64 - 1.
     pub(crate) fn combine(self, other: Size) -> Size
         ensures { size_of result ≡ capped_size (sum_of_sizes (size_of self) (size_of other)) }
     {
@@ -102,7 +102,7 @@ impl Size {
     }
 
     /// Returns the size of a record whose fields together have this size. A record counts as at
-    /// least one scalar.
+    /// least one scalar. The depth is one more than the depth of the fields, capped at 2^64 - 1.
     pub(crate) fn size_of_record(self) -> Size
         ensures { size_of result ≡ capped_size (record_size (size_of self)) }
     {
@@ -166,7 +166,8 @@ impl<'t> CheckerState<'t> {
         }
     }
 
-    /// Reports a fault whose span extends from the start of one token to the end of another.
+    /// Appends a fault with this code to `faults`. The fault's span extends from the start of the
+    /// token `first` to the end of the token `last`.
     pub(crate) fn report(
         &self,
         faults: &mut Vec<Fault>,
@@ -188,7 +189,7 @@ impl<'t> CheckerState<'t> {
         Ok(())
     }
 
-    /// Reports a fault whose span is one token.
+    /// Appends a fault with this code to `faults`. The fault's span is the token `token`.
     pub(crate) fn report_at(
         &self,
         faults: &mut Vec<Fault>,
@@ -229,8 +230,8 @@ impl<'t> CheckerState<'t> {
         }
     }
 
-    /// Records the meaning of the declaration at a token. If the token has no ordinal, nothing
-    /// changes.
+    /// Records the meaning of the name that is declared at a token. If the token has no ordinal,
+    /// nothing changes.
     pub(crate) fn define(&mut self, token: usize, meaning: Meaning)
         ensures { declarations_in_state self.new ≡ define (declarations_in_state self.old) (meaning_view meaning) token }
     {

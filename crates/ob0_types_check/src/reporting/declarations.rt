@@ -20,7 +20,8 @@ use ob0_tree::{
 use ob0_types_table::{FormalParameter, TypeId};
 use std::alloc::AllocError;
 
-/// Appends the same formal parameter once for each of these names.
+/// Appends the parameter `formal` to `formals`, once for each name in `names`. The names share one
+/// type and one mode.
 fn add_formals(
     names: &Names,
     formal: FormalParameter,
@@ -37,7 +38,7 @@ fn add_formals(
 }
 
 impl<'t> CheckerState<'t> {
-    /// Records these names as variables of this type.
+    /// Records each name in `names` as a variable of the type `of`.
     fn define_all(&mut self, names: &Names, of: TypeId)
         ensures { declarations_in_state self.new
             ≡ define_all (declarations_in_state self.old) (a_variable of)
@@ -52,8 +53,8 @@ impl<'t> CheckerState<'t> {
 
 impl<'t> Reporter<'t> {
     /// Reports the faults of a block: constants, types, variables, procedures, and then the
-    /// statements if they are wanted. `own` is the token of the block's closing name. Appends to
-    /// `bodies_with_faults` the closing name of each walked body that has a fault.
+    /// statements if `wanted` includes the block's body. `own` is the token of the block's closing
+    /// name. Appends to `bodies_with_faults` the closing name of each walked body that has a fault.
     #[cycle(blocks)]
     pub(crate) fn report_block(
         &mut self,
@@ -182,8 +183,8 @@ impl<'t> Reporter<'t> {
         }
     }
 
-    /// Reports the faults of these sections of a heading, and appends their parameters to
-    /// `formals`.
+    /// Reports the faults of a heading's sections, one after another, and appends their parameters
+    /// to `formals`.
     fn report_sections(
         &mut self,
         sections: &[ParameterSection],

@@ -59,9 +59,9 @@ fn operand_type_of_multiplication(operator: MultiplyOperator) -> TypeId
     }
 }
 
-/// Returns the type that a relation requires of both operands. `=` and `#` compare two numbers or
-/// two truth values. If the left operand's type is unknown, `=` and `#` require nothing of the
-/// right operand. All other relations require INTEGER.
+/// Returns the type that a relation requires of both operands. For `=` and `#` this is INTEGER or
+/// BOOLEAN, depending on the left operand's type. If `left` is the unknown type, so is the result,
+/// and nothing is required. All other relations require INTEGER.
 fn operand_type_of_relation(relation: Relation, left: TypeId) -> TypeId
     ensures { result ≡ operand_type_of_relation (known_types []) relation left }
 {
@@ -104,15 +104,15 @@ fn type_of_comparison(operands: TypeId) -> TypeId
 }
 
 /// Returns whether the types are equal. Two array types, or two record types, are equal if they
-/// have the same index in the list of array and record types.
+/// have the same index in the checker's list of array and record types.
 pub(crate) fn same_type(a: TypeId, b: TypeId) -> bool
     ensures { result ≡ same_type a b }
 {
     a == b
 }
 
-/// Returns whether the type `of` is accepted if the type `wanted` is required. The unknown type is
-/// always accepted. If `wanted` is the unknown type, every type is accepted.
+/// Returns whether the two types are equal, or one of them is the unknown type. Otherwise a
+/// mismatch is reported if an operand of the type `of` is found and the type `wanted` is required.
 fn may_be_same_type(of: TypeId, wanted: TypeId) -> bool
     ensures { result ≡ may_be_same_type (known_types []) of wanted }
 {
@@ -162,8 +162,8 @@ impl Operand {
         }
     }
 
-    /// Returns the operand of a designator that extends this one up to the token `last`. The result
-    /// has the type `of` and no value.
+    /// Returns the operand of a designator that extends this operand's designator by a selector.
+    /// `last` is the last token of that selector. The result has the type `of` and no value.
     fn extend_designator(self, of: TypeId, last: usize) -> Operand
         ensures { operand_of result ≡ extended_operand (operand_of self) of last }
     {
@@ -191,8 +191,8 @@ impl<'t> CheckerState<'t> {
         self.report(faults, code, operand.first, operand.last)
     }
 
-    /// Reports a mismatch if the operand's type and the required type are both known and differ.
-    /// Returns the required type if the operand has this type, otherwise the unknown type.
+    /// Reports a mismatch if the operand's type and the required type `wanted` are both known and
+    /// differ. Returns `wanted` if the operand has this type, otherwise the unknown type.
     pub(crate) fn require_type(
         &self,
         faults: &mut Vec<Fault>,
@@ -327,8 +327,8 @@ impl<'t> CheckerState<'t> {
         Ok(left.join_operand(right, of, value))
     }
 
-    /// Returns the operand with its sign applied. A sign requires INTEGER, and a mismatch is
-    /// reported. Without a sign, the operand is returned unchanged.
+    /// Returns the operand of a sign and the operand after it. A sign requires INTEGER, and a
+    /// mismatch is reported. Without a sign (None), the operand is returned unchanged.
     fn check_sign(
         &self,
         faults: &mut Vec<Fault>,
@@ -434,7 +434,8 @@ impl<'t> CheckerState<'t> {
         }
     }
 
-    /// Returns the operand of an expression in parentheses, given the operand `inside` them.
+    /// Returns the operand of an expression in parentheses. `inside` is the operand of the
+    /// expression between the parentheses.
     fn parenthesised_operand(&self, inside: Operand) -> Operand
         ensures { operand_of result ≡ operand_in_parentheses (facts_in self.now false) (operand_of inside) }
     {
@@ -461,9 +462,9 @@ impl<'t> CheckerState<'t> {
         Ok(operand.prefixed_operand(of, operators::complement(operand.value)))
     }
 
-    /// Returns the operand of a name that must refer to a value: a constant, or a variable unless
-    /// `only_constants` is true. A type, a procedure or an excluded variable is reported. A name
-    /// without a known meaning isn't reported.
+    /// Returns the operand of the name at a token. The name must be a constant's or a variable's,
+    /// and any other name is reported. If `only_constants` is true, a variable's name is also
+    /// reported. A name without a known meaning isn't reported here.
     fn operand_of_name(
         &self,
         faults: &mut Vec<Fault>,
@@ -547,8 +548,8 @@ impl<'t> CheckerState<'t> {
         }
     }
 
-    /// Returns the operand of the element of `base` at `index`, and reports the faults of the
-    /// selection. The index must be INTEGER even if `base` isn't an array.
+    /// Returns the operand of the element that `index` selects in `base`, and reports the faults of
+    /// this selection. The index must be INTEGER even if `base` isn't an array.
     fn select_element(
         &self,
         faults: &mut Vec<Fault>,
@@ -676,8 +677,9 @@ impl<'t> CheckerState<'t> {
         self.operand_value(faults, constant_operand)
     }
 
-    /// Returns the value of a constant expression, or reports `ConstFault` if its evaluation fails.
-    /// If the expression's type is unknown, it isn't evaluated. The result is None in both cases.
+    /// Returns the value of a constant expression, given its operand. Reports `ConstFault` if the
+    /// operand has no value because the evaluation failed. If the operand's type is unknown,
+    /// nothing is reported. The result is None in both cases.
     fn operand_value(
         &self,
         faults: &mut Vec<Fault>,
@@ -697,8 +699,8 @@ impl<'t> CheckerState<'t> {
     }
 }
 
-/// Returns the operand of a constant's name at a token. The constant has this value, or None if its
-/// declaration has a fault.
+/// Returns the operand of a constant's name at a token. `value` is the constant's value, or None if
+/// the constant's declaration has a fault.
 fn constant_operand(value: Option<Scalar>, token: usize) -> Operand
     ensures { operand_of result
         ≡ constant_name_operand (known_types []) (option_map scalar_value value) token }

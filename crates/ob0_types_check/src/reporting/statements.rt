@@ -166,8 +166,9 @@ impl<'t> CheckerState<'t> {
         }
     }
 
-    /// Reports the faults of a call. The arguments of a procedure must fit its parameters. If the
-    /// name isn't a procedure's, the arguments may have any type.
+    /// Reports the faults of a call. The arguments must fit the parameters of the called procedure.
+    /// If the called name refers to something other than a procedure, the name is reported. In this
+    /// case, and if the name has no known meaning, the arguments may have any type.
     fn report_call(
         &self,
         faults: &mut Vec<Fault>,
@@ -192,8 +193,8 @@ impl<'t> CheckerState<'t> {
         }
     }
 
-    /// Reports that a called name isn't a procedure's, and then the faults of the arguments, which
-    /// may have any type.
+    /// Reports `WrongKind` at a called name that isn't a procedure's. Then reports the faults of
+    /// the arguments, which may have any type.
     fn report_not_a_procedure(
         &self,
         faults: &mut Vec<Fault>,

@@ -76,8 +76,8 @@ impl KnownFields {
 }
 
 /// Returns the token index of the word RECORD, given the record's groups of fields. Between RECORD
-/// and the first field's name there are only semicolons, one for each empty group. Returns 0 if the
-/// record has no fields.
+/// and the first field's name there are only semicolons, one for each empty group before this name.
+/// Returns 0 if the record has no fields.
 fn record_keyword(groups: &[Fields]) -> usize
     ensures { result ≡ record_keyword (items_of further_fields_of_group groups.now) }
 {
@@ -121,8 +121,9 @@ impl<'t> CheckerState<'t> {
         Ok(TypeId::Unknown)
     }
 
-    /// Returns the length of an array, given the operand of its length expression. A fault of the
-    /// length is reported. Returns None if the length has a fault or the operand's type is unknown.
+    /// Returns the length of an array, given the operand of its length expression. A length that
+    /// isn't INTEGER, has no value or isn't valid is reported. Returns None if a fault is reported
+    /// or the operand's type is unknown.
     fn check_length(
         &self,
         faults: &mut Vec<Fault>,
