@@ -44,7 +44,7 @@ around_both a b c r s h end p q before_r before_s left gone inside old_end new_e
       front =
           shorter_front h.from r.from A B before_r (omega (arith, p.inside_old)) (omega (arith, p.inside_new)) p.front
           ∙ shorter_front h.from s.from B C before_s (omega (arith, q.inside_old)) (omega (arith, q.inside_new)) q.front;
-      following =
+      behind =
           ap (λ n. drop n A) old_end ∙ sym (drop-drop k (r.from + r.removed) A) ∙ ap (drop k) p.behind ∙ drop-drop k (r.from + r.added) B
           ∙ ap (λ n. drop n B) same
           ∙ sym (drop-drop m (s.from + s.removed) B) ∙ ap (drop m) q.behind ∙ drop-drop m (s.from + s.added) C ∙ ap (λ n. drop n C) (sym new_end);
@@ -78,7 +78,7 @@ changed_there old new bytes put r to is_old is_new order inside removed added sh
       short_old = omega (arith, ap length is_old, short_old);
       short_new = short_new;
       front = ap (take r.from) is_old ∙ parts.0 ∙ ap (take r.from) (sym is_new);
-      following =
+      behind =
           ap (λ n. drop n (encode_utf8_all old)) (omega (arith, removed, order)) ∙ ap (drop to) is_old ∙ parts.1
           ∙ ap (λ n. drop (r.from + n) ((take r.from bytes ++ put) ++ drop to bytes)) (sym added) ∙ ap (drop (r.from + r.added)) (sym is_new);
     }
