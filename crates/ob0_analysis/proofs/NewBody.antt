@@ -24,7 +24,7 @@ use Rattle.ob0_parse_descent.proofs.Unique.{same}
 use Rattle.ob0_scope.specs.NewBody.{WasBoundBeforeNewBody}
 use Rattle.ob0_scope_table.specs.Bindings.{resolution_with}
 use Rattle.ob0_scope_table.specs.BodyPlaces.{body_place_around, module_tree_of}
-use Rattle.ob0_tree.specs.FirstIdentifier.{first_token_of}
+use Rattle.ob0_tree.specs.FirstIdentifier.{token_of_first_identifier}
 use Rattle.ob0_scope_table.specs.BodyReplaced.{IsBodyReplaced, PathToBody, body_at_path, closing_name_in_module, moved_token_index, path_to_body_in_module, module_without_body}
 use Rattle.ob0_scope_table.specs.OneBody.{is_outside}
 use Rattle.ob0_scope_table.proofs.BodyPlaces.{body_place_read}
@@ -33,7 +33,7 @@ use Rattle.ob0_scope_table.specs.declared.one_body.BodyPlace.{BodyPlace}
 use Rattle.ob0_scope_table.specs.declared.resolved.Bindings.{Bindings}
 use Rattle.ob0_types.specs.NewBody.{WereTypesBeforeNewBody}
 use Rattle.ob0_types.specs.declared.checked.ModuleTypes.{ModuleTypes}
-use Rattle.ob0_analysis.specs.ReuseConditions.{IsModuleBefore}
+use Rattle.ob0_analysis.specs.ReuseConditions.{WasModuleBeforeChange}
 use Rattle.ob0_analysis.specs.LastModule.{IsEarlierModule, IsLastModuleOf}
 use Rattle.ob0_analysis.specs.NewBody.{IsSameBody}
 use Rattle.ob0_analysis.specs.declared.last_module.LastModule.{LastModule}
@@ -60,7 +60,7 @@ up_to_name (EndOfText ∷ xs) n ns e = let h = up_to_name xs n ns e in record { 
 of_some : {a b : ℕ} → Some a ≡ Some b → a ≡ b
 of_some e = cc
 
-up_to_first : (ids : List (Role × ℕ)) (xs : List (Terminal ℕ)) (n : ℕ) → names_without_roles ids ≡ lexeme_names xs → first_token_of ids ≡ Some n → UpTo xs n
+up_to_first : (ids : List (Role × ℕ)) (xs : List (Terminal ℕ)) (n : ℕ) → names_without_roles ids ≡ lexeme_names xs → token_of_first_identifier ids ≡ Some n → UpTo xs n
 up_to_first [] xs n names e = absurd (cc (e))
 up_to_first (x ∷ ids) xs n names e =
     let same_name : x.1 ≡ n = of_some e in
@@ -76,7 +76,7 @@ record Opened (statements : Tree ℕ (maybe body)) (n : ℕ) : Type 0 where
   pub spelled : spell statements ≡ begin_mark ∷ (front ++ (Name n ∷ back))
   pub plain : NoBegin front
 
-opened : (statements : Tree ℕ (maybe body)) (n : ℕ) → first_token_of (identifiers role.Declaring statements) ≡ Some n → Opened statements n
+opened : (statements : Tree ℕ (maybe body)) (n : ℕ) → token_of_first_identifier (identifiers role.Declaring statements) ≡ Some n → Opened statements n
 opened none n e = absurd (cc (e))
 opened (one (begins s)) n e =
     let h = up_to_first (identifiers role.Declaring s) (spell s) n (leaves_spelled role.Declaring s) e in
@@ -110,7 +110,7 @@ record Halves (m : ParsedModule) (path : PathToBody) (first closing : ℕ) : Typ
   pub closes : before + 1 ≡ closing
   pub back_is : back ≡ drop before (marked 0 (kinds m.source.tokens))
 
-halves : (m : ParsedModule) → IsParsed m → (path : PathToBody) (first closing : ℕ) → first_token_of (identifiers role.Declaring (body_at_path path (tree_of m))) ≡ Some first → closing_name_in_module path (tree_of m) ≡ closing → Halves m path first closing
+halves : (m : ParsedModule) → IsParsed m → (path : PathToBody) (first closing : ℕ) → token_of_first_identifier (identifiers role.Declaring (body_at_path path (tree_of m))) ≡ Some first → closing_name_in_module path (tree_of m) ≡ closing → Halves m path first closing
 halves m parsed path first closing is_first is_closing =
     let t : Tree ℕ module_text = tree_of m in
     let c : ℕ = closing_name_in_module path t in
@@ -225,7 +225,7 @@ body_replaced old new s old_scan new_scan old_parsed new_parsed tokens written p
     let first : ℕ = place.first in
     let p = body_place_read s.prefix s.old_suffix (tree_of old) place placed in
     let q = body_place_read s.prefix s.new_suffix (tree_of new) b.place b.is in
-    let is_first : first_token_of (identifiers role.Declaring (body_at_path new_path (tree_of new))) ≡ Some first = q.first ∙ ap Some (sym b.first) in
+    let is_first : token_of_first_identifier (identifiers role.Declaring (body_at_path new_path (tree_of new))) ≡ Some first = q.first ∙ ap Some (sym b.first) in
     let was = halves old old_parsed path first place.closing p.first p.closes in
     let is = halves new new_parsed new_path first b.place.closing is_first q.closes in
     let moved_too : module_without_body new_path (tree_of new) ≡ mapped_tree (moved_token_index s) (moved_token_index s) (module_without_body path (tree_of old)) =
@@ -248,8 +248,8 @@ body_replaced old new s old_scan new_scan old_parsed new_parsed tokens written p
       old_in_body = p.is_bound_to_declaration;
       new_in_body = q.is_bound_to_declaration;
       first = first;
-      old_first = p.first;
-      new_first = subst (λ w. first_token_of (identifiers role.Declaring (body_at_path w (tree_of new))) ≡ Some first) one_way is_first;
+      first_identifier_of_old_body = p.first;
+      first_identifier_of_new_body = subst (λ w. token_of_first_identifier (identifiers role.Declaring (body_at_path w (tree_of new))) ≡ Some first) one_way is_first;
       front = b.front;
       back = subst (λ n. s.old_suffix < n) (sym p.closes) b.back;
       closing = subst (λ w. closing_name_in_module w (tree_of new) ≡ moved_token_index s (closing_name_in_module path (tree_of old))) one_way closes;
@@ -258,7 +258,7 @@ body_replaced old new s old_scan new_scan old_parsed new_parsed tokens written p
 -- ---- the reused results
 
 -- If the previous text was a module, `IsEarlierModule` holds for it; all other facts about it are dropped.
-abbrev pub had_module : (c : RescanInPlace) (tree : ModuleTree) (b : Bindings) (types : ModuleTypes) (places : FaultPlaces) → IsModuleBefore c tree b types places → IsEarlierModule c.rescan.tokens tree b types c.same
+abbrev pub had_module : (c : RescanInPlace) (tree : ModuleTree) (b : Bindings) (types : ModuleTypes) (places : FaultPlaces) → WasModuleBeforeChange c tree b types places → IsEarlierModule c.rescan.tokens tree b types c.same
 had_module c tree b types places h = record {
   old = h.old;
   old_scan = h.old_scan;

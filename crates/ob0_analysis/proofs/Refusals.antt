@@ -19,19 +19,19 @@ same_depth e = cc
 not_deep : {i j : ℕ} {x : Expected} → Expects i x ≡ Deep j → ⊥
 not_deep e = cc
 
-same_complaint : (s : TextWithTokens) (p q : ParseRefusal) (c d : ReportedDiagnosis) → StopIsUnique → IsRightParseRefusal s p → IsRightParseRefusal s q → ReportsRefusal s p c → ReportsRefusal s q d → c ≡ d
-same_complaint s (Syntax i x) (Syntax j y) c d one p q a b =
+same_parser_diagnosis : (s : TextWithTokens) (p q : ParseRefusal) (c d : ReportedDiagnosis) → StopIsUnique → IsRightParseRefusal s p → IsRightParseRefusal s q → ReportsRefusal s p c → ReportsRefusal s q d → c ≡ d
+same_parser_diagnosis s (Syntax i x) (Syntax j y) c d one p q a b =
     let same = same_place (one _ _ _ _ _ p.2 q.2) in
     a ∙ (ap (λ k. syntax_error (expected_text x) (token_span_or_end s k)) same.0 ∙ (ap (λ z. syntax_error (expected_text z) (token_span_or_end s j)) same.1 ∙ sym b))
-same_complaint s (TooDeep i) (TooDeep j) c d one p q a b = a ∙ (ap (λ k. depth_error (token_span_or_end s k)) (same_depth (one _ _ _ _ _ p.2 q.2)) ∙ sym b)
-same_complaint s (Syntax i x) (TooDeep j) c d one p q a b = absurd (not_deep (one _ _ _ _ _ p.2 q.2))
-same_complaint s (TooDeep i) (Syntax j y) c d one p q a b = absurd (not_deep (one _ _ _ _ _ q.2 p.2))
-same_complaint s Memory q c d one p r a b = absurd a
-same_complaint s p Memory c d one r q a b = absurd b
+same_parser_diagnosis s (TooDeep i) (TooDeep j) c d one p q a b = a ∙ (ap (λ k. depth_error (token_span_or_end s k)) (same_depth (one _ _ _ _ _ p.2 q.2)) ∙ sym b)
+same_parser_diagnosis s (Syntax i x) (TooDeep j) c d one p q a b = absurd (not_deep (one _ _ _ _ _ p.2 q.2))
+same_parser_diagnosis s (TooDeep i) (Syntax j y) c d one p q a b = absurd (not_deep (one _ _ _ _ _ q.2 p.2))
+same_parser_diagnosis s Memory q c d one p r a b = absurd a
+same_parser_diagnosis s p Memory c d one r q a b = absurd b
 
 pub refusal_is_unique : OneScan → StopIsUnique → RefusalIsUnique
 refusal_is_unique scans stops text a b p q =
     let same : q.scanned ≡ p.scanned = scans q.scanned p.scanned q.scan.scan p.scan.scan (q.scan.of ∙ sym p.scan.of) in
     let refused : IsRightParseRefusal p.scanned q.refusal = subst (λ (s : TextWithTokens). IsRightParseRefusal s q.refusal) same q.refused in
-    let reports_refusal : ReportsRefusal p.scanned q.refusal q.complaint = subst (λ (s : TextWithTokens). ReportsRefusal s q.refusal q.complaint) same q.reports_refusal in
-    p.only_complaint ∙ (ap (λ c. c ∷ []) (same_complaint p.scanned p.refusal q.refusal p.complaint q.complaint stops p.refused refused p.reports_refusal reports_refusal) ∙ sym q.only_complaint)
+    let reports_refusal : ReportsRefusal p.scanned q.refusal q.parser_diagnosis = subst (λ (s : TextWithTokens). ReportsRefusal s q.refusal q.parser_diagnosis) same q.reports_refusal in
+    p.only_diagnosis ∙ (ap (λ c. c ∷ []) (same_parser_diagnosis p.scanned p.refusal q.refusal p.parser_diagnosis q.parser_diagnosis stops p.refused refused p.reports_refusal reports_refusal) ∙ sym q.only_diagnosis)

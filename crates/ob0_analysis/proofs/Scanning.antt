@@ -59,9 +59,9 @@ refused_is_none s Memory one scan by decided = absurd decided
 pub finds_parser : (s : TextWithTokens) (refusal : ParseRefusal) (c : ReportedDiagnosis) → OneScan → IsScan s → IsRightParseRefusal s refusal → ReportsRefusal s refusal c
     → ¬ IsWellTypedModule s.text × ReportsFaults s.text (c ∷ [])
 finds_parser s (Syntax i expected) c one scan by at =
-    (unformed s i one scan by.1, inr (inl (record { scanned = s; scan = record { of = refl; scan = scan }; refusal = Syntax i expected; refused = by; complaint = c; reports_refusal = at; only_complaint = refl })))
+    (unformed s i one scan by.1, inr (inl (record { scanned = s; scan = record { of = refl; scan = scan }; refusal = Syntax i expected; refused = by; parser_diagnosis = c; reports_refusal = at; only_diagnosis = refl })))
 finds_parser s (TooDeep i) c one scan by at =
-    (unformed s i one scan by.1, inr (inl (record { scanned = s; scan = record { of = refl; scan = scan }; refusal = TooDeep i; refused = by; complaint = c; reports_refusal = at; only_complaint = refl })))
+    (unformed s i one scan by.1, inr (inl (record { scanned = s; scan = record { of = refl; scan = scan }; refusal = TooDeep i; refused = by; parser_diagnosis = c; reports_refusal = at; only_diagnosis = refl })))
 finds_parser s Memory c one scan by at = absurd at
 
 abbrev pub OneTree : Type 0

@@ -9,9 +9,9 @@ use Rattle.ob0_parse_descent.specs.declared.refusal.ParseRefusal.{ParseRefusal}
 use Rattle.ob0_parse_descent.specs.declared.refusal.ParseRefusal.TheVariants.{Syntax, TooDeep, Memory}
 use Rattle.ob0_analysis.specs.LastModule.{IsLastModuleOf}
 use Rattle.ob0_analysis.specs.declared.analysis.AnalysisResult.{AnalysisResult}
-use Rattle.ob0_analysis.specs.declared.analysis.AnalysisResult.TheVariants.{NoLexemes, Read}
+use Rattle.ob0_analysis.specs.declared.analysis.AnalysisResult.TheVariants.{Unscannable, Read}
 use Rattle.ob0_analysis.specs.declared.scanned_text.ReanalysisFailure.{ReanalysisFailure}
-use Rattle.ob0_analysis.specs.declared.scanned_text.ReanalysisFailure.TheVariants as not_read
+use Rattle.ob0_analysis.specs.declared.scanned_text.ReanalysisFailure.TheVariants as reanalysis_failure
 use Rattle.ob0_analysis.specs.declared.scanned_text.ParseOutcome.{ParseOutcome}
 use Rattle.ob0_analysis.specs.declared.scanned_text.ParseOutcome.TheVariants.{NoTree, Module}
 
@@ -46,18 +46,18 @@ IsValidOutcome (Module m) = Unit {0}
 -- the text can't be scanned, and these are the lexical faults to report for it (`AreFaults`).
 -- Always holds for lack of memory.
 abbrev pub IsReanalysisFailure : List ℕ → ReanalysisFailure → Type 0
-IsReanalysisFailure text (not_read.Faults faults last) = (IsScannable text → ⊥) × AreFaults text faults.items
-IsReanalysisFailure text not_read.Memory = Unit {0}
+IsReanalysisFailure text (reanalysis_failure.Faults faults last) = (IsScannable text → ⊥) × AreFaults text faults.items
+IsReanalysisFailure text reanalysis_failure.Memory = Unit {0}
 
 -- returns the text that was analysed
 abbrev pub text_of : AnalysisResult → List ℕ
-text_of (NoLexemes ill) = string_bytes ill.text
+text_of (Unscannable ill) = string_bytes ill.text
 text_of (Read read) = read
 
 -- States that the result of analysing a text is right. If the result is lexical faults, the text
 -- can't be scanned, and these are the lexical faults to report for it (`AreFaults`). For any other
 -- result this always holds, because a `ScannedText` has its own invariant.
 abbrev pub IsValidAnalysisResult : AnalysisResult → Type 0
-IsValidAnalysisResult (NoLexemes ill) =
+IsValidAnalysisResult (Unscannable ill) =
     (IsScannable (string_bytes ill.text) → ⊥) × AreFaults (string_bytes ill.text) ill.faults.items
 IsValidAnalysisResult (Read read) = Unit {0}

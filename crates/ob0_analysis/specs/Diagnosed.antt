@@ -55,7 +55,7 @@ reported_diagnosis_of_fault fault =
 
 -- States that the text can't be scanned and that the list reports its lexical faults, at most the
 -- first hundred.
-pub record ReportsLexemes (text : List ℕ) (reported : List ReportedDiagnosis) : Type 0 where
+pub record ReportsLexicalFaults (text : List ℕ) (reported : List ReportedDiagnosis) : Type 0 where
   pub unscannable : IsScannable text → ⊥
   pub faults : List Fault
   pub of_text : AreFaults text faults
@@ -91,21 +91,21 @@ ReportsRefusal s (TooDeep token) c = c ≡ depth_error (token_span_or_end s toke
 ReportsRefusal s Memory c = ⊥
 
 -- States that the text scans and the parser refuses it. The list must have only one error
--- (`complaint`), which reports the parser's refusal.
-pub record ReportsParser (text : List ℕ) (reported : List ReportedDiagnosis) : Type 0 where
+-- (`parser_diagnosis`), which reports the parser's refusal.
+pub record ReportsParserRefusal (text : List ℕ) (reported : List ReportedDiagnosis) : Type 0 where
   pub scanned : TextWithTokens
   pub scan : IsScanOf text scanned
   pub refusal : ParseRefusal
   pub refused : IsRightParseRefusal scanned refusal
-  pub complaint : ReportedDiagnosis
-  pub reports_refusal : ReportsRefusal scanned refusal complaint
-  pub only_complaint : reported ≡ complaint ∷ []
+  pub parser_diagnosis : ReportedDiagnosis
+  pub reports_refusal : ReportsRefusal scanned refusal parser_diagnosis
+  pub only_diagnosis : reported ≡ parser_diagnosis ∷ []
 
 -- ---- the errors of a text with a tree that isn't well-typed
 
 -- States that the text has a tree that isn't well-typed. The list must report the first faults of
 -- the text's names and types: at least one, and at most a hundred.
-pub record ReportsTypes (text : List ℕ) (reported : List ReportedDiagnosis) : Type 0 where
+pub record ReportsNameAndTypeFaults (text : List ℕ) (reported : List ReportedDiagnosis) : Type 0 where
   pub names : Resolution
   pub resolved : IsResolution names
   pub scan : IsScanOf text names.module_read.source
@@ -122,7 +122,7 @@ pub record ReportsTypes (text : List ℕ) (reported : List ReportedDiagnosis) : 
 -- text's lexical faults, or the parser's refusal, or the faults of names and types.
 abbrev pub ReportsFaults : List ℕ → List ReportedDiagnosis → Type 0
 ReportsFaults text reported =
-    ReportsLexemes text reported ⊎ (ReportsParser text reported ⊎ ReportsTypes text reported)
+    ReportsLexicalFaults text reported ⊎ (ReportsParserRefusal text reported ⊎ ReportsNameAndTypeFaults text reported)
 
 -- States that the list has exactly the errors to report for the text. The list is empty if the text
 -- is a well-typed module. Otherwise the list reports the text's errors.
@@ -136,4 +136,4 @@ Reports text reported =
 -- States that two reports of the parser's refusal are equal if they are about the same text.
 abbrev pub RefusalIsUnique : Type 0
 RefusalIsUnique =
-    (text : List ℕ) (a b : List ReportedDiagnosis) → ReportsParser text a → ReportsParser text b → a ≡ b
+    (text : List ℕ) (a b : List ReportedDiagnosis) → ReportsParserRefusal text a → ReportsParserRefusal text b → a ≡ b

@@ -30,7 +30,7 @@ use Rattle.ob0_analysis.specs.declared.fault_places.FaultPlaces.{FaultPlaces}
 -- - The kept trees (`kept_trees`) belong to the tokens of `old`. If `c` reports that all tokens
 --   have the same kinds, these trees also belong to the new tokens.
 -- - `last` is None, or it has the names and types of the last module before `old`.
-pub record AreKeptBefore (c : RescanInPlace) (kept_trees : KeptTrees) (last : Option LastModule) : Type 0 where
+pub record AreKeptResultsBeforeChange (c : RescanInPlace) (kept_trees : KeptTrees) (last : Option LastModule) : Type 0 where
   pub old : TextWithTokens
   pub new_scan : IsScan c.rescan.tokens
   pub same : HasSameKinds c.same old.tokens c.rescan.tokens.tokens
@@ -49,16 +49,16 @@ pub record AreFaultPlacesOf
 
 -- States that the bindings `c` equal `b`, except for their faults. The faults of `c` have the codes
 -- and tokens in `places`, and their spans are computed from these tokens of the text `source`.
-pub record HasFaultsAt
+pub record HasSameBindingsWithFaultsAt
     (source : TextWithTokens) (b : Bindings) (places : List FaultByTokens) (c : Bindings) : Type 0 where
   pub ordinals : c.ordinals.items ≡ b.ordinals.items
-  pub declarations : c.declarations.items ≡ b.declarations.items
+  pub declaration_tokens : c.declaration_tokens.items ≡ b.declaration_tokens.items
   pub occurrences : c.occurrences.items ≡ b.occurrences.items
   pub faults : c.faults.items ≡ map (fault_at source) places
 
 -- States that `moved` equals `types`, except for the faults. The faults of `moved` have the codes
 -- and tokens in `places`, and their spans are computed from these tokens of the text `source`.
-pub record HasTypesAt
+pub record HasSameTypesWithFaultsAt
     (source : TextWithTokens) (types : ModuleTypes) (places : List FaultByTokens) (moved : ModuleTypes)
     : Type 0 where
   pub known : moved.known ≡ types.known
@@ -80,7 +80,7 @@ pub record IsModuleWithFaultPlaces
 -- its types, and faults at these places. The scan `c` of the changed text must be right about the
 -- tokens that both texts share. If `c` reports that all kinds, all names or all spellings are the
 -- same, it must also be right about that.
-pub record IsModuleBefore
+pub record WasModuleBeforeChange
     (c : RescanInPlace) (tree : ModuleTree) (b : Bindings) (types : ModuleTypes)
     (places : FaultPlaces) : Type 0 where
   pub old : TextWithTokens

@@ -74,7 +74,7 @@ pub(crate) struct UnscannableText {
 /// The result of analysing a text: its lexical faults, or the analysis of its tokens.
 #[derive(Drop)]
 pub(crate) enum AnalysisResult {
-    NoLexemes(UnscannableText),
+    Unscannable(UnscannableText),
     Read(ScannedText),
 }
 
@@ -142,7 +142,7 @@ impl Analysis {
     {
         let Analysis { outcome, room } = self;
         match outcome {
-            AnalysisResult::NoLexemes(ill) => Analysis::analyse_after_faults(
+            AnalysisResult::Unscannable(ill) => Analysis::analyse_after_faults(
                 alloc, ill, room, text,
             ),
             AnalysisResult::Read(read) => {
@@ -218,7 +218,7 @@ impl Analysis {
     {
         let text = String::from_str(alloc, text)?;
         Ok(Analysis {
-            outcome: AnalysisResult::NoLexemes(UnscannableText { text, faults, last }),
+            outcome: AnalysisResult::Unscannable(UnscannableText { text, faults, last }),
             room,
         })
     }
@@ -228,7 +228,7 @@ impl Analysis {
         ensures { result.now ≡ self.now }
     {
         match &self.outcome {
-            AnalysisResult::NoLexemes(ill) => ill.text.as_str(),
+            AnalysisResult::Unscannable(ill) => ill.text.as_str(),
             AnalysisResult::Read(read) => read.text(),
         }
     }
@@ -241,7 +241,7 @@ impl Analysis {
     {
         let own = self.text().len();
         match &self.outcome {
-            AnalysisResult::NoLexemes(_) => own.saturating_add(self.room),
+            AnalysisResult::Unscannable(_) => own.saturating_add(self.room),
             AnalysisResult::Read(_) => own.max(self.room),
         }
     }
@@ -253,7 +253,7 @@ impl Analysis {
             (λ m. IsScanOf self.now m.now.module_read.source) }
     {
         match &self.outcome {
-            AnalysisResult::NoLexemes(_) => None,
+            AnalysisResult::Unscannable(_) => None,
             AnalysisResult::Read(read) => read.module_parts(),
         }
     }
@@ -271,7 +271,7 @@ impl Analysis {
         // The proof needs the invariant of the analysis, which this call's contract states.
         let _text = self.text();
         match &self.outcome {
-            AnalysisResult::NoLexemes(ill) => diagnoses_of_faults(alloc, ill.faults.as_slice()),
+            AnalysisResult::Unscannable(ill) => diagnoses_of_faults(alloc, ill.faults.as_slice()),
             AnalysisResult::Read(read) => read.diagnoses(alloc),
         }
     }

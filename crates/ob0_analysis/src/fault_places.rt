@@ -3,7 +3,7 @@
 
 ghost use Rattle.std.specs.Prelude.{◌≡◌, ◌==◌, true, IfOk, map};
 ghost use Rattle.ob0_scope_table.specs.FaultTokens.{fault_at, first_token_start};
-ghost use Rattle.ob0_analysis.specs.ReuseConditions.{AreFaultPlacesOf, HasFaultsAt, HasTypesAt};
+ghost use Rattle.ob0_analysis.specs.ReuseConditions.{AreFaultPlacesOf, HasSameBindingsWithFaultsAt, HasSameTypesWithFaultsAt};
 
 use ob0_scan::Tokens;
 use ob0_scope_table::{Bindings, FaultByTokens, faults_at_tokens, faults_by_tokens, token_span};
@@ -64,18 +64,18 @@ pub(crate) fn move_binding_faults(
     bindings: Bindings,
     places: &FaultPlaces,
 ) -> Result<Bindings, AllocError>
-    ensures { IfOk result (HasFaultsAt tokens.now bindings places.now.names.items) }
+    ensures { IfOk result (HasSameBindingsWithFaultsAt tokens.now bindings places.now.names.items) }
 {
     let faults = faults_at_tokens(alloc, tokens, &places.names)?;
     let Bindings {
         ordinals,
-        declarations,
+        declaration_tokens,
         occurrences,
         faults: _,
     } = bindings;
     Ok(Bindings {
         ordinals,
-        declarations,
+        declaration_tokens,
         occurrences,
         faults,
     })
@@ -90,7 +90,7 @@ pub(crate) fn move_type_faults(
     types: ModuleTypes,
     places: &FaultPlaces,
 ) -> Result<ModuleTypes, AllocError>
-    ensures { IfOk result (HasTypesAt tokens.now types places.now.types.items) }
+    ensures { IfOk result (HasSameTypesWithFaultsAt tokens.now types places.now.types.items) }
 {
     let faults = faults_at_tokens(alloc, tokens, &places.types)?;
     let ModuleTypes {

@@ -8,8 +8,8 @@
 //! (`reuse_last_module`).
 //!
 //! The earlier module's tree isn't kept when the parser refuses the next text, so the body can't be
-//! found again later. From then on, the whole body counts as different (`widen_to_body`), and any
-//! further change must lie in the same body (`keep_if_any`).
+//! found again later. After that, the whole body counts as different (`widen_to_body`), and any
+//! further change must lie in the same body (`keep_optional_across_change`).
 
 ghost use Rattle.std.specs.Prelude.{◌≡◌, ◌≤◌, IfSome, Some};
 ghost use Rattle.ob0_analysis.specs.LastModule.{IsEarlierModule, WidensDifference, KeepsLastModule, IsLastModuleOf};
@@ -59,7 +59,10 @@ impl LastModule {
     /// Keeps the names and types of the last module when the text changes again. `change` describes
     /// the tokens that this change keeps. Returns None if `last` is None, or if the change doesn't
     /// lie in the body that contains all earlier differences.
-    pub(crate) fn keep_if_any(last: Option<LastModule>, change: SameParts) -> Option<LastModule>
+    pub(crate) fn keep_optional_across_change(
+        last: Option<LastModule>,
+        change: SameParts,
+    ) -> Option<LastModule>
         ensures { KeepsLastModule last change result }
     {
         match last {

@@ -11,9 +11,9 @@ ghost use Rattle.ob0_scope_table.specs.Bindings.{resolution_with};
 ghost use Rattle.ob0_scope_table.specs.Resolution.{IsResolution};
 ghost use Rattle.ob0_parse.specs.KeptTokens.{AreInPlace};
 ghost use Rattle.ob0_analysis.specs.AnalysisInvariants.{IsValidOutcome, IsRefusedByParser, IsReanalysisFailure};
-ghost use Rattle.ob0_analysis.specs.ReuseConditions.{AreKeptBefore, IsModuleBefore, IsFailureAfterModule, IsFailureAfterRefusal, IsModuleWithSameSpelling};
+ghost use Rattle.ob0_analysis.specs.ReuseConditions.{AreKeptResultsBeforeChange, WasModuleBeforeChange, IsFailureAfterModule, IsFailureAfterRefusal, IsModuleWithSameSpelling};
 ghost use Rattle.ob0_analysis.specs.LastModule.{IsEarlierModule, IsLastModuleOf};
-ghost use Rattle.ob0_analysis.specs.declared.scanned_text.ReanalysisFailure.TheVariants as not_read;
+ghost use Rattle.ob0_analysis.specs.declared.scanned_text.ReanalysisFailure.TheVariants as reanalysis_failure;
 ghost use Rattle.ob0_analysis.specs.declared.scanned_text.ParseOutcome.TheVariants.{NoTree};
 ghost use Rattle.ob0_analysis.specs.Diagnosed.{IsWellTypedModule, Reports, reported_diagnosis_of};
 ghost use Rattle.ob0_analysis.specs.OneBody.{IsEarlierModuleWithSameKinds};
@@ -61,7 +61,7 @@ pub(crate) enum ParseOutcome {
 /// The analysis of a text that has lexemes.
 #[derive(Drop)]
 pub(crate) struct ScannedText {
-    reading: ParseOutcome,
+    parse_outcome: ParseOutcome,
 }
 
 impl Model for ScannedText {
@@ -71,9 +71,9 @@ impl Model for ScannedText {
 
     ghost use Rattle.ob0_analysis.specs.AnalysisInvariants.{text_of_outcome, IsValidOutcome};
 
-    ghost view = { λ r. text_of_outcome r.reading };
+    ghost view = { λ r. text_of_outcome r.parse_outcome };
 
-    ghost invariant = { λ r. IsValidOutcome r.reading };
+    ghost invariant = { λ r. IsValidOutcome r.parse_outcome };
 }
 
 /// The reason why a changed text can't be analysed: its lexical faults, or lack of memory. The
@@ -85,7 +85,7 @@ pub(crate) enum ReanalysisFailure {
 }
 
 impl From<AllocError> for ReanalysisFailure {
-    ghost from_gives = { λ _ e. e ≡ not_read.Memory };
+    ghost from_gives = { λ _ e. e ≡ reanalysis_failure.Memory };
 
     fn from(_error: AllocError) -> ReanalysisFailure {
         ReanalysisFailure::Memory
@@ -110,7 +110,7 @@ impl ScannedText {
             Ok(tree) => ScannedText::analyse_tree(alloc, tokens, tree, last),
             Err(ParseRefusal::Memory) => Err(AllocError),
             Err(refusal) => Ok(ScannedText {
-                reading: ParseOutcome::NoTree(UnparsableText {
+                parse_outcome: ParseOutcome::NoTree(UnparsableText {
                     tokens,
                     refusal,
                     kept,
@@ -144,7 +144,7 @@ impl ScannedText {
         ensures { result ≡ parts.module_read.source.text }
     {
         ScannedText {
-            reading: ParseOutcome::Module(parts),
+            parse_outcome: ParseOutcome::Module(parts),
         }
     }
 
@@ -165,8 +165,8 @@ impl ScannedText {
         ensures ok { IfOk result (λ r. r ≡ text.now) }
         ensures err { IfErr result (IsReanalysisFailure text.now) }
     {
-        let ScannedText { reading } = self;
-        match reading {
+        let ScannedText { parse_outcome } = self;
+        match parse_outcome {
             ParseOutcome::NoTree(ill) => ScannedText::analyse_after_refusal(alloc, ill, text),
             ParseOutcome::Module(parts) => ScannedText::analyse_after_module(alloc, parts, text),
         }
@@ -212,7 +212,7 @@ impl ScannedText {
         match unread {
             RescanRefusal::Faults(faults, tokens) => {
                 let before = ScannedText {
-                    reading: ParseOutcome::NoTree(UnparsableText {
+                    parse_outcome: ParseOutcome::NoTree(UnparsableText {
                         tokens,
                         refusal,
                         kept,
@@ -236,7 +236,7 @@ impl ScannedText {
         last: Option<LastModule>,
     ) -> Result<ScannedText, AllocError>
         requires same_kinds { changed.same_kinds ≡ true → IsRefusedByParser changed.rescan.tokens refusal }
-        requires before { AreKeptBefore changed kept last }
+        requires before { AreKeptResultsBeforeChange changed kept last }
         ensures { IfOk result (λ r. r ≡ changed.rescan.tokens.text) }
     {
         let RescanInPlace {
@@ -247,13 +247,13 @@ impl ScannedText {
             same_words: _,
         } = changed;
         let tokens = rescan.tokens;
-        let last = LastModule::keep_if_any(last, same);
+        let last = LastModule::keep_optional_across_change(last, same);
         if !same_kinds {
             let kept = kept.relocate(alloc, same)?;
             return ScannedText::parse_tokens(alloc, tokens, kept, last);
         }
         Ok(ScannedText {
-            reading: ParseOutcome::NoTree(UnparsableText {
+            parse_outcome: ParseOutcome::NoTree(UnparsableText {
                 tokens,
                 refusal,
                 kept,
@@ -317,7 +317,7 @@ impl ScannedText {
         types: ModuleTypes,
         places: FaultPlaces,
     ) -> Result<ScannedText, AllocError>
-        requires { IsModuleBefore changed tree bindings types places }
+        requires { WasModuleBeforeChange changed tree bindings types places }
         ensures { IfOk result (λ r. r ≡ changed.rescan.tokens.text) }
     {
         bindings_depend_on_names();
@@ -439,7 +439,7 @@ impl ScannedText {
     pub(crate) fn text(&self) -> &str
         ensures { result.now ≡ self.now }
     {
-        match &self.reading {
+        match &self.parse_outcome {
             ParseOutcome::NoTree(ill) => ill.tokens.text(),
             ParseOutcome::Module(parts) => parts.tokens().text(),
         }
@@ -452,7 +452,7 @@ impl ScannedText {
             (λ m. IsScanOf self.now m.now.module_read.source) }
     {
         scan_is_unique();
-        match &self.reading {
+        match &self.parse_outcome {
             ParseOutcome::NoTree(ill) => {
                 // The proof needs the invariant of the tokens, which this call's contract states.
                 let _text = ill.tokens.text();
@@ -470,7 +470,7 @@ impl ScannedText {
     pub(crate) fn diagnoses(&self, alloc: Global) -> Result<Vec<Diagnosis>, AllocError>
         ensures { IfOk result (λ list. Reports self.now (map reported_diagnosis_of list.items)) }
     {
-        match &self.reading {
+        match &self.parse_outcome {
             ParseOutcome::NoTree(ill) => diagnose_refusal(alloc, &ill.tokens, &ill.refusal),
             ParseOutcome::Module(parts) => diagnose_module(alloc, parts),
         }

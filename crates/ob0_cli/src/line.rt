@@ -212,14 +212,14 @@ fn command_line_of<'a>(matches: &ArgMatches<'a>) -> CommandLine<'a>
     ensures { YieldsCommandLine (subcommand_rows_of matches.now) result }
 {
     match matches.subcommand() {
-        Some((name, given)) => subcommand_line(name, given),
+        Some((name, given)) => command_line_for_subcommand(name, given),
         None => unreachable!(),
     }
 }
 
 /// Returns the `CommandLine` for the subcommand with this name, with the values that clap found for
 /// its arguments.
-fn subcommand_line<'a>(name: &str, given: &ArgMatches<'a>) -> CommandLine<'a>
+fn command_line_for_subcommand<'a>(name: &str, given: &ArgMatches<'a>) -> CommandLine<'a>
     requires { HasNeededValues name.now (rows_of (found_of given.now)) }
     ensures { HasFoundValues name.now (rows_of (found_of given.now)) result }
 {

@@ -7,11 +7,11 @@ use Rattle.ob0_analysis.specs.Diagnosed.{IsWellTypedModule, Reports}
 use Rattle.ob0_cli.specs.declared.line.CommandLine.{CommandLine}
 use Rattle.ob0_cli.specs.declared.line.CommandLine.TheVariants.{Serve, Check, Run, Rename}
 use Rattle.ob0_commands.specs.Endings.{EndsByFault, EndsWithoutFault}
-use Rattle.ob0_commands.specs.Inputs.{TakesAtMost}
+use Rattle.ob0_commands.specs.Inputs.{ConsumesAtMost}
 use Rattle.ob0_commands.specs.Numbers.{max_input}
 use Rattle.ob0_commands.specs.Printed.{PrintsDiagnostics}
 use Rattle.ob0_commands.specs.Renamed.{RenameEndsWithoutFault}
-use Rattle.ob0_commands.specs.Statuses.{IsNonUtf8File, KeepsInputFailureUnlessInput, StopsPrintingFaults, StopsRunning}
+use Rattle.ob0_commands.specs.Statuses.{IsNonUtf8File, KeepsInputFailureUnlessInputFault, StopsCommandOnFile, StopsRunning}
 use Rattle.ob0_commands.specs.TextRuns.{RunEndsWithoutFault}
 
 -- States that `check` ends with this status. With status 0, the file has no diagnostics, and nothing is printed. With
@@ -30,7 +30,7 @@ ChecksFile contents is_flushed has_failed before after IsPrintedOnStderr file st
     (PrintsDiagnostics file (contents before) (contents after) × (is_flushed after ≡ true))
     (¬ IsNonUtf8File file × (has_failed after ≡ has_failed before) × IsPrintedOnStderr None)
     status
-    ⊎ EndsByFault has_failed before after file (StopsPrintingFaults file) IsPrintedOnStderr status
+    ⊎ EndsByFault has_failed before after file (StopsCommandOnFile file) IsPrintedOnStderr status
 
 -- States that `run` ends with this status. With status 0 or 1, a run of the file's module on the
 -- numbers of the input is printed, or the file's errors are printed (`RunEndsWithoutFault`). With
@@ -54,7 +54,7 @@ RunsFile contents is_flushed has_failed before after IsPrintedOnStderr file rema
     status
     ⊎ EndsByFault has_failed before after file
     (λ fault. StopsRunning file (remaining input) (input_failed input_after) fault
-    × KeepsInputFailureUnlessInput (input_failed input) (input_failed input_after) fault)
+    × KeepsInputFailureUnlessInputFault (input_failed input) (input_failed input_after) fault)
     IsPrintedOnStderr status
 
 -- States that `rename` ends with this status. With status 0, the file's text is printed with the
@@ -74,7 +74,7 @@ RenamesInFile contents is_flushed has_failed before after IsPrintedOnStderr file
     RenameEndsWithoutFault contents is_flushed before after IsPrintedOnStderr file position new
     (¬ IsNonUtf8File file × (has_failed after ≡ has_failed before))
     status
-    ⊎ EndsByFault has_failed before after file (StopsPrintingFaults file) IsPrintedOnStderr status
+    ⊎ EndsByFault has_failed before after file (StopsCommandOnFile file) IsPrintedOnStderr status
 
 -- States that the command of this command line ends with this status, as `ChecksFile`, `RunsFile`
 -- or `RenamesInFile` says. `input` and `input_after` are the input before and after the call. Only `run`
@@ -98,7 +98,7 @@ PerformsOnFile contents is_flushed has_failed before after IsPrintedOnStderr fil
     ChecksFile contents is_flushed has_failed before after IsPrintedOnStderr file status × (input_after ≡ input)
 PerformsOnFile contents is_flushed has_failed before after IsPrintedOnStderr file remaining input_failed input input_after (Run path c t) status =
     RunsFile contents is_flushed has_failed before after IsPrintedOnStderr file remaining input_failed input input_after c t status
-    × TakesAtMost (suc max_input) (remaining input) (remaining input_after)
+    × ConsumesAtMost (suc max_input) (remaining input) (remaining input_after)
     × (¬ IsWellTypedModule file → input_after ≡ input)
 PerformsOnFile contents is_flushed has_failed before after IsPrintedOnStderr file remaining input_failed input input_after (Rename path position new) status =
     RenamesInFile contents is_flushed has_failed before after IsPrintedOnStderr file position new.now status

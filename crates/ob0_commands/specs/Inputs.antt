@@ -15,7 +15,7 @@ input_failed input = input.has_failed
 -- States that at most `n` bytes of a reader were read. `before` and `after` are the reader's
 -- remaining bytes before and after. If these bytes aren't known (None), nothing is stated about
 -- them.
-pub record TakesAtMost (n : ℕ) (before after : Option (List ℕ)) : Type 0 where
+pub record ConsumesAtMost (n : ℕ) (before after : Option (List ℕ)) : Type 0 where
   pub bytes : List ℕ
   pub taken : Consumes before after bytes
   pub at_most_n : length bytes ≤ n

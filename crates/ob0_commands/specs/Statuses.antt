@@ -20,8 +20,8 @@ status_of fault.Memory = 5
 
 -- States that the fault is `Write` or `Memory`: the output can't be written, or an allocation
 -- failed.
-abbrev pub StopsPrinting : FileFault → Type 0
-StopsPrinting f = (f ≡ fault.Write) ⊎ (f ≡ fault.Memory)
+abbrev pub IsWriteOrMemory : FileFault → Type 0
+IsWriteOrMemory f = (f ≡ fault.Write) ⊎ (f ≡ fault.Memory)
 
 -- States that the file has a text: the file isn't too long, and its bytes are UTF-8.
 abbrev pub IsTextFile : List ℕ → Type 0
@@ -33,18 +33,18 @@ IsNonUtf8File file = (length file ≤ max_text) × ¬ (IsUtf8 file)
 
 -- States that this fault may stop a command on this file. The fault is `Utf8` if the file isn't UTF-8
 -- (`IsNonUtf8File`). Otherwise it is `Write` or `Memory`.
-abbrev pub StopsPrintingFaults : List ℕ → FileFault → Type 0
-StopsPrintingFaults file f =
-    ((f ≡ fault.Utf8) × IsNonUtf8File file) ⊎ (StopsPrinting f × ¬ (IsNonUtf8File file))
+abbrev pub StopsCommandOnFile : List ℕ → FileFault → Type 0
+StopsCommandOnFile file f =
+    ((f ≡ fault.Utf8) × IsNonUtf8File file) ⊎ (IsWriteOrMemory f × ¬ (IsNonUtf8File file))
 
 -- States that the fault `Memory` occurs only if the file isn't too long.
-abbrev pub AllocatesOnlyIfShort : List ℕ → FileFault → Type 0
-AllocatesOnlyIfShort file f = f ≡ fault.Memory → length file ≤ max_text
+abbrev pub IsMemoryOnlyIfShort : List ℕ → FileFault → Type 0
+IsMemoryOnlyIfShort file f = f ≡ fault.Memory → length file ≤ max_text
 
 -- States that the output is unchanged, unless the fault is `Write`. `before` and `after` are the
 -- output before and after the call.
-abbrev pub PrintsNothingUnlessWrite : {O : Type 0} → (before after : O) → FileFault → Type 0
-PrintsNothingUnlessWrite before after f = f ≢ fault.Write → after ≡ before
+abbrev pub PrintsNothingUnlessWriteFault : {O : Type 0} → (before after : O) → FileFault → Type 0
+PrintsNothingUnlessWriteFault before after f = f ≢ fault.Write → after ≡ before
 
 -- States that the fault is `name` and `reason` holds, or that the fault is `Memory` and `otherwise`
 -- holds.
@@ -78,11 +78,11 @@ ModuleLacksInput file given input_failed = IsWellTypedModule file × IsUnusableI
 
 -- States that the call didn't change whether the input has failed, unless the fault is `Input`.
 -- `before` and `after` say whether the input has failed, before and after the call.
-abbrev pub KeepsInputFailureUnlessInput : (before after : Bool) → FileFault → Type 0
-KeepsInputFailureUnlessInput before after f = f ≢ fault.Input → after ≡ before
+abbrev pub KeepsInputFailureUnlessInputFault : (before after : Bool) → FileFault → Type 0
+KeepsInputFailureUnlessInputFault before after f = f ≢ fault.Input → after ≡ before
 
 -- States that this fault may stop `run` on this file and this input. The fault is `Input`, and the module has no valid
--- input. Or it is a fault that may stop any command on the file (`StopsPrintingFaults`).
+-- input. Or it is a fault that may stop any command on the file (`StopsCommandOnFile`).
 abbrev pub StopsRunning : List ℕ → Option (List ℕ) → (input_failed : Bool) → FileFault → Type 0
 StopsRunning file given input_failed f =
-    ((f ≡ fault.Input) × ModuleLacksInput file given input_failed) ⊎ StopsPrintingFaults file f
+    ((f ≡ fault.Input) × ModuleLacksInput file given input_failed) ⊎ StopsCommandOnFile file f

@@ -9,7 +9,7 @@ ghost use Rattle.std.specs.Mem.{manually_drop_value};
 ghost use Rattle.ob0_commands.specs.CommandEffects.{ChecksFile};
 ghost use Rattle.ob0_commands.specs.Printed.{PrintsDiagnostics, all_diagnosis_lines, diagnosis_line_at, diagnosis_lines_at, too_long_line};
 ghost use Rattle.ob0_commands.specs.StderrLines.{PrintsLine};
-ghost use Rattle.ob0_commands.specs.Statuses.{AllocatesOnlyIfShort, IsNonUtf8File, OutputFailureMatches, PrintsNothingUnlessWrite, StopsPrinting, StopsPrintingFaults};
+ghost use Rattle.ob0_commands.specs.Statuses.{IsMemoryOnlyIfShort, IsNonUtf8File, OutputFailureMatches, PrintsNothingUnlessWriteFault, IsWriteOrMemory, StopsCommandOnFile};
 ghost use Rattle.ob0_commands.specs.declared.faults.FileFault.TheVariants as faults;
 ghost use Rattle.ob0_scan.specs.TextWithTokens.{max_text};
 ghost use Rattle.ob0_analysis.specs.Diagnosed.{Reports, reported_diagnosis_of};
@@ -53,11 +53,11 @@ pub fn check_file<'f, O: Output>(
     ensures flushed { IfOk result (λ found. IfNone found (O.is_flushed out.new ≡ true)) }
     ensures readable { OnOk result (¬ IsNonUtf8File file.entry.now) }
     ensures unfailed { OnOk result (O.has_failed out.new ≡ O.has_failed out.old) }
-    ensures fault { IfErr result (StopsPrintingFaults file.entry.now) }
+    ensures fault { IfErr result (StopsCommandOnFile file.entry.now) }
     ensures failed { IfErr result
         (OutputFailureMatches (O.has_failed out.old) (O.has_failed out.new)) }
-    ensures memory { IfErr result (AllocatesOnlyIfShort file.entry.now) }
-    ensures kept { IfErr result (PrintsNothingUnlessWrite out.old out.new) }
+    ensures memory { IfErr result (IsMemoryOnlyIfShort file.entry.now) }
+    ensures kept { IfErr result (PrintsNothingUnlessWriteFault out.old out.new) }
 {
     let Some(text) = decode_or_print_too_long(file, out)? else {
         return Ok(None);
@@ -99,12 +99,12 @@ pub fn decode_or_print_too_long<'f, O: Output>(
     ensures flushed { IfOk result (λ found. IfNone found (O.is_flushed out.new ≡ true)) }
     ensures readable { OnOk result (¬ IsNonUtf8File file.entry.now) }
     ensures unfailed { OnOk result (O.has_failed out.new ≡ O.has_failed out.old) }
-    ensures fault { IfErr result (StopsPrintingFaults file.entry.now) }
+    ensures fault { IfErr result (StopsCommandOnFile file.entry.now) }
     ensures failed { IfErr result
         (OutputFailureMatches (O.has_failed out.old) (O.has_failed out.new)) }
     ensures short { IfOk result (λ found. IfSome found (λ _. length file.entry.now ≤ max_text)) }
     ensures memory { IfErr result (λ fault. fault ≢ faults.Memory) }
-    ensures kept { IfErr result (PrintsNothingUnlessWrite out.old out.new) }
+    ensures kept { IfErr result (PrintsNothingUnlessWriteFault out.old out.new) }
 {
     if file.len() >= MAX_BYTES_READ {
         print(out, "0:0: TooLong: text too long\n")?;
@@ -127,10 +127,10 @@ pub fn print_diagnoses<O: Output>(
         (all_diagnosis_lines text.now (map reported_diagnosis_of reported.now))) }
     ensures flushed { OnOk result (O.is_flushed out.new ≡ true) }
     ensures unfailed { OnOk result (O.has_failed out.new ≡ O.has_failed out.old) }
-    ensures fault { IfErr result StopsPrinting }
+    ensures fault { IfErr result IsWriteOrMemory }
     ensures failed { IfErr result
         (OutputFailureMatches (O.has_failed out.old) (O.has_failed out.new)) }
-    ensures kept { IfErr result (PrintsNothingUnlessWrite out.old out.new) }
+    ensures kept { IfErr result (PrintsNothingUnlessWriteFault out.old out.new) }
 {
     print(out, diagnosis_lines(alloc, text, reported)?.as_str())
 }

@@ -12,7 +12,7 @@
 ghost use Rattle.std.specs.Prelude.{◌≡◌, ◌≤◌, ℤ, IfOk, OnOk, IfErr, IfSome, MatchOption, length, suc};
 ghost use Rattle.std.specs.List.{position_or_len};
 ghost use Rattle.ob0_scan.specs.Classes.{is_space};
-ghost use Rattle.ob0_commands.specs.Inputs.{TakesAtMost};
+ghost use Rattle.ob0_commands.specs.Inputs.{ConsumesAtMost};
 ghost use Rattle.ob0_commands.specs.Numbers.{IsUnusableInput, IsInputOf, IsListOfNumbers, SpellsNumber, SpellsNumbers, max_input};
 ghost use Rattle.ob0_commands.specs.Statuses.{IsFaultOrMemory};
 ghost use Rattle.ob0_commands.specs.declared.faults.FileFault.TheVariants as faults;
@@ -28,7 +28,7 @@ use std::alloc::{AllocError, Global};
 pub fn read_numbers<R: Input>(alloc: Global, input: &mut R) -> Result<Vec<i32>, FileFault>
     ensures numbers { IfOk result
         (λ numbers. IfSome (R.remaining input.old) (IsInputOf numbers.items)) }
-    ensures limit { TakesAtMost (suc max_input) (R.remaining input.old) (R.remaining input.new) }
+    ensures limit { ConsumesAtMost (suc max_input) (R.remaining input.old) (R.remaining input.new) }
     ensures unfailed { OnOk result (R.has_failed input.new ≡ R.has_failed input.old) }
     ensures fault { IfErr result
         (IsFaultOrMemory faults.Input (IsUnusableInput (R.remaining input.old) (R.has_failed input.new))

@@ -9,7 +9,7 @@ ghost use Rattle.std.specs.Prelude.{◌≡◌, ◌≤◌, ◌<◌, ◌||◌, ◌
 ghost use Rattle.std.specs.Io.{ReadsAtMost};
 ghost use Rattle.std.specs.Io.KnownBytes.{Consumes, IsAtEnd, ReadConsumes};
 ghost use Rattle.ob0_scan.specs.TextWithTokens.{max_text};
-ghost use Rattle.ob0_commands.specs.Inputs.{TakesAtMost, wrapped_reader, input_failed};
+ghost use Rattle.ob0_commands.specs.Inputs.{ConsumesAtMost, wrapped_reader, input_failed};
 ghost use Rattle.ob0_commands.specs.Numbers.{max_input};
 ghost use Rattle.ob0_commands.specs.Statuses.{IsFaultOrMemory};
 ghost use Rattle.ob0_commands.specs.declared.faults.FileFault.TheVariants as faults;
@@ -94,7 +94,7 @@ pub fn read_file<R: Input>(alloc: Global, file: &mut R) -> Result<Vec<u8>, FileF
         (λ bytes. Consumes (R.remaining file.old) (R.remaining file.new) bytes.items) }
     ensures end { IfOk result
         (λ bytes. length bytes.items ≤ max_text → IsAtEnd (R.remaining file.new)) }
-    ensures limit { TakesAtMost (suc max_text) (R.remaining file.old) (R.remaining file.new) }
+    ensures limit { ConsumesAtMost (suc max_text) (R.remaining file.old) (R.remaining file.new) }
     ensures unfailed { OnOk result (R.has_failed file.new ≡ R.has_failed file.old) }
     ensures fault { IfErr result (IsFaultOrMemory faults.File (R.has_failed file.new ≡ true)
         (R.has_failed file.new ≡ R.has_failed file.old)) }
@@ -109,7 +109,7 @@ pub fn read_input<R: Input>(alloc: Global, input: &mut R) -> Result<Vec<u8>, Fil
     ensures taken { IfOk result
         (λ bytes. Consumes (R.remaining input.old) (R.remaining input.new) bytes.items) }
     ensures end { IfOk result (λ bytes. IsAtEnd (R.remaining input.new)) }
-    ensures limit { TakesAtMost (suc max_input) (R.remaining input.old) (R.remaining input.new) }
+    ensures limit { ConsumesAtMost (suc max_input) (R.remaining input.old) (R.remaining input.new) }
     ensures unfailed { OnOk result (R.has_failed input.new ≡ R.has_failed input.old) }
     ensures fault { IfErr result (IsFaultOrMemory faults.Input ((R.has_failed input.new ≡ true)
         ⊎ IfSome (R.remaining input.old) (λ text. max_input < length text))
@@ -135,7 +135,7 @@ fn read_up_to<R: Input>(
         (λ bytes. Consumes (R.remaining reader.old) (R.remaining reader.new) bytes.items) }
     ensures end { IfOk result
         (λ bytes. length bytes.items < most → IsAtEnd (R.remaining reader.new)) }
-    ensures limit { TakesAtMost most (R.remaining reader.old) (R.remaining reader.new) }
+    ensures limit { ConsumesAtMost most (R.remaining reader.old) (R.remaining reader.new) }
     ensures unfailed { OnOk result (R.has_failed reader.new ≡ R.has_failed reader.old) }
     ensures stops { IfErr result (IsFaultOrMemory fault (R.has_failed reader.new ≡ true)
         (R.has_failed reader.new ≡ R.has_failed reader.old)) }

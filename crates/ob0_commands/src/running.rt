@@ -18,12 +18,12 @@ ghost use Rattle.ob0_tree.specs.ParsedModule.{named_tree_of};
 ghost use Rattle.ob0_analysis.specs.Diagnosed.{IsWellTypedModule};
 ghost use Rattle.ob0_run.specs.Outcomes.{item_of, output_items, run_of};
 ghost use Rattle.ob0_run.specs.Programs as lowered;
-ghost use Rattle.ob0_commands.specs.Inputs.{TakesAtMost};
+ghost use Rattle.ob0_commands.specs.Inputs.{ConsumesAtMost};
 ghost use Rattle.ob0_commands.specs.Numbers.{max_input};
 ghost use Rattle.ob0_commands.specs.CommandEffects.{RunsFile};
 ghost use Rattle.ob0_commands.specs.Printed.{IsWrittenExcept, PrintsDiagnostics, run_end_line, output_text, output_item_text};
 ghost use Rattle.ob0_commands.specs.StderrLines.{PrintsLine};
-ghost use Rattle.ob0_commands.specs.Statuses.{AllocatesOnlyIfShort, IsNonUtf8File, KeepsInputFailureUnlessInput, OutputFailureMatches, PrintsNothingUnlessWrite, StopsPrinting, StopsRunning, run_end_status};
+ghost use Rattle.ob0_commands.specs.Statuses.{IsMemoryOnlyIfShort, IsNonUtf8File, KeepsInputFailureUnlessInputFault, OutputFailureMatches, PrintsNothingUnlessWriteFault, IsWriteOrMemory, StopsRunning, run_end_status};
 ghost use Rattle.ob0_commands.specs.declared.faults.FileFault.TheVariants as faults;
 ghost use Rattle.ob0_commands.specs.TextRuns.{IsLoweredTo, RunEndsWithoutFault, TextRunsAs};
 
@@ -71,7 +71,7 @@ pub fn run_text<R: Input, O: Output, E: Output>(
     ensures ends { RunsFile O.contents O.is_flushed O.has_failed out.old out.new
         (PrintsLine E.contents E.is_flushed E.has_failed err.old err.new) file.now
         R.remaining R.has_failed input.old input.new calls turns result }
-    ensures limit { TakesAtMost (suc max_input) (R.remaining input.old) (R.remaining input.new) }
+    ensures limit { ConsumesAtMost (suc max_input) (R.remaining input.old) (R.remaining input.new) }
     ensures unread { ¬ IsWellTypedModule file.now → input.new ≡ input.old }
 {
     match run_file(alloc, file, input, calls, turns, out, err) {
@@ -95,14 +95,14 @@ fn run_file<R: Input, O: Output, E: Output>(
         (R.remaining input.old) calls turns
         (¬ IsNonUtf8File file.now × (O.has_failed out.new ≡ O.has_failed out.old)
         × (R.has_failed input.new ≡ R.has_failed input.old))) }
-    ensures limit { TakesAtMost (suc max_input) (R.remaining input.old) (R.remaining input.new) }
-    ensures read { IfErr result (KeepsInputFailureUnlessInput (R.has_failed input.old) (R.has_failed input.new)) }
+    ensures limit { ConsumesAtMost (suc max_input) (R.remaining input.old) (R.remaining input.new) }
+    ensures read { IfErr result (KeepsInputFailureUnlessInputFault (R.has_failed input.old) (R.has_failed input.new)) }
     ensures fault { IfErr result
         (StopsRunning file.now (R.remaining input.old) (R.has_failed input.new)) }
     ensures failed { IfErr result
         (OutputFailureMatches (O.has_failed out.old) (O.has_failed out.new)) }
-    ensures memory { IfErr result (AllocatesOnlyIfShort file.now) }
-    ensures kept { IfErr result (PrintsNothingUnlessWrite out.old out.new) }
+    ensures memory { IfErr result (IsMemoryOnlyIfShort file.now) }
+    ensures kept { IfErr result (PrintsNothingUnlessWriteFault out.old out.new) }
     ensures unread { ¬ IsWellTypedModule file.now → input.new ≡ input.old }
     ensures unsaid { OnErr result (err.new ≡ err.old) }
 {
@@ -130,10 +130,10 @@ fn lower_or_print_diagnoses<O: Output>(
         (λ program. IsLoweredTo text.now program × (out.new ≡ out.old))) }
     ensures flushed { IfOk result (λ found. IfNone found (O.is_flushed out.new ≡ true)) }
     ensures unfailed { OnOk result (O.has_failed out.new ≡ O.has_failed out.old) }
-    ensures fault { IfErr result StopsPrinting }
+    ensures fault { IfErr result IsWriteOrMemory }
     ensures failed { IfErr result
         (OutputFailureMatches (O.has_failed out.old) (O.has_failed out.new)) }
-    ensures kept { IfErr result (PrintsNothingUnlessWrite out.old out.new) }
+    ensures kept { IfErr result (PrintsNothingUnlessWriteFault out.old out.new) }
 {
     let analysis = Analysis::analyse_text(alloc, text)?;
     match ask(alloc, &analysis, &LoweringQuestion {})? {

@@ -21,7 +21,7 @@ use Rattle.ob0_text.specs.declared.refusals.EditRefusal.TheVariants.{TooLong, Me
 use Rattle.ob0_analysis.specs.Analysed.{AnswersIfWellTyped, IsResolvedWellTypedModule}
 use Rattle.ob0_analysis.specs.Diagnosed.{IsTextOf, IsWellTypedModule}
 use Rattle.ob0_analysis.specs.Texts.{utf8}
-use Rattle.ob0_edits.specs.Layouts.{FindsFormatResult, IsFormatResult, IsTooLongFormatted, FormatsIn, layout_changes, layout_of}
+use Rattle.ob0_edits.specs.Layouts.{FindsFormatResult, IsFormatResult, FormattedTextIsTooLong, FormatsIn, formatting_changes, formatted_text_of}
 use Rattle.ob0_analysis.proofs.Scanning.{is_module, utf8_of}
 
 abbrev pub ModuleStays : Type 0
@@ -30,27 +30,27 @@ ModuleStays =
     → (t : TextWithTokens) → IsScan t → t.text ≡ layout indent tree scan.lexemes → ModuleOf t tree
 
 -- If the formatted text isn't too long, it is a text of the same module.
-stays_module : (indent : Indent) (text : List ℕ) (m : IsWellTypedModule text) → IsUtf8 (layout_of indent m) → LexesInto (layout_of indent m) (formatted_lexemes indent m.tree m.text_of.scan.scan.lexemes)
-    → length (layout_of indent m) ≤ max_text → ModuleStays → IsTextOf m.tree (utf8 (chars (layout_of indent m)))
+stays_module : (indent : Indent) (text : List ℕ) (m : IsWellTypedModule text) → IsUtf8 (formatted_text_of indent m) → LexesInto (formatted_text_of indent m) (formatted_lexemes indent m.tree m.text_of.scan.scan.lexemes)
+    → length (formatted_text_of indent m) ≤ max_text → ModuleStays → IsTextOf m.tree (utf8 (chars (formatted_text_of indent m)))
 stays_module indent text m u lexed short law =
-    let laid : List ℕ = layout_of indent m in
+    let laid : List ℕ = formatted_text_of indent m in
     let lexemes : List Lexeme = formatted_lexemes indent m.tree m.text_of.scan.scan.lexemes in
     let t : TextWithTokens = record { text = laid; tokens = tokens_from 0 lexemes; comments = comments_from 0 lexemes } in
     let scan : IsScan t = record { utf8 = u; short = short; lexemes = lexemes; lexed = lexed; tokens = refl; comments = refl } in
     record { scanned = t; scan = record { of = sym (encodes-chars laid u); scan = scan }; module_of = law indent m.text_of.scanned m.text_of.scan.scan m.tree m.text_of.module_of t scan refl }
 
-pub lays_out : (unit : Unit) (indent : Indent) (text : List ℕ) (edits : List Edit) (m : IsWellTypedModule (utf8 text)) → map edit_content edits ≡ layout_changes unit indent text m
-    → patched (width_of unit) text edits ≡ Some (chars (layout_of indent m)) → length (layout_of indent m) ≤ max_text
-    → IsUtf8 (layout_of indent m) → LexesInto (layout_of indent m) (formatted_lexemes indent m.tree m.text_of.scan.scan.lexemes) → ModuleStays
+pub lays_out : (unit : Unit) (indent : Indent) (text : List ℕ) (edits : List Edit) (m : IsWellTypedModule (utf8 text)) → map edit_content edits ≡ formatting_changes unit indent text m
+    → patched (width_of unit) text edits ≡ Some (chars (formatted_text_of indent m)) → length (formatted_text_of indent m) ≤ max_text
+    → IsUtf8 (formatted_text_of indent m) → LexesInto (formatted_text_of indent m) (formatted_lexemes indent m.tree m.text_of.scan.scan.lexemes) → ModuleStays
     → FormatsIn unit indent text edits
 lays_out unit indent text edits m changes made short u lexed law =
-    let stays : IsTextOf m.tree (utf8 (chars (layout_of indent m))) = stays_module indent (utf8 text) m u lexed short law in
+    let stays : IsTextOf m.tree (utf8 (chars (formatted_text_of indent m))) = stays_module indent (utf8 text) m u lexed short law in
     record {
       before = m;
       changes = changes;
-      after = chars (layout_of indent m);
+      after = chars (formatted_text_of indent m);
       made = made;
-      is_formatted_text = encodes-chars (layout_of indent m) u;
+      is_formatted_text = encodes-chars (formatted_text_of indent m) u;
       same_module = stays;
       runs = record { old = m; new = record { tree = m.tree; text_of = stays; well_typed = m.well_typed }; same = λ input c t. refl };
     }
@@ -77,7 +77,7 @@ formats unit indent text edits names m is h same made u lexed law =
 -- If no allocation failed, the only refusal is that the formatted text is too long.
 pub too_long : (indent : Indent) (text : List ℕ) (names : Resolution) (m : ParsedModule) (refusal : EditRefusal) → m ≡ names.module_read → IsResolvedWellTypedModule (utf8 text) names
     → ((scan : IsScan m.source) → refusal ≡ TooLong → max_text < length (layout indent (named_tree_of m) scan.lexemes))
-    → (refusal ≡ TooLong) ⊎ (refusal ≡ Memory) → (refusal ≡ Memory → ⊥) → (refusal ≡ TooLong) × IsTooLongFormatted indent text
+    → (refusal ≡ TooLong) ⊎ (refusal ≡ Memory) → (refusal ≡ Memory → ⊥) → (refusal ≡ TooLong) × FormattedTextIsTooLong indent text
 too_long indent text names m refusal is h long (inr wants) other = absurd (other wants)
 too_long indent text names m refusal is h long (inl longer) other =
     let P : ParsedModule → Type 0 = λ p. (scan : IsScan p.source) → refusal ≡ TooLong → max_text < length (layout indent (named_tree_of p) scan.lexemes) in

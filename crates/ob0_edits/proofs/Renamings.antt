@@ -2,7 +2,7 @@
 use Rattle.std.proofs.Common.{◌≡◌, ◌⊎◌, ℕ, List, Option, Some, None, Result, Ok, Err, IfErr, Vec, Global, inl, inr, refl, subst, sym}
 use Rattle.std.specs.Str.{chars, IsUtf8}
 use Rattle.ob0_language_fields.specs.Renaming.{with_renamed_field}
-use Rattle.ob0_rename.specs.Answers.{AreRenameEdits, IsRenameRefusal, RenameAnswers, WritesName}
+use Rattle.ob0_rename.specs.Answers.{AreRenameEdits, IsRenameRefusal, RenameAnswers, WritesNewName}
 use Rattle.ob0_rename.specs.Renaming.{Renaming, field_tokens_to_rename, renaming_of, tokens_to_rename}
 use Rattle.ob0_language_names.specs.Names.{Name}
 use Rattle.ob0_scope_table.specs.Resolution.{Resolution}
@@ -32,7 +32,7 @@ settled r answer (Err refusal) h is other = not_memory r refusal (subst (λ (a :
 
 -- If edits leave a text of a well-typed tree with the same runs, they rename in the text.
 renames_in : (unit : Unit) (text : List ℕ) (place : Position) (new : List ℕ) (edits : List Edit) (names : Resolution) → IsResolvedWellTypedModule (utf8 text) names
-    → AreRenameEdits (renaming_of unit text names place new) edits → (tokens : List ℕ) (tree : Tree Name module_text) → WritesName (renaming_of unit text names place new) tokens tree edits
+    → AreRenameEdits (renaming_of unit text names place new) edits → (tokens : List ℕ) (tree : Tree Name module_text) → WritesNewName (renaming_of unit text names place new) tokens tree edits
     → RenamesIn unit text place new edits
 renames_in unit text place new edits names h are tokens tree made =
     let after : List ℕ = chars made.after.text in

@@ -18,18 +18,18 @@ use Rattle.ob0_analysis.specs.Texts.{utf8}
 use Rattle.ob0_analysis.specs.RunsKept.{RunsAsBefore}
 
 -- Returns the formatted text of a module, as a list of bytes.
-abbrev pub layout_of : {text : List ℕ} → Indent → IsWellTypedModule text → List ℕ
-layout_of indent m = layout indent m.tree m.text_of.scan.scan.lexemes
+abbrev pub formatted_text_of : {text : List ℕ} → Indent → IsWellTypedModule text → List ℕ
+formatted_text_of indent m = layout indent m.tree m.text_of.scan.scan.lexemes
 
 -- Returns the edit for each gap (white space between lexemes) that formatting changes: the gap's
 -- range, with positions in this unit, and the gap's new text.
-abbrev pub layout_changes : {text : List ℕ}
+abbrev pub formatting_changes : {text : List ℕ}
     → Unit
     → Indent
     → List ℕ
     → IsWellTypedModule text
     → List EditContent
-layout_changes unit indent characters m =
+formatting_changes unit indent characters m =
     let source = m.text_of.scanned in
     map (edit_of (width_of unit) characters) (changed_gaps source.text
     (all_gaps indent source.text (line_roles 0 m.tree) m.text_of.scan.scan.lexemes))
@@ -40,23 +40,23 @@ layout_changes unit indent characters m =
 pub record FormatsIn (unit : Unit) (indent : Indent) (text : List ℕ)
     (edits : List Edit) : Type 0 where
   pub before : IsWellTypedModule (utf8 text)
-  pub changes : map edit_content edits ≡ layout_changes unit indent text before
+  pub changes : map edit_content edits ≡ formatting_changes unit indent text before
   pub after : List ℕ
   pub made : patched (width_of unit) text edits ≡ Some after
-  pub is_formatted_text : utf8 after ≡ layout_of indent before
+  pub is_formatted_text : utf8 after ≡ formatted_text_of indent before
   pub same_module : IsTextOf before.tree (utf8 after)
   pub runs : RunsAsBefore (utf8 text) (utf8 after)
 
 -- States that the text is a well-typed module whose formatted text is longer than a text may be.
-pub record IsTooLongFormatted (indent : Indent) (text : List ℕ) : Type 0 where
+pub record FormattedTextIsTooLong (indent : Indent) (text : List ℕ) : Type 0 where
   pub before : IsWellTypedModule (utf8 text)
-  pub long : max_text < length (layout_of indent before)
+  pub long : max_text < length (formatted_text_of indent before)
 
 -- States that the answer is right: edits format the module, and the refusal `TooLong` means that
 -- the formatted text is too long. No other refusal is right.
 abbrev pub IsFormatResult : Unit → Indent → List ℕ → Result (Vec Edit Global) EditRefusal → Type 0
 IsFormatResult unit indent text (Ok edits) = FormatsIn unit indent text edits.items
-IsFormatResult unit indent text (Err refusal) = (refusal ≡ TooLong) × IsTooLongFormatted indent text
+IsFormatResult unit indent text (Err refusal) = (refusal ≡ TooLong) × FormattedTextIsTooLong indent text
 
 -- States that this is the result of formatting a text: edits, or the only possible refusal,
 -- `TooLong`. None means that the text isn't a well-typed module.

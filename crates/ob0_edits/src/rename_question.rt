@@ -2,7 +2,7 @@
 //!
 //! Declarations and fields are two cases of `AreRenameEdits` and `IsRenameRefusal` of `ob0_rename`.
 //! Both cases of `AreRenameEdits` state which tokens the edits replace by the new name
-//! (`WritesName`). So one lemma, `renames_in` of `proofs/Renamings`, covers declarations and
+//! (`WritesNewName`). So one lemma, `renames_in` of `proofs/Renamings`, covers declarations and
 //! fields. `RenamesIn` and `IsRenameRefusedIn` are about the module with its names bound
 //! (`IsResolvedWellTypedModule`), because fields are found through the bindings of names. The
 //! contract of `ask`, which answers a question about a well-typed text, is about the bytes of the

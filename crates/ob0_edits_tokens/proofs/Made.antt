@@ -12,7 +12,7 @@ use Rattle.ob0_text.specs.declared.position_types.Unit as counting
 use Rattle.ob0_text.specs.Units.{width_of}
 use Rattle.ob0_text.specs.Patches.{Cut, cut_at, cuts_of, patched_by_cuts}
 use Rattle.ob0_edits_tokens.specs.Changed.{words_of, changed_words, changes_at}
-use Rattle.ob0_edits_tokens.specs.Replaced.{AreIdentifierIndexes, span_at, replacement_cut, text_after_replacement, ReplacesName, range_and_text, edit_at, LeavesWords}
+use Rattle.ob0_edits_tokens.specs.Replaced.{AreIdentifierIndexes, span_at, replacement_cut, text_after_replacement, ReplacesName, range_and_text, replacement_at_token, LeavesWords}
 use Rattle.ob0_edits_tokens.specs.Ranges.{range_of}
 use Rattle.ob0_edits_tokens.proofs.Swaps.{Chain, AllClear, HasClearEnds, Swapped, swapped}
 use Rattle.ob0_edits_tokens.proofs.TextCuts.{AreSame, IsBorder, chained, same_cut, patched_by_same}
@@ -50,14 +50,14 @@ module _ (unit : counting.Unit) (s : TextWithTokens) (scan : IsScan s) (new : Li
   made : IsUtf8 (text_after_replacement s places new) × (patched_by_cuts (chars s.text) (map char_cut places) ≡ Some (chars (text_after_replacement s places new)))
   made = patched_by_same unit s.text scan.utf8 (map (replacement_cut s.tokens new) places) (map char_cut places) (same_cuts 0 0 places names result.chain result.clear) (chained 0 (map (replacement_cut s.tokens new) places) result.chain)
 
-  pub cuts_of_parts : (edits : List Edit) (qs : List ℕ) → map range_and_text edits ≡ map (edit_at unit (chars s.text) s.tokens new) qs → cuts_of (width_of unit) (chars s.text) edits ≡ map char_cut qs
+  pub cuts_of_parts : (edits : List Edit) (qs : List ℕ) → map range_and_text edits ≡ map (replacement_at_token unit (chars s.text) s.tokens new) qs → cuts_of (width_of unit) (chars s.text) edits ≡ map char_cut qs
   cuts_of_parts [] [] e = refl
   cuts_of_parts (x ∷ xs) (q ∷ qs) e =
-      let head : range_and_text x ≡ edit_at unit (chars s.text) s.tokens new q = ap (λ t. get_or t 0 (range_and_text x)) e in
+      let head : range_and_text x ≡ replacement_at_token unit (chars s.text) s.tokens new q = ap (λ t. get_or t 0 (range_and_text x)) e in
       ap₂ (λ c cs. c ∷ cs) (ap (λ (p : Range × List ℕ). cut_at (width_of unit) (chars s.text) p.0 (chars p.1)) head) (cuts_of_parts xs qs (ap (drop 1) e))
   cuts_of_parts _ _ e = absurd (cc)
 
-  pub leaves_words : (edits : List Edit) → map range_and_text edits ≡ map (edit_at unit (chars s.text) s.tokens new) places → length (text_after_replacement s places new) ≤ max_text
+  pub leaves_words : (edits : List Edit) → map range_and_text edits ≡ map (replacement_at_token unit (chars s.text) s.tokens new) places → length (text_after_replacement s places new) ≤ max_text
       → LeavesWords unit (chars s.text) edits (changed_words (changes_at places ws) 0 (words_of s))
   leaves_words edits e short =
       let lexed : LexesInto (text_after_replacement s places new) result.lexemes = (cut_depends_on_next_bytes (text_after_replacement s places new) result.lexemes).1 (result.whole, result.apart) in

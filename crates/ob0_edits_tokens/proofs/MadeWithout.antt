@@ -14,7 +14,7 @@ use Rattle.ob0_text.specs.declared.position_types.Unit as counting
 use Rattle.ob0_text.specs.Units.{width_of}
 use Rattle.ob0_text.specs.Patches.{Cut, cut_at, cuts_of, patched_by_cuts}
 use Rattle.ob0_edits_tokens.specs.Changed.{words_of, changed_words, changes_at}
-use Rattle.ob0_edits_tokens.specs.Replaced.{AreIdentifierIndexes, span_at, replacement_cut, ReplacesName, range_and_text, edit_at, LeavesWords}
+use Rattle.ob0_edits_tokens.specs.Replaced.{AreIdentifierIndexes, span_at, replacement_cut, ReplacesName, range_and_text, replacement_at_token, LeavesWords}
 use Rattle.ob0_edits_tokens.specs.Ranges.{range_of}
 use Rattle.ob0_edits_tokens.specs.Removed.{changes_with_removal, IsDeclaration, span_of_tokens, removal_cut, text_after_removal}
 use Rattle.ob0_edits_tokens.proofs.TextCuts.{AreSame, chained, same_cut, patched_by_same}
@@ -52,7 +52,7 @@ module _ (unit : counting.Unit) (s : TextWithTokens) (scan : IsScan s) (new : Li
   made = patched_by_same unit s.text scan.utf8 (removal_cut s.tokens first last ∷ map (replacement_cut s.tokens new) places) (first_cut ∷ map (char_cut unit s scan new ws replaces good places all_names) places) same_all
       (chained 0 (removal_cut s.tokens first last ∷ map (replacement_cut s.tokens new) places) result.chain)
 
-  cuts_are : (edits : List Edit) → map range_and_text edits ≡ (range_of (width_of unit) (chars s.text) (span_of_tokens s.tokens first last), []) ∷ map (edit_at unit (chars s.text) s.tokens new) places
+  cuts_are : (edits : List Edit) → map range_and_text edits ≡ (range_of (width_of unit) (chars s.text) (span_of_tokens s.tokens first last), []) ∷ map (replacement_at_token unit (chars s.text) s.tokens new) places
       → cuts_of (width_of unit) (chars s.text) edits ≡ first_cut ∷ map (char_cut unit s scan new ws replaces good places all_names) places
   unfolding first_cut
   cuts_are [] e = absurd (cc)
@@ -61,7 +61,7 @@ module _ (unit : counting.Unit) (s : TextWithTokens) (scan : IsScan s) (new : Li
       ap₂ (λ c cs. c ∷ cs) (ap (λ (p : Range × List ℕ). cut_at (width_of unit) (chars s.text) p.0 (chars p.1)) head)
       (cuts_of_parts unit s scan new ws replaces good places all_names xs places (ap (drop 1) e))
 
-  pub leaves_words_without : (edits : List Edit) → map range_and_text edits ≡ (range_of (width_of unit) (chars s.text) (span_of_tokens s.tokens first last), []) ∷ map (edit_at unit (chars s.text) s.tokens new) places
+  pub leaves_words_without : (edits : List Edit) → map range_and_text edits ≡ (range_of (width_of unit) (chars s.text) (span_of_tokens s.tokens first last), []) ∷ map (replacement_at_token unit (chars s.text) s.tokens new) places
       → length (text_after_removal s first last places new) ≤ max_text → LeavesWords unit (chars s.text) edits (changed_words (changes_with_removal first last (changes_at places ws)) 0 (words_of s))
   leaves_words_without edits e short =
       let lexed : LexesInto (text_after_removal s first last places new) result.lexemes = (cut_depends_on_next_bytes (text_after_removal s first last places new) result.lexemes).1 (result.whole, result.apart) in

@@ -4,7 +4,7 @@ use Rattle.std.proofs.lemmas.List.Elements.{All-append}
 use Rattle.ob0_scan.specs.declared.lexeme.TokenKind.TheVariants as token
 use Rattle.ob0_scan.specs.declared.lexeme.LexemeKind.{LexemeKind}
 use Rattle.ob0_scan.specs.declared.lexeme.LexemeKind.TheVariants as lexeme
-use Rattle.ob0_scan.specs.Classes.{IsLexemeOfKind, is_space, IsRun}
+use Rattle.ob0_scan.specs.Classes.{IsLexemeOfKind, is_space, IsNonEmptySequenceOf}
 use Rattle.ob0_scan.specs.Lexed.{Lexeme, text_of_lexemes}
 use Rattle.ob0_scan.specs.Ends.{continues_lexeme, EachEndsBeforeNext}
 use Rattle.ob0_scan.specs.TextWithTokens.{word_of, words_of_lexemes}
@@ -42,8 +42,8 @@ MeetsLoosely kind ns = (continues_lexeme kind (get_or (text_of_lexemes ns) 0 0) 
 merge_spaces : (l : Lexeme) (ns : List Lexeme) → IsLexemeOfKind l.kind l.text → EachEndsBeforeNext ns → l.kind ≡ lexeme.Space → BeginsWithSpace ns → Merged l ns
 merge_spaces l [] belongs apart space begins = absurd begins
 merge_spaces l (m ∷ ms) belongs apart space begins =
-    let run : IsRun is_space l.text = subst (λ k. IsLexemeOfKind k l.text) space belongs in
-    let more : IsRun is_space m.text = subst (λ k. IsLexemeOfKind k m.text) begins apart.0.belongs in
+    let run : IsNonEmptySequenceOf is_space l.text = subst (λ k. IsLexemeOfKind k l.text) space belongs in
+    let more : IsNonEmptySequenceOf is_space m.text = subst (λ k. IsLexemeOfKind k m.text) begins apart.0.belongs in
     let long = length-append l.text m.text in
     record {
       lexemes = record { kind = lexeme.Space; text = l.text ++ m.text } ∷ ms;

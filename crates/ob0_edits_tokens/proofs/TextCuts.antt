@@ -12,7 +12,7 @@ use Rattle.ob0_text.specs.declared.position_types.Unit as counting
 use Rattle.ob0_text.specs.Units.{width_of}
 use Rattle.ob0_text.proofs.Widths.{wide}
 use Rattle.ob0_text.specs.Texts.{CR, LF, text_before, position_of, byte_len, IsInsideEnding}
-use Rattle.ob0_text.specs.Patches.{Cut, char_count_before, cut_at, are_disjoint, are_all_disjoint, is_before, insert_in_order, in_text_order, text_with_cuts, patched_by_cuts}
+use Rattle.ob0_text.specs.Patches.{Cut, char_count_before, cut_at, are_disjoint, are_all_disjoint, is_cut_before, insert_in_order, in_text_order, text_with_cuts, patched_by_cuts}
 use Rattle.ob0_text.proofs.RoundTrip.{places_go_back}
 use Rattle.ob0_text.proofs.Prefixes.{border_at}
 use Rattle.ob0_text.proofs.CutOrder.{bytes_further}
@@ -171,7 +171,7 @@ module _ (unit : counting.Unit) (bytes : List ℕ) (u : IsUtf8 bytes) where
 first_stays : (c : Cut) (cs : List Cut) → c.from ≤ c.to → Chain c.to cs → insert_in_order c cs ≡ c ∷ cs
 first_stays c [] some chain = refl
 first_stays c (d ∷ ds) some chain =
-    let after : is_before d c ≡ false = grind (arith, nat_tests) in
+    let after : is_cut_before d c ≡ false = grind (arith, nat_tests) in
     ap (λ b. if b then d ∷ insert_in_order c ds else c ∷ d ∷ ds) after
 
 order_stays : (at : ℕ) (cs : List Cut) → Chain at cs → in_text_order cs ≡ cs

@@ -11,7 +11,7 @@ use Rattle.ob0_scan.specs.declared.lexeme.ReservedWord.TheVariants as reserved
 use Rattle.ob0_scan.specs.declared.lexeme.Symbol.TheVariants as symbol
 use Rattle.ob0_scan.specs.declared.lexeme.TokenKind.TheVariants as token
 use Rattle.ob0_scan.specs.declared.lexeme.LexemeKind.TheVariants as lexeme
-use Rattle.ob0_scan.specs.Classes.{IsInteger, IsRun, decimal_value, reserved_text, symbol_text, is_space}
+use Rattle.ob0_scan.specs.Classes.{IsInteger, IsNonEmptySequenceOf, decimal_value, reserved_text, symbol_text, is_space}
 use Rattle.ob0_edits_tokens.specs.Replaced.{ReplacesName}
 use Rattle.ob0_edits_tokens.specs.Written.{IsInt32, number_text, number_words, truth_text, truth_words, integer_word, symbol_word}
 use Rattle.ob0_scan.proofs.Runs.{digit_or_letter}
@@ -95,7 +95,7 @@ the_least = record {
   apart = λ byte e. (record { belongs = refl; ends = refl }, (record { belongs = refl; ends = refl }, (record { belongs = most; ends = refl }, (record { belongs = one_space; ends = refl }, (record { belongs = refl; ends = refl }, (record { belongs = one_space; ends = refl }, (record { belongs = unit; ends = refl }, (record { belongs = refl; ends = refl }, tt))))))));
 }
   where
-    one_space : IsRun is_space (32 ∷ [])
+    one_space : IsNonEmptySequenceOf is_space (32 ∷ [])
     one_space = record { nonempty = omega arith; all = All-cons (λ b. is_space b ≡ true) 32 [] refl (All-nil (λ b. is_space b ≡ true)) }
 
     most : IsInteger 2147483647 (codes "2147483647")

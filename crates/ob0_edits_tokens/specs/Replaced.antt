@@ -84,8 +84,8 @@ range_and_text edit = (edit.range, string_bytes edit.text)
 
 -- Returns the edit, as a pair of its range and text, that replaces the token with the index `p` by
 -- `new`.
-abbrev pub edit_at : counting.Unit → List ℕ → List Token → List ℕ → ℕ → Range × List ℕ
-edit_at unit text tokens new p = (range_of (width_of unit) text (span_at tokens p), new)
+abbrev pub replacement_at_token : counting.Unit → List ℕ → List Token → List ℕ → ℕ → Range × List ℕ
+replacement_at_token unit text tokens new p = (range_of (width_of unit) text (span_at tokens p), new)
 
 -- States that the edits, applied all at once, leave a text that can be scanned and has these words.
 pub record LeavesWords

@@ -6,7 +6,7 @@ ghost use Rattle.std.specs.Str.{chars};
 ghost use Rattle.ob0_scan.specs.TextWithTokens.{Word, max_text};
 ghost use Rattle.ob0_text.specs.declared.refusals.EditRefusal.TheVariants.{TooLong, Memory};
 ghost use Rattle.ob0_edits_tokens.specs.Changed.{words_of, changed_words, changes_at};
-ghost use Rattle.ob0_edits_tokens.specs.Replaced.{AreIdentifierIndexes, CutsAscend, replacement_cut, text_after_replacement, ReplacesName, range_and_text, edit_at, LeavesWords};
+ghost use Rattle.ob0_edits_tokens.specs.Replaced.{AreIdentifierIndexes, CutsAscend, replacement_cut, text_after_replacement, ReplacesName, range_and_text, replacement_at_token, LeavesWords};
 ghost use Rattle.ob0_text.specs.Units.{width_of};
 ghost use Rattle.ob0_edits_tokens.specs.Ranges.{range_of};
 ghost use Rattle.ob0_text.specs.Patches.{text_with_cuts};
@@ -31,7 +31,7 @@ pub fn replacement_edits<T: TextStore>(
     requires content { T.content store.now ≡ chars tokens.now.text }
     requires names { AreIdentifierIndexes tokens.now.tokens 0 token_indexes.now }
     ensures edits { IfOk result (λ edits. map range_and_text edits.items
-        ≡ map (edit_at (T.unit_of store.now) (T.content store.now) tokens.now.tokens new.now)
+        ≡ map (replacement_at_token (T.unit_of store.now) (T.content store.now) tokens.now.tokens new.now)
         token_indexes.now) }
     ensures short { IfOk result
         (λ edits. length (text_after_replacement tokens.now token_indexes.now new.now) ≤ max_text) }
@@ -75,7 +75,7 @@ pub fn removal_edits<T: TextStore>(
           range_of (width_of (T.unit_of store.now)) (T.content store.now)
               (span_of_tokens tokens.now.tokens first last),
           [],
-        ) ∷ map (edit_at (T.unit_of store.now)
+        ) ∷ map (replacement_at_token (T.unit_of store.now)
         (T.content store.now) tokens.now.tokens new.now) token_indexes.now) }
     ensures short { IfOk result
         (λ edits. length (text_after_removal tokens.now first last token_indexes.now new.now) ≤ max_text) }
@@ -116,7 +116,7 @@ fn add_edits<T: TextStore>(
 ) -> Result<(), EditRefusal>
     ensures added { OnOk result (map range_and_text edits.new.items
         ≡ map range_and_text edits.old.items
-        ++ map (edit_at (T.unit_of store.now) (T.content store.now) tokens.now.tokens new.now)
+        ++ map (replacement_at_token (T.unit_of store.now) (T.content store.now) tokens.now.tokens new.now)
         token_indexes.now) }
     ensures memory { IfErr result (λ refusal. refusal ≡ Memory) }
 {

@@ -17,8 +17,8 @@ pub record FramerState : Type 0 where
 
 -- States that reading a piece (second argument) completes these contents (third argument). The
 -- first argument is the rest before the piece is read, and the last argument is the rest
--- afterwards. Bytes with which no message can begin break the stream. A broken stream stays broken
--- and completes nothing.
+-- afterwards. Bytes with which no message can begin break the stream. A broken stream remains
+-- broken and completes nothing.
 abbrev pub Feeds : StreamRest → List ℕ → List (List ℕ) → StreamRest → Type 0
 Feeds (Open rest) piece contents (Open left) = Frames (rest ++ piece) contents left × ¬ (CannotBeginMessage left)
 Feeds (Open rest) piece contents Broken =

@@ -12,9 +12,9 @@ use Rattle.ob0_tree.specs.ParsedModule.{ParsedModule, named_tree_of}
 use Rattle.ob0_tree.specs.Tree.{Tree, module_text}
 use Rattle.ob0_edits_tokens.specs.Ranges.{range_of}
 use Rattle.ob0_edits_tokens.specs.Removed.{span_of_tokens}
-use Rattle.ob0_edits_tokens.specs.Replaced.{edit_at, range_and_text}
+use Rattle.ob0_edits_tokens.specs.Replaced.{replacement_at_token, range_and_text}
 use Rattle.ob0_language_names.specs.Names.{Label, Name}
-use Rattle.ob0_language_names.specs.Occurrences.{bindings, binds, label_ordinal}
+use Rattle.ob0_language_names.specs.Occurrences.{bindings, ordinal_bound_at, label_ordinal}
 use Rattle.ob0_scope_table.specs.Resolution.{Resolution}
 use Rattle.ob0_language_names.specs.Scopes.{same_ordinal}
 use Rattle.ob0_scope.specs.declared.naming.Named as named
@@ -54,7 +54,7 @@ bound_inside (l ∷ ls) zero d e = omega arith
 bound_inside (l ∷ ls) (suc k) d e = let h = bound_inside ls k d e in omega (arith, h)
 
 module _ (m : Tree Name module_text) (c : NamedConstant) (none : any_use_shadowed m c ≡ false) where
-  shown_each : (k : ℕ) → binds m k ≡ Some c.ordinal → is_predeclared_truth m k c.value ≡ true
+  shown_each : (k : ℕ) → ordinal_bound_at m k ≡ Some c.ordinal → is_predeclared_truth m k c.value ≡ true
   shown_each k e =
       let here : is_shadowed_use m c k ≡ false = ap (is_shadowed_use m c) (let z : k ≡ 0 + k = omega arith in z) ∙ none_passes (is_shadowed_use m c) 0 (length (bindings m)) k none (bound_inside (bindings m) k c.ordinal e) in
       one (is_predeclared_truth m k c.value) (sym (ap (λ o. same_ordinal o c.ordinal && not (is_predeclared_truth m k c.value)) e ∙ ap (λ b. b && not (is_predeclared_truth m k c.value)) (eq-eqb c.ordinal c.ordinal refl)) ∙ here)
@@ -64,7 +64,7 @@ module _ (m : Tree Name module_text) (c : NamedConstant) (none : any_use_shadowe
       one false e = absurd (true≢false e)
 
   -- At each use, the truth value would be the predeclared name.
-  pub all_seen : (k : ℕ) → binds m k ≡ Some c.ordinal → MeansPredeclaredTruth m k (scalar_value c.value)
+  pub all_seen : (k : ℕ) → ordinal_bound_at m k ≡ Some c.ordinal → MeansPredeclaredTruth m k (scalar_value c.value)
   all_seen k e = shown_is m k c.value (shown_each k e)
 
 -- A number is written without a name, so it isn't hidden.
@@ -78,8 +78,8 @@ none_of f (k ∷ ks) = one (f k) ∙ none_of f ks
 
 pub numbers_shown : (m : Tree Name module_text) (c : NamedConstant) (n : ℤ) → c.value ≡ scalar.Number n → any_use_shadowed m c ≡ false
 numbers_shown m c n e =
-    (λ i. list_any (λ k. same_ordinal (binds m k) c.ordinal && not (is_predeclared_truth m k (e i))) (range_with_len 0 (length (bindings m))))
-    ∙ none_of (λ k. same_ordinal (binds m k) c.ordinal) (range_with_len 0 (length (bindings m)))
+    (λ i. list_any (λ k. same_ordinal (ordinal_bound_at m k) c.ordinal && not (is_predeclared_truth m k (e i))) (range_with_len 0 (length (bindings m))))
+    ∙ none_of (λ k. same_ordinal (ordinal_bound_at m k) c.ordinal) (range_with_len 0 (length (bindings m)))
 
 -- The constant with the name at the place is the constant at the place.
 pub constant_named : (m : ParsedModule) (offset : ℕ) (found : named.Named) → Some found ≡ name_at_offset m offset → (o : Option NamedConstant) → IsSomeAnd o (λ c. (c.ordinal ≡ found.ordinal) × IsConstant m c)
@@ -91,7 +91,7 @@ constant_named m offset found e (Some c) h =
 -- the facts about a constant's edits, or about their refusal, for any reading of the module
 
 pub record Made (r : Resolution) (c : NamedConstant) (unit : counting.Unit) (text : List ℕ) (edits : List Edit) : Type 0 where
-  pub edits_are : map range_and_text edits ≡ (range_of (width_of unit) text (span_of_tokens r.module_read.source.tokens c.first c.last), []) ∷ map (edit_at unit text r.module_read.source.tokens (value_text c.value)) (uses_of r.module_read c.ordinal)
+  pub edits_are : map range_and_text edits ≡ (range_of (width_of unit) text (span_of_tokens r.module_read.source.tokens c.first c.last), []) ∷ map (replacement_at_token unit text r.module_read.source.tokens (value_text c.value)) (uses_of r.module_read c.ordinal)
   pub make_text : MakeText (UsesAreFactors r.module_read c.ordinal) (text_after_inlining r.module_read c) (tree_inlined_everywhere r.module_read c) unit text edits
 
 abbrev pub IsRefused : Resolution → NamedConstant → EditRefusal → Type 0

@@ -13,10 +13,10 @@ use Rattle.ob0_tree.specs.Tree.{Tree, module_text, spell}
 use Rattle.ob0_edits_tokens.specs.Changed.{changes_at, changed_words, words_of}
 use Rattle.ob0_edits_tokens.specs.Words.{terminal_of_word}
 use Rattle.ob0_edits_tokens.proofs.OfTrees.{all_put, put}
-use Rattle.ob0_edits_tokens.specs.Replaced.{AreIdentifierIndexes, edit_at, range_and_text, text_after_replacement}
+use Rattle.ob0_edits_tokens.specs.Replaced.{AreIdentifierIndexes, replacement_at_token, range_and_text, text_after_replacement}
 use Rattle.ob0_language_names.specs.Inlining.{single_occurrence}
 use Rattle.ob0_language_names.specs.Names.{Name}
-use Rattle.ob0_language_names.specs.Occurrences.{binds}
+use Rattle.ob0_language_names.specs.Occurrences.{ordinal_bound_at}
 use Rattle.ob0_language_types.proofs.Leaves.{same_ordinal-true}
 use Rattle.ob0_language_types.proofs.Literals.{some_inverse}
 use Rattle.ob0_scope_table.specs.Resolution.{IsResolution, Resolution, ordinal_in}
@@ -117,13 +117,13 @@ module _ (r : Resolution) (well : IsWellTyped r) (u : ConstantUse) (use_so : IsU
   uses_so e =
       let m = named_tree_of r.module_read in
       record {
-        bound = λ k h. ap (binds m) (eqb-true k u.occurrence h) ∙ use_so.bound;
+        bound = λ k h. ap (ordinal_bound_at m) (eqb-true k u.occurrence h) ∙ use_so.bound;
         seen = λ k h. subst (λ n. MeansPredeclaredTruth m n (scalar_value u.value)) (sym (eqb-true k u.occurrence h)) (shown_so e);
       }
 
   -- The edits leave the inlined module.
   pub inlines : InliningKeepsTypingAndRuns → IsScalar (scalar_value u.value) → (unit : counting.Unit) (text : List ℕ) (edits : List Edit)
-      → map range_and_text edits ≡ edit_at unit text r.module_read.source.tokens (value_text u.value) u.token ∷ []
+      → map range_and_text edits ≡ replacement_at_token unit text r.module_read.source.tokens (value_text u.value) u.token ∷ []
       → EditsGiveModule unit text edits (tree_inlined_here r.module_read u)
       → is_predeclared_truth (named_tree_of r.module_read) u.occurrence u.value ≡ true → InlinesHere unit text r.module_read u edits
   inlines law fits_so unit text edits made leaves shown =
@@ -136,7 +136,7 @@ abbrev pub new_text : Resolution → ConstantUse → List ℕ
 new_text r u = text_after_replacement r.module_read.source (u.token ∷ []) (value_text u.value)
 
 pub record Made (r : Resolution) (u : ConstantUse) (unit : counting.Unit) (text : List ℕ) (edits : List Edit) : Type 0 where
-  pub edits_are : map range_and_text edits ≡ edit_at unit text r.module_read.source.tokens (value_text u.value) u.token ∷ []
+  pub edits_are : map range_and_text edits ≡ replacement_at_token unit text r.module_read.source.tokens (value_text u.value) u.token ∷ []
   pub make_text : MakeText (UsesAreFactors r.module_read u.constant) (new_text r u) (tree_inlined_here r.module_read u) unit text edits
 
 abbrev pub IsRefused : Resolution → ConstantUse → EditRefusal → Type 0

@@ -154,10 +154,10 @@ module _ (r : Resolution) (is : IsResolution r) (d : ℕ) (w : Value) (has_value
   ends_at = ends_there r.module_read d (spell (gone_module d (tree_of r.module_read))) taken
 
   -- The table of declarations has the declaring token.
-  pub token_known : declaration_token r.declarations d ≡ Some name_token
+  pub token_known : declaration_token r.declaration_tokens d ≡ Some name_token
   token_known = ap (λ (xs : List ℕ). declaration_token xs d) is.declaring ∙ begins_at
 
-  pub end_known : (first : ℕ) → Some first ≡ declaration_token r.declarations d → position_from (λ x. is_semicolon x.kind) first (drop first r.module_read.source.tokens) ≡ Some end_token
+  pub end_known : (first : ℕ) → Some first ≡ declaration_token r.declaration_tokens d → position_from (λ x. is_semicolon x.kind) first (drop first r.module_read.source.tokens) ≡ Some end_token
   end_known first e = ap (λ n. position_from (λ (x : Token). is_semicolon x.kind) n (drop n r.module_read.source.tokens)) (some_inverse (e ∙ token_known)) ∙ ends_at
 
   pub declaration_at : IsDeclaration r.module_read.source.tokens name_token end_token

@@ -19,7 +19,7 @@ use Rattle.ob0_edits_tokens.specs.OfTrees.{number_at, word_text_at}
 use Rattle.ob0_edits_tokens.specs.Replaced.{AreIdentifierIndexes}
 use Rattle.ob0_edits_tokens.specs.Words.{terminal_of_word}
 use Rattle.ob0_edits_tokens.proofs.OfTrees.{put, replaced}
-use Rattle.ob0_language_names.specs.NonFactorNames.{names_beside_factors}
+use Rattle.ob0_language_names.specs.NonFactorNames.{non_factor_names}
 use Rattle.ob0_language_names.specs.Inlining.{OccurrenceSet, inline_in, module_without}
 use Rattle.ob0_language_names.specs.Names.{Label, Name, naming_by_spelling, declared}
 use Rattle.ob0_language_types.proofs.Literals.{some_inverse}
@@ -132,8 +132,8 @@ module _ (r : Resolution) (is : IsResolution r) (d : ℕ) (v : Tree Name factor)
       let zero_more : j ≡ 0 + j = omega arith in
       agree j i (ap (λ us. slice_get us j) is.occurring ∙ e) ∙ ap uses zero_more)
 
-  none_elsewhere : NoneIs d (names_beside_factors (mapped_tree (label_at r.module_read.source r.ordinals) (leaf.token_value_at r.module_read.source) (tree_of r.module_read)))
-  none_elsewhere = none_is d (names_beside_factors (mapped_tree (label_at r.module_read.source r.ordinals) (leaf.token_value_at r.module_read.source) (tree_of r.module_read))) (subst (All (λ l. l ≢ declared d)) (ap names_beside_factors is.numbering) alone)
+  none_elsewhere : NoneIs d (non_factor_names (mapped_tree (label_at r.module_read.source r.ordinals) (leaf.token_value_at r.module_read.source) (tree_of r.module_read)))
+  none_elsewhere = none_is d (non_factor_names (mapped_tree (label_at r.module_read.source r.ordinals) (leaf.token_value_at r.module_read.source) (tree_of r.module_read))) (subst (All (λ l. l ≢ declared d)) (ap non_factor_names is.numbering) alone)
 
   puts : (xs : List (Terminal ℕ)) → flat_map (put r.module_read.source places vs) xs ≡ flat_map (replaced gives (spell v) (leaf.token_text_at r.module_read.source) (leaf.token_value_at r.module_read.source)) xs
   puts xs =

@@ -14,11 +14,11 @@ use Rattle.ob0_tree.specs.ParsedModule.{ParsedModule, named_tree_of, tree_of}
 use Rattle.ob0_tree.specs.Tree.{Tree, identifiers, module_text, occurrences}
 use Rattle.ob0_edits_tokens.specs.Ranges.{range_of}
 use Rattle.ob0_edits_tokens.specs.Removed.{span_of_tokens, text_after_removal}
-use Rattle.ob0_edits_tokens.specs.Replaced.{edit_at, range_and_text}
-use Rattle.ob0_language_names.specs.NonFactorNames.{names_beside_factors}
+use Rattle.ob0_edits_tokens.specs.Replaced.{replacement_at_token, range_and_text}
+use Rattle.ob0_language_names.specs.NonFactorNames.{non_factor_names}
 use Rattle.ob0_language_names.specs.Inlining.{inlined_everywhere}
 use Rattle.ob0_language_names.specs.Names.{Name, declared, same_label}
-use Rattle.ob0_language_names.specs.Occurrences.{bindings, binds}
+use Rattle.ob0_language_names.specs.Occurrences.{bindings, ordinal_bound_at}
 use Rattle.ob0_scope_table.specs.Resolution.{declaring_names, declaration_token}
 use Rattle.ob0_language_names.specs.Scopes.{numbered, same_ordinal}
 use Rattle.ob0_language_values.specs.Scalars.{scalar_value}
@@ -66,7 +66,7 @@ uses_of m d =
 -- States that each use of the declaration with the ordinal `d` is a whole factor: a name without
 -- selectors in an expression.
 abbrev pub UsesAreFactors : ParsedModule → ℕ → Type 0
-UsesAreFactors m d = All (λ l. l ≢ declared d) (names_beside_factors (numbered (named_tree_of m)))
+UsesAreFactors m d = All (λ l. l ≢ declared d) (non_factor_names (numbered (named_tree_of m)))
 
 -- Returns the tree of the module after the constant `c` is inlined everywhere: the value of `c`
 -- replaces all its uses, and the declaration of `c` is removed.
@@ -80,7 +80,7 @@ text_after_inlining m c = text_after_removal m.source c.first c.last (uses_of m 
 -- Returns whether the occurrence with the number `k` is a use of the constant `c` at which TRUE or
 -- FALSE, written for the constant's value, wouldn't mean the predeclared name.
 abbrev pub is_shadowed_use : Tree Name module_text → NamedConstant → ℕ → Bool
-is_shadowed_use m c k = same_ordinal (binds m k) c.ordinal && not (is_predeclared_truth m k c.value)
+is_shadowed_use m c k = same_ordinal (ordinal_bound_at m k) c.ordinal && not (is_predeclared_truth m k c.value)
 
 -- Returns whether the constant `c` has a use at which TRUE or FALSE, written for the constant's
 -- value, wouldn't mean the predeclared name.
@@ -108,7 +108,7 @@ pub record InlinesEverywhere (unit : counting.Unit) (text : List ℕ) (m : Parse
     (c : NamedConstant) (edits : List Edit) : Type 0 where
   pub everywhere : map range_and_text edits
       ≡ (range_of (width_of unit) text (span_of_tokens m.source.tokens c.first c.last), [])
-      ∷ map (edit_at unit text m.source.tokens (value_text c.value)) (uses_of m c.ordinal)
+      ∷ map (replacement_at_token unit text m.source.tokens (value_text c.value)) (uses_of m c.ordinal)
   pub leaves : EditsGiveModule unit text edits (tree_inlined_everywhere m c)
   pub well_typed : WellTyped (tree_inlined_everywhere m c)
   pub same_runs : HaveSameRuns (tree_inlined_everywhere m c) (named_tree_of m)

@@ -9,11 +9,11 @@ use Rattle.ob0_text.specs.declared.refusals.EditRefusal.{EditRefusal}
 use Rattle.ob0_text.specs.declared.refusals.EditRefusal.TheVariants.{Memory, NoName, Shadowed}
 use Rattle.ob0_tree.specs.ParsedModule.{ParsedModule, named_tree_of, tree_of}
 use Rattle.ob0_tree.specs.Tree.{Tree, module_text, occurrences}
-use Rattle.ob0_edits_tokens.specs.Replaced.{edit_at, range_and_text, text_after_replacement}
+use Rattle.ob0_edits_tokens.specs.Replaced.{replacement_at_token, range_and_text, text_after_replacement}
 use Rattle.ob0_edits_tokens.specs.Written.{truth_text}
 use Rattle.ob0_language_names.specs.Inlining.{inlined, single_occurrence}
 use Rattle.ob0_language_names.specs.Names.{Name}
-use Rattle.ob0_language_names.specs.Occurrences.{binds}
+use Rattle.ob0_language_names.specs.Occurrences.{ordinal_bound_at}
 use Rattle.ob0_language_names.specs.Scopes.{same_ordinal}
 use Rattle.ob0_language_names.specs.OccurrenceLookup.{resolve_at_occurrence}
 use Rattle.ob0_language_values.specs.declared.scalar.Scalar.{Scalar}
@@ -39,7 +39,7 @@ pub record IsUseAt (m : ParsedModule) (offset : ℕ) (u : ConstantUse) : Type 0 
 -- value of `u`.
 pub record IsUse (m : ParsedModule) (u : ConstantUse) : Type 0 where
   pub occurs : slice_get (occurrences (tree_of m)) u.occurrence ≡ Some u.token
-  pub bound : binds (named_tree_of m) u.occurrence ≡ Some u.constant
+  pub bound : ordinal_bound_at (named_tree_of m) u.occurrence ≡ Some u.constant
   pub has_value : value_of_constant (named_tree_of m) u.constant ≡ Some (scalar_value u.value)
 
 -- Returns the ordinal of the predeclared name TRUE or FALSE.
@@ -72,7 +72,7 @@ refusal_here m u =
 -- the module before.
 pub record InlinesHere (unit : counting.Unit) (text : List ℕ) (m : ParsedModule) (u : ConstantUse)
     (edits : List Edit) : Type 0 where
-  pub here : map range_and_text edits ≡ edit_at unit text m.source.tokens (value_text u.value) u.token ∷ []
+  pub here : map range_and_text edits ≡ replacement_at_token unit text m.source.tokens (value_text u.value) u.token ∷ []
   pub leaves : EditsGiveModule unit text edits (tree_inlined_here m u)
   pub well_typed : WellTyped (tree_inlined_here m u)
   pub same_runs : HaveSameRuns (tree_inlined_here m u) (named_tree_of m)

@@ -35,13 +35,13 @@ pub(crate) fn is_too_deep<T: TextStore>(
     if read.nesting() < MAX_NESTING {
         return Ok(false);
     }
-    patched_is_too_deep(alloc, store, edits)
+    is_patched_text_too_deep(alloc, store, edits)
 }
 
 /// Returns whether the text that results from the edits is nested deeper than a module may be. The
 /// edited text is parsed to find out. If the edits overlap or the edited text isn't a module, the
 /// result is true.
-fn patched_is_too_deep<T: TextStore>(
+fn is_patched_text_too_deep<T: TextStore>(
     alloc: Global,
     store: &T,
     edits: &[Edit],

@@ -12,7 +12,7 @@ ghost use Rattle.ob0_tree.specs.Module.{max_nesting};
 ghost use Rattle.ob0_tree.specs.Tree.{nesting};
 ghost use Rattle.ob0_edits_tokens.specs.Ranges.{range_of};
 ghost use Rattle.ob0_edits_tokens.specs.Removed.{span_of_tokens};
-ghost use Rattle.ob0_edits_tokens.specs.Replaced.{edit_at, range_and_text};
+ghost use Rattle.ob0_edits_tokens.specs.Replaced.{replacement_at_token, range_and_text};
 ghost use Rattle.ob0_inline.specs.Declarations.{contains_span};
 ghost use Rattle.ob0_inline.specs.Everywhere.{AnswersForConstant, AnswersInlineEverywhere, IsConstant, UsesAreFactors, tree_inlined_everywhere, text_after_inlining, uses_of};
 ghost use Rattle.ob0_inline.specs.Inlined.{EditsGiveModule};
@@ -100,7 +100,7 @@ fn constant_edits<T: TextStore>(
               (span_of_tokens names.now.module_read.source.tokens constant.first constant.last),
           [],
         )
-        ∷ map (edit_at (T.unit_of store.now)
+        ∷ map (replacement_at_token (T.unit_of store.now)
         (T.content store.now) names.now.module_read.source.tokens (value_text constant.value))
         (uses_of names.now.module_read constant.ordinal)) }
     ensures inlined { UsesAreFactors names.now.module_read constant.ordinal

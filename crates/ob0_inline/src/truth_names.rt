@@ -4,7 +4,7 @@
 ghost use Rattle.std.specs.Prelude.{◌≡◌, IfOk, ◌==◌, ◌&&◌, not, length, option_and_then, slice_get};
 ghost use Rattle.std.specs.List.{list_any, range_with_len};
 ghost use Rattle.ob0_tree.specs.ParsedModule.{named_tree_of};
-ghost use Rattle.ob0_language_names.specs.Occurrences.{bindings, binds};
+ghost use Rattle.ob0_language_names.specs.Occurrences.{bindings, ordinal_bound_at};
 ghost use Rattle.ob0_language_names.specs.Scopes.{same_ordinal};
 ghost use Rattle.ob0_language_names.specs.OccurrenceLookup.{resolve_at_occurrence};
 ghost use Rattle.ob0_inline.specs.Everywhere.{any_use_shadowed};
@@ -105,7 +105,7 @@ fn any_use_binds_elsewhere(
 ) -> Result<bool, AllocError>
     ensures { IfOk result (λ hidden.
         hidden
-        ≡ list_any (λ k. same_ordinal (binds (named_tree_of names.now.module_read) k) constant
+        ≡ list_any (λ k. same_ordinal (ordinal_bound_at (named_tree_of names.now.module_read) k) constant
         && not (same_ordinal (resolve_at_occurrence (named_tree_of names.now.module_read) k name.now) ordinal))
         (range_with_len 0 (length (bindings (named_tree_of names.now.module_read))))) }
 {
@@ -125,7 +125,7 @@ fn any_use_differs(
     ordinal: usize,
 ) -> bool
     ensures { result
-        ≡ list_any (λ k. same_ordinal (binds (named_tree_of names.now.module_read) k) constant
+        ≡ list_any (λ k. same_ordinal (ordinal_bound_at (named_tree_of names.now.module_read) k) constant
         && not (same_ordinal (option_and_then (λ found. found) (slice_get bound.now k)) ordinal))
         (range_with_len 0 (length names.now.uses)) }
 {
@@ -148,7 +148,7 @@ fn is_differing_use(
     ordinal: usize,
 ) -> bool
     ensures { result
-        ≡ (same_ordinal (binds (named_tree_of names.now.module_read) occurrence) constant
+        ≡ (same_ordinal (ordinal_bound_at (named_tree_of names.now.module_read) occurrence) constant
         && not (same_ordinal (option_and_then (λ found. found) (slice_get bound.now occurrence))
         ordinal)) }
 {

@@ -6,7 +6,7 @@ ghost use Rattle.ob0_scan.specs.TextWithTokens.{max_text};
 ghost use Rattle.ob0_text.specs.declared.refusals.EditRefusal.TheVariants.{Memory, TooDeep, TooLong};
 ghost use Rattle.ob0_tree.specs.Module.{max_nesting};
 ghost use Rattle.ob0_tree.specs.Tree.{nesting};
-ghost use Rattle.ob0_edits_tokens.specs.Replaced.{edit_at, range_and_text, text_after_replacement};
+ghost use Rattle.ob0_edits_tokens.specs.Replaced.{replacement_at_token, range_and_text, text_after_replacement};
 ghost use Rattle.ob0_inline.specs.Everywhere.{UsesAreFactors};
 ghost use Rattle.ob0_inline.specs.Inlined.{EditsGiveModule};
 ghost use Rattle.ob0_inline.specs.Uses.{IsUse, tree_inlined_here};
@@ -31,7 +31,7 @@ pub(crate) fn use_edits<T: TextStore>(
     requires content { T.content store.now ≡ chars names.now.module_read.source.text }
     requires is_use { IsUse names.now.module_read found }
     ensures edits { IfOk result (λ edits. map range_and_text edits.items
-        ≡ edit_at (T.unit_of store.now) (T.content store.now)
+        ≡ replacement_at_token (T.unit_of store.now) (T.content store.now)
         names.now.module_read.source.tokens (value_text found.value) found.token ∷ []) }
     ensures inlined { UsesAreFactors names.now.module_read found.constant
         → IfOk result (λ edits. EditsGiveModule (T.unit_of store.now) (T.content store.now) edits.items

@@ -10,7 +10,7 @@ use Rattle.ob0_text.specs.Units.{width_of}
 use Rattle.ob0_tree_values.proofs.TreeValues.{vec_of}
 use Rattle.ob0_edits_tokens.specs.Ranges.{range_of}
 use Rattle.ob0_edits_tokens.specs.Removed.{span_of_tokens}
-use Rattle.ob0_edits_tokens.specs.Replaced.{AreIdentifierIndexes, edit_at, range_and_text, span_at}
+use Rattle.ob0_edits_tokens.specs.Replaced.{AreIdentifierIndexes, replacement_at_token, range_and_text, span_at}
 
 abbrev string_of : (bytes : List ℕ) → IsUtf8 bytes → length bytes ≤ 1048576 → String Global
 string_of bytes u short = record { bytes = vec_of bytes (omega (arith, short)); ok = ∣ u ∣₁ }
@@ -33,9 +33,9 @@ module _ (unit : Unit) (text : List ℕ) (tokens : List Token) where
     abbrev pub edit_value : ℕ → Edit
     edit_value p = record { range = range_of (width_of unit) text (span_at tokens p); text = string_of new good short }
 
-    pub values_are : (places : List ℕ) → map range_and_text (map edit_value places) ≡ map (edit_at unit text tokens new) places
+    pub values_are : (places : List ℕ) → map range_and_text (map edit_value places) ≡ map (replacement_at_token unit text tokens new) places
     values_are [] = refl
-    values_are (p ∷ ps) = ap (λ xs. edit_at unit text tokens new p ∷ xs) (values_are ps)
+    values_are (p ∷ ps) = ap (λ xs. replacement_at_token unit text tokens new p ∷ xs) (values_are ps)
 
     pub as_many_values : (places : List ℕ) → length (map edit_value places) ≡ length places
     as_many_values [] = refl

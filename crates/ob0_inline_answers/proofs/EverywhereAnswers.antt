@@ -16,7 +16,7 @@ use Rattle.ob0_tree_values.proofs.TreeValues.{vec_of}
 use Rattle.ob0_edits_tokens.specs.Changed.{changes_at, changed_words, words_of}
 use Rattle.ob0_edits_tokens.specs.Ranges.{range_of}
 use Rattle.ob0_edits_tokens.specs.Removed.{IsDeclaration, span_of_tokens, changes_with_removal}
-use Rattle.ob0_edits_tokens.specs.Replaced.{AreIdentifierIndexes, LeavesWords, edit_at, range_and_text}
+use Rattle.ob0_edits_tokens.specs.Replaced.{AreIdentifierIndexes, LeavesWords, replacement_at_token, range_and_text}
 use Rattle.ob0_edits_tokens.proofs.MadeWithout.{leaves_words_without}
 use Rattle.ob0_scope_table.specs.Resolution.{Resolution}
 use Rattle.ob0_scope.specs.declared.naming.Named as named
@@ -67,7 +67,7 @@ module _ (unit : Unit) (text : List ℕ) (r : Resolution) (module_in : IsResolve
   abbrev all_words : List Word
   all_words = changed_words (changes_with_removal c.first c.last (changes_at places (value_words c.value))) 0 (words_of s)
 
-  all_are : map range_and_text all_edits ≡ (range_of (width_of unit) text (span_of_tokens s.tokens c.first c.last), []) ∷ map (edit_at unit text s.tokens (value_text c.value)) places
+  all_are : map range_and_text all_edits ≡ (range_of (width_of unit) text (span_of_tokens s.tokens c.first c.last), []) ∷ map (replacement_at_token unit text s.tokens (value_text c.value)) places
   all_are = ap (λ es. (range_of (width_of unit) text (span_of_tokens s.tokens c.first c.last), []) ∷ es) (values_are unit text s.tokens (value_text c.value) w.utf8 w.short places)
 
   pub few_edits : length all_edits ≤ 1048577
@@ -83,7 +83,7 @@ module _ (unit : Unit) (text : List ℕ) (r : Resolution) (module_in : IsResolve
       let held_so = held unit text r module_in in
       subst (λ t. LeavesWords unit t all_edits all_words) (sym held_so)
       (leaves_words_without unit s module_in.scan.scan (value_text c.value) (value_words c.value) w.replaces w.utf8 c.first c.last declaration places are_names all_edits
-      (subst (λ t. map range_and_text all_edits ≡ (range_of (width_of unit) t (span_of_tokens s.tokens c.first c.last), []) ∷ map (edit_at unit t s.tokens (value_text c.value)) places) held_so all_are) short)
+      (subst (λ t. map range_and_text all_edits ≡ (range_of (width_of unit) t (span_of_tokens s.tokens c.first c.last), []) ∷ map (replacement_at_token unit t s.tokens (value_text c.value)) places) held_so all_are) short)
 
   pub all_made : length (text_after_inlining r.module_read c) ≤ max_text → nesting (tree_inlined_everywhere r.module_read c) ≤ 100 → Made r c unit text all_edits
   all_made short low = record {

@@ -15,7 +15,7 @@ use Rattle.ob0_tree.specs.ParsedModule.{named_tree_of, tree_of}
 use Rattle.ob0_tree.specs.Tree.{Tree, module_text, nesting}
 use Rattle.ob0_tree_values.proofs.TreeValues.{vec_of}
 use Rattle.ob0_edits_tokens.specs.Changed.{changes_at, changed_words, words_of}
-use Rattle.ob0_edits_tokens.specs.Replaced.{LeavesWords, edit_at, range_and_text, text_after_replacement}
+use Rattle.ob0_edits_tokens.specs.Replaced.{LeavesWords, replacement_at_token, range_and_text, text_after_replacement}
 use Rattle.ob0_edits_tokens.proofs.Made.{leaves_words}
 use Rattle.ob0_language_names.specs.Names.{Name}
 use Rattle.ob0_scope_table.specs.Resolution.{Resolution}
@@ -98,7 +98,7 @@ module _ (unit : Unit) (text : List ℕ) (r : Resolution) (module_in : IsResolve
   abbrev here_words : List Word
   here_words = changed_words (changes_at (u.token ∷ []) (value_words u.value)) 0 (words_of s)
 
-  here_are : map range_and_text here_edits ≡ map (edit_at unit text s.tokens (value_text u.value)) (u.token ∷ [])
+  here_are : map range_and_text here_edits ≡ map (replacement_at_token unit text s.tokens (value_text u.value)) (u.token ∷ [])
   here_are = values_are unit text s.tokens (value_text u.value) w.utf8 w.short (u.token ∷ [])
 
   here_leave : length (text_after_replacement s (u.token ∷ []) (value_text u.value)) ≤ max_text → LeavesWords unit text here_edits here_words
@@ -106,7 +106,7 @@ module _ (unit : Unit) (text : List ℕ) (r : Resolution) (module_in : IsResolve
       let held_so = held unit text r module_in in
       subst (λ t. LeavesWords unit t here_edits here_words) (sym held_so)
       (leaves_words unit s module_in.scan.scan (value_text u.value) (value_words u.value) w.replaces w.utf8 (u.token ∷ []) (are_names r module_in.well_typed.resolved u use_so) here_edits
-      (subst (λ t. map range_and_text here_edits ≡ map (edit_at unit t s.tokens (value_text u.value)) (u.token ∷ [])) held_so here_are) short)
+      (subst (λ t. map range_and_text here_edits ≡ map (replacement_at_token unit t s.tokens (value_text u.value)) (u.token ∷ [])) held_so here_are) short)
 
   pub here_made : length (text_after_replacement s (u.token ∷ []) (value_text u.value)) ≤ max_text → nesting (tree_inlined_here r.module_read u) ≤ 100 → Made r u unit text here_edits
   here_made short low = record {

@@ -10,7 +10,7 @@ use Rattle.ob0_tree.specs.declared.tree.MultiplyOperator.{MultiplyOperator}
 use Rattle.ob0_tree.specs.declared.tree.MultiplyOperator.TheVariants as multiply_operator
 use Rattle.ob0_language_names.specs.Names.{Name, same_name}
 use Rattle.ob0_language_types.specs.Expressions.{Object, a_constant, a_procedure, a_standard, a_type, a_variable, read_procedure}
-use Rattle.ob0_language_types.specs.Typing.{addition_type, negation_type, constant_of, depth, field_depth, field_scalars, field_type, multiplication_type, object_type, relation_type, scalars, shape_of_field, sign_type, type_of_name, value_type, prepend_fields, check_limits}
+use Rattle.ob0_language_types.specs.Typing.{addition_type, negation_type, constant_of, depth, field_depth, field_scalars, field_type, multiplication_type, type_of_variable_or_constant, relation_type, scalars, shape_of_field, sign_type, type_of_name, value_type, prepend_fields, type_within_limits}
 use Rattle.ob0_language_types.specs.WellTyped.{FormalParameter, Signature, TypeMeanings, same_known_shape, same_fields, same_shape, signature_of}
 use Rattle.ob0_language_values.specs.Values.{FieldShapes, Shape, Value, array_shape, boolean_shape, integer_shape, next_field_shape, no_field_shape, number, record_shape}
 use Rattle.ob0_language_fields.specs.Fields.{FieldRenaming, record_ordinal}
@@ -43,9 +43,9 @@ pub each-then : {A C D : Type 0} (g : C → D) (o : Option A) (n : A → Option 
 each-then g None n n' each = refl
 each-then g (Some a) n n' each = each a
 
-pub choose-map : {A B : Type 0} (f : A → B) (b : Bool) (a : A) (o : Option A) → (if b then Some (f a) else option_map f o) ≡ option_map f (if b then Some a else o)
-choose-map f true a o = refl
-choose-map f false a o = refl
+pub choose_by_truth-map : {A B : Type 0} (f : A → B) (b : Bool) (a : A) (o : Option A) → (if b then Some (f a) else option_map f o) ≡ option_map f (if b then Some a else o)
+choose_by_truth-map f true a o = refl
+choose_by_truth-map f false a o = refl
 
 -- The types of operations are the same if fields have other names.
 
@@ -83,7 +83,7 @@ negation_type-by l _ = refl
 pub shape_of_field-by : (l : FieldRenaming) → KeepsFieldsDistinct l → (k : ℕ) (fs : FieldShapes) (x : Name) → shape_of_field (fields_by l k fs) (l (Some k) x) ≡ option_map (shape_by l) (shape_of_field fs x)
 shape_of_field-by l apart k no_field_shape x = refl
 shape_of_field-by l apart k (next_field_shape y s rest) x =
-    (λ i. if apart k x y i then Some (shape_by l s) else shape_of_field-by l apart k rest x i) ∙ choose-map (shape_by l) (same_name x y) s (shape_of_field rest x)
+    (λ i. if apart k x y i then Some (shape_by l s) else shape_of_field-by l apart k rest x i) ∙ choose_by_truth-map (shape_by l) (same_name x y) s (shape_of_field rest x)
 
 pub field_type-by : (l : FieldRenaming) → KeepsFieldsDistinct l → (s : Shape) (x : Name) → field_type (shape_by l s) (l (record_ordinal (Some s)) x) ≡ option_map (shape_by l) (field_type s x)
 field_type-by l apart (record_shape k fs) x = shape_of_field-by l apart k fs x
@@ -115,10 +115,10 @@ mutual
   field_depth-by l k no_field_shape = refl
   field_depth-by l k (next_field_shape x s rest) = λ i. max (depth-by l s i) (field_depth-by l k rest i)
 
-pub check_limits-by : (l : FieldRenaming) (s : Shape) → check_limits (shape_by l s) ≡ option_map (shape_by l) (check_limits s)
-check_limits-by l s =
+pub type_within_limits-by : (l : FieldRenaming) (s : Shape) → type_within_limits (shape_by l s) ≡ option_map (shape_by l) (type_within_limits s)
+type_within_limits-by l s =
     (λ i. if nat_le (scalars-by l s i) 65536 && nat_le (depth-by l s i) 100 then Some (shape_by l s) else None)
-    ∙ choose-map (shape_by l) (nat_le (scalars s) 65536 && nat_le (depth s) 100) s None
+    ∙ choose_by_truth-map (shape_by l) (nat_le (scalars s) 65536 && nat_le (depth s) 100) s None
 
 -- Two types are the same exactly if they are the same with their fields under other names.
 
@@ -165,9 +165,9 @@ pub value_type-by : (l : FieldRenaming) (v : Value) → value_type v ≡ option_
 value_type-by l (number n) = refl
 value_type-by l _ = refl
 
-pub object_type-by : (l : FieldRenaming) (o : Option (Object Shape Signature)) → object_type (option_map (object_by l) o) ≡ option_map (shape_by l) (object_type o)
-object_type-by l (Some (a_constant v)) = value_type-by l v
-object_type-by l _ = refl
+pub type_of_variable_or_constant-by : (l : FieldRenaming) (o : Option (Object Shape Signature)) → type_of_variable_or_constant (option_map (object_by l) o) ≡ option_map (shape_by l) (type_of_variable_or_constant o)
+type_of_variable_or_constant-by l (Some (a_constant v)) = value_type-by l v
+type_of_variable_or_constant-by l _ = refl
 
 pub constant_of-by : (l : FieldRenaming) (o : Option (Object Shape Signature)) → constant_of (option_map (object_by l) o) ≡ constant_of o
 constant_of-by l (Some (a_type s)) = refl

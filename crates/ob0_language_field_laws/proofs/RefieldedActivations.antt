@@ -29,7 +29,7 @@ pub record Text : Type 0 where
   pub text : Tree Name (item procedure)
 
 abbrev pub code_by : FieldRenaming → Text → ProcedureText Name
-code_by l c = record { first_constructor = c.first; text = rename_fields_in_procedure l c.checked c.first c.text }
+code_by l c = record { constructors_before = c.first; text = rename_fields_in_procedure l c.checked c.first c.text }
 
 abbrev pub Scene : Type 0
 Scene = List (Name × Thing Text)
@@ -239,7 +239,7 @@ declare_procedures-by l k end env scene = refl
 declare_procedures-by l k (more p rest) env scene =
     let e : TypeEnvironment Name = bind_typed_parameters (parameters_of env k p) (environment_after_heading env k p) in
     (λ i. declare_procedures (k + procedure_constructor_count-rename_fields l e k p i) (rename_fields_in_procedures l (environment_after_heading env k p) (k + procedure_constructor_count p) rest)
-    ((procedure_name-rename_fields l e k p i, a_procedure record { first_constructor = k; text = rename_fields_in_procedure l e k p }) ∷ env_as l scene))
+    ((procedure_name-rename_fields l e k p i, a_procedure record { constructors_before = k; text = rename_fields_in_procedure l e k p }) ∷ env_as l scene))
     ∙ declare_procedures-by l (k + procedure_constructor_count p) rest (environment_after_heading env k p) ((procedure_name p, procedure_thing record { first = k; checked = e; text = p }) ∷ scene)
 
 -- Declaring the parts of a block does the same in both runs.

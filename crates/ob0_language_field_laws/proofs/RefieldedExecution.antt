@@ -3,15 +3,15 @@ use Rattle.std.proofs.Common.{◌≡◌, ℕ, zero, suc, ◌-◌, List, [], ◌�
 use Rattle.ob0_tree.specs.Tree.{Tree, assigns, branches, calls, else_branch, else_part, elsif_branch, elsif_part, empty, end, expression, further_statement, items, maybe, more, none, one, repeat_loop, runs, selector, sequence, statement, then_statement, while_loop}
 use Rattle.ob0_language_names.specs.Names.{Name}
 use Rattle.ob0_language_types.specs.Arguments.{arguments_listed}
-use Rattle.ob0_language_types.specs.Expressions.{designate, evaluate, read_procedure, write_procedure, write_line_procedure}
-use Rattle.ob0_language_types.specs.Typing.{lone_designator, object_type}
+use Rattle.ob0_language_types.specs.Expressions.{designated_place, evaluate, read_procedure, write_procedure, write_line_procedure}
+use Rattle.ob0_language_types.specs.Typing.{lone_designator, type_of_variable_or_constant}
 use Rattle.ob0_language_types.specs.WellTyped.{Mode, TypeMeanings, by_place, by_value}
 use Rattle.ob0_language_values.specs.Values.{Outcome, Store, Stuck, TurnBound, Value, ends_run_with, succeeds_with, number, or_stuck, truth, write_place, ◌>>=◌}
-use Rattle.ob0_language_runs.specs.Runs.{Argument, CallFunction, Progress, State, choose, evaluate_argument, evaluate_arguments, execute, execute_all, execute_else, execute_elsifs, execute_further, continue_with, line_out, modes_of, number_out, perform_call, place_argument, append_output, read_number, running, stopped, store_at, execute_while, execute_repeat, use_result, value_argument}
+use Rattle.ob0_language_runs.specs.Runs.{Argument, CallFunction, Progress, State, choose_by_truth, evaluate_argument, evaluate_arguments, execute, execute_sequence, execute_else, execute_elsifs, execute_further_statements, continue_with, line_out, modes_of, number_out, perform_call, place_argument, append_output, read_number, running, stopped, store_at, execute_while, execute_repeat, use_result, value_argument}
 use Rattle.ob0_language_fields.specs.Fields.{FieldRenaming, rename_fields}
 use Rattle.ob0_language_field_laws.specs.FieldLaws.{KeepsFieldsDistinct}
 use Rattle.ob0_language_field_laws.proofs.Outcomes.{Follows, ValuesFollow, follows-then, or_stuck-follows}
-use Rattle.ob0_language_field_laws.proofs.RefieldedExpressions.{Thing, Things, active, designate-follows, evaluate-follows, procedure_thing, standard_thing, thing_by}
+use Rattle.ob0_language_field_laws.proofs.RefieldedExpressions.{Thing, Things, active, designated_place-follows, evaluate-follows, procedure_thing, standard_thing, thing_by}
 use Rattle.ob0_language_field_laws.proofs.RefieldedStatements.{arguments-rename_fields, lone_designator-rename_fields, refield_designator}
 use Rattle.ob0_language_field_laws.proofs.Values.{Spot, place_by, store_by, tagged, value_by, write_place-finds}
 
@@ -49,11 +49,11 @@ go_on-goes l (stopped e out) p₂ n₁ n₂ h alike = go h
 pub runs-on : (l : FieldRenaming) → Alike l running running
 runs-on l s = (s, refl, refl)
 
-pub choose-goes : (l : FieldRenaming) (s : State) (v : Value) (when₁ when₂ else₁ else₂ : State → Progress) → Alike l when₁ when₂ → Alike l else₁ else₂
-    → Goes l (choose (state_by tagged s) (value_by tagged v) when₁ else₁) (choose (state_by l s) (value_by l v) when₂ else₂)
-choose-goes l s (truth true) when₁ when₂ else₁ else₂ h k = h s
-choose-goes l s (truth false) when₁ when₂ else₁ else₂ h k = k s
-choose-goes l s _ when₁ when₂ else₁ else₂ h k = inl refl
+pub choose_by_truth-goes : (l : FieldRenaming) (s : State) (v : Value) (when₁ when₂ else₁ else₂ : State → Progress) → Alike l when₁ when₂ → Alike l else₁ else₂
+    → Goes l (choose_by_truth (state_by tagged s) (value_by tagged v) when₁ else₁) (choose_by_truth (state_by l s) (value_by l v) when₂ else₂)
+choose_by_truth-goes l s (truth true) when₁ when₂ else₁ else₂ h k = h s
+choose_by_truth-goes l s (truth false) when₁ when₂ else₁ else₂ h k = k s
+choose_by_truth-goes l s _ when₁ when₂ else₁ else₂ h k = inl refl
 
 -- holds if both runs evaluate a condition alike
 abbrev pub Conditions : FieldRenaming → (State → Outcome Value) → (State → Outcome Value) → Type 0
@@ -61,22 +61,22 @@ Conditions l c₁ c₂ = (s : State) → ValuesFollow l (c₁ (state_by tagged s
 
 pub execute_while-alike : (l : FieldRenaming) (t : ℕ) (c₁ c₂ : State → Outcome Value) (n₁ n₂ : State → Progress) → Conditions l c₁ c₂ → Alike l n₁ n₂ → Alike l (execute_while t c₁ n₁) (execute_while t c₂ n₂)
 execute_while-alike l zero c₁ c₂ n₁ n₂ conditions alike s =
-    use_result-goes l (value_by tagged) (value_by l) s (c₁ (state_by tagged s)) (c₂ (state_by l s)) (λ v. choose (state_by tagged s) v (λ s'. stopped TurnBound s'.output) running) (λ v. choose (state_by l s) v (λ s'. stopped TurnBound s'.output) running) (conditions s)
-    (λ v. choose-goes l s v (λ s'. stopped TurnBound s'.output) (λ s'. stopped TurnBound s'.output) running running (λ s'. inr refl) (runs-on l))
+    use_result-goes l (value_by tagged) (value_by l) s (c₁ (state_by tagged s)) (c₂ (state_by l s)) (λ v. choose_by_truth (state_by tagged s) v (λ s'. stopped TurnBound s'.output) running) (λ v. choose_by_truth (state_by l s) v (λ s'. stopped TurnBound s'.output) running) (conditions s)
+    (λ v. choose_by_truth-goes l s v (λ s'. stopped TurnBound s'.output) (λ s'. stopped TurnBound s'.output) running running (λ s'. inr refl) (runs-on l))
 execute_while-alike l (suc t) c₁ c₂ n₁ n₂ conditions alike s =
-    use_result-goes l (value_by tagged) (value_by l) s (c₁ (state_by tagged s)) (c₂ (state_by l s)) (λ v. choose (state_by tagged s) v (λ s'. continue_with (n₁ s') (execute_while t c₁ n₁)) running) (λ v. choose (state_by l s) v (λ s'. continue_with (n₂ s') (execute_while t c₂ n₂)) running) (conditions s)
-    (λ v. choose-goes l s v (λ s'. continue_with (n₁ s') (execute_while t c₁ n₁)) (λ s'. continue_with (n₂ s') (execute_while t c₂ n₂)) running running
+    use_result-goes l (value_by tagged) (value_by l) s (c₁ (state_by tagged s)) (c₂ (state_by l s)) (λ v. choose_by_truth (state_by tagged s) v (λ s'. continue_with (n₁ s') (execute_while t c₁ n₁)) running) (λ v. choose_by_truth (state_by l s) v (λ s'. continue_with (n₂ s') (execute_while t c₂ n₂)) running) (conditions s)
+    (λ v. choose_by_truth-goes l s v (λ s'. continue_with (n₁ s') (execute_while t c₁ n₁)) (λ s'. continue_with (n₂ s') (execute_while t c₂ n₂)) running running
     (λ s'. go_on-goes l (n₁ (state_by tagged s')) (n₂ (state_by l s')) (execute_while t c₁ n₁) (execute_while t c₂ n₂) (alike s') (execute_while-alike l t c₁ c₂ n₁ n₂ conditions alike)) (runs-on l))
 
 pub execute_repeat-alike : (l : FieldRenaming) (t : ℕ) (c₁ c₂ : State → Outcome Value) (n₁ n₂ : State → Progress) → Conditions l c₁ c₂ → Alike l n₁ n₂ → Alike l (execute_repeat t c₁ n₁) (execute_repeat t c₂ n₂)
 execute_repeat-alike l zero c₁ c₂ n₁ n₂ conditions alike s =
-    go_on-goes l (n₁ (state_by tagged s)) (n₂ (state_by l s)) (λ s'. use_result s' (c₁ s') (λ v. choose s' v running (λ s''. stopped TurnBound s''.output))) (λ s'. use_result s' (c₂ s') (λ v. choose s' v running (λ s''. stopped TurnBound s''.output))) (alike s)
-    (λ s'. use_result-goes l (value_by tagged) (value_by l) s' (c₁ (state_by tagged s')) (c₂ (state_by l s')) (λ v. choose (state_by tagged s') v running (λ s''. stopped TurnBound s''.output)) (λ v. choose (state_by l s') v running (λ s''. stopped TurnBound s''.output)) (conditions s')
-    (λ v. choose-goes l s' v running running (λ s''. stopped TurnBound s''.output) (λ s''. stopped TurnBound s''.output) (runs-on l) (λ s''. inr refl)))
+    go_on-goes l (n₁ (state_by tagged s)) (n₂ (state_by l s)) (λ s'. use_result s' (c₁ s') (λ v. choose_by_truth s' v running (λ s''. stopped TurnBound s''.output))) (λ s'. use_result s' (c₂ s') (λ v. choose_by_truth s' v running (λ s''. stopped TurnBound s''.output))) (alike s)
+    (λ s'. use_result-goes l (value_by tagged) (value_by l) s' (c₁ (state_by tagged s')) (c₂ (state_by l s')) (λ v. choose_by_truth (state_by tagged s') v running (λ s''. stopped TurnBound s''.output)) (λ v. choose_by_truth (state_by l s') v running (λ s''. stopped TurnBound s''.output)) (conditions s')
+    (λ v. choose_by_truth-goes l s' v running running (λ s''. stopped TurnBound s''.output) (λ s''. stopped TurnBound s''.output) (runs-on l) (λ s''. inr refl)))
 execute_repeat-alike l (suc t) c₁ c₂ n₁ n₂ conditions alike s =
-    go_on-goes l (n₁ (state_by tagged s)) (n₂ (state_by l s)) (λ s'. use_result s' (c₁ s') (λ v. choose s' v running (execute_repeat t c₁ n₁))) (λ s'. use_result s' (c₂ s') (λ v. choose s' v running (execute_repeat t c₂ n₂))) (alike s)
-    (λ s'. use_result-goes l (value_by tagged) (value_by l) s' (c₁ (state_by tagged s')) (c₂ (state_by l s')) (λ v. choose (state_by tagged s') v running (execute_repeat t c₁ n₁)) (λ v. choose (state_by l s') v running (execute_repeat t c₂ n₂)) (conditions s')
-    (λ v. choose-goes l s' v running running (execute_repeat t c₁ n₁) (execute_repeat t c₂ n₂) (runs-on l) (execute_repeat-alike l t c₁ c₂ n₁ n₂ conditions alike)))
+    go_on-goes l (n₁ (state_by tagged s)) (n₂ (state_by l s)) (λ s'. use_result s' (c₁ s') (λ v. choose_by_truth s' v running (execute_repeat t c₁ n₁))) (λ s'. use_result s' (c₂ s') (λ v. choose_by_truth s' v running (execute_repeat t c₂ n₂))) (alike s)
+    (λ s'. use_result-goes l (value_by tagged) (value_by l) s' (c₁ (state_by tagged s')) (c₂ (state_by l s')) (λ v. choose_by_truth (state_by tagged s') v running (execute_repeat t c₁ n₁)) (λ v. choose_by_truth (state_by l s') v running (execute_repeat t c₂ n₂)) (conditions s')
+    (λ v. choose_by_truth-goes l s' v running running (execute_repeat t c₁ n₁) (execute_repeat t c₂ n₂) (runs-on l) (execute_repeat-alike l t c₁ c₂ n₁ n₂ conditions alike)))
 
 -- Storing a value at a place does the same in both runs.
 
@@ -102,14 +102,14 @@ unfolding evaluate_argument
 evaluate_argument-follows l apart things checked store by_value e =
     follows-then (value_by tagged) (value_by l) (argument_by tagged) (argument_by l) _ _ (λ v. succeeds_with (value_argument v)) (λ v. succeeds_with (value_argument v)) (evaluate-follows l apart things checked store e) (λ v. (value_given v, refl, refl))
 evaluate_argument-follows l apart things checked store by_place e =
-    subst₂ (λ a b. Follows (argument_by tagged) (argument_by l) (or_stuck a >>= (λ d. designate (active tagged things) (store_by tagged store) d.0 d.1 >>= (λ p. succeeds_with (place_argument p)))) (or_stuck b >>= (λ d. designate (active l things) (store_by l store) d.0 d.1 >>= (λ p. succeeds_with (place_argument p)))))
+    subst₂ (λ a b. Follows (argument_by tagged) (argument_by l) (or_stuck a >>= (λ d. designated_place (active tagged things) (store_by tagged store) d.0 d.1 >>= (λ p. succeeds_with (place_argument p)))) (or_stuck b >>= (λ d. designated_place (active l things) (store_by l store) d.0 d.1 >>= (λ p. succeeds_with (place_argument p)))))
     (sym (lone_designator-rename_fields tagged checked e)) (sym (lone_designator-rename_fields l checked e)) (go (lone_designator e))
   where
-    go : (d : Option (Name × Tree Name (items selector))) → Follows (argument_by tagged) (argument_by l) (or_stuck (option_map (refield_designator tagged checked) d) >>= (λ d. designate (active tagged things) (store_by tagged store) d.0 d.1 >>= (λ p. succeeds_with (place_argument p))))
-        (or_stuck (option_map (refield_designator l checked) d) >>= (λ d. designate (active l things) (store_by l store) d.0 d.1 >>= (λ p. succeeds_with (place_argument p))))
+    go : (d : Option (Name × Tree Name (items selector))) → Follows (argument_by tagged) (argument_by l) (or_stuck (option_map (refield_designator tagged checked) d) >>= (λ d. designated_place (active tagged things) (store_by tagged store) d.0 d.1 >>= (λ p. succeeds_with (place_argument p))))
+        (or_stuck (option_map (refield_designator l checked) d) >>= (λ d. designated_place (active l things) (store_by l store) d.0 d.1 >>= (λ p. succeeds_with (place_argument p))))
     go None = inl refl
     go (Some (x, path)) =
-        follows-then (place_by tagged) (place_by l) (argument_by tagged) (argument_by l) _ _ (λ p. succeeds_with (place_argument p)) (λ p. succeeds_with (place_argument p)) (designate-follows l apart things checked store (object_type (checked.object_for x)) x path) (λ p. (place_given p, refl, refl))
+        follows-then (place_by tagged) (place_by l) (argument_by tagged) (argument_by l) _ _ (λ p. succeeds_with (place_argument p)) (λ p. succeeds_with (place_argument p)) (designated_place-follows l apart things checked store (type_of_variable_or_constant (checked.object_for x)) x path) (λ p. (place_given p, refl, refl))
 
 pub evaluate_arguments-follows : {P : Type 0} (l : FieldRenaming) → KeepsFieldsDistinct l → (things : Things P) (checked : TypeMeanings Name) (store : Store) (ms : List Mode) (es : List (Tree Name expression))
     → Follows (map (argument_by tagged)) (map (argument_by l)) (evaluate_arguments (active tagged things) (store_by tagged store) ms (map (rename_fields tagged checked None) es)) (evaluate_arguments (active l things) (store_by l store) ms (map (rename_fields l checked None) es))
@@ -175,7 +175,7 @@ mutual
   execute-alike l apart things checked e₁ e₂ calls-alike t (assigns x path e) s =
       use_result-goes l (place_by tagged) (place_by l) s _ _
       (λ p. use_result (state_by tagged s) (evaluate (active tagged things) (store_by tagged s.store) (rename_fields tagged checked None e)) (store_at (state_by tagged s) p)) (λ p. use_result (state_by l s) (evaluate (active l things) (store_by l s.store) (rename_fields l checked None e)) (store_at (state_by l s) p))
-      (designate-follows l apart things checked s.store (object_type (checked.object_for x)) x path)
+      (designated_place-follows l apart things checked s.store (type_of_variable_or_constant (checked.object_for x)) x path)
       (λ p. use_result-goes l (value_by tagged) (value_by l) s _ _ (store_at (state_by tagged s) (place_by tagged p)) (store_at (state_by l s) (place_by l p)) (evaluate-follows l apart things checked s.store e) (store_at-goes l apart s p))
   execute-alike l apart things checked e₁ e₂ calls-alike t (calls x es) s =
       use_result-goes l (map (argument_by tagged)) (map (argument_by l)) s
@@ -190,40 +190,40 @@ mutual
       (λ args. perform_call-goes l apart (things x) (e₁ x) (e₂ x) (calls-alike x) args s)
   execute-alike l apart things checked e₁ e₂ calls-alike t (branches e statements rest last) s =
       use_result-goes l (value_by tagged) (value_by l) s _ _
-      (λ v. choose (state_by tagged s) v (execute_all (active tagged things) e₁ t (rename_fields tagged checked None statements)) (execute_elsifs (active tagged things) e₁ t (rename_fields tagged checked None rest) (execute_else (active tagged things) e₁ t (rename_fields tagged checked None last))))
-      (λ v. choose (state_by l s) v (execute_all (active l things) e₂ t (rename_fields l checked None statements)) (execute_elsifs (active l things) e₂ t (rename_fields l checked None rest) (execute_else (active l things) e₂ t (rename_fields l checked None last))))
+      (λ v. choose_by_truth (state_by tagged s) v (execute_sequence (active tagged things) e₁ t (rename_fields tagged checked None statements)) (execute_elsifs (active tagged things) e₁ t (rename_fields tagged checked None rest) (execute_else (active tagged things) e₁ t (rename_fields tagged checked None last))))
+      (λ v. choose_by_truth (state_by l s) v (execute_sequence (active l things) e₂ t (rename_fields l checked None statements)) (execute_elsifs (active l things) e₂ t (rename_fields l checked None rest) (execute_else (active l things) e₂ t (rename_fields l checked None last))))
       (evaluate-follows l apart things checked s.store e)
-      (λ v. choose-goes l s v _ _ _ _ (execute_all-alike l apart things checked e₁ e₂ calls-alike t statements)
+      (λ v. choose_by_truth-goes l s v _ _ _ _ (execute_sequence-alike l apart things checked e₁ e₂ calls-alike t statements)
       (execute_elsifs-alike l apart things checked e₁ e₂ calls-alike t rest _ _ (execute_else-alike l apart things checked e₁ e₂ calls-alike t last)))
   execute-alike l apart things checked e₁ e₂ calls-alike t (while_loop e statements) s =
       execute_while-alike l t (λ s'. evaluate (active tagged things) s'.store (rename_fields tagged checked None e)) (λ s'. evaluate (active l things) s'.store (rename_fields l checked None e)) _ _
-      (λ s'. evaluate-follows l apart things checked s'.store e) (execute_all-alike l apart things checked e₁ e₂ calls-alike t statements) s
+      (λ s'. evaluate-follows l apart things checked s'.store e) (execute_sequence-alike l apart things checked e₁ e₂ calls-alike t statements) s
   execute-alike l apart things checked e₁ e₂ calls-alike t (repeat_loop statements e) s =
       execute_repeat-alike l (t - 1) (λ s'. evaluate (active tagged things) s'.store (rename_fields tagged checked None e)) (λ s'. evaluate (active l things) s'.store (rename_fields l checked None e)) _ _
-      (λ s'. evaluate-follows l apart things checked s'.store e) (execute_all-alike l apart things checked e₁ e₂ calls-alike t statements) s
+      (λ s'. evaluate-follows l apart things checked s'.store e) (execute_sequence-alike l apart things checked e₁ e₂ calls-alike t statements) s
 
-  pub execute_all-alike : (l : FieldRenaming) → KeepsFieldsDistinct l → (things : Things Modes) (checked : TypeMeanings Name) (e₁ e₂ : CallFunction Name) → CallsAlike l e₁ e₂ → (t : ℕ) (a : Tree Name sequence)
-      → Alike l (execute_all (active tagged things) e₁ t (rename_fields tagged checked None a)) (execute_all (active l things) e₂ t (rename_fields l checked None a))
-  execute_all-alike l apart things checked e₁ e₂ calls-alike t (runs a rest) s =
-      go_on-goes l _ _ _ _ (execute-alike l apart things checked e₁ e₂ calls-alike t a s) (execute_further-alike l apart things checked e₁ e₂ calls-alike t rest)
+  pub execute_sequence-alike : (l : FieldRenaming) → KeepsFieldsDistinct l → (things : Things Modes) (checked : TypeMeanings Name) (e₁ e₂ : CallFunction Name) → CallsAlike l e₁ e₂ → (t : ℕ) (a : Tree Name sequence)
+      → Alike l (execute_sequence (active tagged things) e₁ t (rename_fields tagged checked None a)) (execute_sequence (active l things) e₂ t (rename_fields l checked None a))
+  execute_sequence-alike l apart things checked e₁ e₂ calls-alike t (runs a rest) s =
+      go_on-goes l _ _ _ _ (execute-alike l apart things checked e₁ e₂ calls-alike t a s) (execute_further_statements-alike l apart things checked e₁ e₂ calls-alike t rest)
 
-  pub execute_further-alike : (l : FieldRenaming) → KeepsFieldsDistinct l → (things : Things Modes) (checked : TypeMeanings Name) (e₁ e₂ : CallFunction Name) → CallsAlike l e₁ e₂ → (t : ℕ) (a : Tree Name (items further_statement))
-      → Alike l (execute_further (active tagged things) e₁ t (rename_fields tagged checked None a)) (execute_further (active l things) e₂ t (rename_fields l checked None a))
-  execute_further-alike l apart things checked e₁ e₂ calls-alike t end s = (s, refl, refl)
-  execute_further-alike l apart things checked e₁ e₂ calls-alike t (more (then_statement a) rest) s =
-      go_on-goes l _ _ _ _ (execute-alike l apart things checked e₁ e₂ calls-alike t a s) (execute_further-alike l apart things checked e₁ e₂ calls-alike t rest)
+  pub execute_further_statements-alike : (l : FieldRenaming) → KeepsFieldsDistinct l → (things : Things Modes) (checked : TypeMeanings Name) (e₁ e₂ : CallFunction Name) → CallsAlike l e₁ e₂ → (t : ℕ) (a : Tree Name (items further_statement))
+      → Alike l (execute_further_statements (active tagged things) e₁ t (rename_fields tagged checked None a)) (execute_further_statements (active l things) e₂ t (rename_fields l checked None a))
+  execute_further_statements-alike l apart things checked e₁ e₂ calls-alike t end s = (s, refl, refl)
+  execute_further_statements-alike l apart things checked e₁ e₂ calls-alike t (more (then_statement a) rest) s =
+      go_on-goes l _ _ _ _ (execute-alike l apart things checked e₁ e₂ calls-alike t a s) (execute_further_statements-alike l apart things checked e₁ e₂ calls-alike t rest)
 
   pub execute_elsifs-alike : (l : FieldRenaming) → KeepsFieldsDistinct l → (things : Things Modes) (checked : TypeMeanings Name) (e₁ e₂ : CallFunction Name) → CallsAlike l e₁ e₂ → (t : ℕ) (a : Tree Name (items elsif_part)) (n₁ n₂ : State → Progress) → Alike l n₁ n₂
       → Alike l (execute_elsifs (active tagged things) e₁ t (rename_fields tagged checked None a) n₁) (execute_elsifs (active l things) e₂ t (rename_fields l checked None a) n₂)
   execute_elsifs-alike l apart things checked e₁ e₂ calls-alike t end n₁ n₂ alike s = alike s
   execute_elsifs-alike l apart things checked e₁ e₂ calls-alike t (more (elsif_branch e statements) rest) n₁ n₂ alike s =
       use_result-goes l (value_by tagged) (value_by l) s _ _
-      (λ v. choose (state_by tagged s) v (execute_all (active tagged things) e₁ t (rename_fields tagged checked None statements)) (execute_elsifs (active tagged things) e₁ t (rename_fields tagged checked None rest) n₁))
-      (λ v. choose (state_by l s) v (execute_all (active l things) e₂ t (rename_fields l checked None statements)) (execute_elsifs (active l things) e₂ t (rename_fields l checked None rest) n₂))
+      (λ v. choose_by_truth (state_by tagged s) v (execute_sequence (active tagged things) e₁ t (rename_fields tagged checked None statements)) (execute_elsifs (active tagged things) e₁ t (rename_fields tagged checked None rest) n₁))
+      (λ v. choose_by_truth (state_by l s) v (execute_sequence (active l things) e₂ t (rename_fields l checked None statements)) (execute_elsifs (active l things) e₂ t (rename_fields l checked None rest) n₂))
       (evaluate-follows l apart things checked s.store e)
-      (λ v. choose-goes l s v _ _ _ _ (execute_all-alike l apart things checked e₁ e₂ calls-alike t statements) (execute_elsifs-alike l apart things checked e₁ e₂ calls-alike t rest n₁ n₂ alike))
+      (λ v. choose_by_truth-goes l s v _ _ _ _ (execute_sequence-alike l apart things checked e₁ e₂ calls-alike t statements) (execute_elsifs-alike l apart things checked e₁ e₂ calls-alike t rest n₁ n₂ alike))
 
   pub execute_else-alike : (l : FieldRenaming) → KeepsFieldsDistinct l → (things : Things Modes) (checked : TypeMeanings Name) (e₁ e₂ : CallFunction Name) → CallsAlike l e₁ e₂ → (t : ℕ) (a : Tree Name (maybe else_part))
       → Alike l (execute_else (active tagged things) e₁ t (rename_fields tagged checked None a)) (execute_else (active l things) e₂ t (rename_fields l checked None a))
   execute_else-alike l apart things checked e₁ e₂ calls-alike t none s = (s, refl, refl)
-  execute_else-alike l apart things checked e₁ e₂ calls-alike t (one (else_branch statements)) s = execute_all-alike l apart things checked e₁ e₂ calls-alike t statements s
+  execute_else-alike l apart things checked e₁ e₂ calls-alike t (one (else_branch statements)) s = execute_sequence-alike l apart things checked e₁ e₂ calls-alike t statements s

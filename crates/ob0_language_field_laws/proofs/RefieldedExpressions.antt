@@ -3,11 +3,11 @@ use Rattle.std.proofs.Common.{◌≡◌, ℤ, Bool, List, [], ◌∷◌, ◌++�
 use Rattle.std.proofs.lemmas.List.{map-append}
 use Rattle.ob0_tree.specs.Tree.{Tree, addend, adds, compares, designator, end, expression, factor, field, index, integer, items, more, multiplier, multiplies, negation, none, one, parenthesised, product, relates, selector, simple, sum, term}
 use Rattle.ob0_language_names.specs.Names.{Name}
-use Rattle.ob0_language_types.specs.Expressions.{Meanings, Object, StandardProcedure, a_constant, a_procedure, a_standard, a_type, a_variable, designate, element_step, evaluate, evaluate_addends, evaluate_factor, evaluate_multipliers, evaluate_simple, evaluate_term, evaluate_selectors, object_place, object_value}
-use Rattle.ob0_language_types.specs.Typing.{object_type}
+use Rattle.ob0_language_types.specs.Expressions.{Meanings, Object, StandardProcedure, a_constant, a_procedure, a_standard, a_type, a_variable, designated_place, element_step, evaluate, evaluate_addends, evaluate_factor, evaluate_multipliers, evaluate_simple, evaluate_term, evaluate_selectors, object_place, object_value}
+use Rattle.ob0_language_types.specs.Typing.{type_of_variable_or_constant}
 use Rattle.ob0_language_types.specs.WellTyped.{TypeMeanings}
 use Rattle.ob0_language_values.specs.Values.{Outcome, Place, Shape, Step, Store, Value, add, add_short_circuits, value_at_path, succeeds_with, multiply, multiply_short_circuits, negate, number, or_stuck, part, read_place, apply_relation, apply_sign, truth, ◌>>=◌}
-use Rattle.ob0_language_fields.specs.Fields.{FieldRenaming, select_type, record_ordinal, rename_fields}
+use Rattle.ob0_language_fields.specs.Fields.{FieldRenaming, type_including_selector, record_ordinal, rename_fields}
 use Rattle.ob0_language_fields.proofs.NamesMeant.{named}
 use Rattle.ob0_language_field_laws.specs.FieldLaws.{KeepsFieldsDistinct}
 use Rattle.ob0_language_field_laws.proofs.Apart.{shape_by}
@@ -129,12 +129,12 @@ mutual
       → ValuesFollow l (evaluate_factor (active tagged things) (store_by tagged store) (rename_fields tagged checked None a)) (evaluate_factor (active l things) (store_by l store) (rename_fields l checked None a))
   evaluate_factor-follows l apart things checked store (designator x path) =
       follows-then (value_by tagged) (value_by l) (value_by tagged) (value_by l) (object_value (store_by tagged store) (option_map (thing_by tagged (λ p. p)) (things x))) (object_value (store_by l store) (option_map (thing_by l (λ p. p)) (things x)))
-      (λ v. evaluate_selectors (active tagged things) (store_by tagged store) v (rename_fields tagged checked (object_type (checked.object_for x)) path) >>= (λ steps. or_stuck (value_at_path steps v)))
-      (λ v. evaluate_selectors (active l things) (store_by l store) v (rename_fields l checked (object_type (checked.object_for x)) path) >>= (λ steps. or_stuck (value_at_path steps v)))
+      (λ v. evaluate_selectors (active tagged things) (store_by tagged store) v (rename_fields tagged checked (type_of_variable_or_constant (checked.object_for x)) path) >>= (λ steps. or_stuck (value_at_path steps v)))
+      (λ v. evaluate_selectors (active l things) (store_by l store) v (rename_fields l checked (type_of_variable_or_constant (checked.object_for x)) path) >>= (λ steps. or_stuck (value_at_path steps v)))
       (object_value-follows l apart store (things x))
       (λ v. follows-then (map (step_by tagged)) (map (step_by l)) (value_by tagged) (value_by l)
-      (evaluate_selectors (active tagged things) (store_by tagged store) (value_by tagged v) (rename_fields tagged checked (object_type (checked.object_for x)) path)) (evaluate_selectors (active l things) (store_by l store) (value_by l v) (rename_fields l checked (object_type (checked.object_for x)) path))
-      (λ steps. or_stuck (value_at_path steps (value_by tagged v))) (λ steps. or_stuck (value_at_path steps (value_by l v))) (follow-follows l apart things checked store (object_type (checked.object_for x)) v path)
+      (evaluate_selectors (active tagged things) (store_by tagged store) (value_by tagged v) (rename_fields tagged checked (type_of_variable_or_constant (checked.object_for x)) path)) (evaluate_selectors (active l things) (store_by l store) (value_by l v) (rename_fields l checked (type_of_variable_or_constant (checked.object_for x)) path))
+      (λ steps. or_stuck (value_at_path steps (value_by tagged v))) (λ steps. or_stuck (value_at_path steps (value_by l v))) (follow-follows l apart things checked store (type_of_variable_or_constant (checked.object_for x)) v path)
       (λ moves. or_stuck-follows (value_by tagged) (value_by l) (value_at_path (map (step_by tagged) moves) (value_by tagged v)) (value_at_path (map (step_by l) moves) (value_by l v)) (value_at_path-finds l apart moves v)))
   evaluate_factor-follows l apart things checked store (integer n) = (number (pos n), refl, refl)
   evaluate_factor-follows l apart things checked store (parenthesised e) = evaluate-follows l apart things checked store e
@@ -145,18 +145,18 @@ mutual
       → PathsFollow l (evaluate_selectors (active tagged things) (store_by tagged store) (value_by tagged v) (rename_fields tagged checked s path)) (evaluate_selectors (active l things) (store_by l store) (value_by l v) (rename_fields l checked s path))
   follow-follows l apart things checked store s v end = ([], refl, refl)
   follow-follows l apart things checked store s v (more (field x) rest) =
-      follow_on-follows l apart (λ w. evaluate_selectors (active tagged things) (store_by tagged store) w (rename_fields tagged checked (select_type s (field x)) rest)) (λ w. evaluate_selectors (active l things) (store_by l store) w (rename_fields l checked (select_type s (field x)) rest))
-      (λ w. follow-follows l apart things checked store (select_type s (field x)) w rest) v (to_field (record_ordinal s) x)
+      follow_on-follows l apart (λ w. evaluate_selectors (active tagged things) (store_by tagged store) w (rename_fields tagged checked (type_including_selector s (field x)) rest)) (λ w. evaluate_selectors (active l things) (store_by l store) w (rename_fields l checked (type_including_selector s (field x)) rest))
+      (λ w. follow-follows l apart things checked store (type_including_selector s (field x)) w rest) v (to_field (record_ordinal s) x)
   follow-follows l apart things checked store s v (more (index e) rest) =
       follows-then (value_by tagged) (value_by l) (map (step_by tagged)) (map (step_by l)) _ _
-      (λ i. element_step (value_by tagged v) i >>= follow_on (λ w. evaluate_selectors (active tagged things) (store_by tagged store) w (rename_fields tagged checked (select_type s (index e)) rest)) (value_by tagged v))
-      (λ i. element_step (value_by l v) i >>= follow_on (λ w. evaluate_selectors (active l things) (store_by l store) w (rename_fields l checked (select_type s (index e)) rest)) (value_by l v))
+      (λ i. element_step (value_by tagged v) i >>= follow_on (λ w. evaluate_selectors (active tagged things) (store_by tagged store) w (rename_fields tagged checked (type_including_selector s (index e)) rest)) (value_by tagged v))
+      (λ i. element_step (value_by l v) i >>= follow_on (λ w. evaluate_selectors (active l things) (store_by l store) w (rename_fields l checked (type_including_selector s (index e)) rest)) (value_by l v))
       (evaluate-follows l apart things checked store e)
       (λ i. follows-then (step_by tagged) (step_by l) (map (step_by tagged)) (map (step_by l)) (element_step (value_by tagged v) (value_by tagged i)) (element_step (value_by l v) (value_by l i))
-      (follow_on (λ w. evaluate_selectors (active tagged things) (store_by tagged store) w (rename_fields tagged checked (select_type s (index e)) rest)) (value_by tagged v)) (follow_on (λ w. evaluate_selectors (active l things) (store_by l store) w (rename_fields l checked (select_type s (index e)) rest)) (value_by l v))
+      (follow_on (λ w. evaluate_selectors (active tagged things) (store_by tagged store) w (rename_fields tagged checked (type_including_selector s (index e)) rest)) (value_by tagged v)) (follow_on (λ w. evaluate_selectors (active l things) (store_by l store) w (rename_fields l checked (type_including_selector s (index e)) rest)) (value_by l v))
       (element_step-follows l v i)
-      (λ m. follow_on-follows l apart (λ w. evaluate_selectors (active tagged things) (store_by tagged store) w (rename_fields tagged checked (select_type s (index e)) rest)) (λ w. evaluate_selectors (active l things) (store_by l store) w (rename_fields l checked (select_type s (index e)) rest))
-      (λ w. follow-follows l apart things checked store (select_type s (index e)) w rest) v m))
+      (λ m. follow_on-follows l apart (λ w. evaluate_selectors (active tagged things) (store_by tagged store) w (rename_fields tagged checked (type_including_selector s (index e)) rest)) (λ w. evaluate_selectors (active l things) (store_by l store) w (rename_fields l checked (type_including_selector s (index e)) rest))
+      (λ w. follow-follows l apart things checked store (type_including_selector s (index e)) w rest) v m))
 
 -- holds if two outcomes give places that stand for the same place
 
@@ -173,10 +173,10 @@ spot_further p moves = record { variable = p.variable; moves = p.moves ++ moves 
 place-further : (l : FieldRenaming) (p : Spot) (moves : List Move) → (record { variable = p.variable; path = map (step_by l) p.moves ++ map (step_by l) moves }) ≡ place_by l (spot_further p moves)
 place-further l p moves = λ i. record { variable = p.variable; path = sym (map-append (step_by l) p.moves moves) i }
 
-pub designate-follows : {P : Type 0} (l : FieldRenaming) → KeepsFieldsDistinct l → (things : Things P) (checked : TypeMeanings Name) (store : Store) (s : Option Shape) (x : Name) (path : Tree Name (items selector))
-    → PlacesFollow l (designate (active tagged things) (store_by tagged store) x (rename_fields tagged checked s path)) (designate (active l things) (store_by l store) x (rename_fields l checked s path))
-unfolding designate
-designate-follows l apart things checked store s x path =
+pub designated_place-follows : {P : Type 0} (l : FieldRenaming) → KeepsFieldsDistinct l → (things : Things P) (checked : TypeMeanings Name) (store : Store) (s : Option Shape) (x : Name) (path : Tree Name (items selector))
+    → PlacesFollow l (designated_place (active tagged things) (store_by tagged store) x (rename_fields tagged checked s path)) (designated_place (active l things) (store_by l store) x (rename_fields l checked s path))
+unfolding designated_place
+designated_place-follows l apart things checked store s x path =
     follows-then (place_by tagged) (place_by l) (place_by tagged) (place_by l) (object_place (option_map (thing_by tagged (λ p. p)) (things x))) (object_place (option_map (thing_by l (λ p. p)) (things x)))
     (λ p. or_stuck (read_place (store_by tagged store) p) >>= (λ v. evaluate_selectors (active tagged things) (store_by tagged store) v (rename_fields tagged checked s path) >>= (λ steps. succeeds_with record { variable = p.variable; path = p.path ++ steps })))
     (λ p. or_stuck (read_place (store_by l store) p) >>= (λ v. evaluate_selectors (active l things) (store_by l store) v (rename_fields l checked s path) >>= (λ steps. succeeds_with record { variable = p.variable; path = p.path ++ steps })))

@@ -8,12 +8,12 @@ use Rattle.ob0_language_types.specs.Environments.{meanings, outermost_environmen
 use Rattle.ob0_language_types.specs.Expressions.{read_procedure, write_procedure, write_line_procedure}
 use Rattle.ob0_language_types.specs.WellTyped.{TypeEnvironment, TypeMeanings, passes_type_check}
 use Rattle.ob0_language_values.specs.Values.{Stuck, boolean_shape, integer_shape}
-use Rattle.ob0_language_runs.specs.Runs.{Activation, CallFunction, Frame, Progress, State, activate, bind_parameters, call, declare_block, execute_all, execute_body, run_result, continue_in_frame, parameters, run_with_naming, running, stopped}
+use Rattle.ob0_language_runs.specs.Runs.{Activation, CallFunction, Frame, Progress, State, activate, bind_parameters, call, declare_block, execute_sequence, execute_body, run_result, continue_in_frame, parameters, run_with_naming, running, stopped}
 use Rattle.ob0_language_runs.proofs.SoundCalls.{fitting-run}
 use Rattle.ob0_language_fields.specs.Fields.{FieldRenaming, environment_after_procedures, environment_after_variables, rename_fields, rename_fields_in_block, rename_fields_in_module}
 use Rattle.ob0_language_field_laws.specs.FieldLaws.{KeepsFieldsDistinct}
 use Rattle.ob0_language_field_laws.proofs.RefieldedActivations.{FramesBoth, Scene, Stage, bind_parameters-both, both-then, declare_block-both, env_as, frame_by, environment_from_binding-as, meanings-as, parameters-rename_fields, scene_from, things_in}
-use Rattle.ob0_language_field_laws.proofs.RefieldedExecution.{Alike, CallsAlike, Given, Goes, argument_by, execute_all-alike, state_by}
+use Rattle.ob0_language_field_laws.proofs.RefieldedExecution.{Alike, CallsAlike, Given, Goes, argument_by, execute_sequence-alike, state_by}
 use Rattle.ob0_language_field_laws.proofs.RefieldedExpressions.{constant_thing, logical, procedure_thing, standard_thing, type_thing}
 use Rattle.ob0_language_field_laws.proofs.RefieldedModules.{formal_sections-rename_fields, formals_count-rename_fields, field_renaming_keeps_type_check-holds}
 use Rattle.ob0_language_field_laws.proofs.Values.{store_by, tagged, tagged-apart}
@@ -30,8 +30,8 @@ execute_body-alike : (l : FieldRenaming) → KeepsFieldsDistinct l → (scene : 
 unfolding execute_body
 execute_body-alike l apart scene checked e₁ e₂ calls t none s = (s, refl, refl)
 execute_body-alike l apart scene checked e₁ e₂ calls t (one (begins a)) s =
-    subst₂ (λ m n. Goes l (execute_all m e₁ t (rename_fields tagged checked None a) (state_by tagged s)) (execute_all n e₂ t (rename_fields l checked None a) (state_by l s))) (sym (meanings-as tagged scene)) (sym (meanings-as l scene))
-    (execute_all-alike l apart (things_in scene) checked e₁ e₂ calls t a s)
+    subst₂ (λ m n. Goes l (execute_sequence m e₁ t (rename_fields tagged checked None a) (state_by tagged s)) (execute_sequence n e₂ t (rename_fields l checked None a) (state_by l s))) (sym (meanings-as tagged scene)) (sym (meanings-as l scene))
+    (execute_sequence-alike l apart (things_in scene) checked e₁ e₂ calls t a s)
 
 continue_in_frame-goes : (l : FieldRenaming) (s : State) (o₁ o₂ : Option (Frame Name)) (n₁ n₂ : Frame Name → State → Progress) → FramesBoth l o₁ o₂ → ((f : Stage) → Alike l (n₁ (frame_by tagged f)) (n₂ (frame_by l f)))
     → Goes l (continue_in_frame (state_by tagged s) o₁ n₁) (continue_in_frame (state_by l s) o₂ n₂)

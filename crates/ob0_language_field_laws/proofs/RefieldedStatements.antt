@@ -4,7 +4,7 @@ use Rattle.ob0_tree.specs.Tree.{Tree, arguments, assigns, branches, calls, compa
 use Rattle.ob0_language_names.specs.Names.{Name}
 use Rattle.ob0_language_types.specs.Arguments.{arguments_listed, further_arguments}
 use Rattle.ob0_language_types.specs.Expressions.{Object, a_constant, a_procedure, a_standard, a_type, a_variable}
-use Rattle.ob0_language_types.specs.Typing.{lone_designator, object_type, type_after_selectors, type_of}
+use Rattle.ob0_language_types.specs.Typing.{lone_designator, type_of_variable_or_constant, type_after_selectors, type_of}
 use Rattle.ob0_language_types.specs.WellTyped.{FormalParameter, Mode, Signature, TypeMeanings, same_known_shape, argument_matches, arguments_match, by_place, by_value, call_is_well_typed, condition_is_boolean, else_is_well_typed, elsifs_are_well_typed, sequence_is_well_typed, signature_of, statement_is_well_typed, further_statements_are_well_typed, variable_type}
 use Rattle.ob0_language_values.specs.Values.{Shape, boolean_shape}
 use Rattle.ob0_language_fields.specs.Fields.{FieldRenaming, rename_fields}
@@ -14,7 +14,7 @@ use Rattle.ob0_language_field_laws.proofs.Apart.{same_known_shape-by, formal_by,
 use Rattle.ob0_language_field_laws.proofs.RefieldedTypes.{type_after_selectors-rename_fields, type_of-rename_fields}
 
 abbrev pub refield_designator : FieldRenaming → TypeMeanings Name → Name × Tree Name (items selector) → Name × Tree Name (items selector)
-refield_designator l meaning d = (d.0, rename_fields l meaning (object_type (meaning.object_for d.0)) d.1)
+refield_designator l meaning d = (d.0, rename_fields l meaning (type_of_variable_or_constant (meaning.object_for d.0)) d.1)
 
 pub lone_designator-rename_fields : (l : FieldRenaming) (meaning : TypeMeanings Name) (e : Tree Name expression) → lone_designator (rename_fields l meaning None e) ≡ option_map (refield_designator l meaning) (lone_designator e)
 lone_designator-rename_fields l meaning (compares (sum None (product (designator x path) end) end) none) = refl
@@ -34,7 +34,7 @@ unfolding variable_type
 variable_type-rename_fields l apart objects None = refl
 variable_type-rename_fields l apart objects (Some (x, path)) = go (objects x)
   where
-    go : (o : Option (Object Shape Signature)) → (elim (option_map (object_by l) o) [ Some (a_variable s) ↦ type_after_selectors (named_by l objects) s (rename_fields l (named objects) (object_type o) path) | _ ↦ None ])
+    go : (o : Option (Object Shape Signature)) → (elim (option_map (object_by l) o) [ Some (a_variable s) ↦ type_after_selectors (named_by l objects) s (rename_fields l (named objects) (type_of_variable_or_constant o) path) | _ ↦ None ])
         ≡ option_map (shape_by l) (elim o [ Some (a_variable s) ↦ type_after_selectors (named objects) s path | _ ↦ None ])
     go None = refl
     go (Some (a_type s)) = refl

@@ -14,7 +14,7 @@ use Rattle.ob0_language_values.specs.Values.{Members, Place, Step, Store, Value,
 use Rattle.ob0_language_fields.specs.Fields.{FieldRenaming}
 use Rattle.ob0_language_fields.proofs.Bare.{bare}
 use Rattle.ob0_language_field_laws.specs.FieldLaws.{KeepsFieldsDistinct}
-use Rattle.ob0_language_field_laws.proofs.Apart.{choose-map}
+use Rattle.ob0_language_field_laws.proofs.Apart.{choose_by_truth-map}
 
 -- puts the ordinal of its record before a field's name, so that fields of different records never share a name
 abbrev pub tagged : FieldRenaming
@@ -98,17 +98,17 @@ count_values-by l (next_value v rest) = λ i. suc (count_values-by l rest i)
 pub named_member-by : (l : FieldRenaming) → KeepsFieldsDistinct l → (k : ℕ) (ms : Members) (x : Name) → named_member (members_by l k ms) (l (Some k) x) ≡ option_map (value_by l) (named_member ms x)
 named_member-by l apart k no_member x = refl
 named_member-by l apart k (next_member y v rest) x =
-    (λ i. if apart k x y i then Some (value_by l v) else named_member-by l apart k rest x i) ∙ choose-map (value_by l) (same_name x y) v (named_member rest x)
+    (λ i. if apart k x y i then Some (value_by l v) else named_member-by l apart k rest x i) ∙ choose_by_truth-map (value_by l) (same_name x y) v (named_member rest x)
 
-choose-member : (l : FieldRenaming) (k : ℕ) (b : Bool) (m n : Members) → (if b then members_by l k m else members_by l k n) ≡ members_by l k (if b then m else n)
-choose-member l k true m n = refl
-choose-member l k false m n = refl
+choose_by_truth-member : (l : FieldRenaming) (k : ℕ) (b : Bool) (m n : Members) → (if b then members_by l k m else members_by l k n) ≡ members_by l k (if b then m else n)
+choose_by_truth-member l k true m n = refl
+choose_by_truth-member l k false m n = refl
 
 pub with_named_member-by : (l : FieldRenaming) → KeepsFieldsDistinct l → (k : ℕ) (ms : Members) (x : Name) (new : Value) → with_named_member (members_by l k ms) (l (Some k) x) (value_by l new) ≡ members_by l k (with_named_member ms x new)
 with_named_member-by l apart k no_member x new = refl
 with_named_member-by l apart k (next_member y v rest) x new =
     (λ i. if apart k x y i then next_member (l (Some k) y) (value_by l new) (members_by l k rest) else next_member (l (Some k) y) (value_by l v) (with_named_member-by l apart k rest x new i))
-    ∙ choose-member l k (same_name x y) (next_member y new rest) (next_member y v (with_named_member rest x new))
+    ∙ choose_by_truth-member l k (same_name x y) (next_member y new rest) (next_member y v (with_named_member rest x new))
 
 -- A value of one record has no field that is tagged with another record.
 pub other-tag : (k : ℕ) (ms : Members) (o : Option ℕ) (x : Name) → ((y : Name) → same_name (tagged o x) (tagged (Some k) y) ≡ false) → named_member (members_by tagged k ms) (tagged o x) ≡ None

@@ -8,7 +8,7 @@ use Rattle.ob0_language_names.specs.Names.{Name, same_name}
 use Rattle.ob0_language_names.specs.Parts.{further_names, names_in_list}
 use Rattle.ob0_language_types.specs.Arguments.{arguments_listed, further_arguments}
 use Rattle.ob0_language_types.specs.Expressions.{Object, a_constant, a_procedure, a_standard, a_type, a_variable}
-use Rattle.ob0_language_types.specs.Typing.{addition_type, array_length, negation_type, constant_value, denoted_type, denoted_group_fields, denoted_further_fields, depth, lone_designator, element_type, field_type, group_constructor_count, multiplication_type, object_type, relation_type, scalars, shape_of_field, sign_type, type_after_selectors, type_of, type_of_addends, type_of_factor, type_of_multipliers, type_of_name, type_of_simple, type_of_term, value_type, prepend_fields, check_limits}
+use Rattle.ob0_language_types.specs.Typing.{addition_type, array_length, negation_type, constant_value, denoted_type, denoted_group_fields, denoted_further_fields, depth, lone_designator, element_type, field_type, group_constructor_count, multiplication_type, type_of_variable_or_constant, relation_type, scalars, shape_of_field, sign_type, type_after_selectors, type_of, type_of_addends, type_of_factor, type_of_multipliers, type_of_name, type_of_simple, type_of_term, value_type, prepend_fields, type_within_limits}
 use Rattle.ob0_language_types.specs.WellTyped.{FormalParameter, Mode, Signature, TypeMeanings, same_known_shape, argument_matches, arguments_match, by_place, by_value, condition_is_boolean, else_is_well_typed, elsifs_are_well_typed, sequence_is_well_typed, signature_of, statement_is_well_typed, further_statements_are_well_typed, variable_type}
 use Rattle.ob0_language_types.proofs.Conditions.{same_known_shape-true, both_true, call-typed, of_some, same_name-true, variable-typed}
 use Rattle.ob0_language_types.proofs.Literals.{some_inverse}
@@ -90,13 +90,13 @@ value_type-agrees p q (truth b) s h = of_some (ShapeAgrees p q) h tt
 value_type-agrees p q (elements vs) s h = absurd (cc)
 value_type-agrees p q (members k ms) s h = absurd (cc)
 
-object_type-agrees : (p q : FieldRenaming) (o : Option (Object Shape Signature)) (s : Shape) → OptionAgrees p q o → object_type o ≡ Some s → ShapeAgrees p q s
-object_type-agrees p q (Some (a_variable t)) s agrees h = of_some (ShapeAgrees p q) h agrees
-object_type-agrees p q (Some (a_constant v)) s agrees h = value_type-agrees p q v s h
-object_type-agrees p q None s agrees h = absurd (cc)
-object_type-agrees p q (Some (a_type t)) s agrees h = absurd (cc)
-object_type-agrees p q (Some (a_procedure t)) s agrees h = absurd (cc)
-object_type-agrees p q (Some (a_standard t)) s agrees h = absurd (cc)
+type_of_variable_or_constant-agrees : (p q : FieldRenaming) (o : Option (Object Shape Signature)) (s : Shape) → OptionAgrees p q o → type_of_variable_or_constant o ≡ Some s → ShapeAgrees p q s
+type_of_variable_or_constant-agrees p q (Some (a_variable t)) s agrees h = of_some (ShapeAgrees p q) h agrees
+type_of_variable_or_constant-agrees p q (Some (a_constant v)) s agrees h = value_type-agrees p q v s h
+type_of_variable_or_constant-agrees p q None s agrees h = absurd (cc)
+type_of_variable_or_constant-agrees p q (Some (a_type t)) s agrees h = absurd (cc)
+type_of_variable_or_constant-agrees p q (Some (a_procedure t)) s agrees h = absurd (cc)
+type_of_variable_or_constant-agrees p q (Some (a_standard t)) s agrees h = absurd (cc)
 
 pub type_of_name-agrees : (p q : FieldRenaming) (o : Option (Object Shape Signature)) (s : Shape) → OptionAgrees p q o → type_of_name o ≡ Some s → ShapeAgrees p q s
 type_of_name-agrees p q (Some (a_type t)) s agrees h = of_some (ShapeAgrees p q) h agrees
@@ -145,8 +145,8 @@ mutual
 
   pub factor-alike : (p q : FieldRenaming) (objects : Name → Option (Object Shape Signature)) → ObjectsAgree p q objects → (a : Tree Name factor) (s : Shape) → type_of_factor (named objects) a ≡ Some s → rename_fields p (named objects) None a ≡ rename_fields q (named objects) None a
   factor-alike p q objects known (designator x path) s h =
-      let (t, et, h₁) = then_some (object_type (objects x)) (λ t. type_after_selectors (named objects) t path) s h in
-      λ i. designator x (subst (λ o. rename_fields p (named objects) o path ≡ rename_fields q (named objects) o path) (sym et) (path-alike p q objects known t path s (object_type-agrees p q (objects x) t (known x) et) h₁) i)
+      let (t, et, h₁) = then_some (type_of_variable_or_constant (objects x)) (λ t. type_after_selectors (named objects) t path) s h in
+      λ i. designator x (subst (λ o. rename_fields p (named objects) o path ≡ rename_fields q (named objects) o path) (sym et) (path-alike p q objects known t path s (type_of_variable_or_constant-agrees p q (objects x) t (known x) et) h₁) i)
   factor-alike p q objects known (integer n) s h = refl
   factor-alike p q objects known (parenthesised e) s h = λ i. parenthesised (expression-alike p q objects known e s h i)
   factor-alike p q objects known (negation a) s h =
@@ -171,7 +171,7 @@ pub lone_designator-typed : (objects : Name → Option (Object Shape Signature))
 unfolding type_of variable_type
 lone_designator-typed objects (compares (sum None (product (designator x path) end) end) none) s h =
     let (t, et, h₁) = variable-typed (named objects) x path s h in
-    let typed : type_of_factor (named objects) (designator x path) ≡ Some s = ap (λ o. option_and_then (λ u. type_after_selectors (named objects) u path) (object_type o)) et ∙ h₁ in
+    let typed : type_of_factor (named objects) (designator x path) ≡ Some s = ap (λ o. option_and_then (λ u. type_after_selectors (named objects) u path) (type_of_variable_or_constant o)) et ∙ h₁ in
     ap (λ o. option_and_then (λ x. option_and_then (λ y. Some y) (sign_type None x)) (option_and_then (λ x. Some x) o)) typed
 lone_designator-typed objects _ s h = absurd (cc)
 
@@ -218,7 +218,7 @@ mutual
   statement-alike p q objects known (assigns x path e) h =
       let (s, es, et) = same_known_shape-true (variable_type (named objects) (Some (x, path))) (type_of (named objects) e) h in
       let (t, ev, h₁) = variable-typed (named objects) x path s es in
-      λ i. assigns x (subst (λ o. rename_fields p (named objects) (object_type o) path ≡ rename_fields q (named objects) (object_type o) path) (sym ev) (path-alike p q objects known t path s (subst (λ o. OptionAgrees p q o) ev (known x)) h₁) i)
+      λ i. assigns x (subst (λ o. rename_fields p (named objects) (type_of_variable_or_constant o) path ≡ rename_fields q (named objects) (type_of_variable_or_constant o) path) (sym ev) (path-alike p q objects known t path s (subst (λ o. OptionAgrees p q o) ev (known x)) h₁) i)
       (expression-alike p q objects known e s et i)
   statement-alike p q objects known (calls x es) h =
       let (signature, sig, fit) = call-typed (named objects) (signature_of (objects x)) (arguments_listed es) h in
@@ -284,7 +284,7 @@ mutual
       let h₂ = records-split p q (records_in_group k g) (records_in_groups (k + group_constructor_count g) rest) h' in
       λ i. more (then_fields (group-alike p q r k g h₁.0 h₂.0 i)) (groups-alike p q r (k + group_constructor_count g) rest h₁.1 h₂.1 i)
 
-within-is : (s t : Shape) → check_limits s ≡ Some t → s ≡ t
+within-is : (s t : Shape) → type_within_limits s ≡ Some t → s ≡ t
 within-is s t = elim (nat_le (scalars s) 65536 && nat_le (depth s) 100) as (λ b. (if b then Some s else None) ≡ Some t → s ≡ t) [ true ↦ λ h. some_inverse {a = s} {b = t} h | false ↦ λ h. absurd (cc) ]
 
 prepend_fields-same_known_shape : (p q : FieldRenaming) (k : ℕ) (xs : List Name) (s : Shape) (rest : FieldShapes) → NamesAgree p q k xs → ShapeAgrees p q s → FieldsAgree p q k rest → FieldsAgree p q k (prepend_fields (map (λ x. x) xs) s rest)
@@ -297,15 +297,15 @@ mutual
   pub denoted_type-agrees : (p q : FieldRenaming) (objects : Name → Option (Object Shape Signature)) → ObjectsAgree p q objects → (k : ℕ) (t : Tree Name written_type) (s : Shape) → RecordsAgree p q (records_in_type k t) → denoted_type (named objects) k t ≡ Some s → ShapeAgrees p q s
   denoted_type-agrees p q objects known k (named_type x) s h e = type_of_name-agrees p q (objects x) s (known x) e
   denoted_type-agrees p q objects known k (array_type c t) s h e =
-      let (v, ev, e₁) = then_some (constant_value (named objects) c) (λ v. option_and_then (λ n. option_and_then (λ u. check_limits (array_shape k n u)) (denoted_type (named objects) (suc k) t)) (array_length v)) s e in
-      let (n, en, e₂) = then_some (array_length v) (λ n. option_and_then (λ u. check_limits (array_shape k n u)) (denoted_type (named objects) (suc k) t)) s e₁ in
-      let (u, eu, e₃) = then_some (denoted_type (named objects) (suc k) t) (λ u. check_limits (array_shape k n u)) s e₂ in
+      let (v, ev, e₁) = then_some (constant_value (named objects) c) (λ v. option_and_then (λ n. option_and_then (λ u. type_within_limits (array_shape k n u)) (denoted_type (named objects) (suc k) t)) (array_length v)) s e in
+      let (n, en, e₂) = then_some (array_length v) (λ n. option_and_then (λ u. type_within_limits (array_shape k n u)) (denoted_type (named objects) (suc k) t)) s e₁ in
+      let (u, eu, e₃) = then_some (denoted_type (named objects) (suc k) t) (λ u. type_within_limits (array_shape k n u)) s e₂ in
       subst (ShapeAgrees p q) (within-is (array_shape k n u) s e₃) (denoted_type-agrees p q objects known (suc k) t u h eu)
   denoted_type-agrees p q objects known k (record_type g rest) s h e =
       let h₁ = names-split p q k (group_field_names g) (further_field_names rest) h.0 in
       let h₂ = records-split p q (records_in_group (suc k) g) (records_in_groups (suc k + group_constructor_count g) rest) h.1 in
-      let (later, el, e₁) = then_some (denoted_further_fields (named objects) (suc k + group_constructor_count g) rest) (λ later. option_and_then (λ fs. check_limits (record_shape k fs)) (denoted_group_fields (named objects) (suc k) later g)) s e in
-      let (fs, ef, e₂) = then_some (denoted_group_fields (named objects) (suc k) later g) (λ fs. check_limits (record_shape k fs)) s e₁ in
+      let (later, el, e₁) = then_some (denoted_further_fields (named objects) (suc k + group_constructor_count g) rest) (λ later. option_and_then (λ fs. type_within_limits (record_shape k fs)) (denoted_group_fields (named objects) (suc k) later g)) s e in
+      let (fs, ef, e₂) = then_some (denoted_group_fields (named objects) (suc k) later g) (λ fs. type_within_limits (record_shape k fs)) s e₁ in
       subst (ShapeAgrees p q) (within-is (record_shape k fs) s e₂)
       (denoted_group_fields-agrees p q objects known k (suc k) later g fs h₁.0 h₂.0 (denoted_further_fields-same_known_shape p q objects known k (suc k + group_constructor_count g) rest later h₁.1 h₂.1 el) ef)
 

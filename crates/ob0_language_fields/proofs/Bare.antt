@@ -6,21 +6,21 @@ use Rattle.ob0_language_names.specs.Parts.{section_type}
 use Rattle.ob0_language_names.proofs.SameNames.{map_names-id}
 use Rattle.ob0_language_types.specs.Declarations.{constructors_before_procedure_block, constructors_before_variables, constructors_before_procedures, procedure_constructor_count}
 use Rattle.ob0_language_types.specs.Environments.{meanings, outermost_environment}
-use Rattle.ob0_language_types.specs.Typing.{constructor_count, group_constructor_count, object_type}
+use Rattle.ob0_language_types.specs.Typing.{constructor_count, group_constructor_count, type_of_variable_or_constant}
 use Rattle.ob0_language_types.specs.WellTyped.{TypeEnvironment, TypeMeanings, bind_typed_parameters}
 use Rattle.ob0_language_values.specs.Values.{Shape}
-use Rattle.ob0_language_fields.specs.Fields.{FieldRenaming, select_type, environment_after_heading, environment_after_procedures, environment_after_variables, parameters_of, rename_fields, rename_fields_in_block, rename_fields_in_formals, rename_fields_in_group, rename_fields_in_groups, rename_fields_in_procedure, rename_fields_in_procedures, rename_fields_in_section, rename_fields_in_sections, rename_fields_in_type, rename_fields_in_type_section, rename_fields_in_types, rename_fields_in_variable_section, rename_fields_in_variables, rename_fields_in_module}
+use Rattle.ob0_language_fields.specs.Fields.{FieldRenaming, type_including_selector, environment_after_heading, environment_after_procedures, environment_after_variables, parameters_of, rename_fields, rename_fields_in_block, rename_fields_in_formals, rename_fields_in_group, rename_fields_in_groups, rename_fields_in_procedure, rename_fields_in_procedures, rename_fields_in_section, rename_fields_in_sections, rename_fields_in_type, rename_fields_in_type_section, rename_fields_in_types, rename_fields_in_variable_section, rename_fields_in_variables, rename_fields_in_module}
 
 -- the function that gives each field its present name
 abbrev pub bare : FieldRenaming
 bare owner x = x
 
 rename_fields-bare : {s : Sort} (meaning : TypeMeanings Name) (o : Option Shape) (t : Tree Name s) → rename_fields bare meaning o t ≡ t
-rename_fields-bare meaning o (more t ts) = λ i. more (rename_fields-bare meaning o t i) (rename_fields-bare meaning (select_type o t) ts i)
+rename_fields-bare meaning o (more t ts) = λ i. more (rename_fields-bare meaning o t i) (rename_fields-bare meaning (type_including_selector o t) ts i)
 rename_fields-bare meaning o (field x) = refl
 rename_fields-bare meaning o (index e) = λ i. index (rename_fields-bare meaning None e i)
-rename_fields-bare meaning o (designator x path) = λ i. designator x (rename_fields-bare meaning (object_type (meaning.object_for x)) path i)
-rename_fields-bare meaning o (assigns x path e) = λ i. assigns x (rename_fields-bare meaning (object_type (meaning.object_for x)) path i) (rename_fields-bare meaning None e i)
+rename_fields-bare meaning o (designator x path) = λ i. designator x (rename_fields-bare meaning (type_of_variable_or_constant (meaning.object_for x)) path i)
+rename_fields-bare meaning o (assigns x path e) = λ i. assigns x (rename_fields-bare meaning (type_of_variable_or_constant (meaning.object_for x)) path i) (rename_fields-bare meaning None e i)
 rename_fields-bare meaning o (one t) = λ i. one (rename_fields-bare meaning None t i)
 rename_fields-bare meaning o (compares left compared) = λ i. compares (rename_fields-bare meaning None left i) (rename_fields-bare meaning None compared i)
 rename_fields-bare meaning o (relates relation right) = λ i. relates relation (rename_fields-bare meaning None right i)

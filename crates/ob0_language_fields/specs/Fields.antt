@@ -8,7 +8,7 @@ use Rattle.ob0_language_names.specs.Names.{Name, naming_by_spelling}
 use Rattle.ob0_language_names.specs.Parts.{block_variables, procedure_formals, procedure_name, section_type}
 use Rattle.ob0_language_types.specs.Declarations.{constructors_before_procedure_block, constructors_before_variables, constructors_before_procedures, declare_constants_and_types, procedure_constructor_count}
 use Rattle.ob0_language_types.specs.Environments.{meanings, outermost_environment}
-use Rattle.ob0_language_types.specs.Typing.{constructor_count, element_type, field_type, group_constructor_count, object_type}
+use Rattle.ob0_language_types.specs.Typing.{constructor_count, element_type, field_type, group_constructor_count, type_of_variable_or_constant}
 use Rattle.ob0_language_types.specs.WellTyped.{TypeEnvironment, TypeMeanings, TypedParameter, bind_typed_parameters, declare_typed_variables, bind_procedure, typed_parameters}
 use Rattle.ob0_language_values.specs.Values.{Shape, array_shape, boolean_shape, integer_shape, record_shape}
 
@@ -30,23 +30,23 @@ record_ordinal (Some (record_shape k fs)) = Some k
 -- returns the type of a designator including one more selector, given the type `s` before this
 -- selector; returns None if `s` is unknown (None) or has no such field or element; for a tree that
 -- isn't a selector, returns `s`
-abbrev pub select_type : {i : Item} → Option Shape → Tree Name (item i) → Option Shape
-select_type s (field x) = option_and_then (λ t. field_type t x) s
-select_type s (index e) = option_and_then (λ t. element_type t integer_shape) s
-select_type s _ = s
+abbrev pub type_including_selector : {i : Item} → Option Shape → Tree Name (item i) → Option Shape
+type_including_selector s (field x) = option_and_then (λ t. field_type t x) s
+type_including_selector s (index e) = option_and_then (λ t. element_type t integer_shape) s
+type_including_selector s _ = s
 
 -- Returns a statement or a part of a statement with the selected fields renamed by `l`. A field
 -- belongs to the record from which it is selected. If the part is a selector or a list of
 -- selectors, `s` is the type of the designator before this part.
 abbrev pub rename_fields : {s : Sort} → FieldRenaming → TypeMeanings Name → Option Shape → Tree Name s → Tree Name s
 rename_fields l meaning s (more t ts) =
-    more (rename_fields l meaning s t) (rename_fields l meaning (select_type s t) ts)
+    more (rename_fields l meaning s t) (rename_fields l meaning (type_including_selector s t) ts)
 rename_fields l meaning s (field x) = field (l (record_ordinal s) x)
 rename_fields l meaning s (index e) = index (rename_fields l meaning None e)
 rename_fields l meaning s (designator x path) =
-    designator x (rename_fields l meaning (object_type (meaning.object_for x)) path)
+    designator x (rename_fields l meaning (type_of_variable_or_constant (meaning.object_for x)) path)
 rename_fields l meaning s (assigns x path e) =
-    assigns x (rename_fields l meaning (object_type (meaning.object_for x)) path)
+    assigns x (rename_fields l meaning (type_of_variable_or_constant (meaning.object_for x)) path)
     (rename_fields l meaning None e)
 rename_fields l meaning s (one t) = one (rename_fields l meaning None t)
 rename_fields l meaning s (compares left compared) =

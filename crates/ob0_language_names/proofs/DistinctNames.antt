@@ -4,7 +4,7 @@
 use Rattle.std.proofs.Common.{Bool, List, Some, [], ap, arith, eqb-true, falls, false, if◌then◌else◌, ne_eqb, not, refl, sym, true, ℕ, ◌&&◌, ◌++◌, ◌<◌, ◌==◌, ◌||◌, ◌∙◌, ◌∷◌, ◌≡◌, ◌≤◌}
 use Rattle.ob0_language_names.specs.ConsistentNames.{are_distinct, is_among}
 use Rattle.ob0_language_names.specs.Names.{Name, same_name}
-use Rattle.ob0_language_names.specs.Occurrences.{declares_ordinal, another_has_name}
+use Rattle.ob0_language_names.specs.Occurrences.{declares_ordinal, another_declaration_has_name}
 use Rattle.ob0_language_names.specs.Scopes.{Labelling, Scope, same_ordinal}
 use Rattle.std.proofs.lemmas.Cmp.{nat_list_eq_equiv}
 use Rattle.std.proofs.lemmas.Bool.{and_parts, or_parts}
@@ -74,11 +74,11 @@ labels_in-undeclared d new (b ∷ scope) h =
     λ i. (if parts.0 i then new else b.0) ∷ labels_in-undeclared d new scope parts.1 i
 
 -- The new name isn't among the names of a scope without `d`, if no other declaration has it.
-pub new-apart : (d : ℕ) (new : Name) (scope : Scope Name) → declares_ordinal scope d ≡ false → another_has_name scope d new ≡ false → is_among new (labels_in own_name scope) ≡ false
+pub new-apart : (d : ℕ) (new : Name) (scope : Scope Name) → declares_ordinal scope d ≡ false → another_declaration_has_name scope d new ≡ false → is_among new (labels_in own_name scope) ≡ false
 new-apart d new [] h g = refl
 new-apart d new (b ∷ scope) h g =
     let ordinals = or_parts (b.1 == d) (declares_ordinal scope d) h in
-    let others = or_parts (same_name b.0 new && not (b.1 == d)) (another_has_name scope d new) g in
+    let others = or_parts (same_name b.0 new && not (b.1 == d)) (another_declaration_has_name scope d new) g in
     let apart : same_name b.0 new ≡ false = and-not (same_name b.0 new) (b.1 == d) ordinals.0 others.0 in
     ap (λ v. v || is_among new (labels_in own_name scope)) (nat_list_eq_equiv.symm new b.0 ∙ apart) ∙ new-apart d new scope ordinals.1 others.1
   where
@@ -99,10 +99,10 @@ other-apart d new x (b ∷ scope) e h =
 
 -- After `d` is renamed, a scope has no name twice if it had none twice before and no other declaration has the new
 -- name.
-pub distinct-renamed-among : (d n : ℕ) (new : Name) (scope : Scope Name) → Falls n scope → another_has_name scope d new ≡ false → are_distinct (labels_in own_name scope) ≡ true → are_distinct (labels_in (new_name d new) scope) ≡ true
+pub distinct-renamed-among : (d n : ℕ) (new : Name) (scope : Scope Name) → Falls n scope → another_declaration_has_name scope d new ≡ false → are_distinct (labels_in own_name scope) ≡ true → are_distinct (labels_in (new_name d new) scope) ≡ true
 distinct-renamed-among d n new [] falls g h = refl
 distinct-renamed-among d n new (b ∷ scope) falls g h =
-    let others = or_parts (same_name b.0 new && not (b.1 == d)) (another_has_name scope d new) g in
+    let others = or_parts (same_name b.0 new && not (b.1 == d)) (another_declaration_has_name scope d new) g in
     let once = and_parts (not (is_among b.0 (labels_in own_name scope))) (are_distinct (labels_in own_name scope)) h in
     let rest = distinct-renamed-among d b.1 new scope falls.1 others.1 once.1 in
     ap (λ v. not v && are_distinct (labels_in (new_name d new) scope))
@@ -122,7 +122,7 @@ distinct-renamed-among d n new (b ∷ scope) falls g h =
     not-false true h = sym h
     not-false false h = refl
 
-pub distinct-renamed : (d n : ℕ) (new : Name) (scope : Scope Name) → Falls n scope → (declares_ordinal scope d && another_has_name scope d new) ≡ false → are_distinct (labels_in own_name scope) ≡ true → are_distinct (labels_in (new_name d new) scope) ≡ true
+pub distinct-renamed : (d n : ℕ) (new : Name) (scope : Scope Name) → Falls n scope → (declares_ordinal scope d && another_declaration_has_name scope d new) ≡ false → are_distinct (labels_in own_name scope) ≡ true → are_distinct (labels_in (new_name d new) scope) ≡ true
 distinct-renamed d n new scope falls g h =
-    (elim (declares_ordinal scope d) as (λ v. declares_ordinal scope d ≡ v → (v && another_has_name scope d new) ≡ false → are_distinct (labels_in (new_name d new) scope) ≡ true)
+    (elim (declares_ordinal scope d) as (λ v. declares_ordinal scope d ≡ v → (v && another_declaration_has_name scope d new) ≡ false → are_distinct (labels_in (new_name d new) scope) ≡ true)
     [ true ↦ λ e o. distinct-renamed-among d n new scope falls o h | false ↦ λ e o. ap are_distinct (labels_in-undeclared d new scope e) ∙ h ]) refl g

@@ -4,7 +4,7 @@ use Rattle.ob0_tree.specs.Tree.{Tree, array_type, block, constant, declares, dec
 use Rattle.ob0_language_names.specs.ConsistentNames.{are_distinct, block_names, block_has_consistent_names, has_distinct_fields, formals_have_distinct_fields, group_field_names, group_has_distinct_fields, further_field_names, groups_have_distinct_fields, procedure_names, procedure_has_consistent_names, procedures_have_consistent_names, types_have_distinct_fields, variables_have_distinct_fields}
 use Rattle.ob0_language_names.specs.Mapping.{map_names}
 use Rattle.ob0_language_names.specs.Names.{Name, Naming, naming_by_spelling, same_name}
-use Rattle.ob0_language_names.specs.Occurrences.{scopes_in_block, scopes_in_procedure, scopes_in_procedures, declares_ordinal, another_has_name}
+use Rattle.ob0_language_names.specs.Occurrences.{scopes_in_block, scopes_in_procedure, scopes_in_procedures, declares_ordinal, another_declaration_has_name}
 use Rattle.ob0_language_names.specs.Parts.{constant_names, formal_names, formal_sections, further_names, declared_type_names, names_in_list, procedure_name, section_constants, section_names, section_type, section_types, section_variables, variable_names}
 use Rattle.ob0_language_names.specs.RenamingLaws.{FreeRenamingKeepsConsistentNames}
 use Rattle.ob0_language_names.proofs.DistinctNames.{Falls, distinct-onto, distinct-renamed, labels_in, new_name, onto, onto-append, own_name}
@@ -165,7 +165,7 @@ formals_have_distinct_fields-renamed d new scope k (more (then_section s) fs) = 
 -- returns true if a block declares `d` and another declaration of the block has the new name
 
 abbrev pub Clashes : ℕ → Name → Scope Name → Bool
-Clashes d new own = declares_ordinal own d && another_has_name own d new
+Clashes d new own = declares_ordinal own d && another_declaration_has_name own d new
 
 pub same-renamed : (d : ℕ) (new : Name) (k : ℕ) (x y : Name) → same_name x y ≡ true → same_name (new_name d new (Some k) x) (new_name d new (Some k) y) ≡ true
 same-renamed d new k x y h =

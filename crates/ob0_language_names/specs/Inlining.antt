@@ -3,7 +3,7 @@
 use Rattle.std.specs.Prelude.{ℕ, suc, ◌+◌, Bool, length, if◌then◌else◌, ◌==◌}
 use Rattle.ob0_tree.specs.Tree.{Sort, Tree, adds, array_type, assigns, begins, block, branches, calls, compares, constant, constants, declares, declares_constant, declares_constants, declares_procedure, declares_type, declares_types, declares_variable, declares_variables, designator, else_branch, elsif_branch, empty, end, factor, field, forms_block, index, integer, is_module, item, items, listed, maybe, module_text, more, multiplies, named_type, negation, no_arguments, no_fields, no_formals, none, occurrences, one, parenthesised, procedure, product, record_type, relates, repeat_loop, runs, some_arguments, some_fields, some_formals, sum, then_argument, then_fields, then_name, then_section, then_statement, value_section, variable_section, while_loop}
 use Rattle.ob0_language_names.specs.Names.{Name}
-use Rattle.ob0_language_names.specs.Occurrences.{binds}
+use Rattle.ob0_language_names.specs.Occurrences.{ordinal_bound_at}
 use Rattle.ob0_language_names.specs.Parts.{formal_names, formal_sections}
 use Rattle.ob0_language_names.specs.Scopes.{ordinal_after_names, ordinal_after_procedure, first_procedure_ordinal, predeclared_count, same_ordinal}
 
@@ -149,7 +149,7 @@ single_occurrence occurrence k = k == occurrence
 
 -- returns the set of the occurrences that are bound to the declaration with ordinal `d`
 abbrev pub occurrences_bound_to : Tree Name module_text → ℕ → OccurrenceSet
-occurrences_bound_to m d k = same_ordinal (binds m k) d
+occurrences_bound_to m d k = same_ordinal (ordinal_bound_at m k) d
 
 -- returns the module in which the factor `v` replaces each whole factor that is a use of the constant with ordinal `d`,
 -- and in which the constant's declaration is removed

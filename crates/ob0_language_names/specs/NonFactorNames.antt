@@ -5,61 +5,61 @@ use Rattle.std.specs.Prelude.{List, [], ◌++◌, ◌∷◌}
 use Rattle.ob0_tree.specs.Tree.{Sort, Tree, adds, array_type, assigns, begins, branches, calls, compares, declares, declares_constant, declares_constants, declares_procedure, declares_type, declares_types, declares_variable, declares_variables, designator, else_branch, elsif_branch, empty, end, field, forms_block, index, integer, is_module, listed, more, multiplies, named_type, negation, no_arguments, no_fields, no_formals, none, one, parenthesised, product, record_type, relates, repeat_loop, runs, some_arguments, some_fields, some_formals, sum, then_argument, then_fields, then_name, then_section, then_statement, value_section, variable_section, while_loop}
 
 -- returns the looked-up names of a tree in text order, except the names that are whole factors
-abbrev pub names_beside_factors : {N : Type 0} {s : Sort} → Tree N s → List N
-names_beside_factors none = []
-names_beside_factors (one t) = names_beside_factors t
-names_beside_factors end = []
-names_beside_factors (more t ts) = names_beside_factors t ++ names_beside_factors ts
-names_beside_factors (compares left compared) = names_beside_factors left ++ names_beside_factors compared
-names_beside_factors (relates relation right) = names_beside_factors right
-names_beside_factors (sum sign first terms) = names_beside_factors first ++ names_beside_factors terms
-names_beside_factors (adds operator t) = names_beside_factors t
-names_beside_factors (product first factors) = names_beside_factors first ++ names_beside_factors factors
-names_beside_factors (multiplies operator f) = names_beside_factors f
-names_beside_factors (designator name end) = []
-names_beside_factors (designator name (more s rest)) = name ∷ names_beside_factors (more s rest)
-names_beside_factors (integer n) = []
-names_beside_factors (parenthesised e) = names_beside_factors e
-names_beside_factors (negation f) = names_beside_factors f
-names_beside_factors (field name) = []
-names_beside_factors (index e) = names_beside_factors e
-names_beside_factors empty = []
-names_beside_factors (assigns name selectors e) = name ∷ (names_beside_factors selectors ++ names_beside_factors e)
-names_beside_factors (calls name args) = name ∷ names_beside_factors args
-names_beside_factors (branches condition s elsifs rest) =
-    names_beside_factors condition
-    ++ (names_beside_factors s ++ (names_beside_factors elsifs ++ names_beside_factors rest))
-names_beside_factors (while_loop condition s) = names_beside_factors condition ++ names_beside_factors s
-names_beside_factors (repeat_loop s condition) = names_beside_factors s ++ names_beside_factors condition
-names_beside_factors no_arguments = []
-names_beside_factors (some_arguments e es) = names_beside_factors e ++ names_beside_factors es
-names_beside_factors (then_argument e) = names_beside_factors e
-names_beside_factors (runs first statements) = names_beside_factors first ++ names_beside_factors statements
-names_beside_factors (then_statement s) = names_beside_factors s
-names_beside_factors (elsif_branch condition s) = names_beside_factors condition ++ names_beside_factors s
-names_beside_factors (else_branch s) = names_beside_factors s
-names_beside_factors (listed name others) = []
-names_beside_factors (then_name name) = []
-names_beside_factors (named_type name) = name ∷ []
-names_beside_factors (array_type size t) = names_beside_factors size ++ names_beside_factors t
-names_beside_factors (record_type first others) = names_beside_factors first ++ names_beside_factors others
-names_beside_factors no_fields = []
-names_beside_factors (some_fields ns t) = names_beside_factors t
-names_beside_factors (then_fields f) = names_beside_factors f
-names_beside_factors no_formals = []
-names_beside_factors (some_formals first others) = names_beside_factors first ++ names_beside_factors others
-names_beside_factors (value_section ns t) = names_beside_factors t
-names_beside_factors (variable_section ns t) = names_beside_factors t
-names_beside_factors (then_section s) = names_beside_factors s
-names_beside_factors (declares_constant name e) = names_beside_factors e
-names_beside_factors (declares_constants cs) = names_beside_factors cs
-names_beside_factors (declares_type name t) = names_beside_factors t
-names_beside_factors (declares_types ts) = names_beside_factors ts
-names_beside_factors (declares_variable ns t) = names_beside_factors t
-names_beside_factors (declares_variables vs) = names_beside_factors vs
-names_beside_factors (declares_procedure name fs b closing) = names_beside_factors fs ++ names_beside_factors b
-names_beside_factors (declares cs ts vs ps) =
-    names_beside_factors cs ++ (names_beside_factors ts ++ (names_beside_factors vs ++ names_beside_factors ps))
-names_beside_factors (begins s) = names_beside_factors s
-names_beside_factors (forms_block ds b) = names_beside_factors ds ++ names_beside_factors b
-names_beside_factors (is_module name b closing) = names_beside_factors b
+abbrev pub non_factor_names : {N : Type 0} {s : Sort} → Tree N s → List N
+non_factor_names none = []
+non_factor_names (one t) = non_factor_names t
+non_factor_names end = []
+non_factor_names (more t ts) = non_factor_names t ++ non_factor_names ts
+non_factor_names (compares left compared) = non_factor_names left ++ non_factor_names compared
+non_factor_names (relates relation right) = non_factor_names right
+non_factor_names (sum sign first terms) = non_factor_names first ++ non_factor_names terms
+non_factor_names (adds operator t) = non_factor_names t
+non_factor_names (product first factors) = non_factor_names first ++ non_factor_names factors
+non_factor_names (multiplies operator f) = non_factor_names f
+non_factor_names (designator name end) = []
+non_factor_names (designator name (more s rest)) = name ∷ non_factor_names (more s rest)
+non_factor_names (integer n) = []
+non_factor_names (parenthesised e) = non_factor_names e
+non_factor_names (negation f) = non_factor_names f
+non_factor_names (field name) = []
+non_factor_names (index e) = non_factor_names e
+non_factor_names empty = []
+non_factor_names (assigns name selectors e) = name ∷ (non_factor_names selectors ++ non_factor_names e)
+non_factor_names (calls name args) = name ∷ non_factor_names args
+non_factor_names (branches condition s elsifs rest) =
+    non_factor_names condition
+    ++ (non_factor_names s ++ (non_factor_names elsifs ++ non_factor_names rest))
+non_factor_names (while_loop condition s) = non_factor_names condition ++ non_factor_names s
+non_factor_names (repeat_loop s condition) = non_factor_names s ++ non_factor_names condition
+non_factor_names no_arguments = []
+non_factor_names (some_arguments e es) = non_factor_names e ++ non_factor_names es
+non_factor_names (then_argument e) = non_factor_names e
+non_factor_names (runs first statements) = non_factor_names first ++ non_factor_names statements
+non_factor_names (then_statement s) = non_factor_names s
+non_factor_names (elsif_branch condition s) = non_factor_names condition ++ non_factor_names s
+non_factor_names (else_branch s) = non_factor_names s
+non_factor_names (listed name others) = []
+non_factor_names (then_name name) = []
+non_factor_names (named_type name) = name ∷ []
+non_factor_names (array_type size t) = non_factor_names size ++ non_factor_names t
+non_factor_names (record_type first others) = non_factor_names first ++ non_factor_names others
+non_factor_names no_fields = []
+non_factor_names (some_fields ns t) = non_factor_names t
+non_factor_names (then_fields f) = non_factor_names f
+non_factor_names no_formals = []
+non_factor_names (some_formals first others) = non_factor_names first ++ non_factor_names others
+non_factor_names (value_section ns t) = non_factor_names t
+non_factor_names (variable_section ns t) = non_factor_names t
+non_factor_names (then_section s) = non_factor_names s
+non_factor_names (declares_constant name e) = non_factor_names e
+non_factor_names (declares_constants cs) = non_factor_names cs
+non_factor_names (declares_type name t) = non_factor_names t
+non_factor_names (declares_types ts) = non_factor_names ts
+non_factor_names (declares_variable ns t) = non_factor_names t
+non_factor_names (declares_variables vs) = non_factor_names vs
+non_factor_names (declares_procedure name fs b closing) = non_factor_names fs ++ non_factor_names b
+non_factor_names (declares cs ts vs ps) =
+    non_factor_names cs ++ (non_factor_names ts ++ (non_factor_names vs ++ non_factor_names ps))
+non_factor_names (begins s) = non_factor_names s
+non_factor_names (forms_block ds b) = non_factor_names ds ++ non_factor_names b
+non_factor_names (is_module name b closing) = non_factor_names b

@@ -8,8 +8,8 @@ use Rattle.ob0_language_names.specs.Occurrences.{label_ordinal}
 use Rattle.ob0_language_names.specs.Scopes.{label_from_ordinal, relabel_module}
 
 -- the interpretation of names in which each looked-up name is treated as the name `y`
-abbrev pub lookup_naming : Name → Naming Name
-lookup_naming y = record { same = λ x. same_name y; written = λ x. x; predeclared = predeclared_name }
+abbrev pub naming_for_lookup_of : Name → Naming Name
+naming_for_lookup_of y = record { same = λ x. same_name y; written = λ x. x; predeclared = predeclared_name }
 
 -- Returns the ordinal of the declaration to which the name `y` would be bound if `y` replaced this
 -- occurrence. Occurrences are numbered from 0 in text order. Returns None if `y` would be unbound
@@ -17,10 +17,10 @@ lookup_naming y = record { same = λ x. same_name y; written = λ x. x; predecla
 abbrev pub resolve_at_occurrence : Tree Name module_text → ℕ → Name → Option ℕ
 resolve_at_occurrence m occurrence y =
     option_and_then label_ordinal
-    (slice_get (occurrences (relabel_module (lookup_naming y) (label_from_ordinal (lookup_naming y)) m)) occurrence)
+    (slice_get (occurrences (relabel_module (naming_for_lookup_of y) (label_from_ordinal (naming_for_lookup_of y)) m)) occurrence)
 
 -- returns, for each occurrence in text order, the ordinal of the declaration to which the name `y`
 -- would be bound if `y` replaced this occurrence; None if `y` would be unbound
 abbrev pub resolve_at_occurrences : Tree Name module_text → Name → List (Option ℕ)
 resolve_at_occurrences m y =
-    map label_ordinal (occurrences (relabel_module (lookup_naming y) (label_from_ordinal (lookup_naming y)) m))
+    map label_ordinal (occurrences (relabel_module (naming_for_lookup_of y) (label_from_ordinal (naming_for_lookup_of y)) m))

@@ -20,8 +20,8 @@ label_ordinal (as_written x) = None
 -- Returns the ordinal of the declaration that an occurrence is bound to. Occurrences are numbered from 0 in text order.
 -- A declaration's ordinal is its number in text order, after the predeclared names 0 to 6. Returns None if the
 -- occurrence is unbound or doesn't exist.
-abbrev pub binds : Tree Name module_text → ℕ → Option ℕ
-binds m occurrence = option_and_then label_ordinal (slice_get (bindings m) occurrence)
+abbrev pub ordinal_bound_at : Tree Name module_text → ℕ → Option ℕ
+ordinal_bound_at m occurrence = option_and_then label_ordinal (slice_get (bindings m) occurrence)
 
 -- Returns a list with the declarations of each block, as names with their ordinals. A procedure's parameters and its
 -- own declarations count as one block.
@@ -51,19 +51,19 @@ abbrev pub declares_ordinal : Scope Name → ℕ → Bool
 declares_ordinal own d = list_any (λ b. b.1 == d) own
 
 -- returns whether one of the declarations `own` of a block has the name `new` and an ordinal other than `d`
-abbrev pub another_has_name : Scope Name → ℕ → Name → Bool
-another_has_name own d new = list_any (λ b. same_name b.0 new && not (b.1 == d)) own
+abbrev pub another_declaration_has_name : Scope Name → ℕ → Name → Bool
+another_declaration_has_name own d new = list_any (λ b. same_name b.0 new && not (b.1 == d)) own
 
 -- returns whether the block that declares the ordinal `d` has another declaration with the name `new`
-abbrev pub is_duplicate : Tree Name module_text → ℕ → Name → Bool
-is_duplicate m d new =
-    list_any (λ own. declares_ordinal own d && another_has_name own d new)
+abbrev pub is_duplicate_name : Tree Name module_text → ℕ → Name → Bool
+is_duplicate_name m d new =
+    list_any (λ own. declares_ordinal own d && another_declaration_has_name own d new)
     (scopes_in_block predeclared_count [] (module_block m))
 
 -- States that the name `new` is free for the declaration with ordinal `d`. No other declaration in the block that
 -- declares `d` has this name, and renaming `d` to `new` doesn't change the binding of any occurrence.
 abbrev pub Free : Tree Name module_text → ℕ → Name → Type 0
-Free m d new = (is_duplicate m d new ≡ false) × (bindings (renamed m d new) ≡ bindings m)
+Free m d new = (is_duplicate_name m d new ≡ false) × (bindings (renamed m d new) ≡ bindings m)
 
 -- returns whether two labels mean the same binding: both are the same ordinal, or both are the same spelling of an
 -- unbound name
@@ -89,6 +89,6 @@ pub data NameConflict : Type 0 where
 -- whose binding would change. Returns None if there is no conflict.
 abbrev pub first_name_conflict : Tree Name module_text → ℕ → Name → Option NameConflict
 first_name_conflict m d new =
-    if is_duplicate m d new
+    if is_duplicate_name m d new
     then Some at_declaration
     else option_map at_occurrence (first_difference (bindings (renamed m d new)) (bindings m))

@@ -16,9 +16,9 @@ use Rattle.ob0_language_types.specs.WellTyped.{Mode, by_place, by_value, section
 use Rattle.ob0_language_types.proofs.Agreeing.{Agree, HoldsOf, agree-map, agree-then, agree-value}
 use Rattle.ob0_language_types.proofs.Constructors.{formals_constructor_count-relabel, procedure_constructor_count-relabel, types_constructor_count-relabel, variables_constructor_count-relabel}
 use Rattle.ob0_language_types.proofs.TypeNaturality.{constant_value-map, constructor_count-map, denoted_type-map}
-use Rattle.ob0_language_runs.specs.Runs.{Activation, Argument, CallFunction, ProcedureText, Frame, Parameter, Progress, State, activate, allocate, bind_parameter, bind_parameters, call, declare_block, declare_procedures, declare_variables, execute_all, execute_body, run_result, formal_modes, continue_in_frame, parameters, statement_object, place_argument, run_with_naming, statement_meanings, value_argument, declare_procedures_in_frame}
+use Rattle.ob0_language_runs.specs.Runs.{Activation, Argument, CallFunction, ProcedureText, Frame, Parameter, Progress, State, activate, allocate, bind_parameter, bind_parameters, call, declare_block, declare_procedures, declare_variables, execute_sequence, execute_body, run_result, formal_modes, continue_in_frame, parameters, statement_object, place_argument, run_with_naming, statement_meanings, value_argument, declare_procedures_in_frame}
 use Rattle.ob0_language_runs.proofs.Noted.{Below, Below-from, Noted, OwnName, by_name, by_name-from, by_ordinal, by_ordinal-from, noted_from, numbered_code, numbered_object, scope_of}
-use Rattle.ob0_language_runs.proofs.RunNaturality.{execute_all-map}
+use Rattle.ob0_language_runs.proofs.RunNaturality.{execute_sequence-map}
 
 -- The modes of parameters are the same by name and by ordinal.
 
@@ -191,12 +191,12 @@ variables_declared naming j k f below (more (declares_variable ns u) gs) =
 abbrev pub noted_procedures : {N : Type 0} → ℕ → ℕ → Tree N (items procedure) → Noted N → Noted N
 noted_procedures j k end noted = noted
 noted_procedures j k (more p rest) noted =
-    noted_procedures (j + procedure_constructor_count p) (ordinal_after_procedure (suc k) p) rest (record { name = procedure_name p; ordinal = k; object = a_procedure record { first_constructor = j; text = p } } ∷ noted)
+    noted_procedures (j + procedure_constructor_count p) (ordinal_after_procedure (suc k) p) rest (record { name = procedure_name p; ordinal = k; object = a_procedure record { constructors_before = j; text = p } } ∷ noted)
 
 pub procedures-by_name : {N : Type 0} (j k : ℕ) (ps : Tree N (items procedure)) (noted : Noted N) → declare_procedures j ps (by_name noted) ≡ by_name (noted_procedures j k ps noted)
 procedures-by_name j k end noted = refl
 procedures-by_name j k (more p rest) noted =
-    procedures-by_name (j + procedure_constructor_count p) (ordinal_after_procedure (suc k) p) rest (record { name = procedure_name p; ordinal = k; object = a_procedure record { first_constructor = j; text = p } } ∷ noted)
+    procedures-by_name (j + procedure_constructor_count p) (ordinal_after_procedure (suc k) p) rest (record { name = procedure_name p; ordinal = k; object = a_procedure record { constructors_before = j; text = p } } ∷ noted)
 
 pub relabel_procedure-name : {N M : Type 0} (naming : Naming N) (label : Labelling N M) (scope : Scope N) (k : ℕ) (p : Tree N (item procedure)) → procedure_name (relabel_procedure naming label scope k p) ≡ label (Some k) (procedure_name p)
 relabel_procedure-name naming label scope k (declares_procedure x fs b closing) = refl
@@ -205,13 +205,13 @@ pub procedures-by_ordinal : {N : Type 0} (naming : Naming N) (j k : ℕ) (ps : T
 procedures-by_ordinal naming j k end noted = refl
 procedures-by_ordinal naming j k (more p rest) noted =
     (λ i. declare_procedures (j + procedure_constructor_count-relabel naming (label_from_ordinal naming) (scope_of noted) k p i) (relabel_procedures naming (label_from_ordinal naming) ((procedure_name p, k) ∷ scope_of noted) (ordinal_after_procedure (suc k) p) rest)
-    ((relabel_procedure-name naming (label_from_ordinal naming) (scope_of noted) k p i, a_procedure record { first_constructor = j; text = relabel_procedure naming (label_from_ordinal naming) (scope_of noted) k p }) ∷ by_ordinal naming noted))
-    ∙ procedures-by_ordinal naming (j + procedure_constructor_count p) (ordinal_after_procedure (suc k) p) rest (record { name = procedure_name p; ordinal = k; object = a_procedure record { first_constructor = j; text = p } } ∷ noted)
+    ((relabel_procedure-name naming (label_from_ordinal naming) (scope_of noted) k p i, a_procedure record { constructors_before = j; text = relabel_procedure naming (label_from_ordinal naming) (scope_of noted) k p }) ∷ by_ordinal naming noted))
+    ∙ procedures-by_ordinal naming (j + procedure_constructor_count p) (ordinal_after_procedure (suc k) p) rest (record { name = procedure_name p; ordinal = k; object = a_procedure record { constructors_before = j; text = p } } ∷ noted)
 
 pub procedures-within : {N : Type 0} (j k : ℕ) (ps : Tree N (items procedure)) (noted : Noted N) → Below k noted → Within (ordinal_after_procedures k ps) (declare_procedure_names k ps (scope_of noted)) (noted_procedures j k ps noted)
 procedures-within j k end noted below = (refl, below)
 procedures-within j k (more p rest) noted below =
-    procedures-within (j + procedure_constructor_count p) (ordinal_after_procedure (suc k) p) rest (record { name = procedure_name p; ordinal = k; object = a_procedure record { first_constructor = j; text = p } } ∷ noted)
+    procedures-within (j + procedure_constructor_count p) (ordinal_after_procedure (suc k) p) rest (record { name = procedure_name p; ordinal = k; object = a_procedure record { constructors_before = j; text = p } } ∷ noted)
     (le-ordinal_after_procedure (suc k) p, refl, below)
 
 -- The declarations of a block do the same by name and by ordinal.
@@ -354,8 +354,8 @@ pub body-agrees : {N : Type 0} (naming : Naming N) (n : ℕ) (noted : Noted N) �
 unfolding execute_body
 body-agrees naming n noted below there here h t none = refl
 body-agrees naming n noted below there here h t (one (begins statements)) = λ i s.
-    (execute_all-map (label_at_token naming noted) (label_from_ordinal naming None) (statement_meanings naming_by_label (by_ordinal naming noted)) there t statements
-    ∙ (λ j. execute_all (record { object_for = λ x. statement_meanings-agree naming n noted below x j; written = naming.written }) (λ x. h x j) t statements)) i s
+    (execute_sequence-map (label_at_token naming noted) (label_from_ordinal naming None) (statement_meanings naming_by_label (by_ordinal naming noted)) there t statements
+    ∙ (λ j. execute_sequence (record { object_for = λ x. statement_meanings-agree naming n noted below x j; written = naming.written }) (λ x. h x j) t statements)) i s
 
 -- If frames agree by name and by ordinal and are continued alike, the runs agree.
 pub continue_in_frame-agrees : {N : Type 0} (naming : Naming N) (P : NotedFrame N → Type 0) (s : State) (r : Option (Frame N)) (q : Option (Frame Label)) (here : Frame N → State → Progress) (there : Frame Label → State → Progress)
@@ -419,12 +419,12 @@ activate-agrees naming there here known t n [] below args s = refl
 activate-agrees {N} naming there here known t n (b ∷ noted) below args s = of_object b.object below.1
   where
     of_text : (j : ℕ) (p : Tree N (item procedure)) → procedure_name p ≡ b.name
-        → activate naming_by_label there t ((declared b.ordinal, a_procedure (numbered_code naming (scope_of noted) b.ordinal record { first_constructor = j; text = p })) ∷ by_ordinal naming noted) args s
-        ≡ activate naming here t ((b.name, a_procedure record { first_constructor = j; text = p }) ∷ by_name noted) args s
+        → activate naming_by_label there t ((declared b.ordinal, a_procedure (numbered_code naming (scope_of noted) b.ordinal record { constructors_before = j; text = p })) ∷ by_ordinal naming noted) args s
+        ≡ activate naming here t ((b.name, a_procedure record { constructors_before = j; text = p }) ∷ by_name noted) args s
     of_text j (declares_procedure x fs inner closing) e =
         let k : ℕ = ordinal_after_names (suc b.ordinal) (formal_names (formal_sections fs)) in
         let scope : Scope N = declare_names (suc b.ordinal) (formal_names (formal_sections fs)) ((x, b.ordinal) ∷ scope_of noted) in
-        let f : NotedFrame N = record { noted = record { name = b.name; ordinal = b.ordinal; object = a_procedure record { first_constructor = j; text = declares_procedure x fs inner closing } } ∷ noted; store = s.store } in
+        let f : NotedFrame N = record { noted = record { name = b.name; ordinal = b.ordinal; object = a_procedure record { constructors_before = j; text = declares_procedure x fs inner closing } } ∷ noted; store = s.store } in
         continue_in_frame-agrees naming (FrameWithin (ordinal_after_block k inner) (body_scope k inner scope)) s _ _ _ _
         (activation_declared naming j b.ordinal f (le_refl (suc b.ordinal), e, below.2) x (scope_of noted) (λ i. (sym e i, b.ordinal) ∷ scope_of noted) fs inner args)
         (λ g within. block-agrees naming there here known t k scope inner g within)
@@ -433,7 +433,7 @@ activate-agrees {N} naming there here known t n (b ∷ noted) below args s = of_
     of_object (a_type shape) own = refl
     of_object (a_constant v) own = refl
     of_object (a_variable p) own = refl
-    of_object (a_procedure code) own = of_text code.first_constructor code.text own
+    of_object (a_procedure code) own = of_text code.constructors_before code.text own
     of_object (a_standard p) own = refl
 
 -- Calls do the same by name and by ordinal, by induction on the number of calls that may be open.

@@ -24,10 +24,10 @@ use Rattle.ob0_language_types.proofs.Leaves.{AllStay, Here, Literal, denoted_typ
 use Rattle.ob0_language_types.proofs.Literals.{IsSeen, literal-has_value, some_inverse}
 use Rattle.ob0_language_types.proofs.Marks.{IsRight, Mark, Marks, OfProcedure, Sound, Sound-from, Stays, found, is_left, knowns, marks_from, not-left, object_as, object_of, read, read-from, read_edited, read_edited-from, scope_marked}
 use Rattle.ob0_language_runs.specs.EditLaws.{InliningKeepsTypingAndRuns, RemovingUnusedKeepsTypingAndRuns}
-use Rattle.ob0_language_runs.specs.Runs.{Activation, Argument, CallFunction, ProcedureText, Frame, Parameter, Progress, State, activate, allocate, bind_parameter, bind_parameters, call, declare_block, declare_procedures, declare_variables, execute_all, execute_body, run_result, formal_modes, continue_in_frame, parameters, statement_object, place_argument, run, run_with_naming, statement_meanings, stopped, value_argument, declare_procedures_in_frame}
+use Rattle.ob0_language_runs.specs.Runs.{Activation, Argument, CallFunction, ProcedureText, Frame, Parameter, Progress, State, activate, allocate, bind_parameter, bind_parameters, call, declare_block, declare_procedures, declare_variables, execute_sequence, execute_body, run_result, formal_modes, continue_in_frame, parameters, statement_object, place_argument, run, run_with_naming, statement_meanings, stopped, value_argument, declare_procedures_in_frame}
 use Rattle.ob0_language_runs.proofs.ByOrdinal.{formal_names-parameters, parameter_names}
-use Rattle.ob0_language_runs.proofs.InlinedStatements.{execute_all-written}
-use Rattle.ob0_language_runs.proofs.RunNaturality.{execute_all-map}
+use Rattle.ob0_language_runs.proofs.InlinedStatements.{execute_sequence-written}
+use Rattle.ob0_language_runs.proofs.RunNaturality.{execute_sequence-map}
 use Rattle.ob0_language_names.specs.Scopes.{Scope, ordinal_after_block, ordinal_after_names, ordinal_after_procedure, ordinal_after_procedures, body_scope, declare_names, declare_procedure_names, first_procedure_ordinal, first_type_ordinal, first_variable_ordinal, ordinal_of, predeclared_scope, procedures_scope, variables_scope}
 use Rattle.std.proofs.lemmas.Bool.{cases_Bool}
 
@@ -40,7 +40,7 @@ abbrev pub before : ℕ → Text → ProcedureText Name
 before k t = t.code
 
 abbrev pub after : Edit → ℕ → Text → ProcedureText Name
-after edit k t = record { first_constructor = t.code.first_constructor; text = edited_procedure edit t.at (suc k) t.code.text }
+after edit k t = record { constructors_before = t.code.constructors_before; text = edited_procedure edit t.at (suc k) t.code.text }
 
 -- The facts about a procedure that is bound in a run: its name, its occurrences, and the value of the constant if the
 -- procedure declares it.
@@ -115,12 +115,12 @@ run-same edit w marks there here kept (x ∷ xs) known = (
   run-same edit w marks there here kept xs known.1,
 )
 
-pub execute_all-alike : (there here : Activation Name) (enter_there enter_here : CallFunction Name) (t : ℕ) (a : Tree Name sequence) → SameAt (run_tag (statement_meanings naming_by_spelling there) enter_there) (run_tag (statement_meanings naming_by_spelling here) enter_here) (occurrences a)
-    → execute_all (statement_meanings naming_by_spelling there) enter_there t a ≡ execute_all (statement_meanings naming_by_spelling here) enter_here t a
-execute_all-alike there here enter_there enter_here t a e =
-    sym (execute_all-map (run_tag (statement_meanings naming_by_spelling there) enter_there) run_field run_tagged (λ x. x.entering) t a)
-    ∙ (ap (execute_all run_tagged (λ x. x.entering) t) (map_names-same (run_tag (statement_meanings naming_by_spelling there) enter_there) (run_tag (statement_meanings naming_by_spelling here) enter_here) run_field a e)
-    ∙ execute_all-map (run_tag (statement_meanings naming_by_spelling here) enter_here) run_field run_tagged (λ x. x.entering) t a)
+pub execute_sequence-alike : (there here : Activation Name) (enter_there enter_here : CallFunction Name) (t : ℕ) (a : Tree Name sequence) → SameAt (run_tag (statement_meanings naming_by_spelling there) enter_there) (run_tag (statement_meanings naming_by_spelling here) enter_here) (occurrences a)
+    → execute_sequence (statement_meanings naming_by_spelling there) enter_there t a ≡ execute_sequence (statement_meanings naming_by_spelling here) enter_here t a
+execute_sequence-alike there here enter_there enter_here t a e =
+    sym (execute_sequence-map (run_tag (statement_meanings naming_by_spelling there) enter_there) run_field run_tagged (λ x. x.entering) t a)
+    ∙ (ap (execute_sequence run_tagged (λ x. x.entering) t) (map_names-same (run_tag (statement_meanings naming_by_spelling there) enter_there) (run_tag (statement_meanings naming_by_spelling here) enter_here) run_field a e)
+    ∙ execute_sequence-map (run_tag (statement_meanings naming_by_spelling here) enter_here) run_field run_tagged (λ x. x.entering) t a)
 
 pub body-kept : (edit : Edit) (w : Value) → Literal edit w → (n : ℕ) (marks : Marks Place Text) → Run_sound edit w n marks → (there here : CallFunction Name) → ((x : Name) → Stays edit (scope_marked marks) x → there x ≡ here x)
     → (t j : ℕ) (statements : Tree Name (maybe body)) → Here edit w (maybe body) j (scope_marked marks) statements
@@ -128,13 +128,13 @@ pub body-kept : (edit : Edit) (w : Value) → Literal edit w → (n : ℕ) (mark
 unfolding execute_body
 body-kept edit w lit n marks s there here kept t j none known = refl
 body-kept edit w lit n marks s there here kept t j (one (begins a)) known = λ i state.
-    (execute_all-alike (read_edited edit (after edit) marks) (read before marks) there here t (leaf edit j a) (run-same edit w marks there here kept (occurrences (leaf edit j a)) known.1)
+    (execute_sequence-alike (read_edited edit (after edit) marks) (read before marks) there here t (leaf edit j a) (run-same edit w marks there here kept (occurrences (leaf edit j a)) known.1)
     ∙ ⊎_elim
     (λ yes_shown. let seen : IsSeen (read_meanings before marks) w = seen-read edit w (IsText edit w) before n marks s yes_shown in
-    execute_all-written (meanings_before marks) here t edit.uses edit.literal w record {
+    execute_sequence-written (meanings_before marks) here t edit.uses edit.literal w record {
       in_store = λ store. literal-has_value (meanings_before marks) store edit.literal w lit.written lit.scalar (seen-statement_object (read before marks) w seen);
     } j a (uses-map edit.uses (NamesConstant (read_meanings before marks) w) (IsConstantOf (meanings_before marks) w) (λ x e. ap statement_object e) j (occurrences a) (uses-read edit w (IsText edit w) before n marks s j (occurrences a) known.0)))
-    (λ not_shown. ap (execute_all (meanings_before marks) here t) (inline-nothing edit.uses edit.literal j a (none-used edit w j (scope_marked marks) (occurrences a) not_shown known.0)))
+    (λ not_shown. ap (execute_sequence (meanings_before marks) here t) (inline-nothing edit.uses edit.literal j a (none-used edit w j (scope_marked marks) (occurrences a) not_shown known.0)))
     (cases_Bool (shown w (scope_marked marks)))) i state
 
 -- a frame whose bindings have ordinals, before and after an edit
@@ -218,13 +218,13 @@ abbrev pub mark_procedures : ℕ → ℕ → ℕ → Tree Name (items procedure)
 mark_procedures i j k end marks = marks
 mark_procedures i j k (more p rest) marks =
     mark_procedures (i + procedure_constructor_count p) (j + length (occurrences p)) (ordinal_after_procedure (suc k) p) rest
-    (record { name = procedure_name p; ordinal = k; object = a_procedure record { code = record { first_constructor = i; text = p }; at = j } } ∷ marks)
+    (record { name = procedure_name p; ordinal = k; object = a_procedure record { code = record { constructors_before = i; text = p }; at = j } } ∷ marks)
 
 pub procedures-before : (i j k : ℕ) (ps : Tree Name (items procedure)) (marks : Marks Place Text) → declare_procedures i ps (read before marks) ≡ read before (mark_procedures i j k ps marks)
 procedures-before i j k end marks = refl
 procedures-before i j k (more p rest) marks =
     procedures-before (i + procedure_constructor_count p) (j + length (occurrences p)) (ordinal_after_procedure (suc k) p) rest
-    (record { name = procedure_name p; ordinal = k; object = a_procedure record { code = record { first_constructor = i; text = p }; at = j } } ∷ marks)
+    (record { name = procedure_name p; ordinal = k; object = a_procedure record { code = record { constructors_before = i; text = p }; at = j } } ∷ marks)
 
 pub own-outside : (edit : Edit) (w : Value) (known : ConstantEnvironment) (k : ℕ) (p : Tree Name (item procedure)) → HasValueBetween edit w k (ordinal_after_procedure (suc k) p) (value_in_procedure known edit.constant (suc k) p) → Outside edit k (suc k)
 own-outside edit w known k (declares_procedure x fs b closing) has_value l m =
@@ -241,12 +241,12 @@ procedures-after edit w i j k (more p rest) marks has_value =
     let jr : ℕ = j + length (occurrences p) in
     let p' : Tree Name (item procedure) = edited_procedure edit j (suc k) p in
     let rest' : Tree Name (items procedure) = edited_procedures edit jr (ordinal_after_procedure (suc k) p) rest in
-    let c : Object Place (ProcedureText Name) = a_procedure record { first_constructor = i; text = p' } in
+    let c : Object Place (ProcedureText Name) = a_procedure record { constructors_before = i; text = p' } in
     let own : Outside edit k (suc k) = own-outside edit w ((procedure_name p, non_constant) ∷ knowns marks) k p (own-has_value edit w (knowns marks) k p rest has_value) in
     (λ m. declare_procedures (i + procedure_constructor_count-edited edit j (suc k) p m) rest' ((edited_procedure-name edit j (suc k) p m, c) ∷ read_edited edit (after edit) marks))
     ∙ (ap (declare_procedures (i + procedure_constructor_count p) rest') (sym (ap (λ t. if t then read_edited edit (after edit) marks else (procedure_name p, c) ∷ read_edited edit (after edit) marks) (not-constant edit k own)))
     ∙ procedures-after edit w (i + procedure_constructor_count p) jr (ordinal_after_procedure (suc k) p) rest
-    (record { name = procedure_name p; ordinal = k; object = a_procedure record { code = record { first_constructor = i; text = p }; at = j } } ∷ marks) (rest-has_value edit w (knowns marks) k p rest has_value))
+    (record { name = procedure_name p; ordinal = k; object = a_procedure record { code = record { constructors_before = i; text = p }; at = j } } ∷ marks) (rest-has_value edit w (knowns marks) k p rest has_value))
 
 abbrev pub RightFrame : Edit → Value → ℕ → Scope Name → MarkedFrame → Type 0
 RightFrame edit w n scope f = (scope_marked f.marks ≡ scope) × Run_sound edit w n f.marks
@@ -258,7 +258,7 @@ procedures-right edit w i j k end marks s seven here has_value = (refl, s)
 procedures-right edit w i j k (more p rest) marks s seven here has_value =
     let following : suc k ≤ ordinal_after_procedure (suc k) p = le-ordinal_after_procedure (suc k) p in
     let mine : HasValueBetween edit w k (ordinal_after_procedure (suc k) p) (value_in_procedure ((procedure_name p, non_constant) ∷ knowns marks) edit.constant (suc k) p) = own-has_value edit w (knowns marks) k p rest has_value in
-    let t : Text = record { code = record { first_constructor = i; text = p }; at = j } in
+    let t : Text = record { code = record { constructors_before = i; text = p }; at = j } in
     procedures-right edit w (i + procedure_constructor_count p) (j + length (occurrences p)) (ordinal_after_procedure (suc k) p) rest
     (record { name = procedure_name p; ordinal = k; object = a_procedure t } ∷ marks)
     (following, outside-right edit w (procedure_name p) k (a_procedure t) seven (own-outside edit w ((procedure_name p, non_constant) ∷ knowns marks) k p mine), record { from_seven = seven; named = refl; here = here.0; has_value = mine }, s)
@@ -437,13 +437,13 @@ activate-kept edit w lit there here known t n (b ∷ marks) sound head args s =
     ap (λ v. activate naming_by_spelling there t (if v then read_edited edit (after edit) marks else (b.name, object_as (after edit b.ordinal) b.object) ∷ read_edited edit (after edit) marks) args s) head
     ∙ of_object b.object sound.1 sound.2
   where
-    of_text : (i j : ℕ) (p : Tree Name (item procedure)) → IsRight {V = Place} {P = Text} edit w record { name = b.name; ordinal = b.ordinal; object = a_procedure record { code = record { first_constructor = i; text = p }; at = j } }
-        → IsText edit w marks b.name b.ordinal record { code = record { first_constructor = i; text = p }; at = j }
-        → activate naming_by_spelling there t ((b.name, a_procedure record { first_constructor = i; text = edited_procedure edit j (suc b.ordinal) p }) ∷ read_edited edit (after edit) marks) args s
-        ≡ activate naming_by_spelling here t ((b.name, a_procedure record { first_constructor = i; text = p }) ∷ read before marks) args s
+    of_text : (i j : ℕ) (p : Tree Name (item procedure)) → IsRight {V = Place} {P = Text} edit w record { name = b.name; ordinal = b.ordinal; object = a_procedure record { code = record { constructors_before = i; text = p }; at = j } }
+        → IsText edit w marks b.name b.ordinal record { code = record { constructors_before = i; text = p }; at = j }
+        → activate naming_by_spelling there t ((b.name, a_procedure record { constructors_before = i; text = edited_procedure edit j (suc b.ordinal) p }) ∷ read_edited edit (after edit) marks) args s
+        ≡ activate naming_by_spelling here t ((b.name, a_procedure record { constructors_before = i; text = p }) ∷ read before marks) args s
     of_text i j (declares_procedure x fs inner closing) right text =
         let k : ℕ = b.ordinal in
-        let own : Mark Place Text = record { name = b.name; ordinal = k; object = a_procedure record { code = record { first_constructor = i; text = declares_procedure x fs inner closing }; at = j } } in
+        let own : Mark Place Text = record { name = b.name; ordinal = k; object = a_procedure record { code = record { constructors_before = i; text = declares_procedure x fs inner closing }; at = j } } in
         let f : MarkedFrame = record { marks = own ∷ marks; store = s.store } in
         let m : ℕ = ordinal_after_names (suc k) (formal_names (formal_sections fs)) in
         let scope : Scope Name = declare_names (suc k) (formal_names (formal_sections fs)) (scope_marked f.marks) in
@@ -452,7 +452,7 @@ activate-kept edit w lit there here known t n (b ∷ marks) sound head args s =
         let outside : Outside edit k (suc k) = own-outside edit w ((b.name, non_constant) ∷ knowns marks) k (declares_procedure x fs inner closing) text.has_value in
         ap (λ env. continue_in_frame s (option_and_then (declare_block naming_by_spelling (i + formals_constructor_count (formal_sections (leaf edit j fs))) (edited_block edit (j + length (occurrences fs)) m inner)) (bind_parameters (parameters (formal_sections (leaf edit j fs))) args record { env = env; store = s.store }))
         (λ f. execute_body naming_by_spelling f.env (there f.env) t (block_statements (edited_block edit (j + length (occurrences fs)) m inner))))
-        (sym (ap (λ v. if v then read_edited edit (after edit) marks else (b.name, a_procedure record { first_constructor = i; text = edited_procedure edit j (suc k) (declares_procedure x fs inner closing) }) ∷ read_edited edit (after edit) marks) (not-constant edit k outside)))
+        (sym (ap (λ v. if v then read_edited edit (after edit) marks else (b.name, a_procedure record { constructors_before = i; text = edited_procedure edit j (suc k) (declares_procedure x fs inner closing) }) ∷ read_edited edit (after edit) marks) (not-constant edit k outside)))
         ∙ continue_in_frame-kept edit (RightFrame edit w (ordinal_after_block m inner) (body_scope m inner scope)) s _ _ _ _
         (activation-kept edit w lit i j k f (le_refl (suc k), right, text, sound.3) text.from_seven x closing fs inner each text.has_value args)
         (λ g right. block-runs edit w lit there here known t (j + length (occurrences fs)) m scope inner each g right)
@@ -462,7 +462,7 @@ activate-kept edit w lit there here known t n (b ∷ marks) sound head args s =
     of_object (a_type shape) right text = refl
     of_object (a_constant v) right text = refl
     of_object (a_variable p) right text = refl
-    of_object (a_procedure u) right text = of_text u.code.first_constructor u.at u.code.text right text
+    of_object (a_procedure u) right text = of_text u.code.constructors_before u.at u.code.text right text
     of_object (a_standard p) right text = refl
 
 -- Calls do the same after the edit, by induction on the number of calls that may be open.

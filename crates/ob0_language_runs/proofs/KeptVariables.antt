@@ -17,7 +17,7 @@ use Rattle.ob0_language_values.specs.Values.{Place, Value, initial_value}
 use Rattle.ob0_language_runs.specs.Freed.{call_freeing, drop_variables, run_freeing}
 use Rattle.ob0_language_runs.specs.Laws.{FreeingVariablesKeepsRuns}
 use Rattle.ob0_language_runs.specs.Runs.{Activation, Argument, CallFunction, ProcedureText, Frame, Parameter, Progress, State, activate, allocate, bind_parameter, bind_parameters, call, declare_block, declare_procedures, declare_variables, execute_body, run_result, formal_modes, continue_in_frame, parameters, statement_object, place_argument, run_with_naming, running, statement_meanings, stopped, value_argument, declare_procedures_in_frame}
-use Rattle.ob0_language_runs.proofs.OtherPlaces.{Alike, ArgumentIs, ArgumentsAre, EntersAlike, MeaningIs, ObjectIs, PlaceIs, ProgressIs, StateIs, StoreIs, execute_all-alike, variable-added, variable-last, variables-cut}
+use Rattle.ob0_language_runs.proofs.OtherPlaces.{Alike, ArgumentIs, ArgumentsAre, EntersAlike, MeaningIs, ObjectIs, PlaceIs, ProgressIs, StateIs, StoreIs, execute_sequence-alike, variable-added, variable-last, variables-cut}
 use Rattle.ob0_language_runs.proofs.SoundStatements.{slice_get-grows}
 
 -- holds if both options are None, or their values are related
@@ -188,7 +188,7 @@ module _ {N : Type 0} (naming : Naming N) where
   procedures-are : (at : List ℕ) (k : ℕ) (ps : Tree N (items procedure)) (env other : Activation N) → EnvironmentIs at env other → EnvironmentIs at (declare_procedures k ps env) (declare_procedures k ps other)
   procedures-are at k end env other h = h
   procedures-are at k (more p rest) env other h =
-      procedures-are at (k + procedure_constructor_count p) rest ((procedure_name p, a_procedure record { first_constructor = k; text = p }) ∷ env) ((procedure_name p, a_procedure record { first_constructor = k; text = p }) ∷ other) (refl, refl, h)
+      procedures-are at (k + procedure_constructor_count p) rest ((procedure_name p, a_procedure record { constructors_before = k; text = p }) ∷ env) ((procedure_name p, a_procedure record { constructors_before = k; text = p }) ∷ other) (refl, refl, h)
 
   declare_procedures_in_frame-are : (at : List ℕ) (k : ℕ) (ps : Tree N (items procedure)) (o q : Option (Frame N)) → OptionIs (FrameGrown at) o q → OptionIs (FrameGrown at) (option_map (declare_procedures_in_frame k ps) o) (option_map (declare_procedures_in_frame k ps) q)
   declare_procedures_in_frame-are at k ps None None h = tt
@@ -234,7 +234,7 @@ module _ {N : Type 0} (naming : Naming N) where
   unfolding execute_body
   body-alike enter enter' known t at env other none h s u is = is
   body-alike enter enter' known t at env other (one (begins statements)) h s u is =
-      execute_all-alike at (statement_meanings naming env) (statement_meanings naming other) (enter env) (enter' other)
+      execute_sequence-alike at (statement_meanings naming env) (statement_meanings naming other) (enter env) (enter' other)
       record { mean_same = λ x. statement_object-is at (newest_object (environment_from_binding naming env x)) (newest_object (environment_from_binding naming other x)) (newest_object-is at (environment_from_binding naming env x) (environment_from_binding naming other x) (environment_from_binding-is naming at env other x h)); are_written = λ x. refl }
       (known at env other h) t statements s u is
 
@@ -262,7 +262,7 @@ module _ {N : Type 0} (naming : Naming N) where
           let f : Frame N = record { env = (x, a_procedure code) ∷ rest; store = s.store } in
           let g : Frame N = record { env = (y, a_procedure code) ∷ other; store = u.store } in
           let ps = parameters (procedure_formals code.text) in
-          let k = constructors_before_procedure_block code.first_constructor code.text in
+          let k = constructors_before_procedure_block code.constructors_before code.text in
           continue_in_frame-alike enter enter' known t at s u (option_and_then (declare_block naming k (procedure_block code.text)) (bind_parameters ps args f)) (option_and_then (declare_block naming k (procedure_block code.text)) (bind_parameters ps others g)) (block_statements (procedure_block code.text)) h
           (option-then (FrameGrown at) (FrameGrown at) (bind_parameters ps args f) (bind_parameters ps others g) (declare_block naming k (procedure_block code.text)) (declare_block naming k (procedure_block code.text))
           (parameters-are at ps args others f g are record { same_variables = h.same_variables; same_bindings = (env.0, refl, env.2) })

@@ -28,7 +28,7 @@ scope_of (b ∷ noted) = (b.name, b.ordinal) ∷ scope_of noted
 
 abbrev pub numbered_code : {N : Type 0} → Naming N → Scope N → ℕ → ProcedureText N → ProcedureText Label
 numbered_code naming scope k code =
-    record { first_constructor = code.first_constructor; text = relabel_procedure naming (label_from_ordinal naming) scope k code.text }
+    record { constructors_before = code.constructors_before; text = relabel_procedure naming (label_from_ordinal naming) scope k code.text }
 
 abbrev pub numbered_object : {N : Type 0} → Naming N → Scope N → ℕ → Object Place (ProcedureText N) → Object Place (ProcedureText Label)
 numbered_object naming scope k (a_type s) = a_type s

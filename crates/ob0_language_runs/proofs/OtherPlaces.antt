@@ -2,12 +2,12 @@
 use Rattle.std.proofs.Common.{◌≡◌, ℕ, zero, suc, ◌-◌, true, false, ◌≢◌, List, [], ◌∷◌, ◌++◌, length, take, ℤ, slice_get, slice_set, Some, None, Option, option_map, option_and_then, sym, refl, ap, ◌∙◌, subst}
 use Rattle.ob0_tree.specs.Tree.{Tree, addend, adds, assigns, branches, calls, compares, designator, else_branch, else_part, elsif_branch, elsif_part, empty, end, expression, factor, field, further_statement, index, integer, items, maybe, more, multiplier, multiplies, negation, none, one, parenthesised, product, relates, repeat_loop, runs, selector, sequence, simple, statement, sum, term, then_statement, while_loop}
 use Rattle.ob0_language_types.specs.Arguments.{arguments_listed}
-use Rattle.ob0_language_types.specs.Expressions.{Meanings, Object, StandardProcedure, a_constant, a_procedure, a_standard, a_type, a_variable, designate, element_step, evaluate, evaluate_addends, evaluate_factor, evaluate_multipliers, evaluate_simple, evaluate_term, evaluate_selectors, object_place, read_procedure, object_value, write_procedure, write_line_procedure}
+use Rattle.ob0_language_types.specs.Expressions.{Meanings, Object, StandardProcedure, a_constant, a_procedure, a_standard, a_type, a_variable, designated_place, element_step, evaluate, evaluate_addends, evaluate_factor, evaluate_multipliers, evaluate_simple, evaluate_term, evaluate_selectors, object_place, read_procedure, object_value, write_procedure, write_line_procedure}
 use Rattle.ob0_language_types.specs.Typing.{lone_designator}
 use Rattle.ob0_language_types.specs.WellTyped.{Mode, by_place, by_value}
 use Rattle.ob0_language_types.proofs.Literals.{some_inverse}
 use Rattle.ob0_language_values.specs.Values.{Outcome, Place, Store, TurnBound, Value, add, add_short_circuits, at_field, value_at_path, elements, ends_run_with, succeeds_with, members, multiply, multiply_short_circuits, negate, number, or_stuck, part, read_place, apply_relation, apply_sign, truth, with_value_at_path, ◌>>=◌}
-use Rattle.ob0_language_runs.specs.Runs.{Argument, CallFunction, Progress, State, PrintedItem, choose, evaluate_argument, evaluate_arguments, execute, execute_all, execute_else, execute_elsifs, execute_further, continue_with, line_out, modes_of, number_out, perform_call, place_argument, append_output, read_number, running, stopped, store_at, execute_while, execute_repeat, use_result, value_argument}
+use Rattle.ob0_language_runs.specs.Runs.{Argument, CallFunction, Progress, State, PrintedItem, choose_by_truth, evaluate_argument, evaluate_arguments, execute, execute_sequence, execute_else, execute_elsifs, execute_further_statements, continue_with, line_out, modes_of, number_out, perform_call, place_argument, append_output, read_number, running, stopped, store_at, execute_while, execute_repeat, use_result, value_argument}
 use Rattle.ob0_language_runs.proofs.SoundStatements.{slice_get-grows}
 
 -- The last item of a list is at the index of its length before the item was appended.
@@ -210,9 +210,9 @@ pub evaluate-is : {N P : Type 0} (at : List ℕ) (here there : Meanings N Place 
 evaluate-is at here there small large names h e =
     evaluate-same here there small large (λ x. value-same at small large (here.object_for x) (there.object_for x) h (names.mean_same x)) names.are_written e
 
-pub designate-is : {N P : Type 0} (at : List ℕ) (here there : Meanings N Place P) (small large : Store) → NamesAre at here there → StoreIs at small large → (x : N) (path : Tree N (items selector)) → OutcomeIs (PlaceIs at) (designate here small x path) (designate there large x path)
-unfolding designate
-designate-is at here there small large names h x path =
+pub designated_place-is : {N P : Type 0} (at : List ℕ) (here there : Meanings N Place P) (small large : Store) → NamesAre at here there → StoreIs at small large → (x : N) (path : Tree N (items selector)) → OutcomeIs (PlaceIs at) (designated_place here small x path) (designated_place there large x path)
+unfolding designated_place
+designated_place-is at here there small large names h x path =
     outcome-then (PlaceIs at) (PlaceIs at) (object_place (here.object_for x)) (object_place (there.object_for x))
     (λ p. or_stuck (read_place small p) >>= (λ v. evaluate_selectors here small v path >>= (λ steps. succeeds_with record { variable = p.variable; path = p.path ++ steps })))
     (λ p. or_stuck (read_place large p) >>= (λ v. evaluate_selectors there large v path >>= (λ steps. succeeds_with record { variable = p.variable; path = p.path ++ steps })))
@@ -241,8 +241,8 @@ unfolding evaluate_argument
 argument-is at here there small large names h by_value e =
     same-then (ArgumentIs at) (evaluate here small e) (evaluate there large e) (λ v. succeeds_with (value_argument v)) (λ v. succeeds_with (value_argument v)) (evaluate-is at here there small large names h e) (λ v. refl)
 argument-is at here there small large names h by_place e =
-    same-then (ArgumentIs at) (or_stuck (lone_designator e)) (or_stuck (lone_designator e)) (λ d. designate here small d.0 d.1 >>= (λ p. succeeds_with (place_argument p))) (λ d. designate there large d.0 d.1 >>= (λ p. succeeds_with (place_argument p))) refl
-    (λ d. outcome-then (PlaceIs at) (ArgumentIs at) (designate here small d.0 d.1) (designate there large d.0 d.1) (λ p. succeeds_with (place_argument p)) (λ p. succeeds_with (place_argument p)) (designate-is at here there small large names h d.0 d.1) (λ p q is. is))
+    same-then (ArgumentIs at) (or_stuck (lone_designator e)) (or_stuck (lone_designator e)) (λ d. designated_place here small d.0 d.1 >>= (λ p. succeeds_with (place_argument p))) (λ d. designated_place there large d.0 d.1 >>= (λ p. succeeds_with (place_argument p))) refl
+    (λ d. outcome-then (PlaceIs at) (ArgumentIs at) (designated_place here small d.0 d.1) (designated_place there large d.0 d.1) (λ p. succeeds_with (place_argument p)) (λ p. succeeds_with (place_argument p)) (designated_place-is at here there small large names h d.0 d.1) (λ p q is. is))
 
 arguments-are : {N P : Type 0} (at : List ℕ) (here there : Meanings N Place P) (small large : Store) → NamesAre at here there → StoreIs at small large → (ms : List Mode) (es : List (Tree N expression)) → OutcomeIs (ArgumentsAre at) (evaluate_arguments here small ms es) (evaluate_arguments there large ms es)
 unfolding evaluate_arguments
@@ -282,10 +282,10 @@ use_same {A} at s u o q f g out e each = subst (λ q. ProgressIs at (use_result 
     go (succeeds_with a) = each a
     go (ends_run_with x) = (refl, out)
 
-choose-is : (at : List ℕ) (s u : State) (v : Value) (f g f' g' : State → Progress) → StateIs at s u → ProgressIs at (f s) (f' u) → ProgressIs at (g s) (g' u) → ProgressIs at (choose s v f g) (choose u v f' g')
-choose-is at s u (truth true) f g f' g' h is is' = is
-choose-is at s u (truth false) f g f' g' h is is' = is'
-choose-is at s u _ f g f' g' h is is' = (refl, h.same_output)
+choose_by_truth-is : (at : List ℕ) (s u : State) (v : Value) (f g f' g' : State → Progress) → StateIs at s u → ProgressIs at (f s) (f' u) → ProgressIs at (g s) (g' u) → ProgressIs at (choose_by_truth s v f g) (choose_by_truth u v f' g')
+choose_by_truth-is at s u (truth true) f g f' g' h is is' = is
+choose_by_truth-is at s u (truth false) f g f' g' h is is' = is'
+choose_by_truth-is at s u _ f g f' g' h is is' = (refl, h.same_output)
 
 pub go_on-is : (at : List ℕ) (p q : Progress) (f g : State → Progress) → ProgressIs at p q → Alike at f g → ProgressIs at (continue_with p f) (continue_with q g)
 go_on-is at (running s) (running u) f g h alike = alike s u h
@@ -405,22 +405,22 @@ perform_call-alike at _ _ enter enter' is alike args others s u are h = absurd i
 
 execute_while-alike : (at : List ℕ) (t : ℕ) (test test' : State → Outcome Value) (f g : State → Progress) → ((s u : State) → StateIs at s u → test s ≡ test' u) → Alike at f g → Alike at (execute_while t test f) (execute_while t test' g)
 execute_while-alike at zero test test' f g same alike s u h =
-    use_same at s u (test s) (test' u) (λ v. choose s v (λ s'. stopped TurnBound s'.output) running) (λ v. choose u v (λ s'. stopped TurnBound s'.output) running) h.same_output (same s u h)
-    (λ v. choose-is at s u v (λ s'. stopped TurnBound s'.output) running (λ s'. stopped TurnBound s'.output) running h (refl, h.same_output) h)
+    use_same at s u (test s) (test' u) (λ v. choose_by_truth s v (λ s'. stopped TurnBound s'.output) running) (λ v. choose_by_truth u v (λ s'. stopped TurnBound s'.output) running) h.same_output (same s u h)
+    (λ v. choose_by_truth-is at s u v (λ s'. stopped TurnBound s'.output) running (λ s'. stopped TurnBound s'.output) running h (refl, h.same_output) h)
 execute_while-alike at (suc t) test test' f g same alike s u h =
-    use_same at s u (test s) (test' u) (λ v. choose s v (λ s'. continue_with (f s') (execute_while t test f)) running) (λ v. choose u v (λ s'. continue_with (g s') (execute_while t test' g)) running) h.same_output (same s u h)
-    (λ v. choose-is at s u v (λ s'. continue_with (f s') (execute_while t test f)) running (λ s'. continue_with (g s') (execute_while t test' g)) running h
+    use_same at s u (test s) (test' u) (λ v. choose_by_truth s v (λ s'. continue_with (f s') (execute_while t test f)) running) (λ v. choose_by_truth u v (λ s'. continue_with (g s') (execute_while t test' g)) running) h.same_output (same s u h)
+    (λ v. choose_by_truth-is at s u v (λ s'. continue_with (f s') (execute_while t test f)) running (λ s'. continue_with (g s') (execute_while t test' g)) running h
     (go_on-is at (f s) (g u) (execute_while t test f) (execute_while t test' g) (alike s u h) (execute_while-alike at t test test' f g same alike)) h)
 
 execute_repeat-alike : (at : List ℕ) (t : ℕ) (test test' : State → Outcome Value) (f g : State → Progress) → ((s u : State) → StateIs at s u → test s ≡ test' u) → Alike at f g → Alike at (execute_repeat t test f) (execute_repeat t test' g)
 execute_repeat-alike at zero test test' f g same alike s u h =
-    go_on-is at (f s) (g u) (λ s'. use_result s' (test s') (λ v. choose s' v running (λ s''. stopped TurnBound s''.output))) (λ s'. use_result s' (test' s') (λ v. choose s' v running (λ s''. stopped TurnBound s''.output))) (alike s u h)
-    (λ s u h. use_same at s u (test s) (test' u) (λ v. choose s v running (λ s''. stopped TurnBound s''.output)) (λ v. choose u v running (λ s''. stopped TurnBound s''.output)) h.same_output (same s u h)
-    (λ v. choose-is at s u v running (λ s''. stopped TurnBound s''.output) running (λ s''. stopped TurnBound s''.output) h h (refl, h.same_output)))
+    go_on-is at (f s) (g u) (λ s'. use_result s' (test s') (λ v. choose_by_truth s' v running (λ s''. stopped TurnBound s''.output))) (λ s'. use_result s' (test' s') (λ v. choose_by_truth s' v running (λ s''. stopped TurnBound s''.output))) (alike s u h)
+    (λ s u h. use_same at s u (test s) (test' u) (λ v. choose_by_truth s v running (λ s''. stopped TurnBound s''.output)) (λ v. choose_by_truth u v running (λ s''. stopped TurnBound s''.output)) h.same_output (same s u h)
+    (λ v. choose_by_truth-is at s u v running (λ s''. stopped TurnBound s''.output) running (λ s''. stopped TurnBound s''.output) h h (refl, h.same_output)))
 execute_repeat-alike at (suc t) test test' f g same alike s u h =
-    go_on-is at (f s) (g u) (λ s'. use_result s' (test s') (λ v. choose s' v running (execute_repeat t test f))) (λ s'. use_result s' (test' s') (λ v. choose s' v running (execute_repeat t test' g))) (alike s u h)
-    (λ s u h. use_same at s u (test s) (test' u) (λ v. choose s v running (execute_repeat t test f)) (λ v. choose u v running (execute_repeat t test' g)) h.same_output (same s u h)
-    (λ v. choose-is at s u v running (execute_repeat t test f) running (execute_repeat t test' g) h h (execute_repeat-alike at t test test' f g same alike s u h)))
+    go_on-is at (f s) (g u) (λ s'. use_result s' (test s') (λ v. choose_by_truth s' v running (execute_repeat t test f))) (λ s'. use_result s' (test' s') (λ v. choose_by_truth s' v running (execute_repeat t test' g))) (alike s u h)
+    (λ s u h. use_same at s u (test s) (test' u) (λ v. choose_by_truth s v running (execute_repeat t test f)) (λ v. choose_by_truth u v running (execute_repeat t test' g)) h.same_output (same s u h)
+    (λ v. choose_by_truth-is at s u v running (execute_repeat t test f) running (execute_repeat t test' g) h h (execute_repeat-alike at t test test' f g same alike s u h)))
 
 module _ {N : Type 0} (at : List ℕ) (here there : Meanings N Place (List Mode)) (enter enter' : CallFunction N) (names : NamesAre at here there) (alike : (x : N) → EntersAlike at (enter x) (enter' x)) (t : ℕ) where
   condition-same : (e : Tree N expression) (s u : State) → StateIs at s u → evaluate here s.store e ≡ evaluate there u.store e
@@ -429,8 +429,8 @@ module _ {N : Type 0} (at : List ℕ) (here there : Meanings N Place (List Mode)
   assigns-alike : (x : N) (path : Tree N (items selector)) (e : Tree N expression) → Alike at (execute here enter t (assigns x path e)) (execute there enter' t (assigns x path e))
   unfolding execute
   assigns-alike x path e s u h =
-      use_result-is at (PlaceIs at) s u (designate here s.store x path) (designate there u.store x path) (λ p. use_result s (evaluate here s.store e) (store_at s p)) (λ p. use_result u (evaluate there u.store e) (store_at u p)) h.same_output
-      (designate-is at here there s.store u.store names h.same_variables x path)
+      use_result-is at (PlaceIs at) s u (designated_place here s.store x path) (designated_place there u.store x path) (λ p. use_result s (evaluate here s.store e) (store_at s p)) (λ p. use_result u (evaluate there u.store e) (store_at u p)) h.same_output
+      (designated_place-is at here there s.store u.store names h.same_variables x path)
       (λ p q is. use_same at s u (evaluate here s.store e) (evaluate there u.store e) (store_at s p) (store_at u q) h.same_output (condition-same e s u h) (λ v. store_at-is at s u p q v h is))
 
   calls-alike : (x : N) (es : List (Tree N expression)) → Alike at (λ s. use_result s (modes_of (here.object_for x) >>= (λ modes. evaluate_arguments here s.store modes es)) (λ args. perform_call (here.object_for x) (enter x) args s))
@@ -450,30 +450,30 @@ module _ {N : Type 0} (at : List ℕ) (here there : Meanings N Place (List Mode)
     execute-alike (assigns x path e) s u h = assigns-alike x path e s u h
     execute-alike (calls x es) s u h = calls-alike x (arguments_listed es) s u h
     execute-alike (branches e statements rest last) s u h =
-        use_same at s u (evaluate here s.store e) (evaluate there u.store e) (λ v. choose s v (execute_all here enter t statements) (execute_elsifs here enter t rest (execute_else here enter t last))) (λ v. choose u v (execute_all there enter' t statements) (execute_elsifs there enter' t rest (execute_else there enter' t last)))
+        use_same at s u (evaluate here s.store e) (evaluate there u.store e) (λ v. choose_by_truth s v (execute_sequence here enter t statements) (execute_elsifs here enter t rest (execute_else here enter t last))) (λ v. choose_by_truth u v (execute_sequence there enter' t statements) (execute_elsifs there enter' t rest (execute_else there enter' t last)))
         h.same_output (condition-same e s u h)
-        (λ v. choose-is at s u v (execute_all here enter t statements) (execute_elsifs here enter t rest (execute_else here enter t last)) (execute_all there enter' t statements) (execute_elsifs there enter' t rest (execute_else there enter' t last)) h
-        (execute_all-alike statements s u h) (execute_elsifs-alike rest (execute_else here enter t last) (execute_else there enter' t last) (execute_else-alike last) s u h))
+        (λ v. choose_by_truth-is at s u v (execute_sequence here enter t statements) (execute_elsifs here enter t rest (execute_else here enter t last)) (execute_sequence there enter' t statements) (execute_elsifs there enter' t rest (execute_else there enter' t last)) h
+        (execute_sequence-alike statements s u h) (execute_elsifs-alike rest (execute_else here enter t last) (execute_else there enter' t last) (execute_else-alike last) s u h))
     execute-alike (while_loop e statements) s u h =
-        execute_while-alike at t (λ s'. evaluate here s'.store e) (λ s'. evaluate there s'.store e) (execute_all here enter t statements) (execute_all there enter' t statements) (condition-same e) (execute_all-alike statements) s u h
+        execute_while-alike at t (λ s'. evaluate here s'.store e) (λ s'. evaluate there s'.store e) (execute_sequence here enter t statements) (execute_sequence there enter' t statements) (condition-same e) (execute_sequence-alike statements) s u h
     execute-alike (repeat_loop statements e) s u h =
-        execute_repeat-alike at (t - 1) (λ s'. evaluate here s'.store e) (λ s'. evaluate there s'.store e) (execute_all here enter t statements) (execute_all there enter' t statements) (condition-same e) (execute_all-alike statements) s u h
+        execute_repeat-alike at (t - 1) (λ s'. evaluate here s'.store e) (λ s'. evaluate there s'.store e) (execute_sequence here enter t statements) (execute_sequence there enter' t statements) (condition-same e) (execute_sequence-alike statements) s u h
 
-    pub execute_all-alike : (a : Tree N sequence) → Alike at (execute_all here enter t a) (execute_all there enter' t a)
-    execute_all-alike (runs a rest) s u h = go_on-is at (execute here enter t a s) (execute there enter' t a u) (execute_further here enter t rest) (execute_further there enter' t rest) (execute-alike a s u h) (execute_further-alike rest)
+    pub execute_sequence-alike : (a : Tree N sequence) → Alike at (execute_sequence here enter t a) (execute_sequence there enter' t a)
+    execute_sequence-alike (runs a rest) s u h = go_on-is at (execute here enter t a s) (execute there enter' t a u) (execute_further_statements here enter t rest) (execute_further_statements there enter' t rest) (execute-alike a s u h) (execute_further_statements-alike rest)
 
-    pub execute_further-alike : (a : Tree N (items further_statement)) → Alike at (execute_further here enter t a) (execute_further there enter' t a)
-    execute_further-alike end s u h = h
-    execute_further-alike (more (then_statement a) rest) s u h = go_on-is at (execute here enter t a s) (execute there enter' t a u) (execute_further here enter t rest) (execute_further there enter' t rest) (execute-alike a s u h) (execute_further-alike rest)
+    pub execute_further_statements-alike : (a : Tree N (items further_statement)) → Alike at (execute_further_statements here enter t a) (execute_further_statements there enter' t a)
+    execute_further_statements-alike end s u h = h
+    execute_further_statements-alike (more (then_statement a) rest) s u h = go_on-is at (execute here enter t a s) (execute there enter' t a u) (execute_further_statements here enter t rest) (execute_further_statements there enter' t rest) (execute-alike a s u h) (execute_further_statements-alike rest)
 
     pub execute_elsifs-alike : (a : Tree N (items elsif_part)) (f g : State → Progress) → Alike at f g → Alike at (execute_elsifs here enter t a f) (execute_elsifs there enter' t a g)
     execute_elsifs-alike end f g is s u h = is s u h
     execute_elsifs-alike (more (elsif_branch e statements) rest) f g is s u h =
-        use_same at s u (evaluate here s.store e) (evaluate there u.store e) (λ v. choose s v (execute_all here enter t statements) (execute_elsifs here enter t rest f)) (λ v. choose u v (execute_all there enter' t statements) (execute_elsifs there enter' t rest g))
+        use_same at s u (evaluate here s.store e) (evaluate there u.store e) (λ v. choose_by_truth s v (execute_sequence here enter t statements) (execute_elsifs here enter t rest f)) (λ v. choose_by_truth u v (execute_sequence there enter' t statements) (execute_elsifs there enter' t rest g))
         h.same_output (condition-same e s u h)
-        (λ v. choose-is at s u v (execute_all here enter t statements) (execute_elsifs here enter t rest f) (execute_all there enter' t statements) (execute_elsifs there enter' t rest g) h
-        (execute_all-alike statements s u h) (execute_elsifs-alike rest f g is s u h))
+        (λ v. choose_by_truth-is at s u v (execute_sequence here enter t statements) (execute_elsifs here enter t rest f) (execute_sequence there enter' t statements) (execute_elsifs there enter' t rest g) h
+        (execute_sequence-alike statements s u h) (execute_elsifs-alike rest f g is s u h))
 
     pub execute_else-alike : (a : Tree N (maybe else_part)) → Alike at (execute_else here enter t a) (execute_else there enter' t a)
     execute_else-alike none s u h = h
-    execute_else-alike (one (else_branch statements)) s u h = execute_all-alike statements s u h
+    execute_else-alike (one (else_branch statements)) s u h = execute_sequence-alike statements s u h

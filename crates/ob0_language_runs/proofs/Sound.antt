@@ -11,12 +11,12 @@ use Rattle.ob0_tree.specs.declared.tree.MultiplyOperator.TheVariants as multiply
 use Rattle.ob0_tree.specs.Tree.{Tree, addend, adds, compares, designator, end, expression, factor, field, index, integer, items, more, multiplier, multiplies, negation, none, one, parenthesised, product, relates, selector, simple, sum, term}
 use Rattle.ob0_language_names.specs.Names.{Name, same_name}
 use Rattle.ob0_language_types.specs.Expressions.{Meanings, Object, a_constant, a_procedure, a_standard, a_type, a_variable, element_step, evaluate, evaluate_addends, evaluate_factor, evaluate_multipliers, evaluate_simple, evaluate_term, evaluate_selectors, object_value}
-use Rattle.ob0_language_types.specs.Typing.{addition_type, negation_type, element_type, field_type, multiplication_type, object_type, relation_type, shape_of_field, sign_type, type_after_selectors, type_of, type_of_addends, type_of_factor, type_of_multipliers, type_of_simple, type_of_term, value_type}
+use Rattle.ob0_language_types.specs.Typing.{addition_type, negation_type, element_type, field_type, multiplication_type, type_of_variable_or_constant, relation_type, shape_of_field, sign_type, type_after_selectors, type_of, type_of_addends, type_of_factor, type_of_multipliers, type_of_simple, type_of_term, value_type}
 use Rattle.ob0_language_values.specs.Values.{FieldShapes, Index, Members, Outcome, Overflow, Place, Shape, Step, Store, Value, Values, add, add_short_circuits, array_shape, at_field, at_index, value_at_path, boolean_shape, count_values, checked_division, division_outcome, elements, ends_run_with, fits_in_32_bits, succeeds_with, checked_number, integer_shape, members, multiply, multiply_short_circuits, named_member, negate, next_field_shape, next_member, next_value, no_field_shape, no_member, no_value, nth_value, number, or_stuck, part, quotient, read_place, record_shape, apply_relation, remainder, apply_sign, truth, ◌>>=◌}
 use Rattle.ob0_language_types.specs.WellTyped.{Mode, Signature, TypeMeanings}
 use Rattle.ob0_language_types.proofs.Conditions.{of_some}
 use Rattle.ob0_language_types.proofs.TypedElsewhere.{then_some}
-use Rattle.ob0_language_runs.specs.TypeAgreement.{EachHasShape, HasShape, HaveShapes, RunMeaningsAgree, RunObjectAgrees, PlaceHasType, StoreHasTypes, StoreTyping, part_shape, shape_at_path}
+use Rattle.ob0_language_runs.specs.TypeAgreement.{EachElementHasShape, HasShape, MembersHaveShapes, RunMeaningsAgree, RunObjectAgrees, PlaceHasType, StoreHasTypes, StoreTyping, part_shape, shape_at_path}
 use Rattle.ob0_language_runs.proofs.Soundness.{OutcomeFits}
 
 pub fits-then : {A B : Type 0} (P : A → Type 0) (Q : B → Type 0) (o : Outcome A) (next : A → Outcome B) → OutcomeFits P o → ((a : A) → P a → OutcomeFits Q (next a)) → OutcomeFits Q (o >>= next)
@@ -102,12 +102,12 @@ settled-fits P false x o h k = k
 pub below_of : (m n : ℕ) → nat_lt m n ≡ true → m < n
 below_of m n e = ltb→lt m n (subst (λ b. T b) (sym e) tt)
 
-pub nth-fits : (vs : Values) (s : Shape) (i : ℕ) → i < count_values vs → EachHasShape vs s → (w : Value) × (nth_value vs i ≡ Some w) × HasShape w s
+pub nth-fits : (vs : Values) (s : Shape) (i : ℕ) → i < count_values vs → EachElementHasShape vs s → (w : Value) × (nth_value vs i ≡ Some w) × HasShape w s
 nth-fits no_value s i below h = absurd (omega (arith, below))
 nth-fits (next_value v rest) s zero below h = (v, refl, h.0)
 nth-fits (next_value v rest) s (suc i) below h = nth-fits rest s i (omega (arith, below)) h.1
 
-pub member-fits : (ms : Members) (fs : FieldShapes) (x : Name) (s : Shape) → shape_of_field fs x ≡ Some s → HaveShapes ms fs → (w : Value) × (named_member ms x ≡ Some w) × HasShape w s
+pub member-fits : (ms : Members) (fs : FieldShapes) (x : Name) (s : Shape) → shape_of_field fs x ≡ Some s → MembersHaveShapes ms fs → (w : Value) × (named_member ms x ≡ Some w) × HasShape w s
 member-fits no_member no_field_shape x s e h = absurd (cc)
 member-fits (next_member y v rest) (next_field_shape z t others) x s e h =
     subst (λ z. shape_of_field (next_field_shape z t others) x ≡ Some s → (w : Value) × (named_member (next_member y v rest) x ≡ Some w) × HasShape w s) h.0
@@ -151,7 +151,7 @@ place-fits typing store p s h e =
 
 -- A constant or a variable evaluates to a value of its type.
 pub object-fits : (typing : StoreTyping) (store : Store) (checked : Option (Object Shape Signature)) (active : Option (Object Place (List Mode))) (s : Shape)
-    → StoreHasTypes typing store → RunObjectAgrees typing checked active → object_type checked ≡ Some s → OutcomeFits (λ v. HasShape v s) (object_value store active)
+    → StoreHasTypes typing store → RunObjectAgrees typing checked active → type_of_variable_or_constant checked ≡ Some s → OutcomeFits (λ v. HasShape v s) (object_value store active)
 object-fits typing store (Some (a_constant v)) (Some (a_constant w)) s h o e =
     subst (λ w. OutcomeFits (λ v. HasShape v s) (object_value {P = List Mode} store (Some (a_constant w)))) o (go v e)
   where
@@ -252,7 +252,7 @@ mutual
   pub evaluate_factor-sound : {N : Type 0} (typing : StoreTyping) (checked : TypeMeanings N) (active : Meanings N Place (List Mode)) (store : Store) → TypeAgreement typing checked active store → (a : Tree N factor) (s : Shape)
       → type_of_factor checked a ≡ Some s → OutcomeFits (λ v. HasShape v s) (evaluate_factor active store a)
   evaluate_factor-sound typing checked active store f (designator x path) s h =
-      let (t, et, h₁) = then_some (object_type (checked.object_for x)) (λ t. type_after_selectors checked t path) s h in
+      let (t, et, h₁) = then_some (type_of_variable_or_constant (checked.object_for x)) (λ t. type_after_selectors checked t path) s h in
       fits-then (λ v. HasShape v t) (λ v. HasShape v s) (object_value store (active.object_for x)) (λ v. evaluate_selectors active store v path >>= (λ steps. or_stuck (value_at_path steps v)))
       (object-fits typing store (checked.object_for x) (active.object_for x) t f.store_fits (f.names_fit.0 x) et)
       (λ v hv. fits-then (λ steps. shape_at_path steps t ≡ Some s) (λ v. HasShape v s) (evaluate_selectors active store v path) (λ steps. or_stuck (value_at_path steps v)) (follow-sound typing checked active store f v t path s hv h₁)

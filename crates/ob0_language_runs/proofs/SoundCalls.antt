@@ -16,10 +16,10 @@ use Rattle.ob0_language_types.proofs.TypesByOrdinal.{typed_parameter}
 use Rattle.ob0_language_types.proofs.Conditions.{both_true, hold-true}
 use Rattle.ob0_language_types.proofs.TypedElsewhere.{then_some}
 use Rattle.ob0_language_runs.specs.Laws.{NeverStuck}
-use Rattle.ob0_language_runs.specs.Runs.{Activation, Argument, CallFunction, ProcedureText, Frame, Parameter, Progress, State, activate, allocate, bind_parameter, bind_parameters, call, declare_block, declare_procedures, declare_variables, execute_all, execute_body, run_result, formal_modes, continue_in_frame, parameters, statement_object, place_argument, run, run_with_naming, running, statement_meanings, stopped, value_argument, declare_procedures_in_frame}
+use Rattle.ob0_language_runs.specs.Runs.{Activation, Argument, CallFunction, ProcedureText, Frame, Parameter, Progress, State, activate, allocate, bind_parameter, bind_parameters, call, declare_block, declare_procedures, declare_variables, execute_sequence, execute_body, run_result, formal_modes, continue_in_frame, parameters, statement_object, place_argument, run, run_with_naming, running, statement_meanings, stopped, value_argument, declare_procedures_in_frame}
 use Rattle.ob0_language_runs.proofs.ByOrdinal.{with_mode}
-use Rattle.ob0_language_runs.proofs.SoundStatements.{RunObjectAgrees-grows, PlaceHasType-grows, ProgressFits-grown, execute_all-keeps, keeps-here, same_store-fits}
-use Rattle.ob0_language_runs.specs.TypeAgreement.{ArgumentsMatchSignature, RunBindingAgrees, RunEnvironmentAgrees, EachHasShape, HasShape, HaveShapes, RunObjectAgrees, StoreHasTypes, StoreTyping, signature_modes, shape_at_path}
+use Rattle.ob0_language_runs.proofs.SoundStatements.{RunObjectAgrees-grows, PlaceHasType-grows, ProgressFits-grown, execute_sequence-keeps, keeps-here, same_store-fits}
+use Rattle.ob0_language_runs.specs.TypeAgreement.{ArgumentsMatchSignature, RunBindingAgrees, RunEnvironmentAgrees, EachElementHasShape, HasShape, MembersHaveShapes, RunObjectAgrees, StoreHasTypes, StoreTyping, signature_modes, shape_at_path}
 use Rattle.ob0_language_runs.proofs.Soundness.{CallsFit, ProgressFits}
 
 -- ---- environments that fit
@@ -40,7 +40,7 @@ modes-typed naming env k (more (then_section f) fs) ps e =
 
 pub binding-object : {N : Type 0} (naming : Naming N) (typing : StoreTyping) (checked : TypeEnvironment N) (x : N) (o : Object Shape Signature) (r : Object Place (ProcedureText N)) → RunBindingAgrees naming typing checked x o r → RunObjectAgrees typing (Some o) (statement_object (Some r))
 binding-object naming typing checked x (a_procedure signature) (a_procedure code) h =
-    modes-typed naming checked code.first_constructor (procedure_formals code.text) h.0 h.1 ∙ ap signature_modes (sym h.2)
+    modes-typed naming checked code.constructors_before (procedure_formals code.text) h.0 h.1 ∙ ap signature_modes (sym h.2)
 binding-object naming typing checked x (a_type s) r h = h
 binding-object naming typing checked x (a_constant s) r h = h
 binding-object naming typing checked x (a_variable s) r h = h
@@ -81,7 +81,7 @@ environments-grow naming typing others _ _ h = h
 
 -- The first value of a variable has the variable's type.
 
-pub copies-fit : (n : ℕ) (v : Value) (s : Shape) → HasShape v s → (count_values (copies n v) ≡ n) × EachHasShape (copies n v) s
+pub copies-fit : (n : ℕ) (v : Value) (s : Shape) → HasShape v s → (count_values (copies n v) ≡ n) × EachElementHasShape (copies n v) s
 copies-fit zero v s h = (refl, tt)
 copies-fit (suc n) v s h = let g = copies-fit n v s h in (ap suc g.0, (h, g.1))
 
@@ -91,7 +91,7 @@ mutual
   initial-fits (record_shape k fs) = (refl, initial_members-fit fs)
   initial-fits _ = tt
 
-  pub initial_members-fit : (fs : FieldShapes) → HaveShapes (initial_members fs) fs
+  pub initial_members-fit : (fs : FieldShapes) → MembersHaveShapes (initial_members fs) fs
   initial_members-fit no_field_shape = tt
   initial_members-fit (next_field_shape x s rest) = (refl, initial-fits s, initial_members-fit rest)
 
@@ -207,7 +207,7 @@ procedures-run naming typing checked active k statements end h e = (checked, h, 
 procedures-run {N} naming typing checked active k statements (more p rest) h e =
     let (ps, eps, e₁) = hold-true (typed_parameters naming checked k (procedure_formals p)) (λ ps. procedure_is_well_typed naming (bind_typed_parameters ps (bind_procedure (procedure_name p) ps checked)) k p && procedures_are_well_typed naming (bind_procedure (procedure_name p) ps checked) (k + procedure_constructor_count p) statements rest) e in
     let both = both_true (procedure_is_well_typed naming (bind_typed_parameters ps (bind_procedure (procedure_name p) ps checked)) k p) (procedures_are_well_typed naming (bind_procedure (procedure_name p) ps checked) (k + procedure_constructor_count p) statements rest) e₁ in
-    procedures-run naming typing (bind_procedure (procedure_name p) ps checked) ((procedure_name p, a_procedure record { first_constructor = k; text = p }) ∷ active) (k + procedure_constructor_count p) statements rest
+    procedures-run naming typing (bind_procedure (procedure_name p) ps checked) ((procedure_name p, a_procedure record { constructors_before = k; text = p }) ∷ active) (k + procedure_constructor_count p) statements rest
     (refl, (ps, eps, refl, both.0), h) both.1
 
 pub block-run : {N : Type 0} (naming : Naming N) (typing : StoreTyping) (checked : TypeEnvironment N) (k : ℕ) (b : Tree N block) (f : Frame N) → StoreHasTypes typing f.store → RunEnvironmentAgrees naming typing checked f.env → block_is_well_typed naming checked k b ≡ true
@@ -274,8 +274,8 @@ pub body-run : {N : Type 0} (naming : Naming N) (typing : StoreTyping) (checked 
 unfolding execute_body body_is_well_typed
 body-run naming typing checked active enter t none s env calls_fit store h = same_store-fits typing s store
 body-run naming typing checked active enter t (one (begins statements)) s env calls_fit store h =
-    keeps-here typing (execute_all (statement_meanings naming active) enter t statements)
-    (execute_all-keeps typing (meanings naming checked) (statement_meanings naming active) enter record { names_fit = (names-fit naming typing checked active env, λ x. refl); calls_fit = calls_fit } t statements h) s store
+    keeps-here typing (execute_sequence (statement_meanings naming active) enter t statements)
+    (execute_sequence-keeps typing (meanings naming checked) (statement_meanings naming active) enter record { names_fit = (names-fit naming typing checked active env, λ x. refl); calls_fit = calls_fit } t statements h) s store
 
 -- holds if calls preserve the typing; this is the induction hypothesis for a smaller bound
 abbrev pub CallsRun : {N : Type 0} → Naming N → (Activation N → CallFunction N) → Type 0
@@ -290,9 +290,9 @@ activate-run naming enter known t typing (b ∷ checked) [] signature args s env
 activate-run {N} naming enter known t typing ((x, o) ∷ checked) ((y, r) ∷ active) signature args s env e fit store = of_objects o r env.1 (some_inverse {a = o} {b = a_procedure signature} e)
   where
     of_text : (j : ℕ) (p : Tree N (item procedure)) (ps : List (TypedParameter N)) → typed_parameters naming checked j (procedure_formals p) ≡ Some ps → signature ≡ map (λ p. p.formal) ps → procedure_is_well_typed naming (bind_typed_parameters ps (bind_procedure x ps checked)) j p ≡ true
-        → ProgressFits typing (activate naming enter t ((y, a_procedure record { first_constructor = j; text = p }) ∷ active) args s)
+        → ProgressFits typing (activate naming enter t ((y, a_procedure record { constructors_before = j; text = p }) ∷ active) args s)
     of_text j (declares_procedure z fs b closing) ps eps sig fits =
-        let f : Frame N = record { env = (y, a_procedure record { first_constructor = j; text = declares_procedure z fs b closing }) ∷ active; store = s.store } in
+        let f : Frame N = record { env = (y, a_procedure record { constructors_before = j; text = declares_procedure z fs b closing }) ∷ active; store = s.store } in
         let (g, eg, fit₁) = parameters-run naming typing (bind_procedure x ps checked) ps args f store (env.0, (ps, eps, refl, fits), env.2) (subst (λ fs. ArgumentsMatchSignature typing fs args) sig fit) in
         let (h, after, eh, fit₂, statements) = block-run naming (typing ++ fit₁.0) (bind_typed_parameters ps (bind_procedure x ps checked)) (j + formals_constructor_count (formal_sections fs)) b g fit₁.1 fit₁.2 fits in
         subst (λ frame. ProgressFits typing (continue_in_frame s frame (λ f. execute_body naming f.env (enter f.env) t (block_statements b))))
@@ -302,7 +302,7 @@ activate-run {N} naming enter known t typing ((x, o) ∷ checked) ((y, r) ∷ ac
         (body-run naming ((typing ++ fit₁.0) ++ fit₂.0) after h.env (enter h.env) t (block_statements b) record s { store = h.store } fit₂.2 (known ((typing ++ fit₁.0) ++ fit₂.0) after h.env fit₂.2) fit₂.1 statements)))
 
     of_objects : (o : Object Shape Signature) (r : Object Place (ProcedureText N)) → RunBindingAgrees naming typing checked x o r → o ≡ a_procedure signature → ProgressFits typing (activate naming enter t ((y, r) ∷ active) args s)
-    of_objects (a_procedure sig) (a_procedure code) h e = of_text code.first_constructor code.text h.0 h.1 (sym (ap (λ o. unwrap_or (signature_of (Some o)) []) e) ∙ h.2) h.3
+    of_objects (a_procedure sig) (a_procedure code) h e = of_text code.constructors_before code.text h.0 h.1 (sym (ap (λ o. unwrap_or (signature_of (Some o)) []) e) ∙ h.2) h.3
     of_objects (a_procedure q) _ h e = absurd h
     of_objects _ r h e = absurd (cc)
 

@@ -3,15 +3,15 @@ use Rattle.std.proofs.Common.{◌≡◌, ℕ, zero, suc, ◌-◌, true, false, �
 use Rattle.ob0_tree.specs.Tree.{Tree, assigns, branches, calls, else_branch, else_part, elsif_branch, elsif_part, empty, end, expression, further_statement, items, maybe, more, none, one, repeat_loop, runs, selector, sequence, statement, then_statement, while_loop}
 use Rattle.ob0_language_names.specs.Names.{Name, same_name}
 use Rattle.ob0_language_types.specs.Arguments.{arguments_listed}
-use Rattle.ob0_language_types.specs.Expressions.{Meanings, Object, a_constant, a_procedure, a_standard, a_type, a_variable, designate, evaluate, evaluate_selectors, object_place, read_procedure, write_procedure, write_line_procedure}
+use Rattle.ob0_language_types.specs.Expressions.{Meanings, Object, a_constant, a_procedure, a_standard, a_type, a_variable, designated_place, evaluate, evaluate_selectors, object_place, read_procedure, write_procedure, write_line_procedure}
 use Rattle.ob0_language_types.specs.Typing.{lone_designator, shape_of_field, type_of}
 use Rattle.ob0_language_values.specs.Values.{FieldShapes, Members, Outcome, Place, Shape, Step, Store, TurnBound, Value, Values, array_shape, at_field, at_index, boolean_shape, count_values, elements, ends_run_with, succeeds_with, integer_shape, members, next_field_shape, next_member, next_value, no_field_shape, no_member, no_value, number, or_stuck, read_place, record_shape, truth, with_value_at_path, with_named_member, with_nth_value, with_part, write_place, ◌>>=◌}
 use Rattle.ob0_language_types.specs.WellTyped.{FormalParameter, Mode, Signature, TypeMeanings, same_known_shape, argument_matches, arguments_match, by_place, by_value, condition_is_boolean, else_is_well_typed, elsifs_are_well_typed, sequence_is_well_typed, signature_of, statement_is_well_typed, further_statements_are_well_typed, variable_type}
 use Rattle.ob0_language_types.proofs.Conditions.{same_known_shape-true, both_true, call-typed, of_some, variable-typed}
 use Rattle.ob0_language_types.proofs.TypedElsewhere.{then_some}
-use Rattle.ob0_language_runs.specs.Runs.{Argument, CallFunction, Progress, State, choose, evaluate_argument, evaluate_arguments, execute, execute_all, execute_else, execute_elsifs, execute_further, continue_with, line_out, modes_of, number_out, perform_call, place_argument, append_output, read_number, running, stopped, store_at, execute_while, execute_repeat, use_result, value_argument}
+use Rattle.ob0_language_runs.specs.Runs.{Argument, CallFunction, Progress, State, choose_by_truth, evaluate_argument, evaluate_arguments, execute, execute_sequence, execute_else, execute_elsifs, execute_further_statements, continue_with, line_out, modes_of, number_out, perform_call, place_argument, append_output, read_number, running, stopped, store_at, execute_while, execute_repeat, use_result, value_argument}
 use Rattle.ob0_language_runs.proofs.Sound.{TypeAgreement, evaluate-sound, fits-then, follow-sound, is_number, or_stuck-fits, part-fits, place-fits, variable-fits}
-use Rattle.ob0_language_runs.specs.TypeAgreement.{ArgumentsMatchSignature, EachHasShape, HasShape, HaveShapes, RunMeaningsAgree, RunObjectAgrees, PlaceHasType, StoreHasTypes, StoreTyping, signature_modes, part_shape, shape_at_path}
+use Rattle.ob0_language_runs.specs.TypeAgreement.{ArgumentsMatchSignature, EachElementHasShape, HasShape, MembersHaveShapes, RunMeaningsAgree, RunObjectAgrees, PlaceHasType, StoreHasTypes, StoreTyping, signature_modes, part_shape, shape_at_path}
 use Rattle.ob0_language_runs.proofs.Soundness.{CallsFit, OutcomeFits, ProgressFits}
 
 -- Facts about a typing also hold after it has grown.
@@ -47,17 +47,17 @@ ProgressFits-grown typing others (stopped e out) h = h
 
 -- Writing a value of the right type preserves the type of the whole value.
 
-pub with_nth-fits : (vs : Values) (s : Shape) (i : ℕ) (new : Value) → EachHasShape vs s → HasShape new s → (count_values (with_nth_value vs i new) ≡ count_values vs) × EachHasShape (with_nth_value vs i new) s
+pub with_nth-fits : (vs : Values) (s : Shape) (i : ℕ) (new : Value) → EachElementHasShape vs s → HasShape new s → (count_values (with_nth_value vs i new) ≡ count_values vs) × EachElementHasShape (with_nth_value vs i new) s
 with_nth-fits no_value s i new h hn = (refl, tt)
 with_nth-fits (next_value v rest) s zero new h hn = (refl, (hn, h.1))
 with_nth-fits (next_value v rest) s (suc i) new h hn =
     let g = with_nth-fits rest s i new h.1 hn in (ap suc g.0, (h.0, g.1))
 
-pub with_member-fits : (ms : Members) (fs : FieldShapes) (x : Name) (new : Value) (t : Shape) → HaveShapes ms fs → shape_of_field fs x ≡ Some t → HasShape new t → HaveShapes (with_named_member ms x new) fs
+pub with_member-fits : (ms : Members) (fs : FieldShapes) (x : Name) (new : Value) (t : Shape) → MembersHaveShapes ms fs → shape_of_field fs x ≡ Some t → HasShape new t → MembersHaveShapes (with_named_member ms x new) fs
 with_member-fits no_member no_field_shape x new t h e hn = absurd (cc)
 with_member-fits (next_member y v rest) (next_field_shape z s others) x new t h e hn =
-    subst (λ z. shape_of_field (next_field_shape z s others) x ≡ Some t → HaveShapes (with_named_member (next_member y v rest) x new) (next_field_shape z s others)) h.0
-    (elim (same_name x y) as (λ b. (if b then Some s else shape_of_field others x) ≡ Some t → HaveShapes (if b then next_member y new rest else next_member y v (with_named_member rest x new)) (next_field_shape y s others))
+    subst (λ z. shape_of_field (next_field_shape z s others) x ≡ Some t → MembersHaveShapes (with_named_member (next_member y v rest) x new) (next_field_shape z s others)) h.0
+    (elim (same_name x y) as (λ b. (if b then Some s else shape_of_field others x) ≡ Some t → MembersHaveShapes (if b then next_member y new rest else next_member y v (with_named_member rest x new)) (next_field_shape y s others))
     [ true ↦ λ e. (refl, of_some (λ s. HasShape new s) (sym e) hn, h.2) | false ↦ λ e. (refl, h.1, with_member-fits rest others x new t h.2 e hn) ]) e
 with_member-fits _ _ x new t h e hn = absurd h
 
@@ -117,10 +117,10 @@ object_place-fits typing checked active s h e = go active (subst (λ o. RunObjec
     go (Some (a_variable p)) h = h
     go _ h = absurd h
 
-pub designate-sound : {N : Type 0} (typing : StoreTyping) (checked : TypeMeanings N) (active : Meanings N Place (List Mode)) (store : Store) → TypeAgreement typing checked active store → (x : N) (path : Tree N (items selector)) (s : Shape)
-    → variable_type checked (Some (x, path)) ≡ Some s → OutcomeFits (λ p. PlaceHasType typing p s) (designate active store x path)
-unfolding designate
-designate-sound typing checked active store f x path s h =
+pub designated_place-sound : {N : Type 0} (typing : StoreTyping) (checked : TypeMeanings N) (active : Meanings N Place (List Mode)) (store : Store) → TypeAgreement typing checked active store → (x : N) (path : Tree N (items selector)) (s : Shape)
+    → variable_type checked (Some (x, path)) ≡ Some s → OutcomeFits (λ p. PlaceHasType typing p s) (designated_place active store x path)
+unfolding designated_place
+designated_place-sound typing checked active store f x path s h =
     let (t, et, h₁) = variable-typed checked x path s h in
     fits-then (λ p. PlaceHasType typing p t) (λ p. PlaceHasType typing p s) (object_place (active.object_for x)) (λ p. or_stuck (read_place store p) >>= (λ v. evaluate_selectors active store v path >>= (λ steps. succeeds_with record { variable = p.variable; path = p.path ++ steps })))
     (object_place-fits typing (checked.object_for x) (active.object_for x) t (f.names_fit.0 x) et)
@@ -147,10 +147,10 @@ argument-sound {N} typing checked active store fit f e h = go f.mode f.shape ref
         let (t, et, ht) = same_known_shape-true (Some s) (variable_type checked (lone_designator e)) h in at_designator (lone_designator e) (ht ∙ sym et)
       where
         at_designator : (d : Option (N × Tree N (items selector))) → variable_type checked d ≡ Some s
-            → OutcomeFits (λ a. ArgumentsMatchSignature typing (record { mode = by_place; shape = s } ∷ []) (a ∷ [])) (or_stuck d >>= (λ d. designate active store d.0 d.1 >>= (λ p. succeeds_with (place_argument p))))
+            → OutcomeFits (λ a. ArgumentsMatchSignature typing (record { mode = by_place; shape = s } ∷ []) (a ∷ [])) (or_stuck d >>= (λ d. designated_place active store d.0 d.1 >>= (λ p. succeeds_with (place_argument p))))
         at_designator None e = absurd (cc)
         at_designator (Some (x, path)) e =
-            fits-then (λ p. PlaceHasType typing p s) (λ a. ArgumentsMatchSignature typing (record { mode = by_place; shape = s } ∷ []) (a ∷ [])) (designate active store x path) (λ p. succeeds_with (place_argument p)) (designate-sound typing checked active store fit x path s e)
+            fits-then (λ p. PlaceHasType typing p s) (λ a. ArgumentsMatchSignature typing (record { mode = by_place; shape = s } ∷ []) (a ∷ [])) (designated_place active store x path) (λ p. succeeds_with (place_argument p)) (designated_place-sound typing checked active store fit x path s e)
             (λ p hp. (refl, hp, tt))
 
 pub first-argument : (typing : StoreTyping) (f : FormalParameter) (fs : Signature) (a : Argument) (args : List Argument) → ArgumentsMatchSignature typing (f ∷ []) (a ∷ []) → ArgumentsMatchSignature typing fs args → ArgumentsMatchSignature typing (f ∷ fs) (a ∷ args)
@@ -252,10 +252,10 @@ pub go_on-fits : (typing : StoreTyping) (p : Progress) (next : State → Progres
 go_on-fits typing (running s) next h keeps = ProgressFits-grown typing h.0 (next s) (keeps h.0 s h.1)
 go_on-fits typing (stopped e out) next h keeps = h
 
-pub choose-fits : (typing : StoreTyping) (s : State) (v : Value) (yes' no' : State → Progress) → HasShape v boolean_shape → ProgressFits typing (yes' s) → ProgressFits typing (no' s) → ProgressFits typing (choose s v yes' no')
-choose-fits typing s (truth true) yes' no' h hy hn = hy
-choose-fits typing s (truth false) yes' no' h hy hn = hn
-choose-fits typing s _ yes' no' h hy hn = absurd h
+pub choose_by_truth-fits : (typing : StoreTyping) (s : State) (v : Value) (yes' no' : State → Progress) → HasShape v boolean_shape → ProgressFits typing (yes' s) → ProgressFits typing (no' s) → ProgressFits typing (choose_by_truth s v yes' no')
+choose_by_truth-fits typing s (truth true) yes' no' h hy hn = hy
+choose_by_truth-fits typing s (truth false) yes' no' h hy hn = hn
+choose_by_truth-fits typing s _ yes' no' h hy hn = absurd h
 
 -- holds if a condition evaluates to a truth value in every store that has grown
 abbrev pub IsCondition : StoreTyping → (State → Outcome Value) → Type 0
@@ -263,11 +263,11 @@ IsCondition typing condition = (others : StoreTyping) (s : State) → StoreHasTy
 
 pub execute_while-keep : (t : ℕ) (typing : StoreTyping) (condition : State → Outcome Value) (statements : State → Progress) → IsCondition typing condition → Keeps typing statements → Keeps typing (execute_while t condition statements)
 execute_while-keep zero typing condition statements is keeps others s h =
-    use_result-fits (typing ++ others) (λ v. HasShape v boolean_shape) s (condition s) (λ v. choose s v (λ s'. stopped TurnBound s'.output) running) (is others s h)
-    (λ v hv. choose-fits (typing ++ others) s v (λ s'. stopped TurnBound s'.output) running hv (λ e. cc) (same_store-fits (typing ++ others) s h))
+    use_result-fits (typing ++ others) (λ v. HasShape v boolean_shape) s (condition s) (λ v. choose_by_truth s v (λ s'. stopped TurnBound s'.output) running) (is others s h)
+    (λ v hv. choose_by_truth-fits (typing ++ others) s v (λ s'. stopped TurnBound s'.output) running hv (λ e. cc) (same_store-fits (typing ++ others) s h))
 execute_while-keep (suc t) typing condition statements is keeps others s h =
-    use_result-fits (typing ++ others) (λ v. HasShape v boolean_shape) s (condition s) (λ v. choose s v (λ s'. continue_with (statements s') (execute_while t condition statements)) running) (is others s h)
-    (λ v hv. choose-fits (typing ++ others) s v (λ s'. continue_with (statements s') (execute_while t condition statements)) running hv
+    use_result-fits (typing ++ others) (λ v. HasShape v boolean_shape) s (condition s) (λ v. choose_by_truth s v (λ s'. continue_with (statements s') (execute_while t condition statements)) running) (is others s h)
+    (λ v hv. choose_by_truth-fits (typing ++ others) s v (λ s'. continue_with (statements s') (execute_while t condition statements)) running hv
     (go_on-fits (typing ++ others) (statements s) (execute_while t condition statements) (keeps others s h)
     (λ later s' h'. subst (λ all. ProgressFits all (execute_while t condition statements s')) (sym (append_assoc typing others later))
     (execute_while-keep t typing condition statements is keeps (others ++ later) s' (subst (λ all. StoreHasTypes all s'.store) (append_assoc typing others later) h'))))
@@ -283,13 +283,13 @@ IsCondition-grows typing others condition is later s h = is (others ++ later) s 
 
 pub execute_repeat-keep : (t : ℕ) (typing : StoreTyping) (condition : State → Outcome Value) (turn : State → Progress) → IsCondition typing condition → Keeps typing turn → Keeps typing (execute_repeat t condition turn)
 execute_repeat-keep zero typing condition turn is keeps others s h =
-    go_on-fits (typing ++ others) (turn s) (λ s'. use_result s' (condition s') (λ v. choose s' v running (λ s''. stopped TurnBound s''.output))) (keeps others s h)
-    (λ later s' h'. use_result-fits ((typing ++ others) ++ later) (λ v. HasShape v boolean_shape) s' (condition s') (λ v. choose s' v running (λ s''. stopped TurnBound s''.output)) (IsCondition-grows typing others condition is later s' h')
-    (λ v hv. choose-fits ((typing ++ others) ++ later) s' v running (λ s''. stopped TurnBound s''.output) hv (same_store-fits ((typing ++ others) ++ later) s' h') (λ e. cc)))
+    go_on-fits (typing ++ others) (turn s) (λ s'. use_result s' (condition s') (λ v. choose_by_truth s' v running (λ s''. stopped TurnBound s''.output))) (keeps others s h)
+    (λ later s' h'. use_result-fits ((typing ++ others) ++ later) (λ v. HasShape v boolean_shape) s' (condition s') (λ v. choose_by_truth s' v running (λ s''. stopped TurnBound s''.output)) (IsCondition-grows typing others condition is later s' h')
+    (λ v hv. choose_by_truth-fits ((typing ++ others) ++ later) s' v running (λ s''. stopped TurnBound s''.output) hv (same_store-fits ((typing ++ others) ++ later) s' h') (λ e. cc)))
 execute_repeat-keep (suc t) typing condition turn is keeps others s h =
-    go_on-fits (typing ++ others) (turn s) (λ s'. use_result s' (condition s') (λ v. choose s' v running (execute_repeat t condition turn))) (keeps others s h)
-    (λ later s' h'. use_result-fits ((typing ++ others) ++ later) (λ v. HasShape v boolean_shape) s' (condition s') (λ v. choose s' v running (execute_repeat t condition turn)) (IsCondition-grows typing others condition is later s' h')
-    (λ v hv. choose-fits ((typing ++ others) ++ later) s' v running (execute_repeat t condition turn) hv (same_store-fits ((typing ++ others) ++ later) s' h')
+    go_on-fits (typing ++ others) (turn s) (λ s'. use_result s' (condition s') (λ v. choose_by_truth s' v running (execute_repeat t condition turn))) (keeps others s h)
+    (λ later s' h'. use_result-fits ((typing ++ others) ++ later) (λ v. HasShape v boolean_shape) s' (condition s') (λ v. choose_by_truth s' v running (execute_repeat t condition turn)) (IsCondition-grows typing others condition is later s' h')
+    (λ v hv. choose_by_truth-fits ((typing ++ others) ++ later) s' v running (execute_repeat t condition turn) hv (same_store-fits ((typing ++ others) ++ later) s' h')
     (Keeps-grows typing others (execute_repeat t condition turn) (execute_repeat-keep t typing condition turn is keeps) later s' h')))
 
 pub condition-sound : {N : Type 0} (typing : StoreTyping) (checked : TypeMeanings N) (active : Meanings N Place (List Mode)) → RunMeaningsAgree typing checked active → (e : Tree N expression) → condition_is_boolean checked e ≡ true → (s : State) → StoreHasTypes typing s.store → OutcomeFits (λ v. HasShape v boolean_shape) (evaluate active s.store e)
@@ -312,8 +312,8 @@ mutual
   execute-keeps typing checked active enter sound t (assigns x path e) h others s store =
       let grown = Sound-grows typing others checked active enter sound in
       let (shape, es, et) = same_known_shape-true (variable_type checked (Some (x, path))) (type_of checked e) h in
-      use_result-fits (typing ++ others) (λ p. PlaceHasType (typing ++ others) p shape) s (designate active s.store x path) (λ p. use_result s (evaluate active s.store e) (store_at s p))
-      (designate-sound (typing ++ others) checked active s.store record { store_fits = store; names_fit = grown.names_fit } x path shape es)
+      use_result-fits (typing ++ others) (λ p. PlaceHasType (typing ++ others) p shape) s (designated_place active s.store x path) (λ p. use_result s (evaluate active s.store e) (store_at s p))
+      (designated_place-sound (typing ++ others) checked active s.store record { store_fits = store; names_fit = grown.names_fit } x path shape es)
       (λ p hp. use_result-fits (typing ++ others) (λ v. HasShape v shape) s (evaluate active s.store e) (store_at s p)
       (evaluate-sound (typing ++ others) checked active s.store record { store_fits = store; names_fit = grown.names_fit } e shape et)
       (λ v hv. store_at-fits (typing ++ others) s p shape v store hp hv))
@@ -330,34 +330,34 @@ mutual
       let h₂ = both_true (sequence_is_well_typed checked statements) (elsifs_are_well_typed checked rest && else_is_well_typed checked last) h₁.1 in
       let h₃ = both_true (elsifs_are_well_typed checked rest) (else_is_well_typed checked last) h₂.1 in
       let grown = Sound-grows typing others checked active enter sound in
-      use_result-fits (typing ++ others) (λ v. HasShape v boolean_shape) s (evaluate active s.store e) (λ v. choose s v (execute_all active enter t statements) (execute_elsifs active enter t rest (execute_else active enter t last)))
+      use_result-fits (typing ++ others) (λ v. HasShape v boolean_shape) s (evaluate active s.store e) (λ v. choose_by_truth s v (execute_sequence active enter t statements) (execute_elsifs active enter t rest (execute_else active enter t last)))
       (condition-sound (typing ++ others) checked active grown.names_fit e h₁.0 s store)
-      (λ v hv. choose-fits (typing ++ others) s v (execute_all active enter t statements) (execute_elsifs active enter t rest (execute_else active enter t last)) hv
-      (execute_all-keeps typing checked active enter sound t statements h₂.0 others s store)
+      (λ v hv. choose_by_truth-fits (typing ++ others) s v (execute_sequence active enter t statements) (execute_elsifs active enter t rest (execute_else active enter t last)) hv
+      (execute_sequence-keeps typing checked active enter sound t statements h₂.0 others s store)
       (execute_elsifs-keeps typing checked active enter sound t rest (execute_else active enter t last) h₃.0 (execute_else-keeps typing checked active enter sound t last h₃.1) others s store))
   execute-keeps typing checked active enter sound t (while_loop e statements) h others s store =
       let h₁ = both_true (condition_is_boolean checked e) (sequence_is_well_typed checked statements) h in
-      execute_while-keep t typing (λ s'. evaluate active s'.store e) (execute_all active enter t statements)
+      execute_while-keep t typing (λ s'. evaluate active s'.store e) (execute_sequence active enter t statements)
       (λ others s store. condition-sound (typing ++ others) checked active (Sound-grows typing others checked active enter sound).names_fit e h₁.0 s store)
-      (execute_all-keeps typing checked active enter sound t statements h₁.1) others s store
+      (execute_sequence-keeps typing checked active enter sound t statements h₁.1) others s store
   execute-keeps typing checked active enter sound t (repeat_loop statements e) h others s store =
       let h₁ = both_true (sequence_is_well_typed checked statements) (condition_is_boolean checked e) h in
-      execute_repeat-keep (t - 1) typing (λ s'. evaluate active s'.store e) (execute_all active enter t statements)
+      execute_repeat-keep (t - 1) typing (λ s'. evaluate active s'.store e) (execute_sequence active enter t statements)
       (λ others s store. condition-sound (typing ++ others) checked active (Sound-grows typing others checked active enter sound).names_fit e h₁.1 s store)
-      (execute_all-keeps typing checked active enter sound t statements h₁.0) others s store
+      (execute_sequence-keeps typing checked active enter sound t statements h₁.0) others s store
 
-  pub execute_all-keeps : {N : Type 0} (typing : StoreTyping) (checked : TypeMeanings N) (active : Meanings N Place (List Mode)) (enter : CallFunction N) → Sound typing checked active enter → (t : ℕ) (a : Tree N sequence) → sequence_is_well_typed checked a ≡ true → Keeps typing (execute_all active enter t a)
-  execute_all-keeps typing checked active enter sound t (runs a rest) h others s store =
+  pub execute_sequence-keeps : {N : Type 0} (typing : StoreTyping) (checked : TypeMeanings N) (active : Meanings N Place (List Mode)) (enter : CallFunction N) → Sound typing checked active enter → (t : ℕ) (a : Tree N sequence) → sequence_is_well_typed checked a ≡ true → Keeps typing (execute_sequence active enter t a)
+  execute_sequence-keeps typing checked active enter sound t (runs a rest) h others s store =
       let h₁ = both_true (statement_is_well_typed checked a) (further_statements_are_well_typed checked rest) h in
-      go_on-fits (typing ++ others) (execute active enter t a s) (execute_further active enter t rest) (execute-keeps typing checked active enter sound t a h₁.0 others s store)
-      (Keeps-grows typing others (execute_further active enter t rest) (execute_further-keeps typing checked active enter sound t rest h₁.1))
+      go_on-fits (typing ++ others) (execute active enter t a s) (execute_further_statements active enter t rest) (execute-keeps typing checked active enter sound t a h₁.0 others s store)
+      (Keeps-grows typing others (execute_further_statements active enter t rest) (execute_further_statements-keeps typing checked active enter sound t rest h₁.1))
 
-  pub execute_further-keeps : {N : Type 0} (typing : StoreTyping) (checked : TypeMeanings N) (active : Meanings N Place (List Mode)) (enter : CallFunction N) → Sound typing checked active enter → (t : ℕ) (a : Tree N (items further_statement)) → further_statements_are_well_typed checked a ≡ true → Keeps typing (execute_further active enter t a)
-  execute_further-keeps typing checked active enter sound t end h others s store = same_store-fits (typing ++ others) s store
-  execute_further-keeps typing checked active enter sound t (more (then_statement a) rest) h others s store =
+  pub execute_further_statements-keeps : {N : Type 0} (typing : StoreTyping) (checked : TypeMeanings N) (active : Meanings N Place (List Mode)) (enter : CallFunction N) → Sound typing checked active enter → (t : ℕ) (a : Tree N (items further_statement)) → further_statements_are_well_typed checked a ≡ true → Keeps typing (execute_further_statements active enter t a)
+  execute_further_statements-keeps typing checked active enter sound t end h others s store = same_store-fits (typing ++ others) s store
+  execute_further_statements-keeps typing checked active enter sound t (more (then_statement a) rest) h others s store =
       let h₁ = both_true (statement_is_well_typed checked a) (further_statements_are_well_typed checked rest) h in
-      go_on-fits (typing ++ others) (execute active enter t a s) (execute_further active enter t rest) (execute-keeps typing checked active enter sound t a h₁.0 others s store)
-      (Keeps-grows typing others (execute_further active enter t rest) (execute_further-keeps typing checked active enter sound t rest h₁.1))
+      go_on-fits (typing ++ others) (execute active enter t a s) (execute_further_statements active enter t rest) (execute-keeps typing checked active enter sound t a h₁.0 others s store)
+      (Keeps-grows typing others (execute_further_statements active enter t rest) (execute_further_statements-keeps typing checked active enter sound t rest h₁.1))
 
   pub execute_elsifs-keeps : {N : Type 0} (typing : StoreTyping) (checked : TypeMeanings N) (active : Meanings N Place (List Mode)) (enter : CallFunction N) → Sound typing checked active enter → (t : ℕ) (a : Tree N (items elsif_part)) (otherwise : State → Progress) → elsifs_are_well_typed checked a ≡ true → Keeps typing otherwise → Keeps typing (execute_elsifs active enter t a otherwise)
   execute_elsifs-keeps typing checked active enter sound t end otherwise h keeps others s store = keeps others s store
@@ -365,11 +365,11 @@ mutual
       let h₁ = both_true (condition_is_boolean checked e) (sequence_is_well_typed checked statements && elsifs_are_well_typed checked rest) h in
       let h₂ = both_true (sequence_is_well_typed checked statements) (elsifs_are_well_typed checked rest) h₁.1 in
       let grown = Sound-grows typing others checked active enter sound in
-      use_result-fits (typing ++ others) (λ v. HasShape v boolean_shape) s (evaluate active s.store e) (λ v. choose s v (execute_all active enter t statements) (execute_elsifs active enter t rest otherwise))
+      use_result-fits (typing ++ others) (λ v. HasShape v boolean_shape) s (evaluate active s.store e) (λ v. choose_by_truth s v (execute_sequence active enter t statements) (execute_elsifs active enter t rest otherwise))
       (condition-sound (typing ++ others) checked active grown.names_fit e h₁.0 s store)
-      (λ v hv. choose-fits (typing ++ others) s v (execute_all active enter t statements) (execute_elsifs active enter t rest otherwise) hv
-      (execute_all-keeps typing checked active enter sound t statements h₂.0 others s store) (execute_elsifs-keeps typing checked active enter sound t rest otherwise h₂.1 keeps others s store))
+      (λ v hv. choose_by_truth-fits (typing ++ others) s v (execute_sequence active enter t statements) (execute_elsifs active enter t rest otherwise) hv
+      (execute_sequence-keeps typing checked active enter sound t statements h₂.0 others s store) (execute_elsifs-keeps typing checked active enter sound t rest otherwise h₂.1 keeps others s store))
 
   pub execute_else-keeps : {N : Type 0} (typing : StoreTyping) (checked : TypeMeanings N) (active : Meanings N Place (List Mode)) (enter : CallFunction N) → Sound typing checked active enter → (t : ℕ) (a : Tree N (maybe else_part)) → else_is_well_typed checked a ≡ true → Keeps typing (execute_else active enter t a)
   execute_else-keeps typing checked active enter sound t none h others s store = same_store-fits (typing ++ others) s store
-  execute_else-keeps typing checked active enter sound t (one (else_branch statements)) h others s store = execute_all-keeps typing checked active enter sound t statements h others s store
+  execute_else-keeps typing checked active enter sound t (one (else_branch statements)) h others s store = execute_sequence-keeps typing checked active enter sound t statements h others s store

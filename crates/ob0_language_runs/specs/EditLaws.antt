@@ -4,7 +4,7 @@ use Rattle.std.specs.Prelude.{List, Some, ℕ, ℤ, ◌≡◌, ◌≢◌}
 use Rattle.ob0_tree.specs.Tree.{Tree, factor, module_text}
 use Rattle.ob0_language_names.specs.Inlining.{OccurrenceSet, inlined, inlined_everywhere, module_without}
 use Rattle.ob0_language_names.specs.Names.{Name}
-use Rattle.ob0_language_names.specs.Occurrences.{Free, binds}
+use Rattle.ob0_language_names.specs.Occurrences.{Free, ordinal_bound_at}
 use Rattle.ob0_language_names.specs.Scopes.{renamed}
 use Rattle.ob0_language_values.specs.Values.{Value}
 use Rattle.ob0_language_types.specs.EditLaws.{AreInlinableUses, IsConstantWithLiteral, MeansPredeclaredTruth}
@@ -41,7 +41,7 @@ abbrev pub RemovingUnusedKeepsTypingAndRuns : Type 0
 RemovingUnusedKeepsTypingAndRuns =
     (m : Tree Name module_text) (d : ℕ) (w : Value) (v : Tree Name factor)
     → IsConstantWithLiteral m d w v
-    → ((k : ℕ) → binds m k ≢ Some d)
+    → ((k : ℕ) → ordinal_bound_at m k ≢ Some d)
     → WellTyped m
     → WellTyped (module_without d m) × HaveSameRuns (module_without d m) m
 
@@ -52,6 +52,6 @@ abbrev pub InliningEverywhereKeepsTypingAndRuns : Type 0
 InliningEverywhereKeepsTypingAndRuns =
     (m : Tree Name module_text) (d : ℕ) (w : Value) (v : Tree Name factor)
     → IsConstantWithLiteral m d w v
-    → ((k : ℕ) → binds m k ≡ Some d → MeansPredeclaredTruth m k w)
+    → ((k : ℕ) → ordinal_bound_at m k ≡ Some d → MeansPredeclaredTruth m k w)
     → WellTyped m
     → WellTyped (inlined_everywhere m d v) × HaveSameRuns (inlined_everywhere m d v) m

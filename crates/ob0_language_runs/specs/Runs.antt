@@ -9,7 +9,7 @@ use Rattle.ob0_language_names.specs.Parts.{block_procedures, block_statements, b
 use Rattle.ob0_language_types.specs.Arguments.{arguments_listed}
 use Rattle.ob0_language_types.specs.Declarations.{constructors_before_procedure_block, constructors_before_variables, constructors_before_procedures, declare_constants_and_types, procedure_constructor_count}
 use Rattle.ob0_language_types.specs.Environments.{Environment, environment_from_binding, meanings, outermost_environment}
-use Rattle.ob0_language_types.specs.Expressions.{Meanings, Object, a_constant, a_procedure, a_standard, a_type, a_variable, designate, evaluate, read_procedure, write_procedure, write_line_procedure}
+use Rattle.ob0_language_types.specs.Expressions.{Meanings, Object, a_constant, a_procedure, a_standard, a_type, a_variable, designated_place, evaluate, read_procedure, write_procedure, write_line_procedure}
 use Rattle.ob0_language_types.specs.Typing.{constructor_count, denoted_type, lone_designator}
 use Rattle.ob0_language_values.specs.Values.{CallBound, Done, End, InputEnd, Outcome, Place, Store, Stuck, TurnBound, Value, ends_run_with, succeeds_with, initial_value, number, or_stuck, truth, write_place, ◌>>=◌}
 use Rattle.ob0_language_types.specs.WellTyped.{Mode, by_place, by_value, section_mode}
@@ -49,10 +49,10 @@ continue_with (stopped e out) next = stopped e out
 
 -- continues a run from the state `s` with one of two functions: `when_true` if the value is TRUE, `when_false` if the
 -- value is FALSE; any other value ends the run with Stuck
-abbrev pub choose : State → Value → (State → Progress) → (State → Progress) → Progress
-choose s (truth true) when_true when_false = when_true s
-choose s (truth false) when_true when_false = when_false s
-choose s _ when_true when_false = stopped Stuck s.output
+abbrev pub choose_by_truth : State → Value → (State → Progress) → (State → Progress) → Progress
+choose_by_truth s (truth true) when_true when_false = when_true s
+choose_by_truth s (truth false) when_true when_false = when_false s
+choose_by_truth s _ when_true when_false = stopped Stuck s.output
 
 -- returns the state with one more item of output
 abbrev pub append_output : State → PrintedItem → State
@@ -84,13 +84,13 @@ unfoldable pub evaluate_argument : {N P : Type 0}
     → Mode
     → Tree N expression
     → Outcome Argument
-unfolding designate evaluate
+unfolding designated_place evaluate
 evaluate_argument meaning store by_value e = do
   v ← evaluate meaning store e
   succeeds_with (value_argument v)
 evaluate_argument meaning store by_place e = do
   d ← or_stuck (lone_designator e)
-  p ← designate meaning store d.0 d.1
+  p ← designated_place meaning store d.0 d.1
   succeeds_with (place_argument p)
 
 -- evaluates the arguments of a call from left to right; Stuck if there are more or fewer arguments than modes
@@ -128,9 +128,9 @@ perform_call _ enter args s = stopped Stuck s.output
 -- with TurnBound instead of making this iteration.
 abbrev pub execute_while : ℕ → (State → Outcome Value) → (State → Progress) → State → Progress
 execute_while zero condition statements s =
-    use_result s (condition s) (λ v. choose s v (λ s'. stopped TurnBound s'.output) running)
+    use_result s (condition s) (λ v. choose_by_truth s v (λ s'. stopped TurnBound s'.output) running)
 execute_while (suc t) condition statements s =
-    use_result s (condition s) (λ v. choose s v
+    use_result s (condition s) (λ v. choose_by_truth s v
     (λ s'. continue_with (statements s') (execute_while t condition statements)) running)
 
 -- a function that performs the call of a procedure, given by its name, with these arguments in a state
@@ -143,15 +143,15 @@ CallFunction N = N → List Argument → State → Progress
 abbrev pub execute_repeat : ℕ → (State → Outcome Value) → (State → Progress) → State → Progress
 execute_repeat zero condition turn s =
     continue_with (turn s) (λ s'. use_result s' (condition s')
-    (λ v. choose s' v running (λ s''. stopped TurnBound s''.output)))
+    (λ v. choose_by_truth s' v running (λ s''. stopped TurnBound s''.output)))
 execute_repeat (suc t) condition turn s =
     continue_with (turn s)
-    (λ s'. use_result s' (condition s') (λ v. choose s' v running (execute_repeat t condition turn)))
+    (λ s'. use_result s' (condition s') (λ v. choose_by_truth s' v running (execute_repeat t condition turn)))
 
 -- Executes a statement. An assignment first determines the place on its left side, then evaluates its right side, and
 -- then stores a copy of the value.
 unfoldable mutual
-  unfolding evaluate designate evaluate_arguments
+  unfolding evaluate designated_place evaluate_arguments
 
   -- executes one statement; `enter` performs calls of declared procedures, and `t` bounds the iterations of each loop
   pub execute : {N : Type 0}
@@ -163,44 +163,44 @@ unfoldable mutual
       → Progress
   execute meaning enter t empty s = running s
   execute meaning enter t (assigns x path e) s =
-      use_result s (designate meaning s.store x path)
+      use_result s (designated_place meaning s.store x path)
       (λ p. use_result s (evaluate meaning s.store e) (store_at s p))
   execute meaning enter t (calls x es) s =
       use_result s (modes_of (meaning.object_for x) >>=
       (λ modes. evaluate_arguments meaning s.store modes (arguments_listed es)))
       (λ args. perform_call (meaning.object_for x) (enter x) args s)
   execute meaning enter t (branches e statements rest last) s =
-      use_result s (evaluate meaning s.store e) (λ v. choose s v
-      (execute_all meaning enter t statements)
+      use_result s (evaluate meaning s.store e) (λ v. choose_by_truth s v
+      (execute_sequence meaning enter t statements)
       (execute_elsifs meaning enter t rest (execute_else meaning enter t last)))
   execute meaning enter t (while_loop e statements) s =
-      execute_while t (λ s'. evaluate meaning s'.store e) (execute_all meaning enter t statements) s
+      execute_while t (λ s'. evaluate meaning s'.store e) (execute_sequence meaning enter t statements) s
   execute meaning enter t (repeat_loop statements e) s =
       execute_repeat (t - 1) (λ s'. evaluate meaning s'.store e)
-      (execute_all meaning enter t statements) s
+      (execute_sequence meaning enter t statements) s
 
   -- executes a sequence of statements in text order; stops if a statement ends the run
-  pub execute_all : {N : Type 0}
+  pub execute_sequence : {N : Type 0}
       → Meanings N Place (List Mode)
       → CallFunction N
       → ℕ
       → Tree N sequence
       → State
       → Progress
-  execute_all meaning enter t (runs a rest) s =
-      continue_with (execute meaning enter t a s) (execute_further meaning enter t rest)
+  execute_sequence meaning enter t (runs a rest) s =
+      continue_with (execute meaning enter t a s) (execute_further_statements meaning enter t rest)
 
   -- executes the statements of a sequence after the first one
-  pub execute_further : {N : Type 0}
+  pub execute_further_statements : {N : Type 0}
       → Meanings N Place (List Mode)
       → CallFunction N
       → ℕ
       → Tree N (items further_statement)
       → State
       → Progress
-  execute_further meaning enter t end s = running s
-  execute_further meaning enter t (more (then_statement a) rest) s =
-      continue_with (execute meaning enter t a s) (execute_further meaning enter t rest)
+  execute_further_statements meaning enter t end s = running s
+  execute_further_statements meaning enter t (more (then_statement a) rest) s =
+      continue_with (execute meaning enter t a s) (execute_further_statements meaning enter t rest)
 
   -- executes the statements of the first ELSIF part whose condition is TRUE; if no condition is TRUE, continues with
   -- `otherwise`
@@ -214,8 +214,8 @@ unfoldable mutual
       → Progress
   execute_elsifs meaning enter t end otherwise s = otherwise s
   execute_elsifs meaning enter t (more (elsif_branch e statements) rest) otherwise s =
-      use_result s (evaluate meaning s.store e) (λ v. choose s v
-      (execute_all meaning enter t statements) (execute_elsifs meaning enter t rest otherwise))
+      use_result s (evaluate meaning s.store e) (λ v. choose_by_truth s v
+      (execute_sequence meaning enter t statements) (execute_elsifs meaning enter t rest otherwise))
 
   -- executes the statements of the ELSE part; does nothing if there is no ELSE part
   pub execute_else : {N : Type 0}
@@ -227,11 +227,11 @@ unfoldable mutual
       → Progress
   execute_else meaning enter t none s = running s
   execute_else meaning enter t (one (else_branch statements)) s =
-      execute_all meaning enter t statements s
+      execute_sequence meaning enter t statements s
 
 -- a procedure in a run: its text, and the number of words ARRAY and RECORD before it
 pub record ProcedureText (N : Type 0) : Type 0 where
-  pub first_constructor : ℕ
+  pub constructors_before : ℕ
   pub text : Tree N (item procedure)
 
 -- the bindings of names in an activation: an environment that has the place of each variable and the text of each
@@ -280,7 +280,7 @@ abbrev pub declare_procedures : {N : Type 0}
 declare_procedures k end env = env
 declare_procedures k (more p rest) env =
     declare_procedures (k + procedure_constructor_count p) rest
-    ((procedure_name p, a_procedure record { first_constructor = k; text = p }) ∷ env)
+    ((procedure_name p, a_procedure record { constructors_before = k; text = p }) ∷ env)
 
 -- returns the frame with the procedures of a block added to its environment; `k` is the number of words ARRAY and
 -- RECORD before the procedures
@@ -373,7 +373,7 @@ unfoldable pub execute_body : {N : Type 0}
 unfolding execute
 execute_body naming env enter t none s = running s
 execute_body naming env enter t (one (begins statements)) s =
-    execute_all (statement_meanings naming env) enter t statements s
+    execute_sequence (statement_meanings naming env) enter t statements s
 
 -- continues a run with the function `next` in a frame; the run gets the frame's store; ends the run with Stuck if the
 -- frame is None
@@ -399,7 +399,7 @@ unfoldable pub activate : {N : Type 0}
 unfolding declare_block execute_body
 activate naming enter t ((x, a_procedure code) ∷ rest) args s =
     continue_in_frame s (option_and_then
-    (declare_block naming (constructors_before_procedure_block code.first_constructor code.text)
+    (declare_block naming (constructors_before_procedure_block code.constructors_before code.text)
     (procedure_block code.text))
     (bind_parameters (parameters (procedure_formals code.text)) args
     record { env = (x, a_procedure code) ∷ rest; store = s.store }))

@@ -17,21 +17,21 @@ abbrev mutual
   pub HasShape : Value → Shape → Type 0
   HasShape (number n) integer_shape = Unit {0}
   HasShape (truth b) boolean_shape = Unit {0}
-  HasShape (elements vs) (array_shape k n s) = (count_values vs ≡ n) × EachHasShape vs s
-  HasShape (members j ms) (record_shape k fs) = (j ≡ k) × HaveShapes ms fs
+  HasShape (elements vs) (array_shape k n s) = (count_values vs ≡ n) × EachElementHasShape vs s
+  HasShape (members j ms) (record_shape k fs) = (j ≡ k) × MembersHaveShapes ms fs
   HasShape _ _ = ⊥
 
   -- states that all elements of an array have this type
-  pub EachHasShape : Values → Shape → Type 0
-  EachHasShape no_value s = Unit {0}
-  EachHasShape (next_value v rest) s = HasShape v s × EachHasShape rest s
+  pub EachElementHasShape : Values → Shape → Type 0
+  EachElementHasShape no_value s = Unit {0}
+  EachElementHasShape (next_value v rest) s = HasShape v s × EachElementHasShape rest s
 
   -- states that the members of a record have the names and types of the fields, in the same order
-  pub HaveShapes : Members → FieldShapes → Type 0
-  HaveShapes no_member no_field_shape = Unit {0}
-  HaveShapes (next_member x v rest) (next_field_shape y s others) =
-      (x ≡ y) × HasShape v s × HaveShapes rest others
-  HaveShapes _ _ = ⊥
+  pub MembersHaveShapes : Members → FieldShapes → Type 0
+  MembersHaveShapes no_member no_field_shape = Unit {0}
+  MembersHaveShapes (next_member x v rest) (next_field_shape y s others) =
+      (x ≡ y) × HasShape v s × MembersHaveShapes rest others
+  MembersHaveShapes _ _ = ⊥
 
 -- returns the type of the element or field that one step selects from the type; None if there is no such element or
 -- field, for example because an index isn't below the array's length
@@ -113,10 +113,10 @@ abbrev pub RunBindingAgrees : {N : Type 0}
     → Type 0
 RunBindingAgrees {N} naming typing checked x (a_procedure signature) (a_procedure code) =
     (ps : List (TypedParameter N))
-    × (typed_parameters naming checked code.first_constructor (procedure_formals code.text)
+    × (typed_parameters naming checked code.constructors_before (procedure_formals code.text)
     ≡ Some ps)
     × (signature ≡ map (λ p. p.formal) ps)
-    × (procedure_is_well_typed naming (bind_typed_parameters ps (bind_procedure x ps checked)) code.first_constructor code.text
+    × (procedure_is_well_typed naming (bind_typed_parameters ps (bind_procedure x ps checked)) code.constructors_before code.text
     ≡ true)
 RunBindingAgrees naming typing checked x o r = RunObjectAgrees typing (Some o) (statement_object (Some r))
 

@@ -1,7 +1,7 @@
 -- In a well-typed block, each use of a constant is a whole factor.
 use Rattle.std.proofs.Common.{Bool, List, None, Option, Some, ap, arith, eq-eqb, if◌then◌else◌, le_of_lt, le_refl, length, map, ne_eqb, option_and_then, option_map, subst, suc, sym, true, ℕ, ◌&&◌, ◌++◌, ◌+◌, ◌<◌, ◌==◌, ◌∙◌, ◌∷◌, ◌≡◌, ◌≤◌}
 use Rattle.ob0_tree.specs.Tree.{Tree, begins, block, body, constant, declares, declares_constant, declares_procedure, declares_type, declares_variable, end, further_section, forms_block, item, items, maybe, more, none, occurrences, one, procedure, then_section, type_definition, variable, written_type}
-use Rattle.ob0_language_names.specs.NonFactorNames.{names_beside_factors}
+use Rattle.ob0_language_names.specs.NonFactorNames.{non_factor_names}
 use Rattle.ob0_language_names.specs.Names.{Name, naming_by_spelling}
 use Rattle.ob0_language_names.specs.Parts.{block_constants, block_types, block_variables, constant_names, formal_names, formal_sections, declared_type_names, names_in_list, section_constants, section_names, section_type, section_types, section_variables, variable_names}
 use Rattle.ob0_language_names.specs.Scopes.{Scope, ordinal_after_block, ordinal_after_names, ordinal_after_procedure, ordinal_after_procedures, declare_names, declare_procedure_names, first_procedure_ordinal, first_type_ordinal, first_variable_ordinal, ordinal_of, procedures_scope, types_scope, variables_scope}
@@ -33,7 +33,7 @@ abbrev pub IsOf : ℕ → Scope Name → Name → Type 0
 IsOf d scope x = ordinal_of naming_by_spelling scope x ≡ Some d
 
 abbrev pub UsesAreFactors : ℕ → Placed
-UsesAreFactors d s j scope t = NoneOf (IsOf d scope) (names_beside_factors t)
+UsesAreFactors d s j scope t = NoneOf (IsOf d scope) (non_factor_names t)
 
 pub holds-constant : {V P Q : Type 0} (edit : Edit) (w : Value) (X : Marks V P → Name → ℕ → P → Type 0) (p : ℕ → P → Q) (n : ℕ) (marks : Marks V P) → Sound edit w X n marks → AreConstant (IsOf edit.constant (scope_marked marks)) (read_meanings p marks) w
 holds-constant edit w X p n marks s x k = read-object_for p marks x ∙ has_value-found edit w p (found marks x) (found-right edit w X n marks x s) (sym (ordinal-found marks x) ∙ k)
@@ -127,7 +127,7 @@ alone-sections edit w i j k marks s seven (more (then_section f) fs) outside ps 
           (ap (λ env. typed_parameters naming_by_spelling env (i + constructor_count t) fs) (sym bound.1) ∙ er)),
     )
 
-pub alone-body : (edit : Edit) (w : Value) (n : ℕ) (marks : Marks Shape Signature) → Checked edit w n marks → (statements : Tree Name (maybe body)) → body_is_well_typed naming_by_spelling (read as_signed marks) statements ≡ true → NoneOf (IsOf edit.constant (scope_marked marks)) (names_beside_factors statements)
+pub alone-body : (edit : Edit) (w : Value) (n : ℕ) (marks : Marks Shape Signature) → Checked edit w n marks → (statements : Tree Name (maybe body)) → body_is_well_typed naming_by_spelling (read as_signed marks) statements ≡ true → NoneOf (IsOf edit.constant (scope_marked marks)) (non_factor_names statements)
 unfolding body_is_well_typed
 alone-body edit w n marks s none h = tt
 alone-body edit w n marks s (one (begins a)) h = sequence-elsewhere (IsOf edit.constant (scope_marked marks)) (read_meanings as_signed marks) w (holds-constant edit w anything as_signed n marks s) a h
@@ -178,13 +178,13 @@ mutual
             (alone-variables edit w (constructors_before_variables i b) jv (first_variable_ordinal k b) inner₁ left₁.sound (omega (arith, seven, above, types)) (section_variables vs) (λ l m. types-outside edit w (knowns marks) k b has_value (omega (arith, l, types)) m) env₂
             (ap (declare_typed_variables naming_by_spelling (constructors_before_variables i b) (section_variables vs)) r₁ ∙ f₁)),
         subst (λ scope. EachProcedure (UsesAreFactors d) jp scope (first_procedure_ordinal k b) ps) left₂.scoped later.0,
-        subst (λ scope. NoneOf (IsOf d (declare_procedure_names (first_procedure_ordinal k b) ps scope)) (names_beside_factors statements)) left₂.scoped later.1,
+        subst (λ scope. NoneOf (IsOf d (declare_procedure_names (first_procedure_ordinal k b) ps scope)) (non_factor_names statements)) left₂.scoped later.1,
       )
 
   pub alone-procedures : (edit : Edit) (w : Value) → Literal edit w → (i j js k : ℕ) (marks : Marks Shape Signature) → Checked edit w k marks → 7 ≤ k → (statements : Tree Name (maybe body)) (ps : Tree Name (items procedure))
       → EachProcedure (Here edit w) j (scope_marked marks) k ps → HasValueBetween edit w k (ordinal_after_procedures k ps) (value_in_procedures (knowns marks) edit.constant k ps)
       → procedures_are_well_typed naming_by_spelling (read as_signed marks) i statements ps ≡ true
-      → EachProcedure (UsesAreFactors edit.constant) j (scope_marked marks) k ps × NoneOf (IsOf edit.constant (declare_procedure_names k ps (scope_marked marks))) (names_beside_factors statements)
+      → EachProcedure (UsesAreFactors edit.constant) j (scope_marked marks) k ps × NoneOf (IsOf edit.constant (declare_procedure_names k ps (scope_marked marks))) (non_factor_names statements)
   alone-procedures edit w lit i j js k marks s seven statements end here has_value h = (tt, alone-body edit w k marks s statements h)
   alone-procedures edit w lit i j js k marks s seven statements (more (declares_procedure x fs b closing) rest) here has_value h =
       let p : Tree Name (item procedure) = declares_procedure x fs b closing in

@@ -2,9 +2,9 @@
 use Rattle.std.proofs.Common.{IsTrue, List, None, Option, Some, [], add-zero, ap, arith, codes, false, if◌then◌else◌, le_refl, lit<, ltb-false, nat_lt, option_and_then, refl, slice_get, subst, suc, sym, true, true≢false, zero-add, ℕ, ◌+◌, ◌<◌, ◌∙◌, ◌∷◌, ◌≡◌, ◌≢◌, ◌≤◌}
 use Rattle.ob0_tree.specs.Tree.{Tree, factor, is_module, module_text, occurrences}
 use Rattle.ob0_language_names.specs.Inlining.{OccurrenceSet, inline_in}
-use Rattle.ob0_language_names.specs.Occurrences.{binds, label_ordinal}
+use Rattle.ob0_language_names.specs.Occurrences.{ordinal_bound_at, label_ordinal}
 use Rattle.ob0_language_names.specs.Parts.{module_block}
-use Rattle.ob0_language_names.specs.OccurrenceLookup.{lookup_naming}
+use Rattle.ob0_language_names.specs.OccurrenceLookup.{naming_for_lookup_of}
 use Rattle.ob0_language_names.proofs.EditedTrees.{Edit, edited, edited_block, leaf-kept, leaving_out, left-module, writing, written-module}
 use Rattle.ob0_language_names.proofs.Peeling.{both}
 use Rattle.ob0_language_names.proofs.Places.{AllAt, Both, Each, EachBlock, each-block}
@@ -125,29 +125,29 @@ IsShownAs uses (number n) j l = Unit {0}
 IsShownAs uses (elements vs) j l = Unit {0}
 IsShownAs uses (members k ms) j l = Unit {0}
 
-pub shown-from : (uses : OccurrenceSet) (w : Value) (j : ℕ) (scope : Scope Name) (x : Name) → IsShownAs uses w j (label_of (lookup_naming (truth_name w)) (label_from_ordinal (lookup_naming (truth_name w))) scope x) → uses j ≡ true → shown w scope ≡ true
+pub shown-from : (uses : OccurrenceSet) (w : Value) (j : ℕ) (scope : Scope Name) (x : Name) → IsShownAs uses w j (label_of (naming_for_lookup_of (truth_name w)) (label_from_ordinal (naming_for_lookup_of (truth_name w))) scope x) → uses j ≡ true → shown w scope ≡ true
 shown-from uses (truth true) j scope x h u =
-    ap (λ o. same_ordinal o 2) (sym (looked (codes "TRUE") scope x) ∙ (sym (label_ordinal-of (lookup_naming (codes "TRUE")) scope x) ∙ h u))
+    ap (λ o. same_ordinal o 2) (sym (looked (codes "TRUE") scope x) ∙ (sym (label_ordinal-of (naming_for_lookup_of (codes "TRUE")) scope x) ∙ h u))
   where
-    looked : (y : Name) (scope : Scope Name) (x : Name) → ordinal_of (lookup_naming y) scope x ≡ ordinal_of naming_by_spelling scope y
+    looked : (y : Name) (scope : Scope Name) (x : Name) → ordinal_of (naming_for_lookup_of y) scope x ≡ ordinal_of naming_by_spelling scope y
     looked y [] x = refl
-    looked y (b ∷ scope) x = elim (same_name y b.0) as (λ v. (elim v [ true ↦ Some b.1 | false ↦ ordinal_of (lookup_naming y) scope x ]) ≡ (elim v [ true ↦ Some b.1 | false ↦ ordinal_of naming_by_spelling scope y ])) [ true ↦ refl | false ↦ looked y scope x ]
+    looked y (b ∷ scope) x = elim (same_name y b.0) as (λ v. (elim v [ true ↦ Some b.1 | false ↦ ordinal_of (naming_for_lookup_of y) scope x ]) ≡ (elim v [ true ↦ Some b.1 | false ↦ ordinal_of naming_by_spelling scope y ])) [ true ↦ refl | false ↦ looked y scope x ]
 shown-from uses (truth false) j scope x h u =
-    ap (λ o. same_ordinal o 3) (sym (looked (codes "FALSE") scope x) ∙ (sym (label_ordinal-of (lookup_naming (codes "FALSE")) scope x) ∙ h u))
+    ap (λ o. same_ordinal o 3) (sym (looked (codes "FALSE") scope x) ∙ (sym (label_ordinal-of (naming_for_lookup_of (codes "FALSE")) scope x) ∙ h u))
   where
-    looked : (y : Name) (scope : Scope Name) (x : Name) → ordinal_of (lookup_naming y) scope x ≡ ordinal_of naming_by_spelling scope y
+    looked : (y : Name) (scope : Scope Name) (x : Name) → ordinal_of (naming_for_lookup_of y) scope x ≡ ordinal_of naming_by_spelling scope y
     looked y [] x = refl
-    looked y (b ∷ scope) x = elim (same_name y b.0) as (λ v. (elim v [ true ↦ Some b.1 | false ↦ ordinal_of (lookup_naming y) scope x ]) ≡ (elim v [ true ↦ Some b.1 | false ↦ ordinal_of naming_by_spelling scope y ])) [ true ↦ refl | false ↦ looked y scope x ]
+    looked y (b ∷ scope) x = elim (same_name y b.0) as (λ v. (elim v [ true ↦ Some b.1 | false ↦ ordinal_of (naming_for_lookup_of y) scope x ]) ≡ (elim v [ true ↦ Some b.1 | false ↦ ordinal_of naming_by_spelling scope y ])) [ true ↦ refl | false ↦ looked y scope x ]
 shown-from uses (number n) j scope x h u = refl
 shown-from uses (elements vs) j scope x h u = refl
 shown-from uses (members k ms) j scope x h u = refl
 
-pub all-shown : (m : Tree Name module_text) (w : Value) (uses : OccurrenceSet) → ((k : ℕ) → uses k ≡ true → MeansPredeclaredTruth m k w) → AllAt (IsShownAs uses w) 0 (occurrences (relabel_module (lookup_naming (truth_name w)) (label_from_ordinal (lookup_naming (truth_name w))) m))
-all-shown m (truth true) uses h = all-at (IsShownAs uses (truth true)) 0 (occurrences (relabel_module (lookup_naming (codes "TRUE")) (label_from_ordinal (lookup_naming (codes "TRUE"))) m)) (λ i l e u. sym (ap (option_and_then label_ordinal) e) ∙ h i (ap uses (sym (zero-add i)) ∙ u))
-all-shown m (truth false) uses h = all-at (IsShownAs uses (truth false)) 0 (occurrences (relabel_module (lookup_naming (codes "FALSE")) (label_from_ordinal (lookup_naming (codes "FALSE"))) m)) (λ i l e u. sym (ap (option_and_then label_ordinal) e) ∙ h i (ap uses (sym (zero-add i)) ∙ u))
-all-shown m (number n) uses h = all-at (IsShownAs uses (number n)) 0 (occurrences (relabel_module (lookup_naming (codes "FALSE")) (label_from_ordinal (lookup_naming (codes "FALSE"))) m)) (λ i l e. tt)
-all-shown m (elements vs) uses h = all-at (IsShownAs uses (elements vs)) 0 (occurrences (relabel_module (lookup_naming (codes "FALSE")) (label_from_ordinal (lookup_naming (codes "FALSE"))) m)) (λ i l e. tt)
-all-shown m (members n ms) uses h = all-at (IsShownAs uses (members n ms)) 0 (occurrences (relabel_module (lookup_naming (codes "FALSE")) (label_from_ordinal (lookup_naming (codes "FALSE"))) m)) (λ i l e. tt)
+pub all-shown : (m : Tree Name module_text) (w : Value) (uses : OccurrenceSet) → ((k : ℕ) → uses k ≡ true → MeansPredeclaredTruth m k w) → AllAt (IsShownAs uses w) 0 (occurrences (relabel_module (naming_for_lookup_of (truth_name w)) (label_from_ordinal (naming_for_lookup_of (truth_name w))) m))
+all-shown m (truth true) uses h = all-at (IsShownAs uses (truth true)) 0 (occurrences (relabel_module (naming_for_lookup_of (codes "TRUE")) (label_from_ordinal (naming_for_lookup_of (codes "TRUE"))) m)) (λ i l e u. sym (ap (option_and_then label_ordinal) e) ∙ h i (ap uses (sym (zero-add i)) ∙ u))
+all-shown m (truth false) uses h = all-at (IsShownAs uses (truth false)) 0 (occurrences (relabel_module (naming_for_lookup_of (codes "FALSE")) (label_from_ordinal (naming_for_lookup_of (codes "FALSE"))) m)) (λ i l e u. sym (ap (option_and_then label_ordinal) e) ∙ h i (ap uses (sym (zero-add i)) ∙ u))
+all-shown m (number n) uses h = all-at (IsShownAs uses (number n)) 0 (occurrences (relabel_module (naming_for_lookup_of (codes "FALSE")) (label_from_ordinal (naming_for_lookup_of (codes "FALSE"))) m)) (λ i l e. tt)
+all-shown m (elements vs) uses h = all-at (IsShownAs uses (elements vs)) 0 (occurrences (relabel_module (naming_for_lookup_of (codes "FALSE")) (label_from_ordinal (naming_for_lookup_of (codes "FALSE"))) m)) (λ i l e. tt)
+all-shown m (members n ms) uses h = all-at (IsShownAs uses (members n ms)) 0 (occurrences (relabel_module (naming_for_lookup_of (codes "FALSE")) (label_from_ordinal (naming_for_lookup_of (codes "FALSE"))) m)) (λ i l e. tt)
 
 pub written-fitted : (m : Tree Name module_text) (d : ℕ) (w : Value) (v : Tree Name factor) (uses : OccurrenceSet) → IsConstantWithLiteral m d w v → AreInlinableUses m d w uses → IsFitted (writing uses v d) w m
 written-fitted (is_module x b closing) d w v uses c u =
@@ -155,7 +155,7 @@ written-fitted (is_module x b closing) d w v uses c u =
     let seven = seven-or-less m d w c.value in
     record {
       literal = record { written = c.literal; scalar = c.scalar; ordinal = seven.0 };
-      here = each-block naming_by_spelling (lookup_naming (truth_name w)) (IsBound uses d) (IsShownAs uses w) (Here (writing uses v d) w)
+      here = each-block naming_by_spelling (naming_for_lookup_of (truth_name w)) (IsBound uses d) (IsShownAs uses w) (Here (writing uses v d) w)
           (λ s j scope t both. (writes_at uses j scope (occurrences t) both, all-stay scope (occurrences (inline_in uses v j t))))
           0 (predeclared_scope naming_by_spelling) 7 b
           (all-at (IsBound uses d) 0 (occurrences (relabel_module naming_by_spelling (label_from_ordinal naming_by_spelling) m)) (λ i l e t. sym (ap (option_and_then label_ordinal) e) ∙ u.bound i (ap uses (sym (zero-add i)) ∙ t)))
@@ -167,7 +167,7 @@ written-fitted (is_module x b closing) d w v uses c u =
     all-stay scope [] = tt
     all-stay scope (x ∷ xs) = (λ e. absurd (true≢false (sym e)), all-stay scope xs)
 
-    writes_at : (uses : OccurrenceSet) (j : ℕ) (scope : Scope Name) (xs : List Name) → Each (Both naming_by_spelling (lookup_naming (truth_name w)) (IsBound uses d) (IsShownAs uses w)) j scope xs → Each (Writes (writing uses v d) w) j scope xs
+    writes_at : (uses : OccurrenceSet) (j : ℕ) (scope : Scope Name) (xs : List Name) → Each (Both naming_by_spelling (naming_for_lookup_of (truth_name w)) (IsBound uses d) (IsShownAs uses w)) j scope xs → Each (Writes (writing uses v d) w) j scope xs
     writes_at uses j scope [] both = tt
     writes_at uses j scope (x ∷ xs) both =
         ((λ e. sym (label_ordinal-of naming_by_spelling scope x) ∙ both.0.0 e, λ e. shown-from uses w j scope x both.0.1 e), writes_at uses (suc j) scope xs both.1)
@@ -180,7 +180,7 @@ inlining_keeps_well_typed-holds m d w v uses c u well = subst WellTyped (written
 abbrev pub IsOther : ℕ → ℕ → Label → Type 0
 IsOther d j l = label_ordinal l ≡ Some d → ⊥
 
-pub left-fitted : (m : Tree Name module_text) (d : ℕ) (w : Value) (v : Tree Name factor) → IsConstantWithLiteral m d w v → ((k : ℕ) → binds m k ≢ Some d) → IsFitted (leaving_out v d) w m
+pub left-fitted : (m : Tree Name module_text) (d : ℕ) (w : Value) (v : Tree Name factor) → IsConstantWithLiteral m d w v → ((k : ℕ) → ordinal_bound_at m k ≢ Some d) → IsFitted (leaving_out v d) w m
 left-fitted (is_module x b closing) d w v c u =
     let m : Tree Name module_text = is_module x b closing in
     let seven = seven-or-less m d w c.value in

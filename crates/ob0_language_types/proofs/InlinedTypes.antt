@@ -6,7 +6,7 @@ use Rattle.ob0_language_names.specs.Names.{Name}
 use Rattle.ob0_language_values.specs.Values.{Shape, Value}
 use Rattle.ob0_language_types.specs.Expressions.{Meanings, a_constant}
 use Rattle.ob0_language_types.specs.Laws.{InliningKeepsTypes, EachUseHas}
-use Rattle.ob0_language_types.specs.Typing.{addition_type, negation_type, element_type, field_type, multiplication_type, object_type, relation_type, sign_type, type_after_selectors, type_of, type_of_addends, type_of_factor, type_of_multipliers, type_of_simple, type_of_term, value_type, ◌>>=◌}
+use Rattle.ob0_language_types.specs.Typing.{addition_type, negation_type, element_type, field_type, multiplication_type, type_of_variable_or_constant, relation_type, sign_type, type_after_selectors, type_of, type_of_addends, type_of_factor, type_of_multipliers, type_of_simple, type_of_term, value_type, ◌>>=◌}
 use Rattle.ob0_language_types.proofs.Inlined.{uses-split}
 
 pub record Typing {P : Type 0} (checked : Meanings Name Shape P) (v : Tree Name factor) (w : Value) : Type 0 where
@@ -53,9 +53,9 @@ mutual
   pub type_of_factor-inlined : {P : Type 0} (checked : Meanings Name Shape P) (uses : OccurrenceSet) (v : Tree Name factor) (w : Value) → Typing checked v w → (k : ℕ) (a : Tree Name factor) → EachUseHas uses (IsConstant checked w) k (occurrences a) → type_of_factor checked (inline_in uses v k a) ≡ type_of_factor checked a
   type_of_factor-inlined checked uses v w h k (designator x end) u =
       (elim (uses k) as (λ b. uses k ≡ b → type_of_factor checked (if b then v else designator x end) ≡ type_of_factor checked (designator x end))
-      [ true ↦ λ e. h.typed ∙ (sym (then-some (value_type w)) ∙ sym (ap (λ o. object_type o >>= (λ s. Some s)) (u.0 e))) | false ↦ λ e. refl ]) refl
+      [ true ↦ λ e. h.typed ∙ (sym (then-some (value_type w)) ∙ sym (ap (λ o. type_of_variable_or_constant o >>= (λ s. Some s)) (u.0 e))) | false ↦ λ e. refl ]) refl
   type_of_factor-inlined checked uses v w h k (designator x (more step rest)) u = λ i.
-      object_type (checked.object_for x) >>= (λ s. type_after_selectors-inlined checked uses v w h (suc k) s (more step rest) u.1 i)
+      type_of_variable_or_constant (checked.object_for x) >>= (λ s. type_after_selectors-inlined checked uses v w h (suc k) s (more step rest) u.1 i)
   type_of_factor-inlined checked uses v w h k (integer n) u = refl
   type_of_factor-inlined checked uses v w h k (parenthesised e) u = type_of-inlined checked uses v w h k e u
   type_of_factor-inlined checked uses v w h k (negation f) u = λ i. type_of_factor-inlined checked uses v w h k f u i >>= negation_type

@@ -6,7 +6,7 @@ use Rattle.ob0_language_names.specs.Names.{Name}
 use Rattle.ob0_language_values.specs.Values.{Overflow, Place, Shape, Store, Value, value_at_path, elements, ends_run_with, fits_in_32_bits, succeeds_with, integer_shape, members, number, or_stuck, truth, ◌>>=◌}
 use Rattle.ob0_language_types.specs.EditLaws.{IsScalar}
 use Rattle.ob0_language_types.specs.Expressions.{Meanings, a_constant, evaluate, evaluate_factor, object_value}
-use Rattle.ob0_language_types.specs.Typing.{object_type, type_of, type_of_factor, value_type}
+use Rattle.ob0_language_types.specs.Typing.{type_of_variable_or_constant, type_of, type_of_factor, value_type}
 use Rattle.ob0_language_types.specs.Written.{number_literal, value_literal}
 use Rattle.ob0_tree.specs.declared.tree.Sign.TheVariants as sign
 use Rattle.ob0_tree.specs.declared.tree.AddOperator.TheVariants as add_operator
@@ -53,8 +53,8 @@ literal-typed meaning v (number (negsuc n)) e h seen =
     (elim (nat_lt n 2147483647) as (λ b. type_of_factor meaning (if b then parenthesised (compares (sum (Some sign.Minus) (product (integer (suc n)) end) end) none) else parenthesised (compares (sum (Some sign.Minus) (product (integer 2147483647) end) (more (adds add_operator.Subtract (product (integer 1) end)) end)) none)) ≡ Some integer_shape)
     [ true ↦ refl | false ↦ refl ])
 literal-typed meaning v (truth true) e h seen =
-    subst (λ v. type_of_factor meaning v ≡ value_type (truth true)) (some_inverse e) (ap (λ o. option_and_then (λ s. Some s) (object_type o)) seen)
+    subst (λ v. type_of_factor meaning v ≡ value_type (truth true)) (some_inverse e) (ap (λ o. option_and_then (λ s. Some s) (type_of_variable_or_constant o)) seen)
 literal-typed meaning v (truth false) e h seen =
-    subst (λ v. type_of_factor meaning v ≡ value_type (truth false)) (some_inverse e) (ap (λ o. option_and_then (λ s. Some s) (object_type o)) seen)
+    subst (λ v. type_of_factor meaning v ≡ value_type (truth false)) (some_inverse e) (ap (λ o. option_and_then (λ s. Some s) (type_of_variable_or_constant o)) seen)
 literal-typed meaning v (elements vs) e h seen = absurd h
 literal-typed meaning v (members k ms) e h seen = absurd h

@@ -3,7 +3,7 @@ use Rattle.std.proofs.Common.{◌≡◌, true, false, ◌∷◌, ◌++◌, map, 
 use Rattle.ob0_tree.specs.Tree.{Tree, addend, adds, arguments, compares, designator, end, expression, factor, field, further_argument, index, integer, items, maybe, more, multiplier, multiplies, negation, no_arguments, none, one, parenthesised, product, relates, selector, simple, some_arguments, sum, term, then_argument}
 use Rattle.ob0_language_names.specs.Mapping.{map_names}
 use Rattle.ob0_language_types.specs.Arguments.{arguments_listed, further_arguments}
-use Rattle.ob0_language_types.specs.Expressions.{Meanings, designate, element_step, evaluate, evaluate_addends, evaluate_factor, evaluate_multipliers, evaluate_simple, evaluate_term, evaluate_selectors, object_place, object_value}
+use Rattle.ob0_language_types.specs.Expressions.{Meanings, designated_place, element_step, evaluate, evaluate_addends, evaluate_factor, evaluate_multipliers, evaluate_simple, evaluate_term, evaluate_selectors, object_place, object_value}
 use Rattle.ob0_language_types.specs.Typing.{lone_designator}
 use Rattle.ob0_language_values.specs.Values.{Place, Store, Value, add, add_short_circuits, at_field, value_at_path, succeeds_with, multiply, multiply_short_circuits, negate, or_stuck, part, read_place, apply_relation, apply_sign, ◌>>=◌}
 
@@ -53,9 +53,9 @@ mutual
   follow-map f h meaning store v (more (index e) rest) = λ i.
       evaluate-map f h meaning store e i >>= (λ j. element_step v j >>= (λ s. or_stuck (part v s) >>= (λ w. follow-map f h meaning store w rest i >>= (λ steps. succeeds_with (s ∷ steps)))))
 
-pub designate-map : {N M P : Type 0} (f h : N → M) (meaning : Meanings M Place P) (store : Store) (x : N) (path : Tree N (items selector)) → designate meaning store (f x) (map_names f h path) ≡ designate (through f h meaning) store x path
-unfolding designate
-designate-map f h meaning store x path = λ i.
+pub designated_place-map : {N M P : Type 0} (f h : N → M) (meaning : Meanings M Place P) (store : Store) (x : N) (path : Tree N (items selector)) → designated_place meaning store (f x) (map_names f h path) ≡ designated_place (through f h meaning) store x path
+unfolding designated_place
+designated_place-map f h meaning store x path = λ i.
     object_place (meaning.object_for (f x)) >>= (λ p. or_stuck (read_place store p) >>= (λ v. follow-map f h meaning store v path i >>= (λ steps. succeeds_with record { variable = p.variable; path = p.path ++ steps })))
 
 abbrev pub map_designator : {N M : Type 0} → (N → M) → (N → M) → N × Tree N (items selector) → M × Tree M (items selector)

@@ -5,7 +5,7 @@ use Rattle.ob0_tree.specs.Tree.{Tree, addend, adds, array_type, compares, design
 use Rattle.ob0_language_names.specs.Mapping.{map_names}
 use Rattle.ob0_language_names.specs.Parts.{further_names, names_in_list}
 use Rattle.ob0_language_types.specs.Expressions.{Meanings, a_constant, evaluate}
-use Rattle.ob0_language_types.specs.Typing.{addition_type, array_length, negation_type, constant_of, constant_value, constant_meanings, constructor_count, denoted_type, denoted_group_fields, denoted_further_fields, element_type, field_type, outcome_value, group_constructor_count, groups_constructor_count, multiplication_type, object_type, relation_type, sign_type, type_after_selectors, type_of, type_of_addends, type_of_factor, type_of_multipliers, type_of_name, type_of_simple, type_of_term, prepend_fields, check_limits, ◌>>=◌}
+use Rattle.ob0_language_types.specs.Typing.{addition_type, array_length, negation_type, constant_of, constant_value, constant_meanings, constructor_count, denoted_type, denoted_group_fields, denoted_further_fields, element_type, field_type, outcome_value, group_constructor_count, groups_constructor_count, multiplication_type, type_of_variable_or_constant, relation_type, sign_type, type_after_selectors, type_of, type_of_addends, type_of_factor, type_of_multipliers, type_of_name, type_of_simple, type_of_term, prepend_fields, type_within_limits, ◌>>=◌}
 use Rattle.ob0_language_values.specs.Values.{FieldShapes, Shape, array_shape, record_shape}
 use Rattle.ob0_language_types.proofs.Naturality.{evaluate-map, through}
 
@@ -36,7 +36,7 @@ mutual
       type_of_factor-map f h meaning a i >>= (λ y. multiplication_type o x y >>= (λ z. type_of_multipliers-map f h meaning z rest i))
 
   pub type_of_factor-map : {N M P : Type 0} (f h : N → M) (meaning : Meanings M Shape P) (a : Tree N factor) → type_of_factor meaning (map_names f h a) ≡ type_of_factor (through f h meaning) a
-  type_of_factor-map f h meaning (designator x path) = λ i. object_type (meaning.object_for (f x)) >>= (λ s. type_after_selectors-map f h meaning s path i)
+  type_of_factor-map f h meaning (designator x path) = λ i. type_of_variable_or_constant (meaning.object_for (f x)) >>= (λ s. type_after_selectors-map f h meaning s path i)
   type_of_factor-map f h meaning (integer n) = refl
   type_of_factor-map f h meaning (parenthesised e) = type_of-map f h meaning e
   type_of_factor-map f h meaning (negation a) = λ i. type_of_factor-map f h meaning a i >>= negation_type
@@ -87,10 +87,10 @@ mutual
       → (k : ℕ) (t : Tree N written_type) → denoted_type there k (map_names f h t) ≡ denoted_type here k t
   denoted_type-map f h there here hc ht hw k (named_type x) = ht x
   denoted_type-map f h there here hc ht hw k (array_type e t) = λ i.
-      constant_value-map f h there here e hc hw i >>= (λ v. array_length v >>= (λ n. denoted_type-map f h there here hc ht hw (suc k) t i >>= (λ s. check_limits (array_shape k n s))))
+      constant_value-map f h there here e hc hw i >>= (λ v. array_length v >>= (λ n. denoted_type-map f h there here hc ht hw (suc k) t i >>= (λ s. type_within_limits (array_shape k n s))))
   denoted_type-map f h there here hc ht hw k (record_type g rest) = λ i.
       ((λ j. denoted_further_fields there (suc k + group_constructor_count-map f h g j) (map_names f h rest)) ∙ denoted_further_fields-map f h there here hc ht hw (suc k + group_constructor_count g) rest) i
-      >>= (λ later. denoted_group_fields-map f h there here hc ht hw (suc k) later g i >>= (λ fs. check_limits (record_shape k fs)))
+      >>= (λ later. denoted_group_fields-map f h there here hc ht hw (suc k) later g i >>= (λ fs. type_within_limits (record_shape k fs)))
 
   pub denoted_group_fields-map : {N M V P W Q : Type 0} (f h : N → M) (there : Meanings M V P) (here : Meanings N W Q)
       → ((x : N) → constant_of (there.object_for (f x)) ≡ constant_of (here.object_for x)) → ((x : N) → type_of_name (there.object_for (f x)) ≡ type_of_name (here.object_for x)) → ((x : N) → there.written (h x) ≡ here.written x)

@@ -1,6 +1,6 @@
 -- A worked example of a constant: its value, its uses, and the declaration to which TRUE would be bound at a use.
 use Rattle.std.proofs.Common.{None, Some, codes, negsuc, refl, ◌≡◌}
-use Rattle.ob0_language_names.specs.Occurrences.{binds}
+use Rattle.ob0_language_names.specs.Occurrences.{ordinal_bound_at}
 use Rattle.ob0_language_names.specs.OccurrenceLookup.{resolve_at_occurrence}
 use Rattle.ob0_language_names.proofs.WorkedTrees.{least_constant}
 use Rattle.ob0_language_values.specs.Values.{number}
@@ -19,7 +19,7 @@ pub predeclared-no_value : value_of_constant least_constant 2 ≡ None
 unfolding value_of_constant
 predeclared-no_value = refl
 
-pub use-bound : binds least_constant 2 ≡ Some 7
+pub use-bound : ordinal_bound_at least_constant 2 ≡ Some 7
 use-bound = refl
 
 pub truth-seen : resolve_at_occurrence least_constant 2 (codes "TRUE") ≡ Some 2

@@ -2,10 +2,10 @@
 -- Rule: none; laws of edits and types.
 use Rattle.std.specs.Prelude.{All, IsTrue, Some, codes, false, true, ℕ, ◌≡◌, ◌≢◌}
 use Rattle.ob0_tree.specs.Tree.{Tree, factor, module_text}
-use Rattle.ob0_language_names.specs.NonFactorNames.{names_beside_factors}
+use Rattle.ob0_language_names.specs.NonFactorNames.{non_factor_names}
 use Rattle.ob0_language_names.specs.Inlining.{OccurrenceSet, inlined, inlined_everywhere, module_without}
 use Rattle.ob0_language_names.specs.Names.{Name, declared}
-use Rattle.ob0_language_names.specs.Occurrences.{Free, binds}
+use Rattle.ob0_language_names.specs.Occurrences.{Free, ordinal_bound_at}
 use Rattle.ob0_language_names.specs.Scopes.{numbered, renamed}
 use Rattle.ob0_language_names.specs.OccurrenceLookup.{resolve_at_occurrence}
 use Rattle.ob0_language_values.specs.Values.{Value, elements, fits_in_32_bits, members, number, truth}
@@ -48,7 +48,7 @@ pub record IsConstantWithLiteral
 -- States that each occurrence in the set `uses` is bound to the constant with ordinal `d`. If the constant's value `w`
 -- is TRUE or FALSE, this word must also mean the predeclared constant if it replaces one of these occurrences.
 pub record AreInlinableUses (m : Tree Name module_text) (d : ℕ) (w : Value) (uses : OccurrenceSet) : Type 0 where
-  pub bound : (k : ℕ) → uses k ≡ true → binds m k ≡ Some d
+  pub bound : (k : ℕ) → uses k ≡ true → ordinal_bound_at m k ≡ Some d
   pub seen : (k : ℕ) → uses k ≡ true → MeansPredeclaredTruth m k w
 
 -- States that a well-typed module remains well-typed if uses of a constant are replaced by the constant's literal. If
@@ -64,7 +64,7 @@ abbrev pub RemovingUnusedKeepsWellTyped : Type 0
 RemovingUnusedKeepsWellTyped =
     (m : Tree Name module_text) (d : ℕ) (w : Value) (v : Tree Name factor)
     → IsConstantWithLiteral m d w v
-    → ((k : ℕ) → binds m k ≢ Some d)
+    → ((k : ℕ) → ordinal_bound_at m k ≢ Some d)
     → WellTyped m
     → WellTyped (module_without d m)
 
@@ -75,7 +75,7 @@ abbrev pub InliningEverywhereKeepsWellTyped : Type 0
 InliningEverywhereKeepsWellTyped =
     (m : Tree Name module_text) (d : ℕ) (w : Value) (v : Tree Name factor)
     → IsConstantWithLiteral m d w v
-    → ((k : ℕ) → binds m k ≡ Some d → MeansPredeclaredTruth m k w)
+    → ((k : ℕ) → ordinal_bound_at m k ≡ Some d → MeansPredeclaredTruth m k w)
     → WellTyped m
     → WellTyped (inlined_everywhere m d v)
 
@@ -87,4 +87,4 @@ ConstantUsesAreFactors =
     (m : Tree Name module_text) (d : ℕ) (w : Value) (v : Tree Name factor)
     → IsConstantWithLiteral m d w v
     → WellTyped m
-    → All (λ l. l ≢ declared d) (names_beside_factors (numbered m))
+    → All (λ l. l ≢ declared d) (non_factor_names (numbered m))

@@ -127,14 +127,14 @@ unfoldable mutual
 
 -- returns the place of a designator: the place of the variable `x`, extended by the path of the selectors; Stuck if `x`
 -- isn't a variable
-unfoldable pub designate : {N P : Type 0}
+unfoldable pub designated_place : {N P : Type 0}
     → Meanings N Place P
     → Store
     → N
     → Tree N (items selector)
     → Outcome Place
 unfolding evaluate
-designate meaning store x path = do
+designated_place meaning store x path = do
   p ← object_place (meaning.object_for x)
   v ← or_stuck (read_place store p)
   steps ← evaluate_selectors meaning store v path

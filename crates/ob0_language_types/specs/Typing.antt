@@ -69,10 +69,10 @@ value_type (truth b) = Some boolean_shape
 value_type _ = None
 
 -- returns the type of a variable, a parameter or a constant; None for any other object
-abbrev pub object_type : {P : Type 0} → Option (Object Shape P) → Option Shape
-object_type (Some (a_variable s)) = Some s
-object_type (Some (a_constant v)) = value_type v
-object_type _ = None
+abbrev pub type_of_variable_or_constant : {P : Type 0} → Option (Object Shape P) → Option Shape
+type_of_variable_or_constant (Some (a_variable s)) = Some s
+type_of_variable_or_constant (Some (a_constant v)) = value_type v
+type_of_variable_or_constant _ = None
 
 -- returns the type of an array's elements, given the type of the array and the type of the index; None if the first
 -- type isn't an array type or the second isn't INTEGER
@@ -146,7 +146,7 @@ unfoldable mutual
   -- factor has an error
   pub type_of_factor : {N P : Type 0} → Meanings N Shape P → Tree N factor → Option Shape
   type_of_factor meaning (designator x path) = do
-    s ← object_type (meaning.object_for x)
+    s ← type_of_variable_or_constant (meaning.object_for x)
     type_after_selectors meaning s path
   type_of_factor meaning (integer n) = Some integer_shape
   type_of_factor meaning (parenthesised e) = type_of meaning e
@@ -239,8 +239,8 @@ abbrev mutual
 
 -- returns the type `s` if it has at most 65,536 scalars and its arrays and records are nested at most 100 deep,
 -- otherwise None
-abbrev pub check_limits : Shape → Option Shape
-check_limits s =
+abbrev pub type_within_limits : Shape → Option Shape
+type_within_limits s =
     if nat_le (scalars s) max_scalars && nat_le (depth s) max_depth then Some s else None
 
 -- Returns the number of words ARRAY and RECORD in a type's text.
@@ -285,11 +285,11 @@ unfoldable mutual
     v ← constant_value meaning e
     n ← array_length v
     s ← denoted_type meaning (suc k) t
-    check_limits (array_shape k n s)
+    type_within_limits (array_shape k n s)
   denoted_type meaning k (record_type g rest) = do
     later ← denoted_further_fields meaning (suc k + group_constructor_count g) rest
     fs ← denoted_group_fields meaning (suc k) later g
-    check_limits (record_shape k fs)
+    type_within_limits (record_shape k fs)
 
   -- Returns the fields of a group, followed by the fields `later`. Returns None if the group's type
   -- has an error. `k` is the number of words ARRAY and RECORD before the group.

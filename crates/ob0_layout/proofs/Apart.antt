@@ -13,7 +13,7 @@ use Rattle.ob0_scan.specs.declared.lexeme.TokenKind.{TokenKind}
 use Rattle.ob0_scan.specs.declared.lexeme.TokenKind.TheVariants as token
 use Rattle.ob0_scan.specs.declared.lexeme.LexemeKind.{LexemeKind}
 use Rattle.ob0_scan.specs.declared.lexeme.LexemeKind.TheVariants as lexeme
-use Rattle.ob0_scan.specs.Classes.{symbol_text, is_space, IsRun, IsLexemeOfKind}
+use Rattle.ob0_scan.specs.Classes.{symbol_text, is_space, IsNonEmptySequenceOf, IsLexemeOfKind}
 use Rattle.ob0_scan.specs.Lexed.{Lexeme, text_of_lexemes}
 use Rattle.ob0_scan.specs.Ends.{continues_symbol, continues_lexeme, EachEndsBeforeNext}
 use Rattle.ob0_scan.specs.TextWithTokens.{span_from, words_of_lexemes}
@@ -117,7 +117,7 @@ token_first (token.Symbol s) text b h = ap (λ t. get_or t 0 0 == 42) b ∙ symb
 -- a gap that separates a lexeme of a kind from one that begins with this byte
 data Fits (k : LexemeKind) (first : ℕ) : List ℕ → Type 0 where
   directly : continues_lexeme k first ≡ false → Fits k first []
-  by_space : {x : ℕ} {xs : List ℕ} → Quiet x → IsRun is_space (x ∷ xs) → Fits k first (x ∷ xs)
+  by_space : {x : ℕ} {xs : List ℕ} → Quiet x → IsNonEmptySequenceOf is_space (x ∷ xs) → Fits k first (x ∷ xs)
 
 either_true : (x y : Bool) → (x || y) ≡ true → (x ≡ true) ⊎ (y ≡ true)
 either_true true y h = inl refl

@@ -62,10 +62,10 @@ fn add_expression_roles(out: &mut Vec<LineRole>, e: &Expression) -> Result<(), A
 fn add_compound_roles(out: &mut Vec<LineRole>, c: &CompoundExpression) -> Result<(), AllocError>
     ensures { IfOk result (λ _. out.new.items ≡ out.old.items ++ line_roles 0 (compound_of c.now)) }
 {
-    add_simple_roles(out, &c.left)?;
+    add_simple_expression_roles(out, &c.left)?;
     if let Some(compared) = &c.compared {
         add_plain_role(out)?;
-        add_simple_roles(out, &compared.right)?;
+        add_simple_expression_roles(out, &compared.right)?;
     }
     Ok(())
 }
@@ -82,7 +82,10 @@ fn add_sign_role(out: &mut Vec<LineRole>, sign: Option<Sign>) -> Result<(), Allo
 
 /// Appends the roles of a simple expression's tokens.
 #[cycle(expressions)]
-fn add_simple_roles(out: &mut Vec<LineRole>, s: &SimpleExpression) -> Result<(), AllocError>
+fn add_simple_expression_roles(
+    out: &mut Vec<LineRole>,
+    s: &SimpleExpression,
+) -> Result<(), AllocError>
     ensures { IfOk result (λ _. out.new.items ≡ out.old.items ++ line_roles 0 (simple_of s.now)) }
 {
     add_sign_role(out, s.sign)?;

@@ -57,11 +57,11 @@ repeat_kinds (suc n) ks = ks ++ repeat_kinds n ks
 pub record ExpectedStops : Type 0 where
   pub empty : DescendsKinds [] (Expects 0 (expected.Word reserved.Module))
   -- `MODULE M; BEGIN x = 1 END M.`: END is expected at `=`.
-  pub equals : DescendsKinds
+  pub equals_for_becomes : DescendsKinds
       (module_head ++ (reserved_kind reserved.Begin ∷ identifier_kind ∷ symbol_kind symbol.Equal ∷ integer_kind ∷ module_end))
       (Expects 5 (expected.Word reserved.End))
   -- `MODULE M; BEGIN x[0] END M.`: `:=` is expected at END.
-  pub selected : DescendsKinds (module_head
+  pub selector_without_becomes : DescendsKinds (module_head
       ++ (reserved_kind reserved.Begin
       ∷ identifier_kind
       ∷ symbol_kind symbol.LeftBracket
@@ -77,14 +77,14 @@ pub record ExpectedStops : Type 0 where
       ++ (reserved_kind reserved.Var ∷ identifier_kind ∷ symbol_kind symbol.Colon ∷ symbol_kind symbol.Semicolon ∷ module_end))
       (Expects 6 expected.Type)
   -- `MODULE M; END M. x`: the end of the text is expected at `x`.
-  pub following_end : DescendsKinds (module_head ++ (module_end ++ (identifier_kind ∷ [])))
+  pub token_after_module : DescendsKinds (module_head ++ (module_end ++ (identifier_kind ∷ [])))
       (Expects 6 expected.EndOfText)
   -- `MODULE M; BEGIN WriteLn END M`: a full stop is expected at the end of the text.
-  pub no_dot : DescendsKinds
+  pub no_full_stop : DescendsKinds
       (module_head ++ (reserved_kind reserved.Begin ∷ identifier_kind ∷ reserved_kind reserved.End ∷ identifier_kind ∷ []))
       (Expects 7 (expected.Symbol symbol.Dot))
   -- `MODULE M; VAR UNTIL: INTEGER; END M.`: END is expected at UNTIL.
-  pub reserved_name : DescendsKinds (module_head
+  pub reserved_word_as_name : DescendsKinds (module_head
       ++ (reserved_kind reserved.Var
       ∷ reserved_kind reserved.Until
       ∷ symbol_kind symbol.Colon
@@ -92,7 +92,7 @@ pub record ExpectedStops : Type 0 where
       ∷ symbol_kind symbol.Semicolon
       ∷ module_end)) (Expects 4 (expected.Word reserved.End))
   -- `MODULE M; BEGIN WriteLn END M.`: the descent reads the whole text.
-  pub whole : DescendsKinds (module_head ++ (reserved_kind reserved.Begin ∷ identifier_kind ∷ module_end)) Done
+  pub whole_module : DescendsKinds (module_head ++ (reserved_kind reserved.Begin ∷ identifier_kind ∷ module_end)) Done
 
 -- States that the descent stops at the 101st of 101 nested constructs, in three example texts: with
 -- IF statements, with procedures and with array types.

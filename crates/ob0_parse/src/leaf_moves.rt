@@ -49,7 +49,7 @@ fn move_expression(e: &mut Expression, by: LeafMove)
 fn move_compound(c: &mut CompoundExpression, by: LeafMove)
     ensures { compound_of c.new ≡ moved_tree by (compound_of c.old) }
 {
-    move_simple(&mut c.left, by);
+    move_simple_expression(&mut c.left, by);
     move_comparison_if_any(&mut c.compared, by);
 }
 
@@ -69,12 +69,12 @@ fn move_comparison_if_any(c: &mut Option<Box<Comparison>>, by: LeafMove)
 fn move_comparison(c: &mut Comparison, by: LeafMove)
     ensures { comparison_of c.new ≡ moved_tree by (comparison_of c.old) }
 {
-    move_simple(&mut c.right, by);
+    move_simple_expression(&mut c.right, by);
 }
 
 /// Applies the move `by` to each token index in a simple expression.
 #[cycle(expressions)]
-fn move_simple(s: &mut SimpleExpression, by: LeafMove)
+fn move_simple_expression(s: &mut SimpleExpression, by: LeafMove)
     ensures { simple_of s.new ≡ moved_tree by (simple_of s.old) }
 {
     move_term(&mut s.first, by);

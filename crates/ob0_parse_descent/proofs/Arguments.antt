@@ -7,7 +7,7 @@ use Rattle.ob0_scan.specs.declared.lexeme.Token.{Token}
 use Rattle.ob0_tree.specs.Lexeme.{Terminal, Name, Number, WordOrSymbol, EndOfText}
 use Rattle.ob0_tree.specs.Tree.{arguments, further_argument, expression, simple, term, factor, compares, sum, product, designator, integer, parenthesised, negation, no_arguments, some_arguments, item, items, Tree, spell, single_token}
 use Rattle.ob0_parse_descent.specs.Follow.{NextHasRank, opens_expression}
-use Rattle.ob0_parse_descent.specs.Reading.{rest, terminal_or_end, ProductionPart, token, nonterminal, BeginsWithParts, HaveSameHead, StopsAlike, IsReadTree, FailsToRead, ItemFails, IsReadList}
+use Rattle.ob0_parse_descent.specs.Reading.{rest, terminal_or_end, ProductionPart, token, nonterminal, BeginsWithParts, HaveSameHead, DescentsEndWithSameStop, IsReadTree, FailsToRead, ItemFails, IsReadList}
 use Rattle.ob0_parse_descent.specs.Descent.{parts, symbol_part, is_expression_next}
 use Rattle.ob0_parse_descent.proofs.Descent.{both, by, read_mark, read_led}
 use Rattle.ob0_parse_descent.specs.declared.refusal.ParseRefusal.{ParseRefusal}
@@ -65,7 +65,7 @@ true_false p q = let e = sym p ∙ q in cc
 
 -- The token after `(` determines the production of the arguments.
 arguments_read : {room : ℕ} {ts : List Token} {at : ℕ} {b : Bool} → is_expression_next (rest ts (at + 1)) ≡ b → rest ts at ≡ WordOrSymbol (kind.Symbol symbol.LeftParen) ∷ rest ts (at + 1)
-    → StopsAlike (nonterminal (item arguments) room ∷ []) (if b then nonterminal expression room ∷ nonterminal (items further_argument) room ∷ token (kind.Symbol symbol.RightParen) ∷ [] else token (kind.Symbol symbol.RightParen) ∷ []) ts at (at + 1)
+    → DescentsEndWithSameStop (nonterminal (item arguments) room ∷ []) (if b then nonterminal expression room ∷ nonterminal (items further_argument) room ∷ token (kind.Symbol symbol.RightParen) ∷ [] else token (kind.Symbol symbol.RightParen) ∷ []) ts at (at + 1)
 arguments_read {room = room} {ts = ts} {at = at} {b = true} e here = read_led (nonterminal expression room ∷ nonterminal (items further_argument) room ∷ token (kind.Symbol symbol.RightParen) ∷ [])
     (ap (λ b. if b then parts (symbol_part symbol.LeftParen ∷ nonterminal expression room ∷ nonterminal (items further_argument) room ∷ symbol_part symbol.RightParen ∷ []) else parts (symbol_part symbol.LeftParen ∷ symbol_part symbol.RightParen ∷ [])) e) here
 arguments_read {room = room} {ts = ts} {at = at} {b = false} e here = read_led (token (kind.Symbol symbol.RightParen) ∷ [])

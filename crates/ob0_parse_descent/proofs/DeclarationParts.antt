@@ -9,7 +9,7 @@ use Rattle.ob0_tree.specs.Lexeme.{Terminal, Name, WordOrSymbol, EndOfText}
 use Rattle.ob0_tree.specs.Tree.{formals, further_section, constant, constants, type_definition, type_definitions, variable, variables, procedure, body, expression, names, written_type, fields, section, block, module_text, some_fields, listed, no_formals, some_formals, value_section, variable_section, declares_constant, declares_type, declares_variable, declares_procedure, declares, forms_block, is_module, item, items, maybe, Tree, spell, single_token}
 use Rattle.ob0_tree.specs.Places.{index_terminal}
 use Rattle.ob0_parse_descent.specs.Follow.{rank, EndsConstruct, NextHasRank}
-use Rattle.ob0_parse_descent.specs.Reading.{rest, ProductionPart, token, name, nonterminal, text_end, BeginsWithParts, HaveSameHead, StopsAlike, IsReadTree, FailsToRead, ItemFails, IsOtherToken, IsNoName, TellsIfTokenAt, TellsIfNameAt, TellsIfSectionMayBegin, IsReadList}
+use Rattle.ob0_parse_descent.specs.Reading.{rest, ProductionPart, token, name, nonterminal, text_end, BeginsWithParts, HaveSameHead, DescentsEndWithSameStop, IsReadTree, FailsToRead, ItemFails, IsTokenOtherThan, IsNotIdentifier, TellsIfTokenAt, TellsIfIdentifierAt, TellsIfSectionMayBegin, IsReadList}
 use Rattle.ob0_parse_descent.specs.Descent.{parts, symbol_part, is_section_next, chosen_production, made, deep}
 use Rattle.ob0_parse_descent.specs.declared.refusal.Expected.TheVariants as expected
 use Rattle.ob0_parse_descent.proofs.Descent.{both, by, read_name, read_mark, read_made, read_led, read_opened, read_back, unmade}
@@ -27,7 +27,7 @@ use Rattle.ob0_parse_descent.proofs.Apart.{name_not_mark}
 -- Lemmas on sections of parameters: `[VAR] names ":" type`.
 
 -- If names, a colon and a type were read as a group of fields, the descent reads these three parts.
-typed_read : {room : ℕ} {ts : List Token} {at n : ℕ} (ns : Tree ℕ names) (t : Tree ℕ written_type) → IsReadTree (some_fields ns t) room ts at n → StopsAlike (typed_following room) [] ts at n
+typed_read : {room : ℕ} {ts : List Token} {at n : ℕ} (ns : Tree ℕ names) (t : Tree ℕ written_type) → IsReadTree (some_fields ns t) room ts at n → DescentsEndWithSameStop (typed_following room) [] ts at n
 typed_read {room = room} ns t p = read_back (chosen_fields room ns _ (p.spelled ∙ append_assoc (spell ns) _ _)) p.reads
 
 pub chosen_typed : {xs : List (Terminal ℕ)} (room : ℕ) (ns : Tree ℕ names) (z : List (Terminal ℕ)) → xs ≡ spell ns ++ z → chosen_production section room xs ≡ parts (typed_following room)
@@ -43,11 +43,11 @@ taken_value_section {room = room} ns t p = record { spelled = p.spelled; shallow
 pub taken_variable_section : {room : ℕ} {ts : List Token} {at n : ℕ} (ns : Tree ℕ names) (t : Tree ℕ written_type) → rest ts at ≡ WordOrSymbol (kind.ReservedWord reserved.Var) ∷ rest ts (at + 1) → IsReadTree (some_fields ns t) room ts (at + 1) n → IsReadTree (variable_section ns t) room ts at n
 taken_variable_section {room = room} ns t here p = record { spelled = here ∙ ap (λ y. WordOrSymbol (kind.ReservedWord reserved.Var) ∷ y) p.spelled; shallow = p.shallow; only = λ u z w h s e. only_zero (variable_section ns t) u z w refl s e; reads = by (read_led (typed_following room) refl here) (typed_read ns t p); within = p.within; forward = omega (arith, p.forward) }
 
-value_parts : (room : ℕ) (ts : List Token) (at : ℕ) (w : List (Terminal ℕ)) → IsOtherToken (WordOrSymbol (kind.ReservedWord reserved.Var)) ts at → HaveSameHead (rest ts at) w → BeginsWithParts (nonterminal section room ∷ []) w → BeginsWithParts (typed_following room) w
+value_parts : (room : ℕ) (ts : List Token) (at : ℕ) (w : List (Terminal ℕ)) → IsTokenOtherThan (WordOrSymbol (kind.ReservedWord reserved.Var)) ts at → HaveSameHead (rest ts at) w → BeginsWithParts (nonterminal section room ∷ []) w → BeginsWithParts (typed_following room) w
 value_parts room ts at w o h (value_section ns t, z, e, n, s, b) = (ns, _, e ∙ append_assoc (spell ns) _ z, unnested ns, omega arith, (_, refl, (t, z, refl, n, s, tt)))
 value_parts room ts at w o h (variable_section ns t, z, e, n, s, b) = absurd (o.differs (head_of (sym o.here ∙ h.is) ∙ head_of (sym h.alike ∙ e)))
 
-pub value_section_fails : {room : ℕ} {ts : List Token} {at : ℕ} {e : ParseRefusal} → IsOtherToken (WordOrSymbol (kind.ReservedWord reserved.Var)) ts at → FailsToRead (typed_following room) ts at e → FailsToRead (nonterminal section room ∷ []) ts at e
+pub value_section_fails : {room : ℕ} {ts : List Token} {at : ℕ} {e : ParseRefusal} → IsTokenOtherThan (WordOrSymbol (kind.ReservedWord reserved.Var)) ts at → FailsToRead (typed_following room) ts at e → FailsToRead (nonterminal section room ∷ []) ts at e
 value_section_fails {room = room} {ts = ts} {at = at} o q = fails_weaken {qs = typed_following room} (read_made (ap (λ w. chosen_production section room w) o.here ∙ chosen_value room o.fault (rest ts (at + 1)) o.differs)) (λ w h b. value_parts room ts at w o h b) q
 
 variable_parts : (room : ℕ) (w : List (Terminal ℕ)) → BeginsWithParts (nonterminal section room ∷ []) (WordOrSymbol (kind.ReservedWord reserved.Var) ∷ w) → BeginsWithParts (typed_following room) w
@@ -63,7 +63,7 @@ abbrev pub formals_following : ℕ → List ProductionPart
 formals_following room = nonterminal section room ∷ nonterminal (items further_section) room ∷ token (kind.Symbol symbol.RightParen) ∷ []
 
 -- The token after `(` determines the production of formal parameters.
-formals_read : {room : ℕ} {ts : List Token} {at : ℕ} {b : Bool} → is_section_next (rest ts (at + 1)) ≡ b → rest ts at ≡ WordOrSymbol (kind.Symbol symbol.LeftParen) ∷ rest ts (at + 1) → StopsAlike (nonterminal (item formals) room ∷ []) (if b then formals_following room else token (kind.Symbol symbol.RightParen) ∷ []) ts at (at + 1)
+formals_read : {room : ℕ} {ts : List Token} {at : ℕ} {b : Bool} → is_section_next (rest ts (at + 1)) ≡ b → rest ts at ≡ WordOrSymbol (kind.Symbol symbol.LeftParen) ∷ rest ts (at + 1) → DescentsEndWithSameStop (nonterminal (item formals) room ∷ []) (if b then formals_following room else token (kind.Symbol symbol.RightParen) ∷ []) ts at (at + 1)
 formals_read {room = room} {b = true} e here = read_led (formals_following room) (ap (λ c. if c then parts (symbol_part symbol.LeftParen ∷ formals_following room) else parts (symbol_part symbol.LeftParen ∷ symbol_part symbol.RightParen ∷ [])) e) here
 formals_read {room = room} {b = false} e here = read_led (token (kind.Symbol symbol.RightParen) ∷ []) (ap (λ c. if c then parts (symbol_part symbol.LeftParen ∷ formals_following room) else parts (symbol_part symbol.LeftParen ∷ symbol_part symbol.RightParen ∷ [])) e) here
 
@@ -74,10 +74,10 @@ no_section x w p o = refl
 
 -- If an identifier is next, a section of formal parameters may begin. The next lemmas prove the
 -- other answers of `section_may_begin`.
-pub name_is_section : (ts : List Token) (at : ℕ) → TellsIfNameAt ts at true → TellsIfSectionMayBegin ts at true
+pub name_is_section : (ts : List Token) (at : ℕ) → TellsIfIdentifierAt ts at true → TellsIfSectionMayBegin ts at true
 name_is_section ts at h = (record { fault = Name at; here = h.0; differs = λ e. cc; within = omega (arith, h.1) }, ap is_section_next h.0)
 
-pub word_is_section : {ts : List Token} {at : ℕ} (b : Bool) → IsNoName ts at → TellsIfTokenAt (kind.ReservedWord reserved.Var) ts at b → TellsIfSectionMayBegin ts at b
+pub word_is_section : {ts : List Token} {at : ℕ} (b : Bool) → IsNotIdentifier ts at → TellsIfTokenAt (kind.ReservedWord reserved.Var) ts at b → TellsIfSectionMayBegin ts at b
 word_is_section true unnamed h = (record { fault = WordOrSymbol (kind.ReservedWord reserved.Var); here = h.0; differs = λ e. cc; within = omega (arith, h.1) }, ap is_section_next h.0)
 word_is_section false unnamed o = (unnamed, o)
 
@@ -85,18 +85,18 @@ pub section_next : (a : Tree ℕ section) (x : List (Terminal ℕ)) → is_secti
 section_next (value_section (listed k ks) t) x = refl
 section_next (variable_section ns t) x = refl
 
-no_parts : (room : ℕ) (ts : List Token) (at : ℕ) (w : List (Terminal ℕ)) → IsNoName ts at → IsOtherToken (WordOrSymbol (kind.ReservedWord reserved.Var)) ts at → HaveSameHead (rest ts at) w → BeginsWithParts (nonterminal (item formals) room ∷ []) (WordOrSymbol (kind.Symbol symbol.LeftParen) ∷ w) → BeginsWithParts (token (kind.Symbol symbol.RightParen) ∷ []) w
+no_parts : (room : ℕ) (ts : List Token) (at : ℕ) (w : List (Terminal ℕ)) → IsNotIdentifier ts at → IsTokenOtherThan (WordOrSymbol (kind.ReservedWord reserved.Var)) ts at → HaveSameHead (rest ts at) w → BeginsWithParts (nonterminal (item formals) room ∷ []) (WordOrSymbol (kind.Symbol symbol.LeftParen) ∷ w) → BeginsWithParts (token (kind.Symbol symbol.RightParen) ∷ []) w
 no_parts room ts at w unnamed o h (no_formals, z, e, n, s, b) = (z, tail_of e, tt)
 no_parts room ts at w unnamed o h (some_formals (value_section (listed k ks) t) fs, z, e, n, s, b) = absurd (unnamed.ranked (ap rank (head_of (sym unnamed.here ∙ h.is) ∙ head_of (sym h.alike ∙ tail_of e))))
 no_parts room ts at w unnamed o h (some_formals (variable_section ns t) fs, z, e, n, s, b) = absurd (o.differs (head_of (sym o.here ∙ h.is) ∙ head_of (sym h.alike ∙ tail_of e)))
 
-pub formals_fail_none : {room : ℕ} {ts : List Token} {at : ℕ} {e : ParseRefusal} → IsNoName ts (at + 1) → IsOtherToken (WordOrSymbol (kind.ReservedWord reserved.Var)) ts (at + 1) → rest ts at ≡ WordOrSymbol (kind.Symbol symbol.LeftParen) ∷ rest ts (at + 1) → FailsToRead (token (kind.Symbol symbol.RightParen) ∷ []) ts (at + 1) e → ItemFails formals room ts at e
+pub formals_fail_none : {room : ℕ} {ts : List Token} {at : ℕ} {e : ParseRefusal} → IsNotIdentifier ts (at + 1) → IsTokenOtherThan (WordOrSymbol (kind.ReservedWord reserved.Var)) ts (at + 1) → rest ts at ≡ WordOrSymbol (kind.Symbol symbol.LeftParen) ∷ rest ts (at + 1) → FailsToRead (token (kind.Symbol symbol.RightParen) ∷ []) ts (at + 1) e → ItemFails formals room ts at e
 formals_fail_none {room = room} {ts = ts} {at = at} unnamed o here q = record {
   is_here = subst (λ y. NextHasRank 6 y) (sym here) refl;
   fails = fails_following_alike {qs = token (kind.Symbol symbol.RightParen) ∷ []} (formals_read (ap is_section_next unnamed.here ∙ no_section unnamed.fault (rest ts (at + 1 + 1)) unnamed.ranked (λ e. o.differs (head_of (sym o.here ∙ unnamed.here) ∙ e))) here) here (λ w h b. no_parts room ts (at + 1) w unnamed o h b) q;
 }
 
-some_parts : (room : ℕ) (ts : List Token) (at : ℕ) (w : List (Terminal ℕ)) → IsOtherToken (WordOrSymbol (kind.Symbol symbol.RightParen)) ts at → HaveSameHead (rest ts at) w → BeginsWithParts (nonterminal (item formals) room ∷ []) (WordOrSymbol (kind.Symbol symbol.LeftParen) ∷ w) → BeginsWithParts (formals_following room) w
+some_parts : (room : ℕ) (ts : List Token) (at : ℕ) (w : List (Terminal ℕ)) → IsTokenOtherThan (WordOrSymbol (kind.Symbol symbol.RightParen)) ts at → HaveSameHead (rest ts at) w → BeginsWithParts (nonterminal (item formals) room ∷ []) (WordOrSymbol (kind.Symbol symbol.LeftParen) ∷ w) → BeginsWithParts (formals_following room) w
 some_parts room ts at w o h (no_formals, z, e, n, s, b) = absurd (o.differs (head_of (sym o.here ∙ h.is) ∙ head_of (sym h.alike ∙ tail_of e)))
 some_parts room ts at w o h (some_formals a fs, z, e, n, s, b) = (
   a,
@@ -107,7 +107,7 @@ some_parts room ts at w o h (some_formals a fs, z, e, n, s, b) = (
   (fs, WordOrSymbol (kind.Symbol symbol.RightParen) ∷ z, append_assoc (spell fs) (single_token (kind.Symbol symbol.RightParen)) z, omega arith, omega arith, (z, refl, tt)),
 )
 
-pub formals_fail : {room : ℕ} {ts : List Token} {at : ℕ} {e : ParseRefusal} → IsOtherToken (WordOrSymbol (kind.Symbol symbol.RightParen)) ts (at + 1) × (is_section_next (rest ts (at + 1)) ≡ true) → rest ts at ≡ WordOrSymbol (kind.Symbol symbol.LeftParen) ∷ rest ts (at + 1) → FailsToRead (formals_following room) ts (at + 1) e → ItemFails formals room ts at e
+pub formals_fail : {room : ℕ} {ts : List Token} {at : ℕ} {e : ParseRefusal} → IsTokenOtherThan (WordOrSymbol (kind.Symbol symbol.RightParen)) ts (at + 1) × (is_section_next (rest ts (at + 1)) ≡ true) → rest ts at ≡ WordOrSymbol (kind.Symbol symbol.LeftParen) ∷ rest ts (at + 1) → FailsToRead (formals_following room) ts (at + 1) e → ItemFails formals room ts at e
 formals_fail {room = room} {ts = ts} {at = at} o here q = record {
   is_here = subst (λ y. NextHasRank 6 y) (sym here) refl;
   fails = fails_following_alike {qs = formals_following room} (formals_read o.1 here) here (λ w h b. some_parts room ts (at + 1) w o.0 h b) q;
@@ -205,7 +205,7 @@ variable_fails {room = room} here q = record { is_here = subst (λ y. NextHasRan
 abbrev pub block_parts : ℕ → List ProductionPart
 block_parts room = nonterminal (maybe constants) room ∷ nonterminal (maybe type_definitions) room ∷ nonterminal (maybe variables) room ∷ nonterminal (items procedure) room ∷ nonterminal (maybe body) room ∷ []
 
-block_read : {room : ℕ} {ts : List Token} {at : ℕ} → StopsAlike (nonterminal block room ∷ []) (block_parts room) ts at at
+block_read : {room : ℕ} {ts : List Token} {at : ℕ} → DescentsEndWithSameStop (nonterminal block room ∷ []) (block_parts room) ts at at
 block_read = record { stops_as_following = λ o more r. made _ refl (made _ refl r) }
 
 block_only : {room : ℕ} {ts : List Token} {at i j k l n : ℕ} (cs : Tree ℕ (maybe constants)) (ds : Tree ℕ (maybe type_definitions)) (vs : Tree ℕ (maybe variables)) (ps : Tree ℕ (items procedure)) (b : Tree ℕ (maybe body)) → IsReadTree cs room ts at i → IsReadTree ds room ts i j → IsReadTree vs room ts j k → IsReadTree ps room ts k l → IsReadTree b room ts l n → (u : Tree ℕ block) (z w : List (Terminal ℕ)) → HaveSameHead (rest ts n) w → EndsConstruct 16 z → spell u ++ z ≡ ((spell cs ++ (spell ds ++ (spell vs ++ spell ps))) ++ spell b) ++ w → (u ≡ forms_block (declares cs ds vs ps) b) × (z ≡ w)

@@ -6,7 +6,7 @@ use Rattle.ob0_tree.specs.Lexeme.{Terminal, Name, Number, WordOrSymbol}
 use Rattle.ob0_tree.specs.Tree.{Item, item, items, maybe, Sort}
 use Rattle.ob0_parse_descent.specs.Follow.{rank, item_rank, NextHasRank}
 use Rattle.ob0_parse_descent.specs.Descent.{ProductionPart, token, name, number, nonterminal, parts, missing, too_deep, nested_choice, is_item_next, chosen_production, MatchesPart, Stop, Expects, Descends, done, taken, other, made, absent, deep}
-use Rattle.ob0_parse_descent.specs.Reading.{rest, StopsAlike}
+use Rattle.ob0_parse_descent.specs.Reading.{rest, DescentsEndWithSameStop}
 use Rattle.ob0_parse_descent.specs.declared.refusal.Expected.{Expected}
 
 -- ---- there is only one stop
@@ -60,52 +60,52 @@ same_stop (deep c) (made rs d q) = absurd (parts_deep (sym d ∙ c))
 same_stop (deep c) (absent d) = absurd (missing_deep (sym d ∙ c))
 same_stop (deep c) (deep d) = refl
 
-pub as_is : {qs : List ProductionPart} {ts : List Token} {at : ℕ} → StopsAlike qs qs ts at at
+pub as_is : {qs : List ProductionPart} {ts : List Token} {at : ℕ} → DescentsEndWithSameStop qs qs ts at at
 as_is = record { stops_as_following = λ o more r. r }
 
 -- If the descent reads one part and then other parts, it reads all of them.
-pub both : {p : ProductionPart} {qs rs : List ProductionPart} {ts : List Token} {a b c : ℕ} → StopsAlike (p ∷ []) [] ts a b → StopsAlike qs rs ts b c → StopsAlike (p ∷ qs) rs ts a c
+pub both : {p : ProductionPart} {qs rs : List ProductionPart} {ts : List Token} {a b c : ℕ} → DescentsEndWithSameStop (p ∷ []) [] ts a b → DescentsEndWithSameStop qs rs ts b c → DescentsEndWithSameStop (p ∷ qs) rs ts a c
 both {qs = qs} p q = record { stops_as_following = λ o more r. p.stops_as_following o (qs ++ more) (q.stops_as_following o more r) }
 
 -- If the descent reads some parts as other parts, and these as others again, it reads the first as
 -- the last.
-pub by : {ps qs rs : List ProductionPart} {ts : List Token} {a b c : ℕ} → StopsAlike ps qs ts a b → StopsAlike qs rs ts b c → StopsAlike ps rs ts a c
+pub by : {ps qs rs : List ProductionPart} {ts : List Token} {a b c : ℕ} → DescentsEndWithSameStop ps qs ts a b → DescentsEndWithSameStop qs rs ts b c → DescentsEndWithSameStop ps rs ts a c
 by p q = record { stops_as_following = λ o more r. p.stops_as_following o more (q.stops_as_following o more r) }
 
 -- Proves that the descent reads a part that is one token.
 
-read_part : {p : ProductionPart} {x : Terminal ℕ} {ts : List Token} {at next : ℕ} → MatchesPart p x → rest ts at ≡ x ∷ rest ts next → next ≡ at + 1 → StopsAlike (p ∷ []) [] ts at next
+read_part : {p : ProductionPart} {x : Terminal ℕ} {ts : List Token} {at next : ℕ} → MatchesPart p x → rest ts at ≡ x ∷ rest ts next → next ≡ at + 1 → DescentsEndWithSameStop (p ∷ []) [] ts at next
 read_part {p = p} {ts = ts} {at = at} {next = next} is here following = record {
   stops_as_following = λ o ps r.
       subst (λ w. Descends (p ∷ ps) at w o) (sym here) (taken is (subst (λ j. Descends ps j (rest ts next) o) following r));
 }
 
-pub read_token : {k : TokenKind} {ts : List Token} {at next : ℕ} → rest ts at ≡ WordOrSymbol k ∷ rest ts next → next ≡ at + 1 → StopsAlike (token k ∷ []) [] ts at next
+pub read_token : {k : TokenKind} {ts : List Token} {at next : ℕ} → rest ts at ≡ WordOrSymbol k ∷ rest ts next → next ≡ at + 1 → DescentsEndWithSameStop (token k ∷ []) [] ts at next
 read_token here following = read_part refl here following
 
-pub read_name : {n : ℕ} {ts : List Token} {at next : ℕ} → rest ts at ≡ Name n ∷ rest ts next → next ≡ at + 1 → StopsAlike (name ∷ []) [] ts at next
+pub read_name : {n : ℕ} {ts : List Token} {at next : ℕ} → rest ts at ≡ Name n ∷ rest ts next → next ≡ at + 1 → DescentsEndWithSameStop (name ∷ []) [] ts at next
 read_name {n = n} here following = read_part (n, refl) here following
 
-pub read_number : {n : ℕ} {ts : List Token} {at next : ℕ} → rest ts at ≡ Number n ∷ rest ts next → next ≡ at + 1 → StopsAlike (number ∷ []) [] ts at next
+pub read_number : {n : ℕ} {ts : List Token} {at next : ℕ} → rest ts at ≡ Number n ∷ rest ts next → next ≡ at + 1 → DescentsEndWithSameStop (number ∷ []) [] ts at next
 read_number {n = n} here following = read_part (n, refl) here following
 
 -- If a parser function has read this reserved word or symbol, the descent reads it.
-pub read_mark : {k : TokenKind} {ts : List Token} {at next : ℕ} → (rest ts at ≡ WordOrSymbol k ∷ rest ts next) × (at < length ts) × (next ≡ at + 1) → StopsAlike (token k ∷ []) [] ts at next
+pub read_mark : {k : TokenKind} {ts : List Token} {at next : ℕ} → (rest ts at ≡ WordOrSymbol k ∷ rest ts next) × (at < length ts) × (next ≡ at + 1) → DescentsEndWithSameStop (token k ∷ []) [] ts at next
 read_mark h = read_token h.0 h.2
 
 -- The descent reads a construct as the parts of the production that is chosen here.
-pub read_made : {s : Sort} {room : ℕ} {ts : List Token} {at : ℕ} {qs : List ProductionPart} → chosen_production s room (rest ts at) ≡ parts qs → StopsAlike (nonterminal s room ∷ []) qs ts at at
+pub read_made : {s : Sort} {room : ℕ} {ts : List Token} {at : ℕ} {qs : List ProductionPart} → chosen_production s room (rest ts at) ≡ parts qs → DescentsEndWithSameStop (nonterminal s room ∷ []) qs ts at at
 read_made {qs = qs} c = record { stops_as_following = λ o more r. made qs c r }
 
 -- The descent reads a construct whose production begins with this token as the parts after that
 -- token.
-pub read_led : {s : Sort} {room : ℕ} {k : TokenKind} {ts : List Token} {at : ℕ} (qs : List ProductionPart) → chosen_production s room (WordOrSymbol k ∷ rest ts (at + 1)) ≡ parts (token k ∷ qs) → rest ts at ≡ WordOrSymbol k ∷ rest ts (at + 1) → StopsAlike (nonterminal s room ∷ []) qs ts at (at + 1)
+pub read_led : {s : Sort} {room : ℕ} {k : TokenKind} {ts : List Token} {at : ℕ} (qs : List ProductionPart) → chosen_production s room (WordOrSymbol k ∷ rest ts (at + 1)) ≡ parts (token k ∷ qs) → rest ts at ≡ WordOrSymbol k ∷ rest ts (at + 1) → DescentsEndWithSameStop (nonterminal s room ∷ []) qs ts at (at + 1)
 read_led {s = s} {room = room} {k = k} qs c here =
     by (read_made (ap (λ w. chosen_production s room w) here ∙ c)) (both (read_token here refl) as_is)
 
 -- The descent reads a construct that counts for nesting as the parts after its first token, with
 -- one level less.
-pub read_opened : {s : Sort} {room : ℕ} {k : TokenKind} {ts : List Token} {at : ℕ} (inner : ℕ) (f : ℕ → List ProductionPart) → chosen_production s room (WordOrSymbol k ∷ rest ts (at + 1)) ≡ nested_choice room (λ n. token k ∷ f n) → room ≡ inner + 1 → rest ts at ≡ WordOrSymbol k ∷ rest ts (at + 1) → StopsAlike (nonterminal s room ∷ []) (f inner) ts at (at + 1)
+pub read_opened : {s : Sort} {room : ℕ} {k : TokenKind} {ts : List Token} {at : ℕ} (inner : ℕ) (f : ℕ → List ProductionPart) → chosen_production s room (WordOrSymbol k ∷ rest ts (at + 1)) ≡ nested_choice room (λ n. token k ∷ f n) → room ≡ inner + 1 → rest ts at ≡ WordOrSymbol k ∷ rest ts (at + 1) → DescentsEndWithSameStop (nonterminal s room ∷ []) (f inner) ts at (at + 1)
 read_opened {k = k} inner f c d here =
     let one : inner + 1 ≡ suc inner = omega arith in
     read_led (f inner) (c ∙ ap (λ n. nested_choice n (λ m. token k ∷ f m)) (d ∙ one)) here
@@ -121,16 +121,16 @@ no_next i w lacks false e = e
 no_next i [] lacks true e = refl
 no_next i (x ∷ w) lacks true e = absurd (lacks (eqb-true (rank x) (item_rank i) e))
 
-pub read_more : {i : Item} {room : ℕ} {ts : List Token} {at : ℕ} → NextHasRank (item_rank i) (rest ts at) → StopsAlike (nonterminal (items i) room ∷ []) (nonterminal (item i) room ∷ nonterminal (items i) room ∷ []) ts at at
+pub read_more : {i : Item} {room : ℕ} {ts : List Token} {at : ℕ} → NextHasRank (item_rank i) (rest ts at) → DescentsEndWithSameStop (nonterminal (items i) room ∷ []) (nonterminal (item i) room ∷ nonterminal (items i) room ∷ []) ts at at
 read_more {i = i} {room = room} {ts = ts} {at = at} s = read_made (ap (λ b. if b then parts (nonterminal (item i) room ∷ nonterminal (items i) room ∷ []) else parts []) (next_item i (rest ts at) s))
 
-pub read_end : {i : Item} {room : ℕ} {ts : List Token} {at : ℕ} → ¬ NextHasRank (item_rank i) (rest ts at) → StopsAlike (nonterminal (items i) room ∷ []) [] ts at at
+pub read_end : {i : Item} {room : ℕ} {ts : List Token} {at : ℕ} → ¬ NextHasRank (item_rank i) (rest ts at) → DescentsEndWithSameStop (nonterminal (items i) room ∷ []) [] ts at at
 read_end {i = i} {room = room} {ts = ts} {at = at} lacks = read_made (ap (λ b. if b then parts (nonterminal (item i) room ∷ nonterminal (items i) room ∷ []) else parts []) (no_next i (rest ts at) lacks _ refl))
 
-pub read_one : {i : Item} {room : ℕ} {ts : List Token} {at : ℕ} → NextHasRank (item_rank i) (rest ts at) → StopsAlike (nonterminal (maybe i) room ∷ []) (nonterminal (item i) room ∷ []) ts at at
+pub read_one : {i : Item} {room : ℕ} {ts : List Token} {at : ℕ} → NextHasRank (item_rank i) (rest ts at) → DescentsEndWithSameStop (nonterminal (maybe i) room ∷ []) (nonterminal (item i) room ∷ []) ts at at
 read_one {i = i} {room = room} {ts = ts} {at = at} s = read_made (ap (λ b. if b then parts (nonterminal (item i) room ∷ []) else parts []) (next_item i (rest ts at) s))
 
-pub read_none : {i : Item} {room : ℕ} {ts : List Token} {at : ℕ} → ¬ NextHasRank (item_rank i) (rest ts at) → StopsAlike (nonterminal (maybe i) room ∷ []) [] ts at at
+pub read_none : {i : Item} {room : ℕ} {ts : List Token} {at : ℕ} → ¬ NextHasRank (item_rank i) (rest ts at) → DescentsEndWithSameStop (nonterminal (maybe i) room ∷ []) [] ts at at
 read_none {i = i} {room = room} {ts = ts} {at = at} lacks = read_made (ap (λ b. if b then parts (nonterminal (item i) room ∷ []) else parts []) (no_next i (rest ts at) lacks _ refl))
 
 -- If the descent reads a construct, it reads the parts of the construct's production there.
@@ -141,7 +141,7 @@ unmade {ps = ps} {i = i} {tokens = tokens} {o = o} c (made rs d r) = subst (λ l
 unmade c (absent d) = absurd (parts_missing (sym c ∙ d))
 unmade c (deep d) = absurd (parts_deep (sym c ∙ d))
 
-pub read_back : {s : Sort} {room : ℕ} {qs rs : List ProductionPart} {ts : List Token} {at next : ℕ} → chosen_production s room (rest ts at) ≡ parts qs → StopsAlike (nonterminal s room ∷ []) rs ts at next → StopsAlike qs rs ts at next
+pub read_back : {s : Sort} {room : ℕ} {qs rs : List ProductionPart} {ts : List Token} {at next : ℕ} → chosen_production s room (rest ts at) ≡ parts qs → DescentsEndWithSameStop (nonterminal s room ∷ []) rs ts at next → DescentsEndWithSameStop qs rs ts at next
 read_back c p = record { stops_as_following = λ o more r. unmade c (p.stops_as_following o more r) }
 
 pub past_name : {n i : ℕ} {ps : List ProductionPart} {xs w : List (Terminal ℕ)} {o : Stop} → xs ≡ Name n ∷ w → Descends (name ∷ ps) i xs o → Descends ps (i + 1) w o

@@ -17,7 +17,7 @@ use Rattle.ob0_tree.specs.Lexeme.{Terminal, Name, Number, WordOrSymbol, EndOfTex
 use Rattle.ob0_tree.specs.Tree.{Item, selector, multiplier, addend, comparison, Sort, item, items, maybe, expression, simple, term, factor, Tree, none, one, compares, relates, sum, adds, product, multiplies, designator, integer, parenthesised, negation, field, index, spell, single_token}
 use Rattle.ob0_tree.specs.Places.{index_terminal}
 use Rattle.ob0_parse_descent.specs.Follow.{rank, kind_rank, item_rank, item_level, EndsConstruct, NextHasRank}
-use Rattle.ob0_parse_descent.specs.Reading.{rest, terminal_or_end, ProductionPart, token, name, nonterminal, BeginsWithParts, HaveSameHead, CantBegin, StopsAlike, IsReadTree, DescentStopsWith, FailsToRead, IsSignAt, ItemFails, HasNoSign, IsOtherToken}
+use Rattle.ob0_parse_descent.specs.Reading.{rest, terminal_or_end, ProductionPart, token, name, nonterminal, BeginsWithParts, HaveSameHead, CantBegin, DescentsEndWithSameStop, IsReadTree, DescentStopsWith, FailsToRead, IsSignAt, ItemFails, HasNoSign, IsTokenOtherThan}
 use Rattle.ob0_parse_descent.specs.declared.refusal.ParseRefusal.{ParseRefusal}
 use Rattle.ob0_parse_descent.specs.declared.refusal.ParseRefusal.TheVariants.{Syntax, TooDeep}
 use Rattle.ob0_parse_descent.proofs.Unique.{not_here, starts_item, stops_items, stops_maybe, stops_less, below, regroup, unsigned_term, tail_of, head_of, relation_rank, add_rank, multiply_rank, same_signs, same_relation, same_add, same_multiply, mark_of, name_of}
@@ -60,7 +60,7 @@ multiply_mark_lexeme multiply_operator.Modulo i z = refl
 multiply_mark_lexeme multiply_operator.And i z = refl
 
 -- The descent reads an item that is an operator and its right side.
-read_operator : {i : Item} {s : Sort} {room : ℕ} {ts : List Token} {at : ℕ} (j k : TokenKind) → j ≡ k → ((z : List (Terminal ℕ)) → index_terminal at k ∷ z ≡ WordOrSymbol k ∷ z) → chosen_production (item i) room (WordOrSymbol k ∷ rest ts (at + 1)) ≡ operation_choice s room (WordOrSymbol k ∷ rest ts (at + 1)) → rest ts at ≡ index_terminal at j ∷ rest ts (at + 1) → StopsAlike (nonterminal (item i) room ∷ []) (nonterminal s room ∷ []) ts at (at + 1)
+read_operator : {i : Item} {s : Sort} {room : ℕ} {ts : List Token} {at : ℕ} (j k : TokenKind) → j ≡ k → ((z : List (Terminal ℕ)) → index_terminal at k ∷ z ≡ WordOrSymbol k ∷ z) → chosen_production (item i) room (WordOrSymbol k ∷ rest ts (at + 1)) ≡ operation_choice s room (WordOrSymbol k ∷ rest ts (at + 1)) → rest ts at ≡ index_terminal at j ∷ rest ts (at + 1) → DescentsEndWithSameStop (nonterminal (item i) room ∷ []) (nonterminal s room ∷ []) ts at (at + 1)
 read_operator {s = s} {room = room} {ts = ts} {at = at} j k is single_token c here = read_led (nonterminal s room ∷ []) c (subst (λ y. rest ts at ≡ index_terminal at y ∷ rest ts (at + 1)) is here ∙ single_token (rest ts (at + 1)))
 
 -- Lemmas on expressions: `simple [relation simple]`.
@@ -119,10 +119,10 @@ chosen_unsigned room (WordOrSymbol (kind.Symbol symbol.Plus) ∷ w) u = absurd (
 chosen_unsigned room (WordOrSymbol (kind.Symbol symbol.Minus) ∷ w) u = absurd (u.minus w refl)
 chosen_unsigned room w u = refl
 
-simple_read : {room : ℕ} {ts : List Token} {at start : ℕ} (g : Option Sign) → IsSignAt ts at g start → StopsAlike (nonterminal simple room ∷ []) (nonterminal term room ∷ nonterminal (items addend) room ∷ []) ts at start
+simple_read : {room : ℕ} {ts : List Token} {at start : ℕ} (g : Option Sign) → IsSignAt ts at g start → DescentsEndWithSameStop (nonterminal simple room ∷ []) (nonterminal term room ∷ nonterminal (items addend) room ∷ []) ts at start
 simple_read {room = room} {ts = ts} {at = at} {start = start} None s =
     let none : start ≡ at = omega (arith, s.next_index) in
-    subst (λ j. StopsAlike (nonterminal simple room ∷ []) (nonterminal term room ∷ nonterminal (items addend) room ∷ []) ts at j) (sym none) (read_made (chosen_unsigned room (rest ts at) s.unsigned))
+    subst (λ j. DescentsEndWithSameStop (nonterminal simple room ∷ []) (nonterminal term room ∷ nonterminal (items addend) room ∷ []) ts at j) (sym none) (read_made (chosen_unsigned room (rest ts at) s.unsigned))
 simple_read {room = room} (Some sign.Plus) s = by (read_made (ap (λ w. chosen_production simple room w) s.spelled)) (both (read_token s.spelled s.next_index) as_is)
 simple_read {room = room} (Some sign.Minus) s = by (read_made (ap (λ w. chosen_production simple room w) s.spelled)) (both (read_token s.spelled s.next_index) as_is)
 
@@ -266,7 +266,7 @@ designator_only i ss p (negation f) z w h s e = absurd (name_not_mark (sym e))
 pub taken_designator : {room : ℕ} {ts : List Token} {at m n : ℕ} (ss : Tree ℕ (items selector)) → rest ts at ≡ Name at ∷ rest ts m → m ≡ at + 1 → IsReadTree ss room ts m n → IsReadTree (designator at ss) room ts at n
 taken_designator {room = room} {at = at} ss here l p = record { spelled = here ∙ ap (λ y. Name at ∷ y) p.spelled; shallow = p.shallow; only = designator_only at ss p; reads = by (read_made (ap (λ w. chosen_production factor room w) here)) (both (read_name here l) p.reads); within = p.within; forward = omega (arith, p.forward) }
 
-parenthesis_read : {room inner : ℕ} {ts : List Token} {at : ℕ} → room ≡ inner + 1 → rest ts at ≡ WordOrSymbol (kind.Symbol symbol.LeftParen) ∷ rest ts (at + 1) → StopsAlike (nonterminal factor room ∷ []) (nonterminal expression inner ∷ token (kind.Symbol symbol.RightParen) ∷ []) ts at (at + 1)
+parenthesis_read : {room inner : ℕ} {ts : List Token} {at : ℕ} → room ≡ inner + 1 → rest ts at ≡ WordOrSymbol (kind.Symbol symbol.LeftParen) ∷ rest ts (at + 1) → DescentsEndWithSameStop (nonterminal factor room ∷ []) (nonterminal expression inner ∷ token (kind.Symbol symbol.RightParen) ∷ []) ts at (at + 1)
 parenthesis_read {inner = inner} d here = read_opened inner (λ n. nonterminal expression n ∷ token (kind.Symbol symbol.RightParen) ∷ []) refl d here
 
 parenthesised_only : {room : ℕ} {ts : List Token} {m n : ℕ} (a : Tree ℕ expression) → IsReadTree a room ts m n → (last : List (Terminal ℕ)) → rest ts n ≡ WordOrSymbol (kind.Symbol symbol.RightParen) ∷ last → (u : Tree ℕ factor) (z w : List (Terminal ℕ)) → spell u ++ z ≡ WordOrSymbol (kind.Symbol symbol.LeftParen) ∷ ((spell a ++ single_token (kind.Symbol symbol.RightParen)) ++ w) → (u ≡ parenthesised a) × (z ≡ w)
@@ -288,7 +288,7 @@ taken_parenthesised {ts = ts} {n = n} a level here p close = record {
   forward = omega (arith, p.forward, close.2);
 }
 
-negation_read : {room inner : ℕ} {ts : List Token} {at : ℕ} → room ≡ inner + 1 → rest ts at ≡ WordOrSymbol (kind.Symbol symbol.Not) ∷ rest ts (at + 1) → StopsAlike (nonterminal factor room ∷ []) (nonterminal factor inner ∷ []) ts at (at + 1)
+negation_read : {room inner : ℕ} {ts : List Token} {at : ℕ} → room ≡ inner + 1 → rest ts at ≡ WordOrSymbol (kind.Symbol symbol.Not) ∷ rest ts (at + 1) → DescentsEndWithSameStop (nonterminal factor room ∷ []) (nonterminal factor inner ∷ []) ts at (at + 1)
 negation_read {inner = inner} d here = read_opened inner (λ n. nonterminal factor n ∷ []) refl d here
 
 negation_only : {room : ℕ} {ts : List Token} {m n : ℕ} (a : Tree ℕ factor) → IsReadTree a room ts m n → (u : Tree ℕ factor) (z w : List (Terminal ℕ)) → HaveSameHead (rest ts n) w → EndsConstruct 1 z → spell u ++ z ≡ WordOrSymbol (kind.Symbol symbol.Not) ∷ (spell a ++ w) → (u ≡ negation a) × (z ≡ w)
@@ -308,7 +308,7 @@ no_factor f i room w n m p q (parenthesised t, z, e, l, s, b) = p (mark_is f i (
 no_factor f i room w n m p q (negation t, z, e, l, s, b) = q (mark_is f i (kind.Symbol symbol.Not) (head_of e))
 
 -- A token that differs from this reserved word or symbol has another kind.
-pub other_kind : {k j : TokenKind} {ts : List Token} {at : ℕ} → IsOtherToken (WordOrSymbol k) ts at → rest ts at ≡ index_terminal at j ∷ rest ts (at + 1) → Some j ≡ Some k → index_terminal at k ≡ WordOrSymbol k → ⊥
+pub other_kind : {k j : TokenKind} {ts : List Token} {at : ℕ} → IsTokenOtherThan (WordOrSymbol k) ts at → rest ts at ≡ index_terminal at j ∷ rest ts (at + 1) → Some j ≡ Some k → index_terminal at k ≡ WordOrSymbol k → ⊥
 other_kind {k = k} {j = j} {at = at} o here e is = o.differs (head_of (sym o.here ∙ here) ∙ (ap (terminal_or_end at) e ∙ is))
 
 chosen_no_factor : (f : Option TokenKind) (i room : ℕ) (w : List (Terminal ℕ)) → (f ≡ Some kind.Identifier → ⊥) → ((v : ℕ) → f ≡ Some (kind.Integer v) → ⊥) → (f ≡ Some (kind.Symbol symbol.LeftParen) → ⊥) → (f ≡ Some (kind.Symbol symbol.Not) → ⊥) → chosen_production factor room (terminal_or_end i f ∷ w) ≡ missing expected.Expression
@@ -436,12 +436,12 @@ selector_head (WordOrSymbol (kind.Symbol symbol.RightParen)) p q e = omega arith
 selector_head (WordOrSymbol (kind.Symbol symbol.LeftBracket)) p q e = q refl
 selector_head (WordOrSymbol (kind.Symbol symbol.RightBracket)) p q e = omega arith
 
-pub no_selector : {ts : List Token} {at : ℕ} → IsOtherToken (WordOrSymbol (kind.Symbol symbol.Dot)) ts at → IsOtherToken (WordOrSymbol (kind.Symbol symbol.LeftBracket)) ts at → ¬ NextHasRank 1 (rest ts at)
+pub no_selector : {ts : List Token} {at : ℕ} → IsTokenOtherThan (WordOrSymbol (kind.Symbol symbol.Dot)) ts at → IsTokenOtherThan (WordOrSymbol (kind.Symbol symbol.LeftBracket)) ts at → ¬ NextHasRank 1 (rest ts at)
 no_selector {ts = ts} {at = at} o p s =
     let same : o.fault ≡ p.fault = head_of (sym o.here ∙ p.here) in
     selector_head o.fault o.differs (λ e. p.differs (sym same ∙ e)) (subst (λ y. NextHasRank 1 y) o.here s)
 
-field_read : {room : ℕ} {ts : List Token} {at : ℕ} → rest ts at ≡ WordOrSymbol (kind.Symbol symbol.Dot) ∷ rest ts (at + 1) → StopsAlike (nonterminal (item selector) room ∷ []) (name ∷ []) ts at (at + 1)
+field_read : {room : ℕ} {ts : List Token} {at : ℕ} → rest ts at ≡ WordOrSymbol (kind.Symbol symbol.Dot) ∷ rest ts (at + 1) → DescentsEndWithSameStop (nonterminal (item selector) room ∷ []) (name ∷ []) ts at (at + 1)
 field_read here = read_led (name ∷ []) refl here
 
 field_only : (i : ℕ) (u : Tree ℕ (item selector)) (z w : List (Terminal ℕ)) → spell u ++ z ≡ WordOrSymbol (kind.Symbol symbol.Dot) ∷ Name i ∷ w → (u ≡ field i) × (z ≡ w)
@@ -458,7 +458,7 @@ taken_field {room = room} {ts = ts} {at = at} {n = n} x here p = subst (λ y. Is
   forward = omega (arith, p.3);
 }
 
-index_read : {room inner : ℕ} {ts : List Token} {at : ℕ} → room ≡ inner + 1 → rest ts at ≡ WordOrSymbol (kind.Symbol symbol.LeftBracket) ∷ rest ts (at + 1) → StopsAlike (nonterminal (item selector) room ∷ []) (nonterminal expression inner ∷ token (kind.Symbol symbol.RightBracket) ∷ []) ts at (at + 1)
+index_read : {room inner : ℕ} {ts : List Token} {at : ℕ} → room ≡ inner + 1 → rest ts at ≡ WordOrSymbol (kind.Symbol symbol.LeftBracket) ∷ rest ts (at + 1) → DescentsEndWithSameStop (nonterminal (item selector) room ∷ []) (nonterminal expression inner ∷ token (kind.Symbol symbol.RightBracket) ∷ []) ts at (at + 1)
 index_read {inner = inner} d here = read_opened inner (λ n. nonterminal expression n ∷ token (kind.Symbol symbol.RightBracket) ∷ []) refl d here
 
 index_only : {room : ℕ} {ts : List Token} {m n : ℕ} (a : Tree ℕ expression) → IsReadTree a room ts m n → (last : List (Terminal ℕ)) → rest ts n ≡ WordOrSymbol (kind.Symbol symbol.RightBracket) ∷ last → (u : Tree ℕ (item selector)) (z w : List (Terminal ℕ)) → spell u ++ z ≡ WordOrSymbol (kind.Symbol symbol.LeftBracket) ∷ ((spell a ++ single_token (kind.Symbol symbol.RightBracket)) ++ w) → (u ≡ index a) × (z ≡ w)

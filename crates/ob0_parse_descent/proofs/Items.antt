@@ -5,7 +5,7 @@ use Rattle.ob0_tree.specs.Lexeme.{Terminal}
 use Rattle.ob0_tree.specs.Tree.{Item, item, items, Tree, end, more, spell, nesting}
 use Rattle.ob0_tree.specs.View.{items_of}
 use Rattle.ob0_parse_descent.specs.Follow.{item_rank, item_level, EndsConstruct, NextHasRank}
-use Rattle.ob0_parse_descent.specs.Reading.{rest, ProductionPart, nonterminal, BeginsWithParts, HaveSameHead, StopsAlike, IsReadTree, FailsToRead, ItemFails}
+use Rattle.ob0_parse_descent.specs.Reading.{rest, ProductionPart, nonterminal, BeginsWithParts, HaveSameHead, DescentsEndWithSameStop, IsReadTree, FailsToRead, ItemFails}
 use Rattle.ob0_parse_descent.proofs.Descent.{as_is, both, by, read_more, read_end}
 use Rattle.ob0_parse_descent.specs.declared.refusal.ParseRefusal.{ParseRefusal}
 use Rattle.ob0_parse_descent.proofs.Unique.{not_here, starts_item, stops_items, below}
@@ -27,7 +27,7 @@ pub record Taking {i : Item} (t : Tree ℕ (items i)) (room : ℕ) (ts : List To
   pub spelled : rest ts at ≡ spell t ++ rest ts next
   pub shallow : nesting t ≤ room
   pub only : (u : Tree ℕ (items i)) (z w : List (Terminal ℕ)) → HaveSameHead (rest ts next) w → EndsConstruct (item_rank i) z → spell u ++ z ≡ spell t ++ w → Ahead u t z w
-  pub reads : StopsAlike (nonterminal (items i) room ∷ []) (nonterminal (items i) room ∷ []) ts at next
+  pub reads : DescentsEndWithSameStop (nonterminal (items i) room ∷ []) (nonterminal (items i) room ∷ []) ts at next
   pub within : next ≤ length ts
   pub forward : at ≤ next
 

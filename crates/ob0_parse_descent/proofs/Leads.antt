@@ -12,7 +12,7 @@ use Rattle.ob0_parse_descent.specs.declared.refusal.ParseRefusal.TheVariants.{Sy
 use Rattle.ob0_tree.specs.Tree.{Sort, Tree, spell}
 use Rattle.ob0_parse_descent.specs.Follow.{rank, kind_rank, level, NextHasRank, EndsConstruct}
 use Rattle.ob0_parse_descent.proofs.Unique.{same}
-use Rattle.ob0_parse_descent.specs.Reading.{rest, ProductionPart, token, name, BeginsWithParts, DescentStopsWith, FailsToRead, IsOtherToken, IsNoName}
+use Rattle.ob0_parse_descent.specs.Reading.{rest, ProductionPart, token, name, BeginsWithParts, DescentStopsWith, FailsToRead, IsTokenOtherThan, IsNotIdentifier}
 use Rattle.ob0_parse_descent.specs.Descent.{MatchesPart, expected_part, expected_token, Expects, Descends, other}
 use Rattle.ob0_parse_descent.specs.declared.refusal.Expected.TheVariants as expected
 use Rattle.ob0_parse_descent.proofs.Refusals.{at_once, fails_by, in_name, in_token}
@@ -83,12 +83,12 @@ led (WordOrSymbol k) j e = ap WordOrSymbol (leads k j e)
 led EndOfText j e = cc
 
 -- If the only token with an item's rank isn't here, no such item begins here.
-pub no_item : {k : TokenKind} {ts : List Token} {at : ℕ} (r : ℕ) → leader r ≡ Some k → IsOtherToken (WordOrSymbol k) ts at → ¬ NextHasRank r (rest ts at)
+pub no_item : {k : TokenKind} {ts : List Token} {at : ℕ} (r : ℕ) → leader r ≡ Some k → IsTokenOtherThan (WordOrSymbol k) ts at → ¬ NextHasRank r (rest ts at)
 no_item {k = k} {ts = ts} {at = at} r is o s =
     let t : rank o.fault ≡ r = subst (λ y. NextHasRank r y) o.here s in
     o.differs (led o.fault k (ap leader t ∙ is))
 
-pub no_named_item : {ts : List Token} {at : ℕ} → IsNoName ts at → ¬ NextHasRank 7 (rest ts at)
+pub no_named_item : {ts : List Token} {at : ℕ} → IsNotIdentifier ts at → ¬ NextHasRank 7 (rest ts at)
 no_named_item {ts = ts} {at = at} o s = o.ranked (subst (λ y. NextHasRank 7 y) o.here s)
 
 -- If parts can't begin with the next token, and the descent over them stops there, they are refused
@@ -100,10 +100,10 @@ fails_here x l here reads never = record { why = (l, at_once here never); reads 
 pub stops_here : {p : ProductionPart} {x : Terminal ℕ} {e : Expected} (ts : List Token) (at : ℕ) → rest ts at ≡ x ∷ rest ts (at + 1) → ¬ MatchesPart p x → expected_part p ≡ Some e → DescentStopsWith (p ∷ []) ts at (Expects at e)
 stops_here {p = p} {e = e} ts at here differs is more = subst (λ w. Descends (p ∷ more) at w (Expects at e)) (sym here) (other differs is)
 
-pub fails_token : {k : TokenKind} {ts : List Token} {at : ℕ} {x : Expected} → expected_token k ≡ Some x → IsOtherToken (WordOrSymbol k) ts at → FailsToRead (token k ∷ []) ts at (Syntax at x)
+pub fails_token : {k : TokenKind} {ts : List Token} {at : ℕ} {x : Expected} → expected_token k ≡ Some x → IsTokenOtherThan (WordOrSymbol k) ts at → FailsToRead (token k ∷ []) ts at (Syntax at x)
 fails_token is o = fails_here o.fault o.within o.here (stops_here _ _ o.here o.differs is) (λ u b. o.differs (cc (b.1)))
 
-pub fails_name : {ts : List Token} {at : ℕ} → IsNoName ts at → FailsToRead (name ∷ []) ts at (Syntax at expected.Identifier)
+pub fails_name : {ts : List Token} {at : ℕ} → IsNotIdentifier ts at → FailsToRead (name ∷ []) ts at (Syntax at expected.Identifier)
 fails_name o = fails_here o.fault o.within o.here (stops_here _ _ o.here (λ p. o.ranked (ap rank p.1)) refl) (λ u b. let is : o.fault ≡ Name b.0 = cc (b.2) in o.ranked (ap rank is))
 
 some_none : {e : ParseRefusal} → ◌≡◌ {A = Option ParseRefusal} (Some e) None → ⊥
@@ -113,14 +113,14 @@ inside : {a b : ParseRefusal} → Some a ≡ Some b → a ≡ b
 inside q = cc
 
 -- If a token is missing, all parts that begin with that token are refused.
-pub fails_in_token : {k : TokenKind} {ps : List ProductionPart} {ts : List Token} {at : ℕ} {e : ParseRefusal} → IsOtherToken (WordOrSymbol k) ts at × (Some e ≡ option_map (Syntax at) (expected_token k)) → FailsToRead (token k ∷ ps) ts at e
+pub fails_in_token : {k : TokenKind} {ps : List ProductionPart} {ts : List Token} {at : ℕ} {e : ParseRefusal} → IsTokenOtherThan (WordOrSymbol k) ts at × (Some e ≡ option_map (Syntax at) (expected_token k)) → FailsToRead (token k ∷ ps) ts at e
 fails_in_token {k = k} {ps = ps} {ts = ts} {at = at} {e = e} q = go (expected_token k) refl q.1
   where
     go : (x : Option Expected) → expected_token k ≡ x → Some e ≡ option_map (Syntax at) x → FailsToRead (token k ∷ ps) ts at e
     go None is same = absurd (some_none same)
     go (Some x) is same = subst (λ e. FailsToRead (token k ∷ ps) ts at e) (sym (inside same)) (fails_by (λ o r more. r (ps ++ more)) (λ after r. in_token r) (fails_token is q.0))
 
-pub fails_in_name : {ps : List ProductionPart} {ts : List Token} {at : ℕ} {e : ParseRefusal} → IsNoName ts at × (e ≡ Syntax at expected.Identifier) → FailsToRead (name ∷ ps) ts at e
+pub fails_in_name : {ps : List ProductionPart} {ts : List Token} {at : ℕ} {e : ParseRefusal} → IsNotIdentifier ts at × (e ≡ Syntax at expected.Identifier) → FailsToRead (name ∷ ps) ts at e
 fails_in_name {ps = ps} {ts = ts} {at = at} q = subst (λ e. FailsToRead (name ∷ ps) ts at e) (sym q.1) (fails_by (λ o r more. r (ps ++ more)) (λ after r. in_name r) (fails_name q.0))
 
 positive : (x : Terminal ℕ) → 0 < rank x

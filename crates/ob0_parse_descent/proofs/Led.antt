@@ -8,7 +8,7 @@ use Rattle.ob0_scan.specs.declared.lexeme.Token.{Token}
 use Rattle.ob0_tree.specs.Lexeme.{Terminal, WordOrSymbol}
 use Rattle.ob0_tree.specs.Tree.{Item, then_argument, then_statement, else_branch, then_fields, then_section, begins, declares_constants, declares_types, declares_variables, further_argument, further_statement, else_part, further_fields, further_section, body, constants, type_definitions, variables, constant, type_definition, variable, expression, statement, sequence, fields, section, Sort, item, items, Tree, spell, nesting}
 use Rattle.ob0_parse_descent.specs.Follow.{kind_rank, item_rank, item_level, level, NextHasRank}
-use Rattle.ob0_parse_descent.specs.Reading.{rest, token, nonterminal, BeginsWithParts, StopsAlike, IsReadTree, FailsToRead, ItemFails}
+use Rattle.ob0_parse_descent.specs.Reading.{rest, token, nonterminal, BeginsWithParts, DescentsEndWithSameStop, IsReadTree, FailsToRead, ItemFails}
 use Rattle.ob0_parse_descent.specs.Descent.{parts, chosen_item_production}
 use Rattle.ob0_parse_descent.proofs.Descent.{by, read_led}
 use Rattle.ob0_parse_descent.specs.declared.refusal.ParseRefusal.{ParseRefusal}
@@ -29,7 +29,7 @@ led_back {k = k} l u z w e =
     let spelled : spell u ≡ WordOrSymbol k ∷ spell b.0 = ap spell b.1 ∙ l.spelled b.0 in
     (b.0, b.1, tail_of (ap (λ x. x ++ z) (sym spelled) ∙ e))
 
-led_read : {s : Sort} {i : Item} {k : TokenKind} {make : Tree ℕ s → Tree ℕ (item i)} {room : ℕ} {ts : List Token} {at : ℕ} → Leads k make → rest ts at ≡ WordOrSymbol k ∷ rest ts (at + 1) → StopsAlike (nonterminal (item i) room ∷ []) (nonterminal s room ∷ []) ts at (at + 1)
+led_read : {s : Sort} {i : Item} {k : TokenKind} {make : Tree ℕ s → Tree ℕ (item i)} {room : ℕ} {ts : List Token} {at : ℕ} → Leads k make → rest ts at ≡ WordOrSymbol k ∷ rest ts (at + 1) → DescentsEndWithSameStop (nonterminal (item i) room ∷ []) (nonterminal s room ∷ []) ts at (at + 1)
 led_read {s = s} {room = room} {ts = ts} {at = at} l here = read_led (nonterminal s room ∷ []) (l.chosen_production room (rest ts (at + 1))) here
 
 pub taken_led : {s : Sort} {i : Item} {k : TokenKind} {make : Tree ℕ s → Tree ℕ (item i)} {room : ℕ} {ts : List Token} {at n : ℕ} → Leads k make → (t : Tree ℕ s) → rest ts at ≡ WordOrSymbol k ∷ rest ts (at + 1) → IsReadTree t room ts (at + 1) n → IsReadTree (make t) room ts at n

@@ -6,7 +6,7 @@ use Rattle.ob0_scan.specs.declared.lexeme.Token.{Token}
 use Rattle.ob0_tree.specs.Lexeme.{Terminal, Name, WordOrSymbol}
 use Rattle.ob0_tree.specs.Tree.{item, items, further_name, names, Tree, end, more, listed, then_name, spell, nesting}
 use Rattle.ob0_parse_descent.specs.Follow.{EndsConstruct, NextHasRank}
-use Rattle.ob0_parse_descent.specs.Reading.{rest, name, nonterminal, BeginsWithParts, HaveSameHead, IsReadTree, FailsToRead, ItemFails, IsNoName}
+use Rattle.ob0_parse_descent.specs.Reading.{rest, name, nonterminal, BeginsWithParts, HaveSameHead, IsReadTree, FailsToRead, ItemFails, IsNotIdentifier}
 use Rattle.ob0_parse_descent.proofs.Descent.{both, by, read_name, read_made, read_led}
 use Rattle.ob0_parse_descent.specs.declared.refusal.Expected.TheVariants as expected
 use Rattle.ob0_parse_descent.specs.declared.refusal.ParseRefusal.{ParseRefusal}
@@ -54,7 +54,7 @@ nameless (more (then_name n) ts) = let h = nameless ts in omega arith
 names_parts : (w : List (Terminal ℕ)) → BeginsWithParts (nonterminal names 0 ∷ []) w → BeginsWithParts (name ∷ nonterminal (items further_name) 0 ∷ []) w
 names_parts w (listed k us, z, e, l, s, b) = (k, spell us ++ z, e, (us, z, refl, nameless us, s, tt))
 
-pub names_fails_first : {ts : List Token} {at : ℕ} {e : ParseRefusal} → IsNoName ts at × (e ≡ Syntax at expected.Identifier) → FailsToRead (nonterminal names 0 ∷ []) ts at e
+pub names_fails_first : {ts : List Token} {at : ℕ} {e : ParseRefusal} → IsNotIdentifier ts at × (e ≡ Syntax at expected.Identifier) → FailsToRead (nonterminal names 0 ∷ []) ts at e
 names_fails_first q = fails_weaken {qs = name ∷ nonterminal (items further_name) 0 ∷ []} (read_made refl) (λ w h b. names_parts w b) (fails_in_name q)
 
 pub names_fails_more : {ts : List Token} {at m n : ℕ} {e : ParseRefusal} (others : Tree ℕ (items further_name)) → rest ts at ≡ Name at ∷ rest ts m → m ≡ at + 1 → Taking others 0 ts m n → ItemFails further_name 0 ts n e → FailsToRead (nonterminal names 0 ∷ []) ts at e

@@ -7,7 +7,7 @@ use Rattle.ob0_scan.specs.declared.lexeme.Token.{Token}
 use Rattle.ob0_tree.specs.Lexeme.{Terminal, Name, WordOrSymbol}
 use Rattle.ob0_tree.specs.Tree.{selector, arguments, expression, factor, statement, designator, empty, assigns, calls, branches, while_loop, repeat_loop, no_arguments, some_arguments, Sort, item, items, maybe, Tree, none, one, end, more, spell}
 use Rattle.ob0_parse_descent.specs.Follow.{rank, level, EndsConstruct, NextHasRank}
-use Rattle.ob0_parse_descent.specs.Reading.{rest, ProductionPart, token, name, nonterminal, BeginsWithParts, HaveSameHead, CantBegin, StopsAlike, IsReadTree, DescentStopsWith, FailsToRead, ItemFails, IsOtherToken}
+use Rattle.ob0_parse_descent.specs.Reading.{rest, ProductionPart, token, name, nonterminal, BeginsWithParts, HaveSameHead, CantBegin, DescentsEndWithSameStop, IsReadTree, DescentStopsWith, FailsToRead, ItemFails, IsTokenOtherThan}
 use Rattle.ob0_parse_descent.specs.Descent.{parts, symbol_part, is_assignment_next, is_item_next, chosen_production, Stop, Descends, done, taken, made}
 use Rattle.ob0_parse_descent.specs.declared.refusal.Expected.TheVariants as expected
 use Rattle.ob0_parse_descent.proofs.Descent.{both, by, read_token, read_made, read_back, unmade, past_name, next_item, no_next}
@@ -70,7 +70,7 @@ assigned_next (more f fs) z y e = selector_next f fs z
 
 -- If a designator was read and the statement is an assignment, the descent reads the statement as
 -- `:=` and an expression after that designator.
-target_read : {room : ℕ} {ts : List Token} {at m : ℕ} (ss : Tree ℕ (items selector)) (x : ℕ) → IsReadTree (designator x ss) room ts at m → is_assignment_next (spell ss ++ rest ts m) ≡ true → StopsAlike (nonterminal statement room ∷ []) (token (kind.Symbol symbol.Becomes) ∷ nonterminal expression room ∷ []) ts at m
+target_read : {room : ℕ} {ts : List Token} {at m : ℕ} (ss : Tree ℕ (items selector)) (x : ℕ) → IsReadTree (designator x ss) room ts at m → is_assignment_next (spell ss ++ rest ts m) ≡ true → DescentsEndWithSameStop (nonterminal statement room ∷ []) (token (kind.Symbol symbol.Becomes) ∷ nonterminal expression room ∷ []) ts at m
 target_read {room = room} ss x p is = by (read_made (chosen_named room true p.spelled is)) (record {
   stops_as_following = λ o more r.
       let q = read_back {qs = name ∷ nonterminal (items selector) room ∷ []} (ap (λ w. chosen_production factor room w) p.spelled) p.reads in
@@ -86,7 +86,7 @@ no_selector_next room w lacks = ap (λ b. if b then parts (nonterminal (item sel
 
 -- If a name was read and neither `:=` nor a selector follows, the descent reads the statement as
 -- optional arguments after that name.
-call_read : {room : ℕ} {ts : List Token} {at m : ℕ} (x : ℕ) → IsReadTree (designator x end) room ts at m → IsOtherToken (WordOrSymbol (kind.Symbol symbol.Becomes)) ts m → ¬ NextHasRank 1 (rest ts m) → StopsAlike (nonterminal statement room ∷ []) (nonterminal (maybe arguments) room ∷ []) ts at m
+call_read : {room : ℕ} {ts : List Token} {at m : ℕ} (x : ℕ) → IsReadTree (designator x end) room ts at m → IsTokenOtherThan (WordOrSymbol (kind.Symbol symbol.Becomes)) ts m → ¬ NextHasRank 1 (rest ts m) → DescentsEndWithSameStop (nonterminal statement room ∷ []) (nonterminal (maybe arguments) room ∷ []) ts at m
 call_read {room = room} {ts = ts} {at = at} {m = m} x p o lacks =
     let is : is_assignment_next (rest ts m) ≡ false = ap is_assignment_next o.here ∙ unassigned o.fault (rest ts (m + 1)) o.differs (λ s. lacks (subst (λ y. NextHasRank 1 y) (sym o.here) s)) in
     by (read_made (chosen_named room false p.spelled is)) (record {
@@ -165,12 +165,12 @@ following_selectors room x f fs w (calls k a, z, e, n, s, b) = record {
   begins = λ same is. absurd (no_selectors same);
 }
 
-pub becomes_missing : {room : ℕ} {ts : List Token} {at m : ℕ} (x : ℕ) (f : Tree ℕ (item selector)) (fs : Tree ℕ (items selector)) → IsReadTree (designator x (more f fs)) room ts at m → IsOtherToken (WordOrSymbol (kind.Symbol symbol.Becomes)) ts m → FailsToRead (nonterminal statement room ∷ []) ts at (Syntax m (expected.Symbol symbol.Becomes))
+pub becomes_missing : {room : ℕ} {ts : List Token} {at m : ℕ} (x : ℕ) (f : Tree ℕ (item selector)) (fs : Tree ℕ (items selector)) → IsReadTree (designator x (more f fs)) room ts at m → IsTokenOtherThan (WordOrSymbol (kind.Symbol symbol.Becomes)) ts m → FailsToRead (nonterminal statement room ∷ []) ts at (Syntax m (expected.Symbol symbol.Becomes))
 becomes_missing {room = room} {ts = ts} {m = m} x f fs p o = fails_known (token (kind.Symbol symbol.Becomes) ∷ []) (λ s r following. (target_read (more f fs) x p (selector_next f fs (rest ts m))).stops_as_following s following (r (nonterminal expression room ∷ following))) (designator x (more f fs)) p (λ w h b. following_selectors room x f fs w b) (fails_token refl o)
 
 -- Proves that a call is refused if its arguments are refused.
 
-following_call : (room x : ℕ) (ss : Tree ℕ (items selector)) (ts : List Token) (m : ℕ) → IsOtherToken (WordOrSymbol (kind.Symbol symbol.Becomes)) ts m → (w : List (Terminal ℕ)) → HaveSameHead (rest ts m) w → BeginsWithParts (nonterminal statement room ∷ []) (spell (designator x ss) ++ w) → After (designator x ss) w (nonterminal (maybe arguments) room ∷ [])
+following_call : (room x : ℕ) (ss : Tree ℕ (items selector)) (ts : List Token) (m : ℕ) → IsTokenOtherThan (WordOrSymbol (kind.Symbol symbol.Becomes)) ts m → (w : List (Terminal ℕ)) → HaveSameHead (rest ts m) w → BeginsWithParts (nonterminal statement room ∷ []) (spell (designator x ss) ++ w) → After (designator x ss) w (nonterminal (maybe arguments) room ∷ [])
 following_call room x ss ts m o w h (empty, z, e, n, s, b) = absurd (not_at z _ _ 8 (sym e) (omega arith) s)
 following_call room x ss ts m o w h (branches c t es l, z, e, n, s, b) = absurd (name_mark (head_of e))
 following_call room x ss ts m o w h (while_loop c t, z, e, n, s, b) = absurd (name_mark (head_of e))
@@ -190,7 +190,7 @@ following_call room x ss ts m o w h (calls k a, z, e, n, s, b) = record {
   begins = λ same is. (a, z, sym is, n, stops_less z 6 8 (omega arith) s, tt);
 }
 
-pub call_fails : {room : ℕ} {ts : List Token} {at m : ℕ} {e : ParseRefusal} (x : ℕ) (ss : List Selector) → length ss ≡ 0 → IsReadTree (designator x (items_of selector_of ss)) room ts at m × ¬ NextHasRank 1 (rest ts m) → IsOtherToken (WordOrSymbol (kind.Symbol symbol.Becomes)) ts m → ItemFails arguments room ts m e → FailsToRead (nonterminal statement room ∷ []) ts at e
+pub call_fails : {room : ℕ} {ts : List Token} {at m : ℕ} {e : ParseRefusal} (x : ℕ) (ss : List Selector) → length ss ≡ 0 → IsReadTree (designator x (items_of selector_of ss)) room ts at m × ¬ NextHasRank 1 (rest ts m) → IsTokenOtherThan (WordOrSymbol (kind.Symbol symbol.Becomes)) ts m → ItemFails arguments room ts m e → FailsToRead (nonterminal statement room ∷ []) ts at e
 call_fails {room = room} {ts = ts} {m = m} x [] l p o q = fails_known (nonterminal (maybe arguments) room ∷ []) (λ s r following. (call_read x p.0 o p.1).stops_as_following s following (r following)) (designator x end) p.0 (λ w h b. following_call room x end ts m o w h b) (fails_maybe q)
 call_fails x (s ∷ ss) l p o q = absurd (omega arith)
 
@@ -229,7 +229,7 @@ named_fails {room = room} {ts = ts} {at = at} here q =
 
 -- Proves that assignments and calls are read correctly.
 
-calls_only : {room : ℕ} {ts : List Token} {at m n : ℕ} (i : ℕ) (a : Tree ℕ (maybe arguments)) → IsReadTree (designator i end) room ts at m → IsOtherToken (WordOrSymbol (kind.Symbol symbol.Becomes)) ts m → IsReadTree a room ts m n → (u : Tree ℕ statement) (z w : List (Terminal ℕ)) → HaveSameHead (rest ts n) w → EndsConstruct 8 z → spell u ++ z ≡ Name i ∷ (spell a ++ w) → (u ≡ calls i a) × (z ≡ w)
+calls_only : {room : ℕ} {ts : List Token} {at m n : ℕ} (i : ℕ) (a : Tree ℕ (maybe arguments)) → IsReadTree (designator i end) room ts at m → IsTokenOtherThan (WordOrSymbol (kind.Symbol symbol.Becomes)) ts m → IsReadTree a room ts m n → (u : Tree ℕ statement) (z w : List (Terminal ℕ)) → HaveSameHead (rest ts n) w → EndsConstruct 8 z → spell u ++ z ≡ Name i ∷ (spell a ++ w) → (u ≡ calls i a) × (z ≡ w)
 calls_only i a p o q empty z w h s e = absurd (not_at z _ _ 8 e (omega arith) s)
 calls_only i a p o q (branches c t es l) z w h s e = absurd (name_not_mark (sym e))
 calls_only i a p o q (while_loop c t) z w h s e = absurd (name_not_mark (sym e))
@@ -243,14 +243,14 @@ calls_only i a p o q (assigns k ss v) z w h s e =
     let r = p.only (designator k ss) (WordOrSymbol (kind.Symbol symbol.Becomes) ∷ (spell v ++ z)) (spell a ++ w) h1 (omega arith) (sym (ap (λ y. Name k ∷ y) (append_assoc (spell ss) _ z)) ∙ e) in
     absurd (o.differs (alike h1 o.here (sym r.1)))
 
-pub taken_call : {room : ℕ} {ts : List Token} {at m n : ℕ} (a : Tree ℕ (maybe arguments)) (x : ℕ) → IsReadTree (designator x end) room ts at m → ¬ NextHasRank 1 (rest ts m) → IsOtherToken (WordOrSymbol (kind.Symbol symbol.Becomes)) ts m → IsReadTree a room ts m n → IsReadTree (calls x a) room ts at n
+pub taken_call : {room : ℕ} {ts : List Token} {at m n : ℕ} (a : Tree ℕ (maybe arguments)) (x : ℕ) → IsReadTree (designator x end) room ts at m → ¬ NextHasRank 1 (rest ts m) → IsTokenOtherThan (WordOrSymbol (kind.Symbol symbol.Becomes)) ts m → IsReadTree a room ts m n → IsReadTree (calls x a) room ts at n
 taken_call a x p lacks o q = record { spelled = p.spelled ∙ ap (λ y. Name x ∷ y) q.spelled; shallow = q.shallow; only = calls_only x a p o q; reads = by (call_read x p o lacks) q.reads; within = q.within; forward = omega (arith, p.forward, q.forward) }
 
-pub call_made : {room : ℕ} {ts : List Token} {at m n : ℕ} {a : Tree ℕ (maybe arguments)} (x : ℕ) (ss : List Selector) → length ss ≡ 0 → IsReadTree (designator x (items_of selector_of ss)) room ts at m × ¬ NextHasRank 1 (rest ts m) → IsOtherToken (WordOrSymbol (kind.Symbol symbol.Becomes)) ts m → IsReadTree a room ts m n → IsReadTree (calls x a) room ts at n
+pub call_made : {room : ℕ} {ts : List Token} {at m n : ℕ} {a : Tree ℕ (maybe arguments)} (x : ℕ) (ss : List Selector) → length ss ≡ 0 → IsReadTree (designator x (items_of selector_of ss)) room ts at m × ¬ NextHasRank 1 (rest ts m) → IsTokenOtherThan (WordOrSymbol (kind.Symbol symbol.Becomes)) ts m → IsReadTree a room ts m n → IsReadTree (calls x a) room ts at n
 call_made {a = a} x [] l p o q = taken_call a x p.0 p.1 o q
 call_made x (s ∷ ss) l p o q = absurd (omega arith)
 
-pub becomes_missing_listed : {room : ℕ} {ts : List Token} {at m : ℕ} (x : ℕ) (ss : List Selector) → (length ss ≡ 0 → ⊥) → IsReadTree (designator x (items_of selector_of ss)) room ts at m → IsOtherToken (WordOrSymbol (kind.Symbol symbol.Becomes)) ts m → FailsToRead (nonterminal statement room ∷ []) ts at (Syntax m (expected.Symbol symbol.Becomes))
+pub becomes_missing_listed : {room : ℕ} {ts : List Token} {at m : ℕ} (x : ℕ) (ss : List Selector) → (length ss ≡ 0 → ⊥) → IsReadTree (designator x (items_of selector_of ss)) room ts at m → IsTokenOtherThan (WordOrSymbol (kind.Symbol symbol.Becomes)) ts m → FailsToRead (nonterminal statement room ∷ []) ts at (Syntax m (expected.Symbol symbol.Becomes))
 becomes_missing_listed x [] l p o = absurd (l refl)
 becomes_missing_listed x (s ∷ ss) l p o = becomes_missing x (selector_of s) (items_of selector_of ss) p o
 

@@ -5,7 +5,7 @@ use Rattle.ob0_scan.specs.declared.lexeme.Token.{Token}
 use Rattle.ob0_tree.specs.Lexeme.{Terminal, Name, WordOrSymbol}
 use Rattle.ob0_tree.specs.Tree.{Item, Sort, item, maybe, Tree, none, one, spell}
 use Rattle.ob0_parse_descent.specs.Follow.{item_rank, item_level, EndsConstruct, NextHasRank}
-use Rattle.ob0_parse_descent.specs.Reading.{rest, ProductionPart, token, name, nonterminal, BeginsWithParts, HaveSameHead, CantBegin, IsReadTree, IsRightRefusalOfParts, DescentStopsWith, DescentStopsAsRefusalSays, StopsAlike, FailsToRead, ItemFails}
+use Rattle.ob0_parse_descent.specs.Reading.{rest, ProductionPart, token, name, nonterminal, BeginsWithParts, HaveSameHead, CantBegin, IsReadTree, IsRightRefusalOfParts, DescentStopsWith, DescentStopsAsRefusalSays, DescentsEndWithSameStop, FailsToRead, ItemFails}
 use Rattle.ob0_parse_descent.specs.Descent.{Stop, Expects, Deep}
 use Rattle.ob0_parse_descent.proofs.Descent.{read_token, read_name, read_one}
 use Rattle.ob0_parse_descent.specs.declared.refusal.ParseRefusal.{ParseRefusal}
@@ -106,7 +106,7 @@ fails_by {ps = ps} {qs = qs} {ts = ts} {a = a} {b = b} {e = e} g f r = record { 
 
 -- Proves that the results of parser functions are refused in the same way.
 
-pub fails_weaken : {ps qs : List ProductionPart} {ts : List Token} {at : ℕ} {e : ParseRefusal} → StopsAlike ps qs ts at at → ((w : List (Terminal ℕ)) → HaveSameHead (rest ts at) w → BeginsWithParts ps w → BeginsWithParts qs w) → FailsToRead qs ts at e → FailsToRead ps ts at e
+pub fails_weaken : {ps qs : List ProductionPart} {ts : List Token} {at : ℕ} {e : ParseRefusal} → DescentsEndWithSameStop ps qs ts at at → ((w : List (Terminal ℕ)) → HaveSameHead (rest ts at) w → BeginsWithParts ps w → BeginsWithParts qs w) → FailsToRead qs ts at e → FailsToRead ps ts at e
 fails_weaken g f q = fails_by (λ o r more. g.stops_as_following o more (r more)) (λ after r. select f r) q
 
 pub fails_in : {s : Sort} {room : ℕ} {ps : List ProductionPart} {ts : List Token} {at : ℕ} {e : ParseRefusal} → FailsToRead (nonterminal s room ∷ []) ts at e → FailsToRead (nonterminal s room ∷ ps) ts at e
@@ -131,7 +131,7 @@ following x e f r = record {
 
 -- If the first token is read and determines the parts after it, a refusal of these parts is a
 -- refusal of the whole.
-pub fails_following : {ps qs : List ProductionPart} {x : Terminal ℕ} {ts : List Token} {at next : ℕ} {e : ParseRefusal} → StopsAlike ps qs ts at next → rest ts at ≡ x ∷ rest ts next → ((w : List (Terminal ℕ)) → BeginsWithParts ps (x ∷ w) → BeginsWithParts qs w) → FailsToRead qs ts next e → FailsToRead ps ts at e
+pub fails_following : {ps qs : List ProductionPart} {x : Terminal ℕ} {ts : List Token} {at next : ℕ} {e : ParseRefusal} → DescentsEndWithSameStop ps qs ts at next → rest ts at ≡ x ∷ rest ts next → ((w : List (Terminal ℕ)) → BeginsWithParts ps (x ∷ w) → BeginsWithParts qs w) → FailsToRead qs ts next e → FailsToRead ps ts at e
 fails_following {x = x} g h f q = fails_by (λ o r more. g.stops_as_following o more (r more)) (λ after r. following x h f r) q
 
 -- If the next token begins an optional item, the parts that begin with the optional item begin with
@@ -155,7 +155,7 @@ following_alike {qs = qs} x {xs} {z} {after} e f r = record {
 
 -- If the first token and the next one determine the parts after the first token, a refusal of these
 -- parts is a refusal of the whole.
-pub fails_following_alike : {ps qs : List ProductionPart} {x : Terminal ℕ} {ts : List Token} {at next : ℕ} {e : ParseRefusal} → StopsAlike ps qs ts at next → rest ts at ≡ x ∷ rest ts next → ((w : List (Terminal ℕ)) → HaveSameHead (rest ts next) w → BeginsWithParts ps (x ∷ w) → BeginsWithParts qs w) → FailsToRead qs ts next e → FailsToRead ps ts at e
+pub fails_following_alike : {ps qs : List ProductionPart} {x : Terminal ℕ} {ts : List Token} {at next : ℕ} {e : ParseRefusal} → DescentsEndWithSameStop ps qs ts at next → rest ts at ≡ x ∷ rest ts next → ((w : List (Terminal ℕ)) → HaveSameHead (rest ts next) w → BeginsWithParts ps (x ∷ w) → BeginsWithParts qs w) → FailsToRead qs ts next e → FailsToRead ps ts at e
 fails_following_alike {x = x} g h f q = fails_by (λ o r more. g.stops_as_following o more (r more)) (λ after r. following_alike x h f r) q
 
 -- If two constructs are refused, they are refused together with the parts after them.

@@ -7,7 +7,7 @@ use Rattle.ob0_scan.specs.declared.lexeme.Token.{Token}
 use Rattle.ob0_tree.specs.Lexeme.{Terminal, Name, WordOrSymbol}
 use Rattle.ob0_tree.specs.Tree.{further_statement, elsif_part, else_part, expression, statement, sequence, empty, assigns, calls, branches, while_loop, repeat_loop, runs, elsif_branch, item, items, maybe, Tree, spell, single_token}
 use Rattle.ob0_parse_descent.specs.Follow.{rank, EndsConstruct, NextHasRank}
-use Rattle.ob0_parse_descent.specs.Reading.{rest, ProductionPart, token, nonterminal, BeginsWithParts, HaveSameHead, IsReadTree, FailsToRead, ItemFails, IsOtherToken, IsNoName}
+use Rattle.ob0_parse_descent.specs.Reading.{rest, ProductionPart, token, nonterminal, BeginsWithParts, HaveSameHead, IsReadTree, FailsToRead, ItemFails, IsTokenOtherThan, IsNotIdentifier}
 use Rattle.ob0_parse_descent.specs.Descent as descent
 use Rattle.ob0_parse_descent.specs.Descent.{parts, chosen_production}
 use Rattle.ob0_parse_descent.proofs.Descent.{both, by, read_mark, read_made, read_led, read_opened}
@@ -41,7 +41,7 @@ sequence_fails {room = room} q = fails_weaken {qs = nonterminal statement room �
 
 -- Lemmas on the empty statement.
 
-empty_only : {ts : List Token} {at : ℕ} → IsNoName ts at → IsOtherToken (WordOrSymbol (kind.ReservedWord reserved.If)) ts at → IsOtherToken (WordOrSymbol (kind.ReservedWord reserved.While)) ts at → IsOtherToken (WordOrSymbol (kind.ReservedWord reserved.Repeat)) ts at → (u : Tree ℕ statement) (z w : List (Terminal ℕ)) → HaveSameHead (rest ts at) w → EndsConstruct 8 z → spell u ++ z ≡ w → (u ≡ empty) × (z ≡ w)
+empty_only : {ts : List Token} {at : ℕ} → IsNotIdentifier ts at → IsTokenOtherThan (WordOrSymbol (kind.ReservedWord reserved.If)) ts at → IsTokenOtherThan (WordOrSymbol (kind.ReservedWord reserved.While)) ts at → IsTokenOtherThan (WordOrSymbol (kind.ReservedWord reserved.Repeat)) ts at → (u : Tree ℕ statement) (z w : List (Terminal ℕ)) → HaveSameHead (rest ts at) w → EndsConstruct 8 z → spell u ++ z ≡ w → (u ≡ empty) × (z ≡ w)
 empty_only unnamed i l r empty z w h s e = (refl, e)
 empty_only unnamed i l r (assigns n ss a) z w h s e = absurd (unnamed.ranked (ap rank (alike h unnamed.here (sym e))))
 empty_only unnamed i l r (calls n a) z w h s e = absurd (unnamed.ranked (ap rank (alike h unnamed.here (sym e))))
@@ -56,9 +56,9 @@ chosen_empty room (WordOrSymbol (kind.ReservedWord reserved.While)) w p i l r = 
 chosen_empty room (WordOrSymbol (kind.ReservedWord reserved.Repeat)) w p i l r = absurd (r refl)
 chosen_empty room x w p i l r = refl
 
-pub taken_empty : {room : ℕ} {ts : List Token} {at : ℕ} → IsNoName ts at → IsOtherToken (WordOrSymbol (kind.ReservedWord reserved.If)) ts at → IsOtherToken (WordOrSymbol (kind.ReservedWord reserved.While)) ts at → IsOtherToken (WordOrSymbol (kind.ReservedWord reserved.Repeat)) ts at → IsReadTree empty room ts at at
+pub taken_empty : {room : ℕ} {ts : List Token} {at : ℕ} → IsNotIdentifier ts at → IsTokenOtherThan (WordOrSymbol (kind.ReservedWord reserved.If)) ts at → IsTokenOtherThan (WordOrSymbol (kind.ReservedWord reserved.While)) ts at → IsTokenOtherThan (WordOrSymbol (kind.ReservedWord reserved.Repeat)) ts at → IsReadTree empty room ts at at
 taken_empty {room = room} {ts = ts} {at = at} unnamed i l r =
-    let differs : (k : TokenKind) → IsOtherToken (WordOrSymbol k) ts at → unnamed.fault ≢ WordOrSymbol k = λ k o e. o.differs (head_of (sym o.here ∙ unnamed.here) ∙ e) in
+    let differs : (k : TokenKind) → IsTokenOtherThan (WordOrSymbol k) ts at → unnamed.fault ≢ WordOrSymbol k = λ k o e. o.differs (head_of (sym o.here ∙ unnamed.here) ∙ e) in
     record {
       spelled = refl;
       shallow = omega arith;

@@ -7,7 +7,7 @@ use Rattle.ob0_scan.specs.declared.lexeme.Token.{Token}
 use Rattle.ob0_tree.specs.Lexeme.{Terminal, Name, WordOrSymbol}
 use Rattle.ob0_tree.specs.Tree.{further_fields, expression, names, written_type, fields, named_type, array_type, record_type, no_fields, some_fields, listed, items, Tree, spell, nesting, single_token}
 use Rattle.ob0_parse_descent.specs.Follow.{rank, EndsConstruct}
-use Rattle.ob0_parse_descent.specs.Reading.{rest, ProductionPart, token, nonterminal, BeginsWithParts, HaveSameHead, IsReadTree, FailsToRead, IsOtherToken, IsNoName, IsReadList}
+use Rattle.ob0_parse_descent.specs.Reading.{rest, ProductionPart, token, nonterminal, BeginsWithParts, HaveSameHead, IsReadTree, FailsToRead, IsTokenOtherThan, IsNotIdentifier, IsReadList}
 use Rattle.ob0_parse_descent.specs.Descent.{parts, missing, chosen_production, absent, deep}
 use Rattle.ob0_parse_descent.specs.declared.refusal.Expected.TheVariants as expected
 use Rattle.ob0_parse_descent.proofs.Descent.{both, by, read_name, read_mark, read_made, read_opened}
@@ -25,7 +25,7 @@ pub taken_named : {room : ℕ} {ts : List Token} {at : ℕ} → (rest ts at ≡ 
 taken_named {room = room} {at = at} here = record { spelled = here.0; shallow = omega arith; only = λ u z w h s e. only_zero (named_type at) u z w refl s e; reads = by (read_made (ap (λ w. chosen_production written_type room w) here.0)) (read_name here.0 refl); within = omega (arith, here.1); forward = omega arith }
 
 -- If the next token is neither an identifier nor ARRAY nor RECORD, no type begins here.
-no_type : (room : ℕ) (ts : List Token) (at : ℕ) → IsNoName ts at → IsOtherToken (WordOrSymbol (kind.ReservedWord reserved.Array)) ts at → IsOtherToken (WordOrSymbol (kind.ReservedWord reserved.Record)) ts at → (x : Terminal ℕ) → rest ts at ≡ x ∷ rest ts (at + 1) → (u : List (Terminal ℕ)) → BeginsWithParts (nonterminal written_type room ∷ []) (x ∷ u) → ⊥
+no_type : (room : ℕ) (ts : List Token) (at : ℕ) → IsNotIdentifier ts at → IsTokenOtherThan (WordOrSymbol (kind.ReservedWord reserved.Array)) ts at → IsTokenOtherThan (WordOrSymbol (kind.ReservedWord reserved.Record)) ts at → (x : Terminal ℕ) → rest ts at ≡ x ∷ rest ts (at + 1) → (u : List (Terminal ℕ)) → BeginsWithParts (nonterminal written_type room ∷ []) (x ∷ u) → ⊥
 no_type room ts at unnamed a r x here u (named_type n, z, e, l, s, b) = unnamed.ranked (ap rank (head_of (sym unnamed.here ∙ here) ∙ head_of e))
 no_type room ts at unnamed a r x here u (array_type c t, z, e, l, s, b) = a.differs (head_of (sym a.here ∙ here) ∙ head_of e)
 no_type room ts at unnamed a r x here u (record_type f fs, z, e, l, s, b) = r.differs (head_of (sym r.here ∙ here) ∙ head_of e)
@@ -36,7 +36,7 @@ chosen_no_type room (WordOrSymbol (kind.ReservedWord reserved.Array)) w p q r = 
 chosen_no_type room (WordOrSymbol (kind.ReservedWord reserved.Record)) w p q r = absurd (r refl)
 chosen_no_type room x w p q r = refl
 
-pub type_missing : {room : ℕ} {ts : List Token} {at : ℕ} → IsNoName ts at → IsOtherToken (WordOrSymbol (kind.ReservedWord reserved.Array)) ts at → IsOtherToken (WordOrSymbol (kind.ReservedWord reserved.Record)) ts at → FailsToRead (nonterminal written_type room ∷ []) ts at (Syntax at expected.Type)
+pub type_missing : {room : ℕ} {ts : List Token} {at : ℕ} → IsNotIdentifier ts at → IsTokenOtherThan (WordOrSymbol (kind.ReservedWord reserved.Array)) ts at → IsTokenOtherThan (WordOrSymbol (kind.ReservedWord reserved.Record)) ts at → FailsToRead (nonterminal written_type room ∷ []) ts at (Syntax at expected.Type)
 type_missing {room = room} {ts = ts} {at = at} unnamed a r =
     fails_here unnamed.fault unnamed.within unnamed.here (λ more. absent (ap (λ w. chosen_production written_type room w) unnamed.here ∙ chosen_no_type room unnamed.fault (rest ts (at + 1)) unnamed.ranked (λ e. a.differs (head_of (sym a.here ∙ unnamed.here) ∙ e)) (λ e. r.differs (head_of (sym r.here ∙ unnamed.here) ∙ e)))) (no_type room ts at unnamed a r unnamed.fault unnamed.here)
 
@@ -115,7 +115,7 @@ record_too_deep {ts = ts} {at = at} {e = e} l o here = subst (λ r. FailsToRead 
 
 -- Lemmas on groups of fields: `[names ":" type]`.
 
-no_fields_only : {ts : List Token} {at : ℕ} → IsNoName ts at → (u : Tree ℕ fields) (z w : List (Terminal ℕ)) → HaveSameHead (rest ts at) w → EndsConstruct 7 z → spell u ++ z ≡ w → (u ≡ no_fields) × (z ≡ w)
+no_fields_only : {ts : List Token} {at : ℕ} → IsNotIdentifier ts at → (u : Tree ℕ fields) (z w : List (Terminal ℕ)) → HaveSameHead (rest ts at) w → EndsConstruct 7 z → spell u ++ z ≡ w → (u ≡ no_fields) × (z ≡ w)
 no_fields_only unnamed no_fields z w h s e = (refl, e)
 no_fields_only unnamed (some_fields (listed k ns) t) z w h s e = absurd (unnamed.ranked (ap rank (head_of (sym unnamed.here ∙ h.is) ∙ head_of (sym h.alike ∙ sym e))))
 
@@ -123,7 +123,7 @@ pub chosen_no_fields : (room : ℕ) (x : Terminal ℕ) (w : List (Terminal ℕ))
 chosen_no_fields room (Name n) w p = absurd (p refl)
 chosen_no_fields room x w p = refl
 
-pub taken_no_fields : {room : ℕ} {ts : List Token} {at : ℕ} → IsNoName ts at → IsReadTree no_fields room ts at at
+pub taken_no_fields : {room : ℕ} {ts : List Token} {at : ℕ} → IsNotIdentifier ts at → IsReadTree no_fields room ts at at
 taken_no_fields {room = room} {ts = ts} {at = at} unnamed = record { spelled = refl; shallow = omega arith; only = no_fields_only unnamed; reads = read_made (ap (λ w. chosen_production fields room w) unnamed.here ∙ chosen_no_fields room unnamed.fault (rest ts (at + 1)) unnamed.ranked); within = unnamed.within; forward = omega arith }
 
 fields_only : (ns : Tree ℕ names) (t : Tree ℕ written_type) (u : Tree ℕ fields) (z w : List (Terminal ℕ)) → EndsConstruct 7 z → spell u ++ z ≡ spell (some_fields ns t) ++ w → (u ≡ some_fields ns t) × (z ≡ w)

@@ -72,7 +72,7 @@ pub record HaveSameHead (xs w : List (Terminal ℕ)) : Type 0 where
 -- States that two descents end with the same stop: the descent over the parts `ps`, starting at the
 -- token `at`, and the descent over the parts `following`, starting at the token `next`. This holds
 -- whatever parts `more` follow both lists.
-pub record StopsAlike (ps following : List ProductionPart) (ts : List Token) (at next : ℕ) : Type 0 where
+pub record DescentsEndWithSameStop (ps following : List ProductionPart) (ts : List Token) (at next : ℕ) : Type 0 where
   pub stops_as_following : (o : Stop) (more : List ProductionPart)
       → Descends (following ++ more) next (rest ts next) o
       → Descends (ps ++ more) at (rest ts at) o
@@ -90,7 +90,7 @@ pub record IsReadTree {s : Sort} (t : Tree ℕ s) (room : ℕ) (ts : List Token)
       → EndsConstruct (level s) z
       → spell u ++ z ≡ spell t ++ w
       → (u ≡ t) × (z ≡ w)
-  pub reads : StopsAlike (nonterminal s room ∷ []) [] ts at next
+  pub reads : DescentsEndWithSameStop (nonterminal s room ∷ []) [] ts at next
   pub within : next ≤ length ts
   pub forward : at ≤ next
 
@@ -137,7 +137,7 @@ Reads view room ts at (Ok x) = IsReadTree (view x.0) room ts at x.1
 Reads {s = s} view room ts at (Err e) = FailsToRead (nonterminal s room ∷ []) ts at e
 
 -- States that the token at the index `at`, which may be the end of the text, isn't `x`.
-pub record IsOtherToken (x : Terminal ℕ) (ts : List Token) (at : ℕ) : Type 0 where
+pub record IsTokenOtherThan (x : Terminal ℕ) (ts : List Token) (at : ℕ) : Type 0 where
   pub fault : Terminal ℕ
   pub here : rest ts at ≡ fault ∷ rest ts (at + 1)
   pub differs : fault ≢ x
@@ -145,7 +145,7 @@ pub record IsOtherToken (x : Terminal ℕ) (ts : List Token) (at : ℕ) : Type 0
 
 -- States that the token at the index `at`, which may be the end of the text, isn't an identifier (7
 -- is the rank of identifiers).
-pub record IsNoName (ts : List Token) (at : ℕ) : Type 0 where
+pub record IsNotIdentifier (ts : List Token) (at : ℕ) : Type 0 where
   pub fault : Terminal ℕ
   pub here : rest ts at ≡ fault ∷ rest ts (at + 1)
   pub ranked : rank fault ≢ 7
@@ -155,12 +155,12 @@ pub record IsNoName (ts : List Token) (at : ℕ) : Type 0 where
 -- symbol `k`.
 abbrev pub TellsIfTokenAt : TokenKind → List Token → ℕ → Bool → Type 0
 TellsIfTokenAt k ts at true = (rest ts at ≡ WordOrSymbol k ∷ rest ts (at + 1)) × (at < length ts)
-TellsIfTokenAt k ts at false = IsOtherToken (WordOrSymbol k) ts at
+TellsIfTokenAt k ts at false = IsTokenOtherThan (WordOrSymbol k) ts at
 
 -- States that the Bool is true exactly if the token at the index `at` is an identifier.
-abbrev pub TellsIfNameAt : List Token → ℕ → Bool → Type 0
-TellsIfNameAt ts at true = (rest ts at ≡ Name at ∷ rest ts (at + 1)) × (at < length ts)
-TellsIfNameAt ts at false = IsNoName ts at
+abbrev pub TellsIfIdentifierAt : List Token → ℕ → Bool → Type 0
+TellsIfIdentifierAt ts at true = (rest ts at ≡ Name at ∷ rest ts (at + 1)) × (at < length ts)
+TellsIfIdentifierAt ts at false = IsNotIdentifier ts at
 
 -- States that the result of reading the reserved word or symbol `k` at the index `at` is right. If
 -- the result is an index, `k` is at `at`, and the index is `at + 1`. If the result is a refusal,
@@ -169,15 +169,15 @@ abbrev pub ReadsToken : TokenKind → List Token → ℕ → Result ℕ ParseRef
 ReadsToken k ts at (Ok next) =
     (rest ts at ≡ WordOrSymbol k ∷ rest ts next) × (at < length ts) × (next ≡ at + 1)
 ReadsToken k ts at (Err e) =
-    IsOtherToken (WordOrSymbol k) ts at × (Some e ≡ option_map (Syntax at) (expected_token k))
+    IsTokenOtherThan (WordOrSymbol k) ts at × (Some e ≡ option_map (Syntax at) (expected_token k))
 
 -- States that the result of reading an identifier at the index `at` is right. If the result is a
 -- pair, an identifier is at `at`, and the pair is `at` and `at + 1`. If the result is a refusal,
 -- another token is at `at`, and the refusal says that an identifier is expected.
-abbrev pub ReadsName : List Token → ℕ → Result (ℕ × ℕ) ParseRefusal → Type 0
-ReadsName ts at (Ok x) =
+abbrev pub ReadsIdentifier : List Token → ℕ → Result (ℕ × ℕ) ParseRefusal → Type 0
+ReadsIdentifier ts at (Ok x) =
     (rest ts at ≡ Name at ∷ rest ts x.1) × (at < length ts) × (x.0 ≡ at) × (x.1 ≡ at + 1)
-ReadsName ts at (Err e) = IsNoName ts at × (e ≡ Syntax at expected.Identifier)
+ReadsIdentifier ts at (Err e) = IsNotIdentifier ts at × (e ≡ Syntax at expected.Identifier)
 
 -- States that the result of opening a nesting level at the token `at` is right, given the number
 -- `room` of levels left. If the result is a number, it is `room` minus 1. If the result is a
@@ -290,5 +290,5 @@ ReadsTypedNames room ts at (Err e) =
 -- `at`.
 abbrev pub TellsIfSectionMayBegin : List Token → ℕ → Bool → Type 0
 TellsIfSectionMayBegin ts at true =
-    IsOtherToken (WordOrSymbol (kind.Symbol symbol.RightParen)) ts at × (is_section_next (rest ts at) ≡ true)
-TellsIfSectionMayBegin ts at false = IsNoName ts at × IsOtherToken (WordOrSymbol (kind.ReservedWord reserved.Var)) ts at
+    IsTokenOtherThan (WordOrSymbol (kind.Symbol symbol.RightParen)) ts at × (is_section_next (rest ts at) ≡ true)
+TellsIfSectionMayBegin ts at false = IsNotIdentifier ts at × IsTokenOtherThan (WordOrSymbol (kind.ReservedWord reserved.Var)) ts at

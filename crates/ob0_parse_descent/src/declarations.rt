@@ -5,7 +5,7 @@ ghost use Rattle.ob0_tree.specs.View.{section_of, further_section_of, formals_of
 ghost use Rattle.ob0_parse_descent.specs.Reading.{Reads, ReadsList, ReadsItem, ReadsTypedNames, TellsIfSectionMayBegin};
 
 use crate::growth::push_doubling;
-use crate::parser::{ConstructResult, ItemResult, Parser, levels_inside};
+use crate::parser::{ConstructResult, ItemResult, Parser, levels_left_inside};
 use ob0_scan::{ReservedWord, Symbol};
 use ob0_tree::{
     Block, Constant, Names, ParameterSection, Procedure, Statement, TypeDeclaration,
@@ -58,7 +58,7 @@ impl<'t> Parser<'t> {
         requires { at ≤ length self.now.tokens.now }
         ensures { TellsIfSectionMayBegin self.now.tokens.now at result }
     {
-        if self.has_name_at(at) {
+        if self.has_identifier_at(at) {
             return true;
         }
         self.has_word_at(at, ReservedWord::Var)
@@ -143,7 +143,7 @@ impl<'t> Parser<'t> {
         requires { at ≤ length self.now.tokens.now }
         ensures { ReadsItem constant_of room self.now.tokens.now at result }
     {
-        if !self.has_name_at(at) {
+        if !self.has_identifier_at(at) {
             return Ok(None);
         }
         let start = self.expect_symbol(at + 1, Symbol::Equal)?;
@@ -185,7 +185,7 @@ impl<'t> Parser<'t> {
         requires { at ≤ length self.now.tokens.now }
         ensures { ReadsItem type_declaration_of room self.now.tokens.now at result }
     {
-        if !self.has_name_at(at) {
+        if !self.has_identifier_at(at) {
             return Ok(None);
         }
         let start = self.expect_symbol(at + 1, Symbol::Equal)?;
@@ -231,7 +231,7 @@ impl<'t> Parser<'t> {
         requires { at ≤ length self.now.tokens.now }
         ensures { ReadsItem variable_of room self.now.tokens.now at result }
     {
-        if !self.has_name_at(at) {
+        if !self.has_identifier_at(at) {
             return Ok(None);
         }
         let ((names, written), next) = self.parse_typed_names(at, room)?;
@@ -300,7 +300,7 @@ impl<'t> Parser<'t> {
         if !self.has_word_at(at, ReservedWord::Procedure) {
             return Ok(None);
         }
-        let inner = levels_inside(at, room)?;
+        let inner = levels_left_inside(at, room)?;
         let (name, next) = self.expect_identifier(at + 1)?;
         let (formals, next) = self.parse_formals(next, inner)?;
         let start = self.expect_symbol(next, Symbol::Semicolon)?;

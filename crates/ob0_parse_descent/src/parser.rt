@@ -9,7 +9,7 @@ ghost use Rattle.ob0_tree.specs.Lexeme.{add_operator_token, multiply_operator_to
 ghost use Rattle.ob0_tree.specs.Tree.{then_name, compares, none};
 ghost use Rattle.ob0_tree.specs.View.{names_of, expression_of, comparison_of, simple_of, addend_of, term_of, multiplier_of, factor_of, selector_of};
 ghost use Rattle.ob0_parse_descent.specs.Follow.{binding_strength};
-ghost use Rattle.ob0_parse_descent.specs.Reading.{terminal_or_end, rest, Reads, ReadsItem, ReadsToken, ReadsName, TellsIfTokenAt, TellsIfNameAt, IsSignAt, ReadsDesignator, IsOperatorOf, IsSingleTokenFactor, OpensLevel};
+ghost use Rattle.ob0_parse_descent.specs.Reading.{terminal_or_end, rest, Reads, ReadsItem, ReadsToken, ReadsIdentifier, TellsIfTokenAt, TellsIfIdentifierAt, IsSignAt, ReadsDesignator, IsOperatorOf, IsSingleTokenFactor, OpensLevel};
 ghost use Rattle.ob0_parse_descent.specs.declared.refusal.Expected.TheVariants as expected;
 ghost use Rattle.ob0_parse_descent.specs.declared.refusal.ParseRefusal.TheVariants.{Syntax};
 
@@ -117,9 +117,9 @@ impl<'t> Parser<'t> {
     /// Otherwise returns a syntax error: an identifier is expected at `at`.
     pub fn expect_identifier(&self, at: usize) -> ConstructResult<usize>
         requires { at ≤ length self.now.tokens.now }
-        ensures { ReadsName self.now.tokens.now at result }
+        ensures { ReadsIdentifier self.now.tokens.now at result }
     {
-        if self.has_name_at(at) {
+        if self.has_identifier_at(at) {
             Ok((at, at + 1))
         } else {
             syntax_error(at, Expected::Identifier)
@@ -127,9 +127,9 @@ impl<'t> Parser<'t> {
     }
 
     /// Returns whether the token at `at` is an identifier.
-    pub(crate) fn has_name_at(&self, at: usize) -> bool
+    pub(crate) fn has_identifier_at(&self, at: usize) -> bool
         requires { at ≤ length self.now.tokens.now }
-        ensures { TellsIfNameAt self.now.tokens.now at result }
+        ensures { TellsIfIdentifierAt self.now.tokens.now at result }
     {
         self.kind(at) == Some(TokenKind::Identifier)
     }
@@ -183,7 +183,7 @@ impl<'t> Parser<'t> {
         requires { at ≤ length self.now.tokens.now }
         ensures { Reads expression_of room self.now.tokens.now at result }
     {
-        let (left, next) = self.parse_simple_fast(at, room)?;
+        let (left, next) = self.parse_simple_expression_fast(at, room)?;
         let Some((comparison, end)) = self.parse_comparison(next, room)? else {
             let lone = self.expression_without_relation(left)?;
             return Ok((lone, next));
@@ -227,7 +227,7 @@ impl<'t> Parser<'t> {
         let Some(relation) = relation_of(kind) else {
             return Ok(None);
         };
-        let (right, next) = self.parse_simple_fast(at + 1, room)?;
+        let (right, next) = self.parse_simple_expression_fast(at + 1, room)?;
         Ok(Some((Comparison { relation, right }, next)))
     }
 
@@ -264,15 +264,19 @@ impl<'t> Parser<'t> {
     }
 
     /// Parses a simple expression. If it is a single token, returns its tree directly, otherwise
-    /// calls `parse_simple`.
+    /// calls `parse_simple_expression`.
     #[cycle(expressions)]
     #[inline(always)]
-    fn parse_simple_fast(&self, at: usize, room: u32) -> ConstructResult<SimpleExpression>
+    fn parse_simple_expression_fast(
+        &self,
+        at: usize,
+        room: u32,
+    ) -> ConstructResult<SimpleExpression>
         requires { at ≤ length self.now.tokens.now }
         ensures { Reads simple_of room self.now.tokens.now at result }
     {
         let Some(factor) = self.single_token_factor(at, ADDITION_STRENGTH) else {
-            return self.parse_simple(at, room);
+            return self.parse_simple_expression(at, room);
         };
         let multipliers = Vec::new(self.alloc);
         let addends = Vec::new(self.alloc);
@@ -322,7 +326,7 @@ impl<'t> Parser<'t> {
     /// Parses a simple expression, `[sign] term {operator term}`.
     #[cycle(expressions)]
     #[inline(never)]
-    fn parse_simple(&self, at: usize, room: u32) -> ConstructResult<SimpleExpression>
+    fn parse_simple_expression(&self, at: usize, room: u32) -> ConstructResult<SimpleExpression>
         requires { at ≤ length self.now.tokens.now }
         ensures { Reads simple_of room self.now.tokens.now at result }
     {
@@ -431,7 +435,7 @@ impl<'t> Parser<'t> {
         requires { TellsIfTokenAt (kind.Symbol symbol.LeftParen) self.now.tokens.now at true }
         ensures { Reads factor_of room self.now.tokens.now at result }
     {
-        let inner = levels_inside(at, room)?;
+        let inner = levels_left_inside(at, room)?;
         let (expression, next) = self.parse_expression(at + 1, inner)?;
         let next = self.expect_symbol(next, Symbol::RightParen)?;
         let boxed = Box::new(self.alloc, expression)?;
@@ -444,7 +448,7 @@ impl<'t> Parser<'t> {
         requires { TellsIfTokenAt (kind.Symbol symbol.Not) self.now.tokens.now at true }
         ensures { Reads factor_of room self.now.tokens.now at result }
     {
-        let inner = levels_inside(at, room)?;
+        let inner = levels_left_inside(at, room)?;
         let (factor, next) = self.parse_factor(at + 1, inner)?;
         let boxed = Box::new(self.alloc, factor)?;
         Ok((Factor::Not(boxed), next))
@@ -477,7 +481,7 @@ impl<'t> Parser<'t> {
             return Ok(Some((Selector::Field(name), next)));
         }
         if self.has_symbol_at(at, Symbol::LeftBracket) {
-            let inner = levels_inside(at, room)?;
+            let inner = levels_left_inside(at, room)?;
             let (index, next) = self.parse_expression(at + 1, inner)?;
             let next = self.expect_symbol(next, Symbol::RightBracket)?;
             return Ok(Some((Selector::Index(index), next)));
@@ -563,7 +567,7 @@ pub fn syntax_error<T>(token: usize, expected: Expected) -> Result<T, ParseRefus
 
 /// Returns `room` minus 1: the number of nesting levels left inside the construct that the token at
 /// `at` opens. If `room` is 0, returns `TooDeep`.
-pub(crate) fn levels_inside(at: usize, room: u32) -> Result<u32, ParseRefusal>
+pub(crate) fn levels_left_inside(at: usize, room: u32) -> Result<u32, ParseRefusal>
     ensures { OpensLevel at room result }
 {
     if room == 0 {

@@ -6,10 +6,10 @@ ghost use Rattle.ob0_scan.specs.declared.lexeme.ReservedWord.TheVariants as rese
 ghost use Rattle.ob0_scan.specs.declared.lexeme.Symbol.TheVariants as symbol;
 ghost use Rattle.ob0_tree.specs.View.{arguments_of_vec, further_argument_of, expression_of, statement_of, sequence_of_vec, further_statement_of, elsif_of, elsifs_of_vec, else_part_of};
 ghost use Rattle.ob0_parse_descent.specs.Follow.{opens_expression};
-ghost use Rattle.ob0_parse_descent.specs.Reading.{Reads, ReadsList, ReadsItem, TellsIfTokenAt, TellsIfNameAt};
+ghost use Rattle.ob0_parse_descent.specs.Reading.{Reads, ReadsList, ReadsItem, TellsIfTokenAt, TellsIfIdentifierAt};
 
 use crate::growth::push_doubling;
-use crate::parser::{ConstructResult, ItemResult, Parser, levels_inside, syntax_error};
+use crate::parser::{ConstructResult, ItemResult, Parser, levels_left_inside, syntax_error};
 use crate::refusal::Expected;
 use ob0_scan::{ReservedWord, Symbol, TokenKind};
 use ob0_tree::{Assignment, Call, Elsif, Expression, If, Repeat, Statement, While};
@@ -21,7 +21,7 @@ impl<'t> Parser<'t> {
         requires { at ≤ length self.now.tokens.now }
         ensures { Reads statement_of room self.now.tokens.now at result }
     {
-        if self.has_name_at(at) {
+        if self.has_identifier_at(at) {
             return self.parse_assignment_or_call(at, room);
         }
         if self.has_word_at(at, ReservedWord::If) {
@@ -40,7 +40,7 @@ impl<'t> Parser<'t> {
     /// `:=` follows the identifier and its selectors. Otherwise it must be a call, and the
     /// identifier must have no selectors.
     fn parse_assignment_or_call(&self, at: usize, room: u32) -> ConstructResult<Statement>
-        requires { TellsIfNameAt self.now.tokens.now at true }
+        requires { TellsIfIdentifierAt self.now.tokens.now at true }
         ensures { Reads statement_of room self.now.tokens.now at result }
     {
         let (target, next) = self.parse_designator(at, room)?;
@@ -153,7 +153,7 @@ impl<'t> Parser<'t> {
         requires { TellsIfTokenAt (kind.ReservedWord reserved.If) self.now.tokens.now at true }
         ensures { Reads statement_of room self.now.tokens.now at result }
     {
-        let inner = levels_inside(at, room)?;
+        let inner = levels_left_inside(at, room)?;
         let (condition, next) = self.parse_expression(at + 1, inner)?;
         let start = self.expect_word(next, ReservedWord::Then)?;
         let (then, next) = self.parse_sequence(start, inner)?;
@@ -223,7 +223,7 @@ impl<'t> Parser<'t> {
         requires { TellsIfTokenAt (kind.ReservedWord reserved.While) self.now.tokens.now at true }
         ensures { Reads statement_of room self.now.tokens.now at result }
     {
-        let inner = levels_inside(at, room)?;
+        let inner = levels_left_inside(at, room)?;
         let (condition, next) = self.parse_expression(at + 1, inner)?;
         let start = self.expect_word(next, ReservedWord::Do)?;
         let (body, next) = self.parse_sequence(start, inner)?;
@@ -238,7 +238,7 @@ impl<'t> Parser<'t> {
         requires { TellsIfTokenAt (kind.ReservedWord reserved.Repeat) self.now.tokens.now at true }
         ensures { Reads statement_of room self.now.tokens.now at result }
     {
-        let inner = levels_inside(at, room)?;
+        let inner = levels_left_inside(at, room)?;
         let (body, next) = self.parse_sequence(at + 1, inner)?;
         let start = self.expect_word(next, ReservedWord::Until)?;
         let (condition, end) = self.parse_expression(start, inner)?;

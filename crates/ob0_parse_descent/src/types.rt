@@ -7,7 +7,7 @@ ghost use Rattle.ob0_tree.specs.View.{type_of, fields_of, further_fields_of_grou
 ghost use Rattle.ob0_parse_descent.specs.Reading.{Reads, ReadsItem, TellsIfTokenAt};
 
 use crate::growth::push_doubling;
-use crate::parser::{ConstructResult, ItemResult, Parser, levels_inside, syntax_error};
+use crate::parser::{ConstructResult, ItemResult, Parser, levels_left_inside, syntax_error};
 use crate::refusal::Expected;
 use ob0_scan::{ReservedWord, Symbol};
 use ob0_tree::{ArrayType, FieldGroup, Fields, RecordType, WrittenType};
@@ -19,7 +19,7 @@ impl<'t> Parser<'t> {
         requires { at ≤ length self.now.tokens.now }
         ensures { Reads type_of room self.now.tokens.now at result }
     {
-        if self.has_name_at(at) {
+        if self.has_identifier_at(at) {
             return Ok((WrittenType::Named(at), at + 1));
         }
         if self.has_word_at(at, ReservedWord::Array) {
@@ -37,7 +37,7 @@ impl<'t> Parser<'t> {
         requires { TellsIfTokenAt (kind.ReservedWord reserved.Array) self.now.tokens.now at true }
         ensures { Reads type_of room self.now.tokens.now at result }
     {
-        let inner = levels_inside(at, room)?;
+        let inner = levels_left_inside(at, room)?;
         let (size, next) = self.parse_expression(at + 1, inner)?;
         let start = self.expect_word(next, ReservedWord::Of)?;
         let (element, end) = self.parse_type(start, inner)?;
@@ -51,7 +51,7 @@ impl<'t> Parser<'t> {
         requires { TellsIfTokenAt (kind.ReservedWord reserved.Record) self.now.tokens.now at true }
         ensures { Reads type_of room self.now.tokens.now at result }
     {
-        let inner = levels_inside(at, room)?;
+        let inner = levels_left_inside(at, room)?;
         let mut groups = Vec::new(self.alloc);
         let (first, mut next) = self.parse_fields(at + 1, inner)?;
         push_doubling(&mut groups, first)?;
@@ -83,7 +83,7 @@ impl<'t> Parser<'t> {
         requires { at ≤ length self.now.tokens.now }
         ensures { Reads fields_of room self.now.tokens.now at result }
     {
-        if !self.has_name_at(at) {
+        if !self.has_identifier_at(at) {
             return Ok((Fields::Empty, at));
         }
         let (names, next) = self.parse_names(at)?;

@@ -5,7 +5,7 @@ use Rattle.std.specs.Prelude.{string_bytes}
 use Rattle.ob0_scan.specs.declared.lexeme.Span.{Span}
 use Rattle.ob0_refs.specs.declared.answers.NameConflict as capture_answer
 use Rattle.ob0_refs.specs.declared.answers.Hover as answer
-use Rattle.ob0_refs.specs.Shown.{HoverText}
+use Rattle.ob0_refs.specs.NameHovers.{HoverText}
 
 -- returns the `HoverText` with the span and text of a `Hover`
 abbrev pub hover_view : answer.Hover → HoverText

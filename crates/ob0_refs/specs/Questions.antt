@@ -16,10 +16,10 @@ use Rattle.ob0_types.specs.IdentifierMeanings.{identifier_meaning_at}
 use Rattle.ob0_types.specs.declared.meant.ResolvedIdentifier.{ResolvedIdentifier}
 use Rattle.ob0_types.specs.declared.meant.IdentifierMeaning.{IdentifierMeaning}
 use Rattle.ob0_types.specs.declared.meant.IdentifierMeaning.TheVariants.{Name, Field}
-use Rattle.ob0_refs.specs.Answered.{name_answer}
+use Rattle.ob0_refs.specs.NameAnswers.{name_answer}
 use Rattle.ob0_refs.specs.Places.{declaring_span, references_to}
 use Rattle.ob0_refs.specs.Hovers.{field_text, type_text}
-use Rattle.ob0_refs.specs.Shown.{HoverText, hover_of_name}
+use Rattle.ob0_refs.specs.NameHovers.{HoverText, hover_of_name}
 use Rattle.ob0_refs.specs.declared.answers.At as answer
 use Rattle.ob0_refs.specs.declared.answers.Of.TheVariants as answer_of
 

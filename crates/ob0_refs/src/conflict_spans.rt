@@ -2,7 +2,7 @@
 
 ghost use Rattle.std.specs.Prelude.{◌≡◌};
 ghost use Rattle.ob0_scope.specs.Renames.{conflict_of};
-ghost use Rattle.ob0_refs.specs.Captured.{conflict_span, occurrence_span, span_or_text_start};
+ghost use Rattle.ob0_refs.specs.ConflictSpans.{conflict_span, occurrence_span, span_or_text_start};
 
 use crate::declaration_spans::declaration_span;
 use ob0_scan::Span;

@@ -1,7 +1,7 @@
 //! Makes the hover texts of names and fields, from their entries in the table of declarations.
 //!
-//! A procedure's signature doesn't have the names of the parameters. So these names are taken from
-//! the text: they are the first names that the text declares after the procedure's name, as many as
+//! A procedure's signature doesn't have the names of the parameters. The text has
+//! these names: they are the first names that it declares after the procedure's name, as many as
 //! the signature has parameters. Predeclared names are recognized by their ordinals (0 to 6).
 
 ghost use Rattle.std.specs.Prelude.{◌≡◌, ◌+◌, ◌-◌, [], IfOk, Some, drop, map, option_map, string_bytes};
@@ -153,10 +153,10 @@ fn declarations_after<'r>(names: &'r Resolved<'_>, ordinal: usize) -> &'r [usize
 {
     // The contract of this call states the invariant of the module, which the proof uses.
     let _module = names.module();
-    let declarations = names.declarations();
+    let declaration_tokens = names.declaration_tokens();
     let skipped = ordinal.saturating_sub(PREDECLARED_COUNT - 1);
-    if skipped < declarations.len() {
-        &declarations[skipped..]
+    if skipped < declaration_tokens.len() {
+        &declaration_tokens[skipped..]
     } else {
         &[]
     }

@@ -1,7 +1,7 @@
 //! Makes the answer of `at` about a name: the name's span, and the thing that the name refers to.
 
 ghost use Rattle.std.specs.Prelude.{◌≡◌};
-ghost use Rattle.ob0_refs.specs.Answered.{name_answer, referent_of_ordinal};
+ghost use Rattle.ob0_refs.specs.NameAnswers.{name_answer, referent_of_ordinal};
 
 use crate::answers::{At, Of};
 use ob0_scope::Named;

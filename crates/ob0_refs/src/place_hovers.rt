@@ -4,7 +4,7 @@
 ghost use Rattle.std.specs.Prelude.{◌≡◌, IfOk, option_map};
 ghost use Rattle.ob0_refs.specs.Parts.{hover_view};
 ghost use Rattle.ob0_refs.specs.Questions.{field_hover, hover_at_offset, hover_of_identifier, field_hover_with_type};
-ghost use Rattle.ob0_refs.specs.Shown.{hover_of_name};
+ghost use Rattle.ob0_refs.specs.NameHovers.{hover_of_name};
 ghost use Rattle.ob0_types_table.specs.KnownTables.{shapes_of};
 ghost use Rattle.ob0_types_table.specs.Tables.{type_shape};
 

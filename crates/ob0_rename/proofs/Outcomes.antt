@@ -15,7 +15,7 @@ use Rattle.ob0_tree.specs.ParsedModule.{ParsedModule, named_tree_of, tree_of}
 use Rattle.ob0_tree.specs.Tree.{Tree, module_text, occurrences}
 use Rattle.ob0_language_names.specs.ConsistentNames.{has_consistent_names}
 use Rattle.ob0_language_names.specs.Names.{Name}
-use Rattle.ob0_language_names.specs.Occurrences.{Free, at_declaration, at_occurrence, bindings, first_name_conflict, first_difference, is_duplicate}
+use Rattle.ob0_language_names.specs.Occurrences.{Free, at_declaration, at_occurrence, bindings, first_name_conflict, first_difference, is_duplicate_name}
 use Rattle.ob0_scope.specs.Renames.{namesake, other_declaration, conflict_of}
 use Rattle.ob0_scope_table.specs.Resolution.{IsResolution, Resolution}
 use Rattle.ob0_language_names.specs.Scopes.{renamed}
@@ -31,7 +31,7 @@ use Rattle.ob0_language_types.specs.WellTyped.{WellTyped}
 use Rattle.ob0_language_runs.specs.EditLaws.{FreeRenamingKeepsTypingAndRuns, HaveSameRuns}
 use Rattle.ob0_edits_tokens.specs.Changed.{changes_at, changed_words, words_of}
 use Rattle.ob0_edits_tokens.specs.OfTrees.{RenamingKeepsSpelling}
-use Rattle.ob0_edits_tokens.specs.Replaced.{AreIdentifierIndexes, LeavesWords, ReplacesName, edit_at, range_and_text, text_after_replacement}
+use Rattle.ob0_edits_tokens.specs.Replaced.{AreIdentifierIndexes, LeavesWords, ReplacesName, replacement_at_token, range_and_text, text_after_replacement}
 use Rattle.ob0_edits_tokens.specs.Written.{name_word}
 use Rattle.ob0_scope.specs.NamesAtPlaces.{name_at_offset, tokens_bound_to}
 use Rattle.ob0_scope.specs.declared.naming.Named as named
@@ -39,7 +39,7 @@ use Rattle.ob0_types_fields.specs.declared.field_name.FieldName.{FieldName}
 use Rattle.ob0_types_fields.specs.Identifiers.{field_at}
 use Rattle.ob0_scope.proofs.Written.{renamed_there}
 use Rattle.ob0_tree.specs.Module.{ModuleOf}
-use Rattle.ob0_rename.specs.Answers.{RenameAnswers, AnswersForDeclaration, IsRenameRefusal, IsDeclarationRefusal, FailsOnlyForMemory, AcceptsPresentName, WritesName}
+use Rattle.ob0_rename.specs.Answers.{RenameAnswers, AnswersForDeclaration, IsRenameRefusal, IsDeclarationRefusal, FailsOnlyForMemory, AcceptsPresentName, WritesNewName}
 use Rattle.ob0_rename.specs.Renaming.{TargetsField, TargetsDeclaration, Renaming, RenameTarget, ordinal_target, declaration, field_of, renaming_target, rename_target_at, target_of_name_or_field, module_of, nothing, declaring_token, is_declared_as, predeclared, token_range, tokens_to_rename}
 use Rattle.ob0_rename.proofs.Owned.{other_is_declared}
 use Rattle.ob0_rename.proofs.Rewritten.{of_renamed}
@@ -47,7 +47,7 @@ use Rattle.ob0_rename.proofs.Occurring.{occurrence_is_there}
 
 -- states the facts about edits that write a new name at places of a scanned text
 pub record Edited (unit : counting.Unit) (text : List ℕ) (new : Name) (s : TextWithTokens) (places : List ℕ) (result : Result (Vec Edit Global) EditRefusal) : Type 0 where
-  pub edits : IfOk result (λ edits. map range_and_text edits.items ≡ map (edit_at unit text s.tokens new) places)
+  pub edits : IfOk result (λ edits. map range_and_text edits.items ≡ map (replacement_at_token unit text s.tokens new) places)
   pub short : IfOk result (λ edits. length (text_after_replacement s places new) ≤ max_text)
   pub leaves : (ws : List Word) → ReplacesName new ws → IfOk result (λ edits. LeavesWords unit text edits.items (changed_words (changes_at places ws) 0 (words_of s)))
   pub too_long : IsErrOf result refusal.TooLong → max_text < length (text_after_replacement s places new)
@@ -78,7 +78,7 @@ module _ (unit : counting.Unit) (text : List ℕ) (place : Position) (new : Name
   captured r is id (reports.Occurrence k) why first named duplicate occurrence =
       let m = r.module_read in
       let bound = bindings (renamed (named_tree_of m) d new) in
-      let found = difference_of (is_duplicate (named_tree_of m) d new) (first_difference bound (bindings (named_tree_of m))) k (sym first) in
+      let found = difference_of (is_duplicate_name (named_tree_of m) d new) (first_difference bound (bindings (named_tree_of m))) k (sym first) in
       let is_there = occurrence_is_there r bound k is found in
       subst (IsDeclarationRefusal (requested r) d) (sym (occurrence k is_there.0 refl is_there.1)) (id, (k, sym first, ap (option_map (token_range (requested r))) is_there.1))
 
@@ -87,7 +87,7 @@ module _ (unit : counting.Unit) (text : List ℕ) (place : Position) (new : Name
   pub written : (r : Resolution) (tree : Tree Name module_text) (places : List ℕ) → IsIdentifier new → ((name : List ℕ) → IsIdentifier name → ReplacesName name (name_word name ∷ []))
       → ((after : TextWithTokens) → IsScan after → words_of after ≡ changed_words (changes_at places (name_word new ∷ [])) 0 (words_of r.module_read.source) → ModuleOf after tree)
       → WellTyped tree × HaveSameRuns tree (named_tree_of r.module_read)
-      → (edits : Vec Edit Global) → Edited unit text new r.module_read.source places (Ok edits) → WritesName (requested r) places tree edits.items
+      → (edits : Vec Edit Global) → Edited unit text new r.module_read.source places (Ok edits) → WritesNewName (requested r) places tree edits.items
   written r tree places id identifier_with_meaning leaves kept edits made =
       let words = made.leaves (name_word new ∷ []) (identifier_with_meaning new id) in
       record {

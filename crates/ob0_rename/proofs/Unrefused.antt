@@ -10,7 +10,7 @@ use Rattle.std.proofs.lemmas.Slice.Eq.{bytes_eq-Decides}
 use Rattle.ob0_tree.specs.Tree.{Tree, block, declares, declares_procedure, end, forms_block, is_module, item, items, module_text, more, procedure}
 use Rattle.ob0_language_names.specs.ConsistentNames.{are_distinct, block_names, block_has_consistent_names, has_consistent_names, formals_have_distinct_fields, is_among, procedure_has_consistent_names, procedures_have_consistent_names, types_have_distinct_fields, variables_have_distinct_fields}
 use Rattle.ob0_language_names.specs.Names.{Name, same_name}
-use Rattle.ob0_language_names.specs.Occurrences.{Free, bindings, scopes_in_block, scopes_in_procedure, scopes_in_procedures, declares_ordinal, another_has_name}
+use Rattle.ob0_language_names.specs.Occurrences.{Free, bindings, scopes_in_block, scopes_in_procedure, scopes_in_procedures, declares_ordinal, another_declaration_has_name}
 use Rattle.ob0_language_names.specs.Parts.{constant_names, formal_names, formal_sections, module_block, declared_type_names, procedure_name, section_constants, section_types, section_variables, variable_names}
 use Rattle.ob0_scope.specs.Renames.{namesake, namesake_in, other_with_name}
 use Rattle.ob0_language_names.specs.Scopes.{Scope, ordinal_after_block, ordinal_after_names, ordinal_after_procedure, ordinal_after_procedures, body_scope, declare_names, declare_procedure_names, first_procedure_ordinal, first_type_ordinal, first_variable_ordinal, procedures_scope, types_scope, variables_scope}
@@ -36,7 +36,7 @@ module _ (d : ℕ) (new : Name) where
       one true h e later = ap (λ v. v || is_among new (labels_in own_name s)) ((bytes_eq-Decides new b.0).1 (sym (so.0 h)))
       one false h e later = either (same_name new b.0) (later e)
 
-  none_another : (s : Scope Name) → is_among new (labels_in own_name s) ≡ false → another_has_name s d new ≡ false
+  none_another : (s : Scope Name) → is_among new (labels_in own_name s) ≡ false → another_declaration_has_name s d new ≡ false
   none_another [] e = refl
   none_another (b ∷ s) e =
       let parts = or_parts (same_name new b.0) (is_among new (labels_in own_name s)) e in
@@ -52,23 +52,23 @@ module _ (d : ℕ) (new : Name) where
       off true e = absurd (cc)
       off false e = refl
 
-      one : (c : Bool) → (b.1 == d) ≡ c → (q : Bool) → declares_ordinal s d ≡ q → not (is_among b.0 (labels_in own_name s)) ≡ true → (declares_ordinal s d && another_has_name s d new) ≡ false
-          → ((c || declares_ordinal s d) && ((same_name b.0 new && not c) || another_has_name s d new)) ≡ false
+      one : (c : Bool) → (b.1 == d) ≡ c → (q : Bool) → declares_ordinal s d ≡ q → not (is_among b.0 (labels_in own_name s)) ≡ true → (declares_ordinal s d && another_declaration_has_name s d new) ≡ false
+          → ((c || declares_ordinal s d) && ((same_name b.0 new && not c) || another_declaration_has_name s d new)) ≡ false
       one true h q g away later =
           let alone : is_among new (labels_in own_name s) ≡ false = ap (λ x. is_among x (labels_in own_name s)) (sym (so.0 h)) ∙ off (is_among b.0 (labels_in own_name s)) away in
           first (same_name b.0 new) ∙ none_another s alone
         where
-          first : (v : Bool) → ((v && false) || another_has_name s d new) ≡ another_has_name s d new
+          first : (v : Bool) → ((v && false) || another_declaration_has_name s d new) ≡ another_declaration_has_name s d new
           first true = refl
           first false = refl
       one false h true g away later = test (same_name b.0 new) refl
         where
-          test : (v : Bool) → same_name b.0 new ≡ v → (declares_ordinal s d && ((v && true) || another_has_name s d new)) ≡ false
+          test : (v : Bool) → same_name b.0 new ≡ v → (declares_ordinal s d && ((v && true) || another_declaration_has_name s d new)) ≡ false
           test true e =
               let there : is_among b.0 (labels_in own_name s) ≡ true = ap (λ x. is_among x (labels_in own_name s)) ((bytes_eq-Decides b.0 new).0 e) ∙ among_declared s so.1 g in
               absurd (let clash : true ≡ false = sym there ∙ off (is_among b.0 (labels_in own_name s)) away in cc)
           test false e = later
-      one false h false g away later = (λ i. g i && ((same_name b.0 new && true) || another_has_name s d new))
+      one false h false g away later = (λ i. g i && ((same_name b.0 new && true) || another_declaration_has_name s d new))
 
   pub in_scope-procedures : (k : ℕ) (ps : Tree Name (items procedure)) (s : Scope Name) → AreSo d new k (names_in_procedures ps) → InScope d new s → InScope d new (declare_procedure_names k ps s)
   in_scope-procedures k end s h so = so

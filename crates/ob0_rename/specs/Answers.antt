@@ -17,18 +17,18 @@ use Rattle.ob0_language_names.specs.Occurrences.{Free, at_declaration, at_occurr
 use Rattle.ob0_language_names.specs.Scopes.{renamed}
 use Rattle.ob0_language_types.specs.WellTyped.{WellTyped}
 use Rattle.ob0_language_runs.specs.EditLaws.{HaveSameRuns}
-use Rattle.ob0_edits_tokens.specs.Replaced.{edit_at, range_and_text}
+use Rattle.ob0_edits_tokens.specs.Replaced.{replacement_at_token, range_and_text}
 use Rattle.ob0_language_fields.specs.Renaming.{IsFreeFieldName, with_renamed_field, is_duplicate_field}
 use Rattle.ob0_rename.specs.Renaming.{TargetsDeclaration, TargetsField, Renaming, field_tokens_to_rename, is_declared_as, renaming_target, module_of, nothing, occurrence_range, conflicting_field_range, conflicting_declaration_range, predeclared, text_after_renaming, tokens_to_rename, named_tree}
 
 -- States that the edits write the new name at the tokens with the indexes `tokens` and change
 -- nothing else. Applied all at once, the edits give a text with the tree `tree` and with at most
 -- `max_text` bytes. The tree is well-typed and has the same runs as the module before the edits.
-pub record WritesName (r : Renaming) (tokens : List ℕ) (tree : Tree Name module_text)
+pub record WritesNewName (r : Renaming) (tokens : List ℕ) (tree : Tree Name module_text)
     (edits : List Edit) : Type 0 where
   pub short : length (text_after_renaming r tokens) ≤ max_text
   pub changes : map range_and_text edits
-      ≡ map (edit_at r.unit r.text (module_of r).source.tokens r.new) tokens
+      ≡ map (replacement_at_token r.unit r.text (module_of r).source.tokens r.new) tokens
   pub after : TextWithTokens
   pub scan : IsScan after
   pub made : patched (width_of r.unit) r.text edits ≡ Some (chars after.text)
@@ -45,7 +45,7 @@ pub record WritesName (r : Renaming) (tokens : List ℕ) (tree : Tree Name modul
 pub record RenamesDeclaration (r : Renaming) (d : ℕ) (edits : List Edit) : Type 0 where
   pub identifier : IsIdentifier r.new
   pub free : Free (named_tree r) d r.new
-  pub writes : WritesName r (tokens_to_rename (module_of r) d r.new)
+  pub writes : WritesNewName r (tokens_to_rename (module_of r) d r.new)
       (renamed (named_tree r) d r.new) edits
 
 -- States that the given refusal is the first one that applies to the new name of the declaration
@@ -87,7 +87,7 @@ AnswersForDeclaration r d (Err why) = (why ≡ refusal.Memory) ⊎ IsDeclaration
 pub record RenamesField (r : Renaming) (k : ℕ) (f : Name) (edits : List Edit) : Type 0 where
   pub identifier : IsIdentifier r.new
   pub free : IsFreeFieldName (named_tree r) k f r.new
-  pub writes : WritesName r (field_tokens_to_rename r.names k f r.new)
+  pub writes : WritesNewName r (field_tokens_to_rename r.names k f r.new)
       (with_renamed_field (named_tree r) k f r.new) edits
 
 -- States that the given refusal is the first one that applies to the new name of the field `f` of

@@ -20,7 +20,7 @@ use Rattle.ob0_text.specs.Units.{width_of}
 use Rattle.ob0_tree_values.proofs.TreeValues.{vec_of}
 use Rattle.ob0_edits_tokens.specs.Changed.{changes_at, changed_words, words_of}
 use Rattle.ob0_edits_tokens.specs.Ranges.{range_of}
-use Rattle.ob0_edits_tokens.specs.Replaced.{AreIdentifierIndexes, LeavesWords, ReplacesName, replacement_cut, edit_at, range_and_text, span_at, text_after_replacement}
+use Rattle.ob0_edits_tokens.specs.Replaced.{AreIdentifierIndexes, LeavesWords, ReplacesName, replacement_cut, replacement_at_token, range_and_text, span_at, text_after_replacement}
 use Rattle.ob0_edits_tokens.specs.Written.{name_word}
 use Rattle.ob0_edits_tokens.proofs.Made.{leaves_words}
 use Rattle.ob0_rename.proofs.Outcomes.{Edited}
@@ -34,7 +34,7 @@ string_of bytes u short = record { bytes = vec_of bytes (omega (arith, short)); 
 -- ---- the edits at some places, and their number
 
 module _ (unit : Unit) (content text : List ℕ) (tokens : List Token) (new : List ℕ) (u : IsUtf8 new) where
-  name_edits : (at : ℕ) (places : List ℕ) → length (text_with_cuts text at (map (replacement_cut tokens new) places)) ≤ 1048576 → (edits : List Edit) × (map range_and_text edits ≡ map (edit_at unit content tokens new) places)
+  name_edits : (at : ℕ) (places : List ℕ) → length (text_with_cuts text at (map (replacement_cut tokens new) places)) ≤ 1048576 → (edits : List Edit) × (map range_and_text edits ≡ map (replacement_at_token unit content tokens new) places)
   unfolding text_with_cuts
   name_edits at [] short = ([], refl)
   name_edits at (p ∷ ps) short =
@@ -43,7 +43,7 @@ module _ (unit : Unit) (content text : List ℕ) (tokens : List Token) (new : Li
       let rest = length-append new back in
       let more = name_edits (span_at tokens p).end ps (omega (arith, all, rest, short)) in
       let here : Edit = record { range = range_of (width_of unit) content (span_at tokens p); text = string_of new u (omega (arith, all, rest, short)) } in
-      (here ∷ more.0, ap (λ xs. edit_at unit content tokens new p ∷ xs) more.1)
+      (here ∷ more.0, ap (λ xs. replacement_at_token unit content tokens new p ∷ xs) more.1)
 
 few_places : (text : List ℕ) (tokens : List Token) (new : List ℕ) → 0 < length new → (at : ℕ) (places : List ℕ) → length places ≤ length (text_with_cuts text at (map (replacement_cut tokens new) places))
 unfolding text_with_cuts
@@ -85,11 +85,11 @@ module _ (unit : Unit) (text new : List ℕ) (s : TextWithTokens) (scan : IsScan
       let u = identifier_utf8 new id in
       let found = name_edits unit text s.text s.tokens new u 0 places short in
       let edits : List Edit = found.0 in
-      let e : map range_and_text edits ≡ map (edit_at unit text s.tokens new) places = found.1 in
-      let count : length edits ≡ length places = sym (length-map edits range_and_text) ∙ (ap length e ∙ length-map places (edit_at unit text s.tokens new)) in
+      let e : map range_and_text edits ≡ map (replacement_at_token unit text s.tokens new) places = found.1 in
+      let count : length edits ≡ length places = sym (length-map edits range_and_text) ∙ (ap length e ∙ length-map places (replacement_at_token unit text s.tokens new)) in
       let few = few_places s.text s.tokens new replaces.some 0 places in
       let given : Vec Edit Global = vec_of edits (omega (arith, count, few, short)) in
-      let same : map range_and_text edits ≡ map (edit_at unit (chars s.text) s.tokens new) places = subst (λ (t : List ℕ). map range_and_text edits ≡ map (edit_at unit t s.tokens new) places) held e in
+      let same : map range_and_text edits ≡ map (replacement_at_token unit (chars s.text) s.tokens new) places = subst (λ (t : List ℕ). map range_and_text edits ≡ map (replacement_at_token unit t s.tokens new) places) held e in
       record {
         result = Ok given;
         settles = tt;

@@ -106,7 +106,7 @@ fn read_initialize(params: &Value) -> Result<ClientRequest, RpcFault>
 fn read_hover(alloc: Global, params: &Value) -> Result<ClientRequest, RpcFault>
     ensures { ReadsClientRequest (or_bad_params (option_map asks.hover (document_place_of (view params.now)))) result }
 {
-    let Some(place) = document_position(alloc, params)? else {
+    let Some(place) = read_uri_position(alloc, params)? else {
         return Err(RpcFault::BadParams);
     };
     Ok(ClientRequest::Hover(place))
@@ -115,7 +115,7 @@ fn read_hover(alloc: Global, params: &Value) -> Result<ClientRequest, RpcFault>
 fn read_definition(alloc: Global, params: &Value) -> Result<ClientRequest, RpcFault>
     ensures { ReadsClientRequest (or_bad_params (option_map asks.definition (document_place_of (view params.now)))) result }
 {
-    let Some(place) = document_position(alloc, params)? else {
+    let Some(place) = read_uri_position(alloc, params)? else {
         return Err(RpcFault::BadParams);
     };
     Ok(ClientRequest::Definition(place))
@@ -124,7 +124,7 @@ fn read_definition(alloc: Global, params: &Value) -> Result<ClientRequest, RpcFa
 fn read_prepare_rename(alloc: Global, params: &Value) -> Result<ClientRequest, RpcFault>
     ensures { ReadsClientRequest (or_bad_params (option_map asks.prepare_rename (document_place_of (view params.now)))) result }
 {
-    let Some(place) = document_position(alloc, params)? else {
+    let Some(place) = read_uri_position(alloc, params)? else {
         return Err(RpcFault::BadParams);
     };
     Ok(ClientRequest::PrepareRename(place))
@@ -133,7 +133,7 @@ fn read_prepare_rename(alloc: Global, params: &Value) -> Result<ClientRequest, R
 fn read_references(alloc: Global, params: &Value) -> Result<ClientRequest, RpcFault>
     ensures { ReadsClientRequest (or_bad_params (references_request_of (view params.now))) result }
 {
-    let Some(place) = document_position(alloc, params)? else {
+    let Some(place) = read_uri_position(alloc, params)? else {
         return Err(RpcFault::BadParams);
     };
     let Some(include_declaration) = includes_declaration(params) else {
@@ -148,7 +148,7 @@ fn read_references(alloc: Global, params: &Value) -> Result<ClientRequest, RpcFa
 fn read_rename(alloc: Global, params: &Value) -> Result<ClientRequest, RpcFault>
     ensures { ReadsClientRequest (or_bad_params (rename_request_of (view params.now))) result }
 {
-    let Some(place) = document_position(alloc, params)? else {
+    let Some(place) = read_uri_position(alloc, params)? else {
         return Err(RpcFault::BadParams);
     };
     let Some(new_name) = text_in(params, "newName") else {
@@ -189,7 +189,7 @@ fn read_formatting(alloc: Global, params: &Value) -> Result<ClientRequest, RpcFa
 
 /// Reads the uri of a document (`textDocument.uri`) and the member `position` from params. Returns
 /// None if either can't be read.
-fn document_position(alloc: Global, params: &Value) -> Result<Option<DocumentPosition>, AllocError>
+fn read_uri_position(alloc: Global, params: &Value) -> Result<Option<DocumentPosition>, AllocError>
     ensures { IfOk result (λ found. option_map document_place_view found ≡ document_place_of (view params.now)) }
 {
     let Some(uri) = uri_of(params) else {

@@ -62,9 +62,9 @@ module _ {N : Type 0} (table : RoutineTable N) where
 
   pub body-represents : (c t : ℕ) → CallsKnown c t → (typing : StoreTyping) (ls : Levels) (checked : TypeEnvironment N) (placement : Placement N) (active : Activation N) → RunEnvironmentAgrees table.naming typing checked active → PlacementFits table typing ls checked placement active → store_size typing < 2 ^ 64
       → (code : lowered.Instructions) (statements : Tree N (maybe body)) → CodeMeansBody table.naming checked placement code statements → (low : execution.MachineState) (s : State) → Represents typing low s
-      → ProgressRepresents typing (execution.execute_all (execution.call table.routines c t) t ls code low) (execute_body table.naming active (call_freeing table.naming c t active) t statements s)
+      → ProgressRepresents typing (execution.execute_sequence (execution.call table.routines c t) t ls code low) (execute_body table.naming active (call_freeing table.naming c t active) t statements s)
   unfolding execution.execute execute_body
-  body-represents c t known typing ls checked placement active env placed few code none means low s h = subst (λ code. ProgressRepresents typing (execution.execute_all (execution.call table.routines c t) t ls code low) (running s)) (sym means) h
+  body-represents c t known typing ls checked placement active env placed few code none means low s h = subst (λ code. ProgressRepresents typing (execution.execute_sequence (execution.call table.routines c t) t ls code low) (running s)) (sym means) h
   body-represents c t known typing ls checked placement active env placed few code (one (begins statements)) means low s h =
       means (body_of c t typing ls active) record {
         names_fit = (names-fit table.naming typing checked active env, λ x. refl);
@@ -85,13 +85,13 @@ module _ {N : Type 0} (table : RoutineTable N) where
       of_text : (tg : Target) (outer : Placement N) (entry : lowered.Routine) (j : ℕ) (text : Tree N (item procedure)) (ps : List (TypedParameter N)) → PlacementFits table typing (drop tg.up ls) checked outer active → typed_parameters table.naming checked j (procedure_formals text) ≡ Some ps
           → slice_get table.routines tg.procedure ≡ Some entry → signature ≡ map (λ p. p.formal) ps → procedure_is_well_typed table.naming (bind_typed_parameters ps (bind_procedure x ps checked)) j text ≡ true
           → RoutineMeansProcedure table (bind_typed_parameters ps (bind_procedure x ps checked)) (parameter_placement ps ((x, local_target tg.procedure) ∷ outer)) j entry text
-          → ProgressRepresents typing (execution.call table.routines (suc c) t tg.procedure (execution.levels_in_call ls (length low.cells) tg.up p) record low { cells = p.cells }) (drop_variables (length s.store) (activate table.naming (call_freeing table.naming c t) t ((y, a_procedure record { first_constructor = j; text = text }) ∷ active) args s))
+          → ProgressRepresents typing (execution.call table.routines (suc c) t tg.procedure (execution.levels_in_call ls (length low.cells) tg.up p) record low { cells = p.cells }) (drop_variables (length s.store) (activate table.naming (call_freeing table.naming c t) t ((y, a_procedure record { constructors_before = j; text = text }) ∷ active) args s))
       of_text tg outer entry j (declares_procedure q fs b closing) ps inside eps et sig fits means =
           let text : Tree N (item procedure) = declares_procedure q fs b closing in
           let l : Level = record { base = length low.cells; addresses = p.addresses } in
           let seen : Levels = drop tg.up ls in
-          let f : Frame N = record { env = (y, a_procedure record { first_constructor = j; text = text }) ∷ active; store = s.store } in
-          let p₀ : PlacementState N = record { placement = inward_placement ((x, local_target tg.procedure) ∷ outer); cells = 0; reference_places = 0 } in
+          let f : Frame N = record { env = (y, a_procedure record { constructors_before = j; text = text }) ∷ active; store = s.store } in
+          let p₀ : PlacementState N = record { placement = inward_placement ((x, local_target tg.procedure) ∷ outer); cells = 0; var_parameters_so_far = 0 } in
           let sized : length low.cells ≡ store_size typing = ap length h.same_cells ∙ store-size typing s.store h.store_fits in
           let start : FramePlaced table typing (l ∷ seen) l.base (bind_procedure x ps checked) p₀ f = record {
             store_fits = h.store_fits;
@@ -115,12 +115,12 @@ module _ {N : Type 0} (table : RoutineTable N) where
           let counted : length p.cells + entry.cells ≡ store_size rest.typing_now = omega (arith, longer, zeros, all) in
           let grown : rest.typing_now ≡ typing ++ (part.others ++ rest.others) = rest.is_grown ∙ (ap (λ l. l ++ rest.others) part.is_grown ∙ append_assoc typing part.others rest.others) in
           let statements = execute_body table.naming k.env (call_freeing table.naming c t k.env) t (block_statements b) s₂ in
-          let runs_body = execution.execute_all (execution.call table.routines c t) t (l ∷ seen) entry.body in
+          let runs_body = execution.execute_sequence (execution.call table.routines c t) t (l ∷ seen) entry.body in
           let drops = with-cells (λ q. ProgressRepresents typing (execution.drop_variables l.base q) (drop_variables (length s.store) statements)) entry.cells runs_body (record low { cells = p.cells }) tt
           (λ room. drop_variables-represents typing rest.typing_now (part.others ++ rest.others) s.store l.base (runs_body low₂) statements grown h.store_fits (ap length h.same_cells)
           (body-represents c t known rest.typing_now (l ∷ seen) after q₂.placement k.env rest.frame.environment_fits rest.frame.placing_fits (omega (arith, counted, room)) entry.body (block_statements b) body_means low₂ s₂ represents)) in
           let frames = ap (λ l. option_and_then (declare_block table.naming (j + formals_constructor_count (formal_sections fs)) b) (bind_parameters l args f)) (parameters-of_typed table.naming checked j (formal_sections fs) ps eps) ∙ (ap (option_and_then (declare_block table.naming (j + formals_constructor_count (formal_sections fs)) b)) eg ∙ ek) in
-          subst (λ o. ProgressRepresents typing (execution.drop_variables l.base (execution.activate (execution.call table.routines c t) t (l ∷ seen) o record low { cells = p.cells })) (drop_variables (length s.store) (activate table.naming (call_freeing table.naming c t) t ((y, a_procedure record { first_constructor = j; text = text }) ∷ active) args s))) (sym et)
+          subst (λ o. ProgressRepresents typing (execution.drop_variables l.base (execution.activate (execution.call table.routines c t) t (l ∷ seen) o record low { cells = p.cells })) (drop_variables (length s.store) (activate table.naming (call_freeing table.naming c t) t ((y, a_procedure record { constructors_before = j; text = text }) ∷ active) args s))) (sym et)
           (subst (λ frame. ProgressRepresents typing (execution.drop_variables l.base (execution.run_with_cells entry.cells runs_body record low { cells = p.cells })) (drop_variables (length s.store) (continue_in_frame s frame (λ f. execute_body table.naming f.env (call_freeing table.naming c t f.env) t (block_statements b))))) (sym frames) drops)
 
       of_objects : (o : Object Shape Signature) (w : BindingPlace) (r : Object Place (ProcedureText N)) → RunBindingAgrees table.naming typing checked x o r → BindingIsPlaced table typing ls checked (λ ls placement. PlacementFits table typing ls checked placement active) x o w r → o ≡ a_procedure signature
@@ -131,7 +131,7 @@ module _ {N : Type 0} (table : RoutineTable N) where
           let qs : List (TypedParameter N) = found.parameters in
           let same : ps ≡ qs = some_inverse (sym eps ∙ found.are_typed) in
           let signed : signature ≡ map (λ p. p.formal) qs = sym (ap (λ o. unwrap_or (signature_of (Some o)) []) e) ∙ (sig ∙ ap (map (λ p. p.formal)) same) in
-          of_text tg outer found.routine code.first_constructor code.text qs inside found.are_typed found.in_table signed (subst (λ ps. procedure_is_well_typed table.naming (bind_typed_parameters ps (bind_procedure x ps checked)) code.first_constructor code.text ≡ true) same fits) found.means
+          of_text tg outer found.routine code.constructors_before code.text qs inside found.are_typed found.in_table signed (subst (λ ps. procedure_is_well_typed table.naming (bind_typed_parameters ps (bind_procedure x ps checked)) code.constructors_before code.text ≡ true) same fits) found.means
       of_objects (a_procedure q) _ _ bound at e = absurd at
       of_objects _ w r bound at e = absurd (cc)
   activate-represents c t known typing ls (b ∷ checked) _ [] signature args low s p env placed e h fit cells there = absurd env

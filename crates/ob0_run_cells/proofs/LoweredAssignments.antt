@@ -3,7 +3,7 @@ use Rattle.std.proofs.Common.{◌≡◌, ℕ, ◌+◌, ◌≤◌, true, ◌&&◌
 use Rattle.std.proofs.lemmas.Bool.{le-leb}
 use Rattle.ob0_tree.specs.Tree.{Tree, arguments, assigns, calls, expression, items, maybe, selector}
 use Rattle.ob0_language_types.specs.Arguments.{arguments_listed}
-use Rattle.ob0_language_types.specs.Expressions.{Object, StandardProcedure, a_standard, designate, evaluate, read_procedure, write_procedure, write_line_procedure}
+use Rattle.ob0_language_types.specs.Expressions.{Object, StandardProcedure, a_standard, designated_place, evaluate, read_procedure, write_procedure, write_line_procedure}
 use Rattle.ob0_language_types.specs.WellTyped.{Mode, TypeMeanings, by_place, by_value}
 use Rattle.ob0_language_values.specs.Values.{Outcome, Place, Shape, Value, boolean_shape, ends_run_with, succeeds_with, integer_shape, number, or_stuck, read_place, truth, ◌>>=◌}
 use Rattle.ob0_language_runs.specs.TypeAgreement.{RunObjectAgrees, PlaceHasType, StoreTyping}
@@ -12,7 +12,7 @@ use Rattle.ob0_run_machine.specs.Evaluation as machine
 use Rattle.ob0_run_machine.specs.Execution as execution
 use Rattle.ob0_run_machine.specs.Lowered as lowered
 use Rattle.ob0_run_cells.specs.Cells.{address, all_cells, cells_of, overwritten_cells, size, store_size}
-use Rattle.ob0_run_cells.specs.LoweredStatements.{IsAt, ProgressRepresents, Represents, CodeMeansStatement, Target}
+use Rattle.ob0_run_cells.specs.LoweredStatements.{IsLoneDesignatorAt, ProgressRepresents, Represents, CodeMeansStatement, Target}
 use Rattle.ob0_run_cells.specs.Lowering.{NumberMeans, PlaceMeans, Slot, TruthMeans, HoldsValue, place_of_designator, value_of_expression}
 use Rattle.ob0_run_cells.proofs.Parts.{cells-size}
 use Rattle.ob0_run_cells.proofs.Places.{HoldsSlice, WritesPlace, places_are_slices, store-size, writing_places_writes_slices}
@@ -72,7 +72,7 @@ module _ {N : Type 0} (checked : TypeMeanings N) (slots : N → Slot) (targets :
   unfolding execution.execute execute
   number-assigned x path e q n hq hn b shown t low s h =
       let same = number-in checked slots targets b shown n (value_of_expression e) hn low s h in
-      use-place b.typing integer_shape low s (machine.address b.levels low.cells q) (designate b.active s.store x path) (λ a. execution.use_result low (machine.number b.levels low.cells n) (λ v. execution.running (execution.store_at low a v))) (λ p. use_result s (evaluate b.active s.store e) (store_at s p)) h
+      use-place b.typing integer_shape low s (machine.address b.levels low.cells q) (designated_place b.active s.store x path) (λ a. execution.use_result low (machine.number b.levels low.cells n) (λ v. execution.running (execution.store_at low a v))) (λ p. use_result s (evaluate b.active s.store e) (store_at s p)) h
       (place-in checked slots targets b shown q integer_shape (place_of_designator x path) hq low s h)
       (λ p fit. use-represents b.typing number low s (machine.number b.levels low.cells n) (evaluate b.active s.store e) (λ v. execution.running (execution.store_at low (address b.typing p) v)) (store_at s p) h same
       (λ v is. number-stored b.typing low s p v h fit))
@@ -80,7 +80,7 @@ module _ {N : Type 0} (checked : TypeMeanings N) (slots : N → Slot) (targets :
   pub truth-assigned : (x : N) (path : Tree N (items selector)) (e : Tree N expression) (q : lowered.Place) (u : lowered.Truth) → PlaceMeans checked slots q boolean_shape (place_of_designator x path) → TruthMeans checked slots u (value_of_expression e) → CodeMeansStatement checked slots targets (lowered.stores_truth q u) (assigns x path e)
   unfolding execution.execute execute
   truth-assigned x path e q u hq hu b shown t low s h =
-      use-place b.typing boolean_shape low s (machine.address b.levels low.cells q) (designate b.active s.store x path) (λ a. execution.use_result low (machine.truth b.levels low.cells u) (λ v. execution.running (execution.store_at low a (machine.as_cell v)))) (λ p. use_result s (evaluate b.active s.store e) (store_at s p)) h
+      use-place b.typing boolean_shape low s (machine.address b.levels low.cells q) (designated_place b.active s.store x path) (λ a. execution.use_result low (machine.truth b.levels low.cells u) (λ v. execution.running (execution.store_at low a (machine.as_cell v)))) (λ p. use_result s (evaluate b.active s.store e) (store_at s p)) h
       (place-in checked slots targets b shown q boolean_shape (place_of_designator x path) hq low s h)
       (λ p fit. use-represents b.typing truth low s (machine.truth b.levels low.cells u) (evaluate b.active s.store e) (λ v. execution.running (execution.store_at low (address b.typing p) (machine.as_cell v))) (store_at s p) h (truth-in checked slots targets b shown u (value_of_expression e) hu low s h)
       (λ v is. truth-stored b.typing low s p v h fit))
@@ -91,7 +91,7 @@ module _ {N : Type 0} (checked : TypeMeanings N) (slots : N → Slot) (targets :
       let (w, hw, same) = hr in
       let here = moment b s.store [] in
       let value : evaluate b.active s.store e ≡ (w here >>= (λ p. or_stuck (read_place s.store p))) = same here (moment-shown checked slots targets b shown s.store [] h.store_fits) in
-      use-place b.typing shape low s (machine.address b.levels low.cells q) (designate b.active s.store x path) (λ to. execution.use_result low (machine.address b.levels low.cells r) (λ from. execution.running record low { cells = execution.cells_after_copy low.cells to from (size shape) })) (λ p. use_result s (evaluate b.active s.store e) (store_at s p)) h
+      use-place b.typing shape low s (machine.address b.levels low.cells q) (designated_place b.active s.store x path) (λ to. execution.use_result low (machine.address b.levels low.cells r) (λ from. execution.running record low { cells = execution.cells_after_copy low.cells to from (size shape) })) (λ p. use_result s (evaluate b.active s.store e) (store_at s p)) h
       (place-in checked slots targets b shown q shape (place_of_designator x path) hq low s h)
       (λ p fit. subst (λ w. ProgressRepresents b.typing (execution.use_result low (machine.address b.levels low.cells r) (λ from. execution.running record low { cells = execution.cells_after_copy low.cells (address b.typing p) from (size shape) })) w)
       (sym (ap (λ w. use_result s w (store_at s p)) value ∙ use-then s (w here) (λ p. or_stuck (read_place s.store p)) (store_at s p)))
@@ -99,7 +99,7 @@ module _ {N : Type 0} (checked : TypeMeanings N) (slots : N → Slot) (targets :
       (place-in checked slots targets b shown r shape w hw low s h)
       (λ p' fit'. cells-cells_after_copy b.typing low s p p' shape h fit fit')))
 
-  pub reads-mean : (x : N) (es : Tree N (maybe arguments)) (e : Tree N expression) (q : lowered.Place) → checked.object_for x ≡ Some (a_standard read_procedure) → arguments_listed es ≡ e ∷ [] → IsAt checked slots q integer_shape e → CodeMeansStatement checked slots targets (lowered.reads q) (calls x es)
+  pub reads-mean : (x : N) (es : Tree N (maybe arguments)) (e : Tree N expression) (q : lowered.Place) → checked.object_for x ≡ Some (a_standard read_procedure) → arguments_listed es ≡ e ∷ [] → IsLoneDesignatorAt checked slots q integer_shape e → CodeMeansStatement checked slots targets (lowered.reads q) (calls x es)
   unfolding execution.execute execute evaluate_arguments
   reads-mean x es e q st one hq b shown t low s h =
       let y : N = hq.name in
@@ -107,9 +107,9 @@ module _ {N : Type 0} (checked : TypeMeanings N) (slots : N → Slot) (targets :
       let is_bound : b.active.object_for x ≡ Some (a_standard read_procedure) = standard-is b.typing read_procedure (b.active.object_for x) (subst (λ o. RunObjectAgrees b.typing o (b.active.object_for x)) st (shown.names_fit.0 x)) in
       subst (λ o. ProgressRepresents b.typing (execution.use_result low (machine.address b.levels low.cells q) (λ a. execution.read_number low a low.input)) (use_result s (modes_of o >>= (λ modes. evaluate_arguments b.active s.store modes (arguments_listed es))) (λ args. perform_call o (b.enters x) args s))) (sym is_bound)
       (subst (λ l. ProgressRepresents b.typing (execution.use_result low (machine.address b.levels low.cells q) (λ a. execution.read_number low a low.input)) (use_result s (evaluate_arguments b.active s.store (by_place ∷ []) l) (λ args. perform_call (Some (a_standard read_procedure)) (b.enters x) args s))) (sym one)
-      (subst (λ o. ProgressRepresents b.typing (execution.use_result low (machine.address b.levels low.cells q) (λ a. execution.read_number low a low.input)) (use_result s ((or_stuck o >>= (λ d. designate b.active s.store d.0 d.1 >>= (λ p. succeeds_with (place_argument p)))) >>= (λ a. succeeds_with (a ∷ []))) (λ args. perform_call (Some (a_standard read_procedure)) (b.enters x) args s))) (sym hq.is_designator)
-      (subst (λ w. ProgressRepresents b.typing (execution.use_result low (machine.address b.levels low.cells q) (λ a. execution.read_number low a low.input)) w) (sym (use-place-argument s (designate b.active s.store y others) (λ args. perform_call (Some (a_standard read_procedure)) (b.enters x) args s)))
-      (use-place b.typing integer_shape low s (machine.address b.levels low.cells q) (designate b.active s.store y others) (λ a. execution.read_number low a low.input) (λ p. read_number s p s.input) h (place-in checked slots targets b shown q integer_shape (place_of_designator y others) hq.place_means low s h)
+      (subst (λ o. ProgressRepresents b.typing (execution.use_result low (machine.address b.levels low.cells q) (λ a. execution.read_number low a low.input)) (use_result s ((or_stuck o >>= (λ d. designated_place b.active s.store d.0 d.1 >>= (λ p. succeeds_with (place_argument p)))) >>= (λ a. succeeds_with (a ∷ []))) (λ args. perform_call (Some (a_standard read_procedure)) (b.enters x) args s))) (sym hq.is_designator)
+      (subst (λ w. ProgressRepresents b.typing (execution.use_result low (machine.address b.levels low.cells q) (λ a. execution.read_number low a low.input)) w) (sym (use-place-argument s (designated_place b.active s.store y others) (λ args. perform_call (Some (a_standard read_procedure)) (b.enters x) args s)))
+      (use-place b.typing integer_shape low s (machine.address b.levels low.cells q) (designated_place b.active s.store y others) (λ a. execution.read_number low a low.input) (λ p. read_number s p s.input) h (place-in checked slots targets b shown q integer_shape (place_of_designator y others) hq.place_means low s h)
       (λ p fit. subst (λ input. ProgressRepresents b.typing (execution.read_number low (address b.typing p) low.input) (read_number s p input)) h.same_input (number-read b.typing low s p low.input h fit))))))
 
   pub writes-mean : (x : N) (es : Tree N (maybe arguments)) (e : Tree N expression) (n : lowered.Number) → checked.object_for x ≡ Some (a_standard write_procedure) → arguments_listed es ≡ e ∷ [] → NumberMeans checked slots n (value_of_expression e) → CodeMeansStatement checked slots targets (lowered.writes n) (calls x es)

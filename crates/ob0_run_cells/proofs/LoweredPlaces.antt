@@ -3,7 +3,7 @@ use Rattle.std.proofs.Common.{◌≡◌, ℕ, zero, suc, ◌+◌, ◌*◌, ◌<�
 use Rattle.std.proofs.Math.Nat.{add_assoc, add_comm, add-zero, add-mod-mod, mod-add-mod}
 use Rattle.std.proofs.lemmas.Option.{get_or_from_slice_get}
 use Rattle.ob0_tree.specs.Tree.{Tree, designator, end, expression, field, index, items, more, selector}
-use Rattle.ob0_language_types.specs.Expressions.{Meanings, Object, a_constant, a_variable, designate, element_step, evaluate, evaluate_selectors, object_place, object_value}
+use Rattle.ob0_language_types.specs.Expressions.{Meanings, Object, a_constant, a_variable, designated_place, element_step, evaluate, evaluate_selectors, object_place, object_value}
 use Rattle.ob0_language_types.specs.Typing.{shape_of_field}
 use Rattle.ob0_language_types.specs.WellTyped.{Mode, TypeMeanings}
 use Rattle.ob0_language_values.specs.Values.{FieldShapes, Index, Outcome, Place, Shape, Step, Store, Value, Values, array_shape, at_field, at_index, value_at_path, boolean_shape, count_values, elements, ends_run_with, succeeds_with, integer_shape, number, or_stuck, part, read_place, record_shape, truth, ◌>>=◌}
@@ -14,7 +14,7 @@ use Rattle.ob0_run_machine.specs.Evaluation as machine
 use Rattle.ob0_run_machine.specs.Evaluation.{Levels}
 use Rattle.ob0_run_machine.specs.Lowered as lowered
 use Rattle.ob0_run_cells.specs.Cells.{address, all_cells, field_offset, offset, size, store_size, step_offset, truth_cell}
-use Rattle.ob0_run_cells.specs.Lowering.{OutcomeByMoment, PlaceOutcomeFits, Moment, NumberMeans, PlaceStartsChain, PlaceMeans, Shows, Slot, TruthMeans, HoldsValue, cells_in, extended_place, in_activation, by_reference, of_module, outcome_of, part_at, place_of_designator, remaining_selectors, slot_address, slot_place, value_of_expression, value_of_factor}
+use Rattle.ob0_run_cells.specs.Lowering.{OutcomeByMoment, PlaceOutcomeFits, Moment, NumberMeans, PlaceStartsChain, PlaceMeans, IsMomentOfModule, Slot, TruthMeans, HoldsValue, cells_in, extended_place, in_activation, by_reference, of_module, outcome_of, part_at, place_of_designator, remaining_selectors, slot_address, slot_place, value_of_expression, value_of_factor}
 use Rattle.ob0_run_cells.proofs.LoweredNumbers.{each-then}
 use Rattle.ob0_run_cells.proofs.LoweredOutcomes.{Led, addresses, add_offset-same, given-same, gives-then, grouped-then, led-then, same, stuck-then, followed_by}
 use Rattle.ob0_run_cells.proofs.Places.{numbers_are_cells, parts_have_addresses, place-lies, places_are_slices, truths_are_cells}
@@ -211,11 +211,11 @@ index-left z p e rest u eu =
     ∙ sym (ap (λ o. or_stuck o >>= (λ u. (value_of_expression e z >>= (λ x. element_step u x >>= (λ s. or_stuck (part u s) >>= (λ w. evaluate_selectors z.active z.store w rest >>= (λ steps. succeeds_with (s ∷ steps)))))) >>= (λ steps. succeeds_with (extended_place p steps)))) eu))))
 
 module _ {N : Type 0} (checked : TypeMeanings N) (slots : N → Slot) where
-  pub led-at : (q : lowered.Place) (s : Shape) (v : OutcomeByMoment N Place) → PlaceMeans checked slots q s v → (z : Moment N) → Shows checked slots z → Led z.typing s (machine.address z.levels (cells_in z) q) (v z)
+  pub led-at : (q : lowered.Place) (s : Shape) (v : OutcomeByMoment N Place) → PlaceMeans checked slots q s v → (z : Moment N) → IsMomentOfModule checked slots z → Led z.typing s (machine.address z.levels (cells_in z) q) (v z)
   led-at q s v h z shown = record { is_same = (h z shown).0; is_place = (h z shown).1 }
 
   pub variable-leads : (x : N) (s : Shape) (path : Tree N (items selector)) → checked.object_for x ≡ Some (a_variable s) → PlaceStartsChain checked slots (slot_place (slots x)) s path (place_of_designator x path)
-  unfolding designate
+  unfolding designated_place
   variable-leads x s path e = (
     (λ z. object_place (z.active.object_for x)),
     (λ z shown. let (p, ep, fit) = variable-is z.typing s (z.active.object_for x) (subst (λ o. RunObjectAgrees z.typing o (z.active.object_for x)) e (shown.names_fit.0 x)) in
@@ -272,13 +272,13 @@ module _ {N : Type 0} (checked : TypeMeanings N) (slots : N → Slot) where
       )
 
   pub cell-means : (x : N) (s : Shape) (path : Tree N (items selector)) (q : lowered.Place) → checked.object_for x ≡ Some (a_variable s) → PlaceMeans checked slots q integer_shape (place_of_designator x path) → NumberMeans checked slots (lowered.cell q) (value_of_factor (designator x path))
-  unfolding evaluate designate
+  unfolding evaluate designated_place
   cell-means x s path q e h z shown =
       let (p, ep, fit) = variable-is z.typing s (z.active.object_for x) (subst (λ o. RunObjectAgrees z.typing o (z.active.object_for x)) e (shown.names_fit.0 x)) in
       number-there z.typing z.store z.passed_cells shown.store_fits (machine.address z.levels (cells_in z) q) (place_of_designator x path z) (led-at q integer_shape (place_of_designator x path) h z shown) ∙ sym (value-there z.active z.store x path p ep)
 
   pub flag-means : (x : N) (s : Shape) (path : Tree N (items selector)) (q : lowered.Place) → checked.object_for x ≡ Some (a_variable s) → PlaceMeans checked slots q boolean_shape (place_of_designator x path) → TruthMeans checked slots (lowered.flag q) (value_of_factor (designator x path))
-  unfolding evaluate designate
+  unfolding evaluate designated_place
   flag-means x s path q e h z shown =
       let (p, ep, fit) = variable-is z.typing s (z.active.object_for x) (subst (λ o. RunObjectAgrees z.typing o (z.active.object_for x)) e (shown.names_fit.0 x)) in
       truth-there z.typing z.store z.passed_cells shown.store_fits (machine.address z.levels (cells_in z) q) (place_of_designator x path z) (led-at q boolean_shape (place_of_designator x path) h z shown) ∙ sym (value-there z.active z.store x path p ep)
@@ -296,6 +296,6 @@ module _ {N : Type 0} (checked : TypeMeanings N) (slots : N → Slot) where
       sym (ap (λ o. object_value {P = List Mode} z.store o >>= (λ v. succeeds_with [] >>= (λ steps. or_stuck (value_at_path steps v)))) is_bound)
 
   pub block-designator : (q : lowered.Place) (s : Shape) (x : N) (v : Shape) (path : Tree N (items selector)) → checked.object_for x ≡ Some (a_variable v) → PlaceMeans checked slots q s (place_of_designator x path) → HoldsValue checked slots q s (value_of_factor (designator x path))
-  unfolding evaluate designate
+  unfolding evaluate designated_place
   block-designator q s x v path e hq =
       (place_of_designator x path, hq, λ z shown. let (p, ep, fit) = variable-is z.typing v (z.active.object_for x) (subst (λ o. RunObjectAgrees z.typing o (z.active.object_for x)) e (shown.names_fit.0 x)) in value-there z.active z.store x path p ep)

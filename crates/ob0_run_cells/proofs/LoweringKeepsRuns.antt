@@ -16,7 +16,7 @@ use Rattle.ob0_language_runs.proofs.Proved.{numbering_keeps_runs-holds}
 use Rattle.ob0_run_machine.specs.Execution as execution
 use Rattle.ob0_run_machine.specs.Lowered as lowered
 use Rattle.ob0_run_cells.specs.ActivationLaws.{LoweringKeepsRuns, run_of}
-use Rattle.ob0_run_cells.specs.Activations.{FitsFirst, PlacementState, ProgramMeans, RoutineTable, outermost_placement}
+use Rattle.ob0_run_cells.specs.Activations.{FirstBindingsAgree, PlacementState, ProgramMeans, RoutineTable, outermost_placement}
 use Rattle.ob0_run_cells.specs.Cells.{store_size}
 use Rattle.ob0_run_cells.specs.LoweredStatements.{ProgressRepresents, Represents}
 use Rattle.ob0_run_cells.specs.Lowering.{of_module}
@@ -24,7 +24,7 @@ use Rattle.ob0_run_cells.proofs.CallsLowered.{body-represents, calls-known, with
 use Rattle.ob0_run_cells.proofs.PlacedDeclarations.{FramePlaced, block-placed}
 
 -- a predeclared name is nowhere
-predeclared : {N : Type 0} {x : N} {Further : Type 0} → Further → FitsFirst x x x (Unit {0}) Further
+predeclared : {N : Type 0} {x : N} {Further : Type 0} → Further → FirstBindingsAgree x x x (Unit {0}) Further
 predeclared h = record { same_active = refl; same_placed = refl; here = tt; further = h }
 
 -- a run of lowered code that has room is this one
@@ -42,7 +42,7 @@ unfolding execution.run run_freeing passes_type_check
 run-freed {N} naming (is_module x b closing) program c t input fits means =
     let start : State = record { store = []; input = input; output = [] } in
     let low : execution.MachineState = record { cells = execution.zeros program.cells; input = input; output = [] } in
-    let p : PlacementState N = record { placement = outermost_placement naming; cells = 0; reference_places = 0 } in
+    let p : PlacementState N = record { placement = outermost_placement naming; cells = 0; var_parameters_so_far = 0 } in
     let f : Frame N = record { env = outermost_environment naming; store = [] } in
     let table : RoutineTable N = record { routines = program.procedures; naming = naming } in
     let frame : FramePlaced table [] execution.module_levels 0 (outermost_environment naming) p f = record {
@@ -53,7 +53,7 @@ run-freed {N} naming (is_module x b closing) program c t input fits means =
     } in
     let (g, after, q, eg, total, body_means, part) = block-placed table [] execution.module_levels 0 of_module (λ c. omega arith) 0 program.cells program.body b (outermost_environment naming) p f frame fits means in
     let counted : 0 + q.cells ≡ store_size part.typing_now = part.frame.cells_counted in
-    let runs_body = execution.execute_all (execution.call program.procedures c t) t execution.module_levels program.body in
+    let runs_body = execution.execute_sequence (execution.call program.procedures c t) t execution.module_levels program.body in
     let statements = execute_body naming g.env (call_freeing naming c t g.env) t (block_statements b) record start { store = g.store } in
     let represents : Represents part.typing_now low record start { store = g.store } = record {
       store_fits = part.frame.store_fits;

@@ -3,7 +3,7 @@ use Rattle.std.proofs.Common.{◌≡◌, ℕ, zero, suc, ◌+◌, ◌*◌, ◌<�
 use Rattle.ob0_language_names.specs.Names.{Name, same_name}
 use Rattle.ob0_language_types.specs.Typing.{shape_of_field}
 use Rattle.ob0_language_values.specs.Values.{FieldShapes, Members, Shape, Step, Value, Values, array_shape, at_field, at_index, value_at_path, boolean_shape, count_values, elements, integer_shape, members, named_member, next_field_shape, next_member, next_value, no_field_shape, no_member, no_value, nth_value, number, part, record_shape, truth, with_value_at_path, with_named_member, with_nth_value, with_part}
-use Rattle.ob0_language_runs.specs.TypeAgreement.{EachHasShape, HasShape, HaveShapes, part_shape, shape_at_path}
+use Rattle.ob0_language_runs.specs.TypeAgreement.{EachElementHasShape, HasShape, MembersHaveShapes, part_shape, shape_at_path}
 use Rattle.ob0_language_types.proofs.Conditions.{of_some}
 use Rattle.ob0_language_types.proofs.TypedElsewhere.{then_some}
 use Rattle.ob0_language_runs.proofs.Sound.{below_of}
@@ -20,7 +20,7 @@ mutual
   cells-size (members j ms) (record_shape k fs) h = members-size ms fs h.1
   cells-size _ _ h = absurd h
 
-  pub elements-size : (vs : Values) (s : Shape) → EachHasShape vs s → length (element_cells vs) ≡ count_values vs * size s
+  pub elements-size : (vs : Values) (s : Shape) → EachElementHasShape vs s → length (element_cells vs) ≡ count_values vs * size s
   elements-size no_value s h = omega arith
   elements-size (next_value v rest) s h =
       let first : length (cells_of v) ≡ size s = cells-size v s h.0 in
@@ -28,7 +28,7 @@ mutual
       let both : length (cells_of v ++ element_cells rest) ≡ length (cells_of v) + length (element_cells rest) = length-append (cells_of v) (element_cells rest) in
       omega (arith, first, others, both)
 
-  pub members-size : (ms : Members) (fs : FieldShapes) → HaveShapes ms fs → length (member_cells ms) ≡ field_sizes fs
+  pub members-size : (ms : Members) (fs : FieldShapes) → MembersHaveShapes ms fs → length (member_cells ms) ≡ field_sizes fs
   members-size no_member no_field_shape h = refl
   members-size (next_member x v rest) (next_field_shape y s others) h =
       length-append (cells_of v) (member_cells rest) ∙ (ap (λ n. n + length (member_cells rest)) (cells-size v s h.1) ∙ ap (λ n. size s + n) (members-size rest others h.2))
@@ -36,7 +36,7 @@ mutual
 
 -- elements and members
 
-pub element-lies : (vs : Values) (s : Shape) (i : ℕ) → i < count_values vs → EachHasShape vs s
+pub element-lies : (vs : Values) (s : Shape) (i : ℕ) → i < count_values vs → EachElementHasShape vs s
     → (w : Value) × (nth_value vs i ≡ Some w) × HasShape w s × Lies element_cells vs w (with_nth_value vs i) (i * size s)
 element-lies no_value s i below h = absurd (omega (arith, below))
 element-lies (next_value v rest) s zero below h = (
@@ -55,7 +55,7 @@ element-lies (next_value v rest) s (suc i) below h =
           (lies-following element_cells element_cells (next_value v rest) rest w (with_nth_value (next_value v rest) (suc i)) (with_nth_value rest i) (cells_of v) (size s) (i * size s) refl (λ new. refl) (cells-size v s h.0) k),
     )
 
-pub member-lies : (ms : Members) (fs : FieldShapes) (x : Name) (t : Shape) → shape_of_field fs x ≡ Some t → HaveShapes ms fs
+pub member-lies : (ms : Members) (fs : FieldShapes) (x : Name) (t : Shape) → shape_of_field fs x ≡ Some t → MembersHaveShapes ms fs
     → (w : Value) × (named_member ms x ≡ Some w) × HasShape w t × Lies member_cells ms w (with_named_member ms x) (field_offset fs x)
 member-lies no_member no_field_shape x t e h = absurd (cc)
 member-lies (next_member y v rest) (next_field_shape z s others) x t e h =

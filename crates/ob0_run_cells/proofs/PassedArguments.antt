@@ -5,7 +5,7 @@ use Rattle.std.proofs.lemmas.Bool.{le-leb}
 use Rattle.std.proofs.lemmas.List.{drop-append-le, take-append-le}
 use Rattle.ob0_tree.specs.Tree.{Tree, arguments, calls, expression, items, maybe, selector}
 use Rattle.ob0_language_types.specs.Arguments.{arguments_listed}
-use Rattle.ob0_language_types.specs.Expressions.{Object, a_procedure, designate, evaluate}
+use Rattle.ob0_language_types.specs.Expressions.{Object, a_procedure, designated_place, evaluate}
 use Rattle.ob0_language_types.specs.WellTyped.{FormalParameter, Mode, Signature, TypeMeanings}
 use Rattle.ob0_language_values.specs.Values.{Outcome, Place, Shape, Store, Value, ends_run_with, succeeds_with, number, or_stuck, read_place, truth, ◌>>=◌}
 use Rattle.ob0_language_runs.specs.TypeAgreement.{ArgumentsMatchSignature, HasShape, RunObjectAgrees, PlaceHasType, StoreHasTypes, StoreTyping, signature_modes}
@@ -15,7 +15,7 @@ use Rattle.ob0_run_machine.specs.Evaluation as machine
 use Rattle.ob0_run_machine.specs.Execution as execution
 use Rattle.ob0_run_machine.specs.Lowered as lowered
 use Rattle.ob0_run_cells.specs.Cells.{address, all_cells, cells_of, size, store_size}
-use Rattle.ob0_run_cells.specs.LoweredStatements.{CodeMeansArgument, CodeMeansArguments, Body, ProgressRepresents, Represents, ShowsBody, CodeMeansStatement, Target, argument_addresses, argument_cells}
+use Rattle.ob0_run_cells.specs.LoweredStatements.{CodeMeansArgument, CodeMeansArguments, Body, ProgressRepresents, Represents, IsBodyOfModule, CodeMeansStatement, Target, argument_addresses, argument_cells}
 use Rattle.ob0_run_cells.specs.Lowering.{Slot, end_of, outcome_of, place_of_designator, value_of_expression}
 use Rattle.ob0_run_cells.proofs.LoweredOutcomes.{Led, ended-same, given-same, grouped-then}
 use Rattle.ob0_run_cells.proofs.Places.{HoldsSlice, places_are_slices, store-size}
@@ -88,7 +88,7 @@ block-there cells others from n h =
     ap (λ b. if b then take n (drop from (cells ++ others)) else execution.zeros n) (le-leb (from + n) (length (cells ++ others)) within)
     ∙ (ap (take n) (drop-append-le from cells others start) ∙ take-append-le n (drop from cells) others left)
 
-module _ {N : Type 0} (checked : TypeMeanings N) (slots : N → Slot) (targets : N → Target) (b : Body N) (shown : ShowsBody checked slots targets b) (store : Store) (fits : StoreHasTypes b.typing store) where
+module _ {N : Type 0} (checked : TypeMeanings N) (slots : N → Slot) (targets : N → Target) (b : Body N) (shown : IsBodyOfModule checked slots targets b) (store : Store) (fits : StoreHasTypes b.typing store) where
   pub argument-passed : (f : FormalParameter) (c : lowered.LoweredArgument) (e : Tree N expression) → CodeMeansArgument checked slots f c e → (done : execution.CallArguments) (passed : List ℤ) → done.cells ≡ all_cells store ++ passed
       → Both (λ p a. Passes b.typing (f ∷ []) done p (a ∷ [])) (execution.pass_argument b.levels c done) (evaluate_argument b.active store f.mode e)
   unfolding evaluate_argument
@@ -96,9 +96,9 @@ module _ {N : Type 0} (checked : TypeMeanings N) (slots : N → Slot) (targets :
       let x : N = h.1.name in
       let path : Tree N (items selector) = h.1.path in
       subst (λ m. Both (λ p a. Passes b.typing (f ∷ []) done p (a ∷ [])) (execution.pass_argument b.levels (lowered.by_place q) done) (evaluate_argument b.active store m e)) (sym h.0)
-      (subst (λ o. Both (λ p a. Passes b.typing (f ∷ []) done p (a ∷ [])) (execution.pass_argument b.levels (lowered.by_place q) done) (or_stuck o >>= (λ d. designate b.active store d.0 d.1 >>= (λ p. succeeds_with (place_argument p))))) (sym h.1.is_designator)
-      (both-then (λ a p. (a ≡ address b.typing p) × PlaceHasType b.typing p f.shape) (λ p a. Passes b.typing (f ∷ []) done p (a ∷ [])) (machine.address b.levels done.cells q) (designate b.active store x path) (λ a. machine.gives (record done { addresses = done.addresses ++ a ∷ [] })) (λ p. succeeds_with (place_argument p))
-      (both-led b.typing f.shape (machine.address b.levels done.cells q) (designate b.active store x path) (place-at checked slots targets b shown q f.shape (place_of_designator x path) h.1.place_means store passed done.cells fits same))
+      (subst (λ o. Both (λ p a. Passes b.typing (f ∷ []) done p (a ∷ [])) (execution.pass_argument b.levels (lowered.by_place q) done) (or_stuck o >>= (λ d. designated_place b.active store d.0 d.1 >>= (λ p. succeeds_with (place_argument p))))) (sym h.1.is_designator)
+      (both-then (λ a p. (a ≡ address b.typing p) × PlaceHasType b.typing p f.shape) (λ p a. Passes b.typing (f ∷ []) done p (a ∷ [])) (machine.address b.levels done.cells q) (designated_place b.active store x path) (λ a. machine.gives (record done { addresses = done.addresses ++ a ∷ [] })) (λ p. succeeds_with (place_argument p))
+      (both-led b.typing f.shape (machine.address b.levels done.cells q) (designated_place b.active store x path) (place-at checked slots targets b shown q f.shape (place_of_designator x path) h.1.place_means store passed done.cells fits same))
       (λ a p r. record {
         arguments_match = (h.0, r.1, tt);
         cells_passed = sym (append-nil done.cells);

@@ -19,7 +19,7 @@ use Rattle.ob0_language_types.proofs.Conditions.{both_true}
 use Rattle.ob0_language_types.proofs.TypedElsewhere.{then_some}
 use Rattle.ob0_run_machine.specs.Evaluation.{Level, Levels}
 use Rattle.ob0_run_machine.specs.Lowered as lowered
-use Rattle.ob0_run_cells.specs.Activations.{RoutineTable, CodeMeansBlock, CodeMeansBody, PlacementState, Placement, PlacementFits, RoutinesMeanProcedures, bind_to_nowhere, in_slot, nowhere, local_target, place_names, place_name, place_parameters, place_variables}
+use Rattle.ob0_run_cells.specs.Activations.{RoutineTable, CodeMeansBlock, CodeMeansBody, PlacementState, Placement, PlacementFits, RoutinesMeanProcedures, bind_without_place, in_slot, nowhere, local_target, place_names, place_name, place_parameters, place_variables}
 use Rattle.ob0_run_cells.specs.Cells.{address, all_cells, cells_of, size, store_size}
 use Rattle.ob0_run_cells.specs.LoweredStatements.{argument_addresses, argument_cells}
 use Rattle.ob0_run_cells.specs.Lowering.{Slot, in_activation, by_reference, slot_address}
@@ -66,7 +66,7 @@ module _ {N : Type 0} (table : RoutineTable N) where
   -- constants and types
 
   pub constants-placed : (typing : StoreTyping) (ls : Levels) (cs : Tree N (items constant)) (checked after : TypeEnvironment N) (placement : Placement N) (active d : Activation N) → declare_constants table.naming checked cs ≡ Some after → declare_constants table.naming active cs ≡ Some d
-      → PlacementFits table typing ls checked placement active → PlacementFits table typing ls after (bind_to_nowhere (constant_names cs) placement) d
+      → PlacementFits table typing ls checked placement active → PlacementFits table typing ls after (bind_without_place (constant_names cs) placement) d
   unfolding declare_constants
   constants-placed typing ls end checked after placement active d e e' h =
       subst (λ a. PlacementFits table typing ls a placement d) (some_inverse {a = checked} {b = after} e) (subst (λ d. PlacementFits table typing ls checked placement d) (some_inverse {a = active} {b = d} e') h)
@@ -76,7 +76,7 @@ module _ {N : Type 0} (table : RoutineTable N) where
       constants-placed typing ls cs ((x, a_constant v) ∷ checked) after ((x, nowhere) ∷ placement) ((x, a_constant w) ∷ active) d e₁ e₂ record { same_active = refl; same_placed = refl; here = tt; further = h }
 
   pub types-placed : (typing : StoreTyping) (ls : Levels) (k : ℕ) (ds : Tree N (items type_definition)) (checked after : TypeEnvironment N) (placement : Placement N) (active d : Activation N) → declare_types table.naming checked k ds ≡ Some after → declare_types table.naming active k ds ≡ Some d
-      → PlacementFits table typing ls checked placement active → PlacementFits table typing ls after (bind_to_nowhere (declared_type_names ds) placement) d
+      → PlacementFits table typing ls checked placement active → PlacementFits table typing ls after (bind_without_place (declared_type_names ds) placement) d
   unfolding declare_types
   types-placed typing ls k end checked after placement active d e e' h =
       subst (λ a. PlacementFits table typing ls a placement d) (some_inverse {a = checked} {b = after} e) (subst (λ d. PlacementFits table typing ls checked placement d) (some_inverse {a = active} {b = d} e') h)
@@ -149,7 +149,7 @@ module _ {N : Type 0} (table : RoutineTable N) where
       let fits : (procedure_is_well_typed table.naming (bind_typed_parameters ps (bind_procedure (procedure_name p) ps checked)) k p && procedures_are_well_typed table.naming (bind_procedure (procedure_name p) ps checked) (k + procedure_constructor_count p) statements rest) ≡ true =
       subst (λ o. option_satisfies o (λ ps. procedure_is_well_typed table.naming (bind_typed_parameters ps (bind_procedure (procedure_name p) ps checked)) k p && procedures_are_well_typed table.naming (bind_procedure (procedure_name p) ps checked) (k + procedure_constructor_count p) statements rest) ≡ true) first.are_typed e in
       let both = both_true (procedure_is_well_typed table.naming (bind_typed_parameters ps (bind_procedure (procedure_name p) ps checked)) k p) (procedures_are_well_typed table.naming (bind_procedure (procedure_name p) ps checked) (k + procedure_constructor_count p) statements rest) fits in
-      procedures-placed typing ls (k + procedure_constructor_count p) code statements rest (bind_procedure (procedure_name p) ps checked) ((procedure_name p, local_target i) ∷ placement) ((procedure_name p, a_procedure record { first_constructor = k; text = p }) ∷ active)
+      procedures-placed typing ls (k + procedure_constructor_count p) code statements rest (bind_procedure (procedure_name p) ps checked) ((procedure_name p, local_target i) ∷ placement) ((procedure_name p, a_procedure record { constructors_before = k; text = p }) ∷ active)
       (refl, (ps, first.are_typed, refl, both.0), env) record { same_active = refl; same_placed = refl; here = (placement, h, first); further = h } both.1 others
 
   -- a block: its frame, and its body
@@ -170,8 +170,8 @@ module _ {N : Type 0} (table : RoutineTable N) where
       let (d₁, ed₁, fit₁) = constants-run table.naming typing checked f.env (section_constants cs) consts h.environment_fits ec in
       let placed₁ = constants-placed typing ls (section_constants cs) checked consts p.placement f.env d₁ ec ed₁ h.placing_fits in
       let (d₂, ed₂, fit₂) = types-run table.naming typing consts d₁ k (section_types ts) first fit₁ e₄ in
-      let placed₂ = types-placed typing ls k (section_types ts) consts first (bind_to_nowhere (constant_names (section_constants cs)) p.placement) d₁ d₂ e₄ ed₂ placed₁ in
-      let p₂ : PlacementState N = record p { placement = bind_to_nowhere (declared_type_names (section_types ts)) (bind_to_nowhere (constant_names (section_constants cs)) p.placement) } in
+      let placed₂ = types-placed typing ls k (section_types ts) consts first (bind_without_place (constant_names (section_constants cs)) p.placement) d₁ d₂ e₄ ed₂ placed₁ in
+      let p₂ : PlacementState N = record p { placement = bind_without_place (declared_type_names (section_types ts)) (bind_without_place (constant_names (section_constants cs)) p.placement) } in
       let f₂ : Frame N = record { env = d₂; store = f.store } in
       let (g, n, eg, counts, part) = variables-placed typing ls base at is (constructors_before_variables k b) (section_variables vs) first inner p₂ q f₂ record { store_fits = h.store_fits; environment_fits = fit₂; placing_fits = placed₂; cells_counted = h.cells_counted } means.variables_declared means.variables_placed in
       let (after, placed, fit₄, placed₄, body_means) = procedures-placed part.typing_now ls (constructors_before_procedures k b) code statements ps inner q.placement g.env part.frame.environment_fits part.frame.placing_fits fits means.inside in
@@ -208,12 +208,12 @@ arguments-stay typing others _ _ h = absurd h
 
 module _ {N : Type 0} (table : RoutineTable N) where
   pub parameters-placed : (typing : StoreTyping) (l : Level) (ls : Levels) (ps : List (TypedParameter N)) (args : List Argument) (checked : TypeEnvironment N) (p : PlacementState N) (f : Frame N) → FramePlaced table typing (l ∷ ls) l.base checked p f
-      → ArgumentsMatchSignature typing (map (λ p. p.formal) ps) args → drop p.reference_places l.addresses ≡ argument_addresses typing args
+      → ArgumentsMatchSignature typing (map (λ p. p.formal) ps) args → drop p.var_parameters_so_far l.addresses ≡ argument_addresses typing args
       → (g : Frame N) × (bind_parameters (map as_parameter ps) args f ≡ Some g) × Extends table typing (l ∷ ls) l.base (bind_typed_parameters ps checked) (place_parameters ps p) f.store (argument_cells args) g
   parameters-placed typing l ls [] [] checked p f h fit there = (f, refl, extends-here table typing (l ∷ ls) l.base checked p f h)
   parameters-placed typing l ls (q ∷ ps) (place_argument place ∷ args) checked p f h fit there =
-      let (first, rest) = index-of_drop l.addresses p.reference_places (address typing place) (argument_addresses typing args) there in
-      let p₁ : PlacementState N = record p { placement = (q.name, in_slot (by_reference 0 p.reference_places)) ∷ p.placement; reference_places = suc p.reference_places } in
+      let (first, rest) = index-of_drop l.addresses p.var_parameters_so_far (address typing place) (argument_addresses typing args) there in
+      let p₁ : PlacementState N = record p { placement = (q.name, in_slot (by_reference 0 p.var_parameters_so_far)) ∷ p.placement; var_parameters_so_far = suc p.var_parameters_so_far } in
       let f₁ : Frame N = record { env = (q.name, a_variable place) ∷ f.env; store = f.store } in
       let (g, eg, part) = parameters-placed typing l ls ps args ((q.name, a_variable q.formal.shape) ∷ checked) p₁ f₁ record { store_fits = h.store_fits; environment_fits = (refl, fit.1, h.environment_fits); placing_fits = record { same_active = refl; same_placed = refl; here = (fit.1, first); further = h.placing_fits }; cells_counted = h.cells_counted } fit.2 rest in (
         g,

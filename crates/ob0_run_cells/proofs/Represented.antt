@@ -4,13 +4,13 @@ use Rattle.std.proofs.lemmas.List.{map-append}
 use Rattle.ob0_language_types.specs.WellTyped.{TypeMeanings}
 use Rattle.ob0_language_values.specs.Values.{Outcome, Place, Shape, Store, TurnBound, Value, boolean_shape, ends_run_with, succeeds_with, integer_shape, number, or_stuck, truth}
 use Rattle.ob0_language_runs.specs.TypeAgreement.{PlaceHasType, StoreHasTypes, StoreTyping}
-use Rattle.ob0_language_runs.specs.Runs.{Progress, State, choose, continue_with, append_output, read_number, running, stopped, store_at, execute_while, execute_repeat, use_result}
+use Rattle.ob0_language_runs.specs.Runs.{Progress, State, choose_by_truth, continue_with, append_output, read_number, running, stopped, store_at, execute_while, execute_repeat, use_result}
 use Rattle.ob0_run_machine.specs.Evaluation as machine
 use Rattle.ob0_run_machine.specs.Execution as execution
 use Rattle.ob0_run_machine.specs.Lowered as lowered
 use Rattle.ob0_run_cells.specs.Cells.{address, all_cells, truth_cell}
-use Rattle.ob0_run_cells.specs.LoweredStatements.{Body, ProgressRepresents, Represents, ShowsBody, Target, printed_item_of}
-use Rattle.ob0_run_cells.specs.Lowering.{OutcomeByMoment, Moment, NumberMeans, PlaceMeans, Shows, Slot, TruthMeans, end_of, outcome_of}
+use Rattle.ob0_run_cells.specs.LoweredStatements.{Body, ProgressRepresents, Represents, IsBodyOfModule, Target, printed_item_of}
+use Rattle.ob0_run_cells.specs.Lowering.{OutcomeByMoment, Moment, NumberMeans, PlaceMeans, IsMomentOfModule, Slot, TruthMeans, end_of, outcome_of}
 use Rattle.ob0_run_cells.proofs.LoweredOutcomes.{Led, ended-same, given-same}
 use Rattle.ob0_run_cells.proofs.Places.{numbers_are_cells, truths_are_cells}
 
@@ -30,10 +30,10 @@ use-place typing shape low s (machine.ends x) (ends_run_with y) k j h led each =
 use-place typing shape low s _ _ k j h led each = let e = led.is_same in absurd (cc)
 
 pub choice-represents : (typing : StoreTyping) (low : execution.MachineState) (s : State) (o : machine.StepResult Bool) (w : Outcome Value) (k l : execution.MachineState → execution.MachineProgress) (i j : State → Progress) → Represents typing low s → outcome_of truth o ≡ w
-    → ProgressRepresents typing (k low) (i s) → ProgressRepresents typing (l low) (j s) → ProgressRepresents typing (execution.choose low o k l) (use_result s w (λ v. choose s v i j))
-choice-represents typing low s (machine.gives true) w k l i j h e on off = subst (λ w. ProgressRepresents typing (k low) (use_result s w (λ v. choose s v i j))) e on
-choice-represents typing low s (machine.gives false) w k l i j h e on off = subst (λ w. ProgressRepresents typing (l low) (use_result s w (λ v. choose s v i j))) e off
-choice-represents typing low s (machine.ends x) w k l i j h e on off = subst (λ w. ProgressRepresents typing (execution.stopped x low.output) (use_result s w (λ v. choose s v i j))) e (refl, h.same_output)
+    → ProgressRepresents typing (k low) (i s) → ProgressRepresents typing (l low) (j s) → ProgressRepresents typing (execution.choose_by_truth low o k l) (use_result s w (λ v. choose_by_truth s v i j))
+choice-represents typing low s (machine.gives true) w k l i j h e on off = subst (λ w. ProgressRepresents typing (k low) (use_result s w (λ v. choose_by_truth s v i j))) e on
+choice-represents typing low s (machine.gives false) w k l i j h e on off = subst (λ w. ProgressRepresents typing (l low) (use_result s w (λ v. choose_by_truth s v i j))) e off
+choice-represents typing low s (machine.ends x) w k l i j h e on off = subst (λ w. ProgressRepresents typing (execution.stopped x low.output) (use_result s w (λ v. choose_by_truth s v i j))) e (refl, h.same_output)
 
 -- what follows in every state
 abbrev pub Follows : StoreTyping → (execution.MachineState → execution.MachineProgress) → (State → Progress) → Type 0
@@ -60,10 +60,10 @@ execute_while-represent (suc t) typing c d k j same follows low s h =
 pub execute_repeat-represent : (t : ℕ) (typing : StoreTyping) (c : execution.MachineState → machine.StepResult Bool) (d : State → Outcome Value) (k : execution.MachineState → execution.MachineProgress) (j : State → Progress)
     → SameConditions typing c d → Follows typing k j → Follows typing (execution.execute_repeat t c k) (execute_repeat t d j)
 execute_repeat-represent zero typing c d k j same follows low s h =
-    going-on typing (k low) (j s) (λ s'. execution.choose s' (c s') execution.running (λ s''. execution.stopped machine.TurnBound s''.output)) (λ s'. use_result s' (d s') (λ v. choose s' v running (λ s''. stopped TurnBound s''.output))) (follows low s h)
+    going-on typing (k low) (j s) (λ s'. execution.choose_by_truth s' (c s') execution.running (λ s''. execution.stopped machine.TurnBound s''.output)) (λ s'. use_result s' (d s') (λ v. choose_by_truth s' v running (λ s''. stopped TurnBound s''.output))) (follows low s h)
     (λ low s h. choice-represents typing low s (c low) (d s) execution.running (λ s''. execution.stopped machine.TurnBound s''.output) running (λ s''. stopped TurnBound s''.output) h (same low s h) h (refl, h.same_output))
 execute_repeat-represent (suc t) typing c d k j same follows low s h =
-    going-on typing (k low) (j s) (λ s'. execution.choose s' (c s') execution.running (execution.execute_repeat t c k)) (λ s'. use_result s' (d s') (λ v. choose s' v running (execute_repeat t d j))) (follows low s h)
+    going-on typing (k low) (j s) (λ s'. execution.choose_by_truth s' (c s') execution.running (execution.execute_repeat t c k)) (λ s'. use_result s' (d s') (λ v. choose_by_truth s' v running (execute_repeat t d j))) (follows low s h)
     (λ low s h. choice-represents typing low s (c low) (d s) execution.running (execution.execute_repeat t c k) running (execute_repeat t d j) h (same low s h) h (execute_repeat-represent t typing c d k j same follows low s h))
 
 pub as_cell-same : (b : Bool) → machine.as_cell b ≡ truth_cell b
@@ -116,8 +116,8 @@ put-represents typing low s i h = record {
 abbrev pub moment : {N : Type 0} → Body N → Store → List ℤ → Moment N
 moment b store passed = record { typing = b.typing; store = store; passed_cells = passed; active = b.active; levels = b.levels }
 
-module _ {N : Type 0} (checked : TypeMeanings N) (slots : N → Slot) (targets : N → Target) (b : Body N) (shown : ShowsBody checked slots targets b) where
-  pub moment-shown : (store : Store) (passed : List ℤ) → StoreHasTypes b.typing store → Shows checked slots (moment b store passed)
+module _ {N : Type 0} (checked : TypeMeanings N) (slots : N → Slot) (targets : N → Target) (b : Body N) (shown : IsBodyOfModule checked slots targets b) where
+  pub moment-shown : (store : Store) (passed : List ℤ) → StoreHasTypes b.typing store → IsMomentOfModule checked slots (moment b store passed)
   moment-shown store passed fits = record {
     store_fits = fits;
     names_fit = shown.names_fit;

@@ -100,7 +100,7 @@ inward_placement (b ∷ placement) = (b.0, inward_binding_place b.1) ∷ inward_
 pub record PlacementState (N : Type 0) : Type 0 where
   pub placement : Placement N
   pub cells : ℕ
-  pub reference_places : ℕ
+  pub var_parameters_so_far : ℕ
 
 -- Adds the name `x` to a placement. A variable or a value parameter gets the next `n` cells, and
 -- `at` returns its slot from its offset. A VAR parameter gets the next index.
@@ -109,8 +109,8 @@ place_name at by_value x n p =
     record p { placement = (x, in_slot (at p.cells)) ∷ p.placement; cells = p.cells + n }
 place_name at by_place x n p =
     record p {
-      placement = (x, in_slot (by_reference 0 p.reference_places)) ∷ p.placement;
-      reference_places = suc p.reference_places;
+      placement = (x, in_slot (by_reference 0 p.var_parameters_so_far)) ∷ p.placement;
+      var_parameters_so_far = suc p.var_parameters_so_far;
     }
 
 -- Adds the names of variables with one type to a placement. Each variable gets `n` cells.
@@ -142,9 +142,9 @@ place_parameters (q ∷ ps) p =
     place_parameters ps (place_name (in_activation 0) q.formal.mode q.name (size q.formal.shape) p)
 
 -- Adds names that have no place to a placement, such as the names of constants and types.
-abbrev pub bind_to_nowhere : {N : Type 0} → List N → Placement N → Placement N
-bind_to_nowhere [] placement = placement
-bind_to_nowhere (x ∷ xs) placement = bind_to_nowhere xs ((x, nowhere) ∷ placement)
+abbrev pub bind_without_place : {N : Type 0} → List N → Placement N → Placement N
+bind_without_place [] placement = placement
+bind_without_place (x ∷ xs) placement = bind_without_place xs ((x, nowhere) ∷ placement)
 
 -- returns the target of the procedure with this index, as seen from the activation in which the
 -- procedure is declared
@@ -155,7 +155,7 @@ local_target i = at_target record { procedure = i; up = 0 }
 -- seen from one level further in
 abbrev pub parameter_placement : {N : Type 0} → List (TypedParameter N) → Placement N → PlacementState N
 parameter_placement ps placement =
-    place_parameters ps record { placement = inward_placement placement; cells = 0; reference_places = 0 }
+    place_parameters ps record { placement = inward_placement placement; cells = 0; var_parameters_so_far = 0 }
 
 -- States that code means a body, in the environment in which the body's statements are checked. If
 -- there is no body, the code has to be empty.
@@ -210,8 +210,8 @@ pub record BlockIsPlaced {N : Type 0} (table : RoutineTable N) (at : ℕ → Slo
   pub variables_placed : place_variables table.naming at first (constructors_before_variables k b)
       (block_variables b) record p {
         placement
-            = bind_to_nowhere (declared_type_names (block_types b))
-            (bind_to_nowhere (constant_names (block_constants b)) p.placement);
+            = bind_without_place (declared_type_names (block_types b))
+            (bind_without_place (constant_names (block_constants b)) p.placement);
       }
       ≡ Some placed
   pub cells_counted : p.cells + cells ≡ placed.cells
@@ -294,8 +294,8 @@ BindingIsPlaced {N} table typing ls checked Fits x (a_procedure signature) (at_t
     =
     (outer : Placement N)
     × Fits (drop t.up ls) outer
-    × HasRoutine table checked outer x code.first_constructor code.text t.procedure
-    (λ checked placed routine. RoutineMeansProcedure table checked placed code.first_constructor routine
+    × HasRoutine table checked outer x code.constructors_before code.text t.procedure
+    (λ checked placed routine. RoutineMeansProcedure table checked placed code.constructors_before routine
     code.text)
 BindingIsPlaced table typing ls checked Fits x (a_type s) nowhere (a_type u) = Unit {0}
 BindingIsPlaced table typing ls checked Fits x (a_constant v) nowhere (a_constant w) = Unit {0}
@@ -305,7 +305,7 @@ BindingIsPlaced table typing ls checked Fits x _ _ _ = ⊥
 -- States that the first bindings of an environment, a placement and an activation have the same
 -- name. `Here` is the fact about these bindings, and `Further` is the fact about the older
 -- bindings.
-pub record FitsFirst {N : Type 0} (checked placed active : N) (Here Further : Type 0)
+pub record FirstBindingsAgree {N : Type 0} (checked placed active : N) (Here Further : Type 0)
     : Type 0 where
   pub same_active : checked ≡ active
   pub same_placed : checked ≡ placed
@@ -325,7 +325,7 @@ abbrev pub PlacementFits : {N : Type 0}
     → Type 0
 PlacementFits table typing ls [] [] [] = Unit {0}
 PlacementFits table typing ls (b ∷ checked) (w ∷ placement) (d ∷ active) =
-    FitsFirst b.0 w.0 d.0
+    FirstBindingsAgree b.0 w.0 d.0
     (BindingIsPlaced table typing ls checked
     (λ ls placement. PlacementFits table typing ls checked placement active) b.0 b.1 w.1 d.1)
     (PlacementFits table typing ls checked placement active)
@@ -353,5 +353,5 @@ abbrev pub ProgramMeans : {N : Type 0}
 ProgramMeans naming m program =
     CodeMeansBlock record { routines = program.procedures; naming = naming } of_module
     (outermost_environment naming) record
-    { placement = outermost_placement naming; cells = 0; reference_places = 0 } 0 program.cells
+    { placement = outermost_placement naming; cells = 0; var_parameters_so_far = 0 } 0 program.cells
     program.body (module_block m)

@@ -8,7 +8,7 @@ use Rattle.ob0_language_types.specs.Typing.{lone_designator}
 use Rattle.ob0_language_types.specs.WellTyped.{FormalParameter, Mode, Signature, TypeMeanings, by_place, by_value}
 use Rattle.ob0_language_values.specs.Values.{Place, Shape, boolean_shape, integer_shape}
 use Rattle.ob0_language_runs.specs.TypeAgreement.{ArgumentsMatchSignature, RunMeaningsAgree, StoreHasTypes, StoreTyping}
-use Rattle.ob0_language_runs.specs.Runs.{Argument, CallFunction, Progress, State, PrintedItem, execute, execute_all, execute_else, execute_elsifs, execute_further, line_out, number_out, place_argument, running, stopped, value_argument}
+use Rattle.ob0_language_runs.specs.Runs.{Argument, CallFunction, Progress, State, PrintedItem, execute, execute_sequence, execute_else, execute_elsifs, execute_further_statements, line_out, number_out, place_argument, running, stopped, value_argument}
 use Rattle.ob0_run_machine.specs.Evaluation as machine
 use Rattle.ob0_run_machine.specs.Evaluation.{Levels}
 use Rattle.ob0_run_machine.specs.Execution as execution
@@ -85,7 +85,7 @@ CallsRepresent {N} checked targets b =
 -- States that a body belongs to a checked module. Its variables are in their slots, and its store
 -- has fewer than 2^64 cells. A call that enters a procedure's target has the effect of a call of
 -- the procedure.
-pub record ShowsBody {N : Type 0} (checked : TypeMeanings N) (slots : N → Slot) (targets : N → Target)
+pub record IsBodyOfModule {N : Type 0} (checked : TypeMeanings N) (slots : N → Slot) (targets : N → Target)
     (b : Body N) : Type 0 where
   pub names_fit : RunMeaningsAgree b.typing checked b.active
   pub variables_in_slots : (x : N) (p : Place)
@@ -105,7 +105,7 @@ abbrev pub StepRepresents : {N : Type 0}
     → Type 0
 StepRepresents {N} checked slots targets low_step step =
     (b : Body N)
-    → ShowsBody checked slots targets b
+    → IsBodyOfModule checked slots targets b
     → (t : ℕ) (low : execution.MachineState) (s : State)
     → Represents b.typing low s
     → ProgressRepresents b.typing (low_step b t low) (step b t s)
@@ -131,8 +131,8 @@ abbrev pub CodeMeansSequence : {N : Type 0}
     → Tree N sequence
     → Type 0
 CodeMeansSequence checked slots targets cs a =
-    StepRepresents checked slots targets (λ b t. execution.execute_all b.lowered_enters t b.levels cs)
-    (λ b t. execute_all b.active b.enters t a)
+    StepRepresents checked slots targets (λ b t. execution.execute_sequence b.lowered_enters t b.levels cs)
+    (λ b t. execute_sequence b.active b.enters t a)
 
 -- States that instructions have the effect of the statements after the first one of a sequence.
 abbrev pub CodeMeansFurtherStatements : {N : Type 0}
@@ -143,8 +143,8 @@ abbrev pub CodeMeansFurtherStatements : {N : Type 0}
     → Tree N (items further_statement)
     → Type 0
 CodeMeansFurtherStatements checked slots targets cs rest =
-    StepRepresents checked slots targets (λ b t. execution.execute_all b.lowered_enters t b.levels cs)
-    (λ b t. execute_further b.active b.enters t rest)
+    StepRepresents checked slots targets (λ b t. execution.execute_sequence b.lowered_enters t b.levels cs)
+    (λ b t. execute_further_statements b.active b.enters t rest)
 
 -- States that instructions have the effect of an ELSE part. If there is no ELSE part, the
 -- instructions have no effect.
@@ -156,7 +156,7 @@ abbrev pub CodeMeansElse : {N : Type 0}
     → Tree N (maybe else_part)
     → Type 0
 CodeMeansElse checked slots targets cs last =
-    StepRepresents checked slots targets (λ b t. execution.execute_all b.lowered_enters t b.levels cs)
+    StepRepresents checked slots targets (λ b t. execution.execute_sequence b.lowered_enters t b.levels cs)
     (λ b t. execute_else b.active b.enters t last)
 
 -- States that branches have the effect of ELSIF parts, followed by an ELSE part. The instructions
@@ -172,12 +172,12 @@ abbrev pub CodeMeansElsifs : {N : Type 0}
     → Type 0
 CodeMeansElsifs checked slots targets bs cs rest last =
     StepRepresents checked slots targets (λ b t. execution.execute_branches b.lowered_enters t b.levels bs
-    (execution.execute_all b.lowered_enters t b.levels cs))
+    (execution.execute_sequence b.lowered_enters t b.levels cs))
     (λ b t. execute_elsifs b.active b.enters t rest (execute_else b.active b.enters t last))
 
 -- States that an expression is only a designator of a variable, and that a place of lowered code
 -- means the place of this designator.
-pub record IsAt {N : Type 0} (checked : TypeMeanings N) (slots : N → Slot) (q : lowered.Place) (s : Shape)
+pub record IsLoneDesignatorAt {N : Type 0} (checked : TypeMeanings N) (slots : N → Slot) (q : lowered.Place) (s : Shape)
     (e : Tree N expression) : Type 0 where
   pub name : N
   pub path : Tree N (items selector)
@@ -197,7 +197,7 @@ abbrev pub CodeMeansArgument : {N : Type 0}
     → Tree N expression
     → Type 0
 CodeMeansArgument checked slots f (lowered.by_place q) e =
-    (f.mode ≡ by_place) × IsAt checked slots q f.shape e
+    (f.mode ≡ by_place) × IsLoneDesignatorAt checked slots q f.shape e
 CodeMeansArgument checked slots f (lowered.by_number n) e =
     (f.mode ≡ by_value)
     × (f.shape ≡ integer_shape)

@@ -11,7 +11,7 @@ use Rattle.std.specs.Prelude.{◌≡◌, ℕ, zero, suc, ◌+◌, ◌^◌, ◌<�
 use Rattle.ob0_tree.specs.declared.tree.Relation.{Relation}
 use Rattle.ob0_tree.specs.declared.tree.Relation.TheVariants as relation
 use Rattle.ob0_tree.specs.Tree.{Tree, addend, expression, factor, items, multiplier, selector, simple, term}
-use Rattle.ob0_language_types.specs.Expressions.{Meanings, a_variable, designate, evaluate, evaluate_addends, evaluate_factor, evaluate_multipliers, evaluate_simple, evaluate_term, evaluate_selectors}
+use Rattle.ob0_language_types.specs.Expressions.{Meanings, a_variable, designated_place, evaluate, evaluate_addends, evaluate_factor, evaluate_multipliers, evaluate_simple, evaluate_term, evaluate_selectors}
 use Rattle.ob0_language_types.specs.WellTyped.{Mode, TypeMeanings}
 use Rattle.ob0_language_values.specs.Values.{CallBound, Divisor, Done, End, Index, InputEnd, Outcome, Overflow, Place, Shape, Step, Store, TurnBound, Value, ends_run_with, succeeds_with, number, or_stuck, read_place, truth, ◌>>=◌}
 use Rattle.ob0_language_runs.specs.TypeAgreement.{RunMeaningsAgree, PlaceHasType, StoreHasTypes, StoreTyping}
@@ -67,7 +67,7 @@ cells_in m = all_cells m.store ++ m.passed_cells
 -- States that a moment belongs to a checked module. The values in its store have the store's types,
 -- and its names have the meanings that the checker found. Each variable is in its slot, and the
 -- store has fewer than 2^64 cells.
-pub record Shows {N : Type 0} (checked : TypeMeanings N) (slots : N → Slot) (m : Moment N) : Type 0 where
+pub record IsMomentOfModule {N : Type 0} (checked : TypeMeanings N) (slots : N → Slot) (m : Moment N) : Type 0 where
   pub store_fits : StoreHasTypes m.typing m.store
   pub names_fit : RunMeaningsAgree m.typing checked m.active
   pub variables_in_slots : (x : N) (p : Place)
@@ -95,7 +95,7 @@ abbrev pub OutcomeByMoment : Type 0 → Type 0 → Type 0
 OutcomeByMoment N A = Moment N → Outcome A
 
 -- states that a number of lowered code and the evaluation `value` have the same outcome, at each
--- moment that belongs to the checked module (`Shows`)
+-- moment that belongs to the checked module (`IsMomentOfModule`)
 abbrev pub NumberMeans : {N : Type 0}
     → TypeMeanings N
     → (N → Slot)
@@ -104,11 +104,11 @@ abbrev pub NumberMeans : {N : Type 0}
     → Type 0
 NumberMeans {N} checked slots n value =
     (m : Moment N)
-    → Shows checked slots m
+    → IsMomentOfModule checked slots m
     → outcome_of number (machine.number m.levels (cells_in m) n) ≡ value m
 
 -- states that a truth of lowered code and the evaluation `value` have the same outcome, at each
--- moment that belongs to the checked module (`Shows`)
+-- moment that belongs to the checked module (`IsMomentOfModule`)
 abbrev pub TruthMeans : {N : Type 0}
     → TypeMeanings N
     → (N → Slot)
@@ -117,7 +117,7 @@ abbrev pub TruthMeans : {N : Type 0}
     → Type 0
 TruthMeans {N} checked slots t value =
     (m : Moment N)
-    → Shows checked slots m
+    → IsMomentOfModule checked slots m
     → outcome_of truth (machine.truth m.levels (cells_in m) t) ≡ value m
 
 -- States that an outcome is an end of the run, or a place that holds values of a type.
@@ -126,7 +126,7 @@ PlaceOutcomeFits typing s (succeeds_with p) = PlaceHasType typing p s
 PlaceOutcomeFits typing s (ends_run_with e) = Unit {0}
 
 -- States that a place of lowered code and the evaluation `value` agree at each moment that belongs
--- to the checked module (`Shows`). Both have the same address, or end the run with the same end.
+-- to the checked module (`IsMomentOfModule`). Both have the same address, or end the run with the same end.
 -- Also states that the place that `value` returns holds values of the type `s`.
 abbrev pub PlaceMeans : {N : Type 0}
     → TypeMeanings N
@@ -136,13 +136,13 @@ abbrev pub PlaceMeans : {N : Type 0}
     → OutcomeByMoment N Place
     → Type 0
 PlaceMeans {N} checked slots q s value =
-    (m : Moment N) → Shows checked slots m
+    (m : Moment N) → IsMomentOfModule checked slots m
     → (outcome_of (λ a. a) (machine.address m.levels (cells_in m) q)
     ≡ (value m >>= (λ p. succeeds_with (address m.typing p))))
     × PlaceOutcomeFits m.typing s (value m)
 
 -- States that the evaluation `value` returns the value that is stored at a place, at each moment
--- that belongs to the checked module (`Shows`). The place is the one that the place `q` of lowered
+-- that belongs to the checked module (`IsMomentOfModule`). The place is the one that the place `q` of lowered
 -- code means, and it holds values of the type `s`.
 abbrev pub HoldsValue : {N : Type 0}
     → TypeMeanings N
@@ -155,7 +155,7 @@ HoldsValue {N} checked slots q s value =
     (place : OutcomeByMoment N Place)
     × PlaceMeans checked slots q s place
     × ((m : Moment N)
-    → Shows checked slots m
+    → IsMomentOfModule checked slots m
     → value m ≡ (place m >>= (λ p. or_stuck (read_place m.store p))))
 
 -- returns the value of an expression at a moment
@@ -176,7 +176,7 @@ value_of_factor e m = evaluate_factor m.active m.store e
 
 -- returns the place of a designator at a moment
 abbrev pub place_of_designator : {N : Type 0} → N → Tree N (items selector) → OutcomeByMoment N Place
-place_of_designator x path m = designate m.active m.store x path
+place_of_designator x path m = designated_place m.active m.store x path
 
 -- The type of the rest of a chain, which has the remaining operators or selectors. It is a function
 -- that returns their outcome, given the moment and the value so far.
@@ -213,7 +213,7 @@ abbrev pub StartsChain : {N A : Type 0}
 StartsChain {N} {A} checked slots Means rest whole =
     (so_far : OutcomeByMoment N A)
     × Means so_far
-    × ((m : Moment N) → Shows checked slots m → (so_far m >>= rest m) ≡ whole m)
+    × ((m : Moment N) → IsMomentOfModule checked slots m → (so_far m >>= rest m) ≡ whole m)
 
 -- States that a place of lowered code means the first part of a designator. From there, the
 -- remaining selectors lead to the place of the whole designator.

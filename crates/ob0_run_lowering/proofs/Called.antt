@@ -29,7 +29,7 @@ use Rattle.ob0_run_cells.specs.Lowering.{Slot}
 use Rattle.ob0_run_cells.proofs.LoweredAssignments.{line-means, reads-mean, writes-mean}
 use Rattle.ob0_run_cells.proofs.PassedArguments.{call-means}
 use Rattle.ob0_run_lowering.specs.LoweredMeans.{LocatesLoneDesignator, LowersArgument, LowersNumber}
-use Rattle.ob0_run_lowering.specs.Scenes.{Sees, object_at, target_at}
+use Rattle.ob0_run_lowering.specs.Scenes.{SceneAgrees, object_at, target_at}
 use Rattle.ob0_run_lowering.specs.declared.lowered.TypedPlace.{TypedPlace}
 use Rattle.ob0_run_lowering.specs.declared.scene.Scene.{Scene}
 use Rattle.ob0_run_lowering.specs.LoweredBodies.{LowersArguments, LowersStatement, given_arguments}
@@ -42,12 +42,12 @@ found checked x es (Some p) e h = (p, e)
 
 -- so it means what its declaration is
 module _ (scene : Scene) (x : Label) (es : Tree Label (maybe arguments)) (o : Option (Object Shape Signature)) (declared : object_at scene.types.now x ≡ o) where
-  called_as : (checked : TypeMeanings Label) (slots : Label → Slot) (targets : Label → Target) → Sees scene checked slots targets → statement_is_well_typed checked (calls x es) ≡ true → checked.object_for x ≡ o
+  called_as : (checked : TypeMeanings Label) (slots : Label → Slot) (targets : Label → Target) → SceneAgrees scene checked slots targets → statement_is_well_typed checked (calls x es) ≡ true → checked.object_for x ≡ o
   unfolding statement_is_well_typed
   called_as checked slots targets sees fits =
       let (p, e) = found checked x (arguments_listed es) (checked.object_for x) refl fits in e ∙ sym (sees.bound x p e) ∙ declared
 
-  called_with : (checked : TypeMeanings Label) (slots : Label → Slot) (targets : Label → Target) → Sees scene checked slots targets → statement_is_well_typed checked (calls x es) ≡ true → call_is_well_typed checked (signature_of o) (arguments_listed es) ≡ true
+  called_with : (checked : TypeMeanings Label) (slots : Label → Slot) (targets : Label → Target) → SceneAgrees scene checked slots targets → statement_is_well_typed checked (calls x es) ≡ true → call_is_well_typed checked (signature_of o) (arguments_listed es) ≡ true
   unfolding statement_is_well_typed
   called_with checked slots targets sees fits = sym (ap (λ o. call_is_well_typed checked (signature_of o) (arguments_listed es)) (called_as checked slots targets sees fits)) ∙ fits
 
@@ -114,7 +114,7 @@ module _ (scene : Scene) (x : Label) (given : Option (Vec Expression Global)) wh
   abbrev written_arguments : Tree Label (maybe arguments)
   written_arguments = tree_with_labels scene.resolved.now (arguments_of given)
 
-  all_fit : (s : Object Shape Signature) (signature : Signature) → signature_of (Some s) ≡ Some signature → object_at scene.types.now x ≡ Some s → (checked : TypeMeanings Label) (slots : Label → Slot) (targets : Label → Target) → Sees scene checked slots targets → statement_is_well_typed checked (calls x written_arguments) ≡ true
+  all_fit : (s : Object Shape Signature) (signature : Signature) → signature_of (Some s) ≡ Some signature → object_at scene.types.now x ≡ Some s → (checked : TypeMeanings Label) (slots : Label → Slot) (targets : Label → Target) → SceneAgrees scene checked slots targets → statement_is_well_typed checked (calls x written_arguments) ≡ true
       → arguments_match checked signature (labelled_expressions scene.resolved.now (given_arguments given)) ≡ true
   all_fit s signature is declared checked slots targets sees fits =
       sym (ap (arguments_match checked signature) (given_listed scene.resolved.now given))

@@ -19,7 +19,7 @@ use Rattle.ob0_types_table.specs.Tables.{mode_of}
 use Rattle.ob0_language_names.specs.Names.{Label, Name, naming_by_spelling}
 use Rattle.ob0_language_names.specs.Scopes.{label_from_ordinal}
 use Rattle.ob0_language_types.specs.WellTyped.{by_place, by_value}
-use Rattle.ob0_run_lowering.specs.PlacedNames.{OrdinalsAreBelow, Follows, IsRestored, LocatesAll, IsFrame, IsNextSite, PlacesNames, LocatesAs, sites_before_hiding, place_each, place_sections, sites_with_binding, sites_with, variable_slot}
+use Rattle.ob0_run_lowering.specs.PlacedNames.{OrdinalsAreBelow, HidesMoreSites, IsRestored, LocatesAll, IsFrame, IsNextSite, PlacesNames, LocatesAs, sites_before_hiding, place_each, place_sections, sites_with_binding, sites_with, variable_slot}
 use Rattle.ob0_run_lowering.specs.declared.visible_sites.Frame.{Frame}
 use Rattle.ob0_run_lowering.specs.declared.visible_sites.HiddenSite.{HiddenSite}
 use Rattle.ob0_run_lowering.specs.declared.visible_sites.VisibleSites.{VisibleSites}
@@ -49,29 +49,29 @@ sites_before_hiding-append (x ∷ xs) ys f = ap (sites_with x.ordinal x.earlier_
 sites_before_hiding-same : (xs : List HiddenSite) (f g : ℕ → Site) → ((k : ℕ) → f k ≡ g k) → (k : ℕ) → sites_before_hiding xs f k ≡ sites_before_hiding xs g k
 sites_before_hiding-same xs f g same k = ap (λ (h : ℕ → Site). sites_before_hiding xs h k) (λ i j. same j i)
 
-pub follows_itself : (w : VisibleSites) → Follows w w
-follows_itself w = record { more = []; added = sym (append-nil w.hidden.items); within = tt; longer = le_refl (length w.sites.items); goes_back = λ k. refl }
+pub follows_itself : (w : VisibleSites) → HidesMoreSites w w
+follows_itself w = record { more = []; added = sym (append-nil w.hidden.items); within = tt; longer = le_refl (length w.sites.items); restores_sites = λ k. refl }
 
-pub follows_then : (w v u : VisibleSites) → Follows w v → Follows v u → Follows w u
+pub follows_then : (w v u : VisibleSites) → HidesMoreSites w v → HidesMoreSites v u → HidesMoreSites w u
 follows_then w v u a b = record {
   more = a.more ++ b.more;
   added = b.added ∙ ap (λ hs. hs ++ b.more) a.added ∙ append_assoc w.hidden.items a.more b.more;
   within = within-append (length u.sites.items) a.more b.more (within-weaken (length v.sites.items) (length u.sites.items) a.more b.longer a.within) b.within;
   longer = omega (arith, a.longer, b.longer);
-  goes_back = λ k.
+  restores_sites = λ k.
       ap (λ f. f k) (sites_before_hiding-append a.more b.more (site_at u.sites.items))
-      ∙ sites_before_hiding-same a.more (sites_before_hiding b.more (site_at u.sites.items)) (site_at v.sites.items) b.goes_back k
-      ∙ a.goes_back k;
+      ∙ sites_before_hiding-same a.more (sites_before_hiding b.more (site_at u.sites.items)) (site_at v.sites.items) b.restores_sites k
+      ∙ a.restores_sites k;
 }
 
 -- what was bound in between is gone
-pub follows_back : (w v u after : VisibleSites) → Follows w v → Follows v u → IsRestored v u after → Follows w after
+pub follows_back : (w v u after : VisibleSites) → HidesMoreSites w v → HidesMoreSites v u → IsRestored v u after → HidesMoreSites w after
 follows_back w v u after a b g = record {
   more = a.more;
   added = g.0 ∙ a.added;
   within = within-weaken (length v.sites.items) (length after.sites.items) a.more (omega (arith, b.longer, g.2)) a.within;
   longer = omega (arith, a.longer, b.longer, g.2);
-  goes_back = λ k. sites_before_hiding-same a.more (site_at after.sites.items) (site_at v.sites.items) g.1 k ∙ a.goes_back k;
+  restores_sites = λ k. sites_before_hiding-same a.more (site_at after.sites.items) (site_at v.sites.items) g.1 k ∙ a.restores_sites k;
 }
 
 -- a site put into the table
@@ -85,12 +85,12 @@ site-set xs j s k room = by (k == j) refl
 
 -- one hidden site less
 abbrev pub AllBack : VisibleSites → ℕ → VisibleSites → Type 0
-AllBack start mark now = (w : VisibleSites) → Follows w start → mark ≡ length w.hidden.items → Follows w now × (length now.sites.items ≡ length start.sites.items)
+AllBack start mark now = (w : VisibleSites) → HidesMoreSites w start → mark ≡ length w.hidden.items → HidesMoreSites w now × (length now.sites.items ≡ length start.sites.items)
 
 pub back_on : (start now v : VisibleSites) (mark : ℕ) (last : HiddenSite) → AllBack start mark now → mark < length now.hidden.items → now.hidden.items ≡ v.hidden.items ++ last ∷ [] → v.sites.items ≡ set now.sites.items last.ordinal last.earlier_site → AllBack start mark v
 back_on start now v mark last back less popped put = λ w f is.
     let so_far = back w f is in
-    let a : Follows w now = so_far.0 in
+    let a : HidesMoreSites w now = so_far.0 in
     let left = last_of w.hidden.items a.more v.hidden.items last (sym a.added ∙ popped) (omega (arith, ap length a.added, is, less)) in
     let parts : OrdinalsAreBelow (length now.sites.items) (left.0 ++ last ∷ []) = subst (OrdinalsAreBelow (length now.sites.items)) left.1 a.within in
     let room : suc last.ordinal ≤ length now.sites.items = (within-back (length now.sites.items) left.0 (last ∷ []) parts).0 in
@@ -100,11 +100,11 @@ back_on start now v mark last back less popped put = λ w f is.
         added = left.2;
         within = within-weaken (length now.sites.items) (length v.sites.items) left.0 (omega (arith, long)) (within-front (length now.sites.items) left.0 (last ∷ []) parts);
         longer = omega (arith, long, a.longer);
-        goes_back = λ k.
+        restores_sites = λ k.
             sites_before_hiding-same left.0 (site_at v.sites.items) (sites_before_hiding (last ∷ []) (site_at now.sites.items)) (λ j. ap (λ xs. site_at xs j) put ∙ site-set now.sites.items last.ordinal last.earlier_site j room) k
             ∙ ap (λ f. f k) (sym (sites_before_hiding-append left.0 (last ∷ []) (site_at now.sites.items)))
             ∙ ap (λ hs. sites_before_hiding hs (site_at now.sites.items) k) (sym left.1)
-            ∙ a.goes_back k;
+            ∙ a.restores_sites k;
       },
       long ∙ so_far.1,
     )
@@ -113,13 +113,13 @@ nil_of : {A : Type 0} (xs ys : List A) → length (xs ++ ys) ≤ length xs → y
 nil_of xs [] h = refl
 nil_of xs (y ∷ ys) h = absurd (omega (arith, h, length-append xs (y ∷ ys)))
 
-pub back_ends : (start now : VisibleSites) (mark : ℕ) → AllBack start mark now → length now.hidden.items ≤ mark → (w : VisibleSites) → Follows w start → mark ≡ length w.hidden.items → IsRestored w start now
+pub back_ends : (start now : VisibleSites) (mark : ℕ) → AllBack start mark now → length now.hidden.items ≤ mark → (w : VisibleSites) → HidesMoreSites w start → mark ≡ length w.hidden.items → IsRestored w start now
 back_ends start now mark back all w f is =
     let so_far = back w f is in
-    let a : Follows w now = so_far.0 in
+    let a : HidesMoreSites w now = so_far.0 in
     let none : a.more ≡ [] = nil_of w.hidden.items a.more (omega (arith, ap length a.added, all, is)) in (
       a.added ∙ ap (λ hs. w.hidden.items ++ hs) none ∙ append-nil w.hidden.items,
-      λ k. ap (λ hs. sites_before_hiding hs (site_at now.sites.items) k) (sym none) ∙ a.goes_back k,
+      λ k. ap (λ hs. sites_before_hiding hs (site_at now.sites.items) k) (sym none) ∙ a.restores_sites k,
       so_far.1,
     )
 
@@ -129,7 +129,7 @@ pub places_as : (w v : VisibleSites) (f g : Frame) (first second : PlacementStat
 places_as w v f g first second same a = subst (λ (step : PlacementState Label → PlacementState Label). PlacesNames w v f step g) (λ i p. same p i) a
 
 -- one name
-pub place-by_reference : (w v : VisibleSites) (f g : Frame) (size_of : Label → ℕ) (o : Option ℕ) (name : Name) → ((k : ℕ) → site_at v.sites.items k ≡ sites_with_binding o (site.ByReference f.depth f.var_parameter_count) (site_at w.sites.items) k) → Follows w v → g ≡ record f { var_parameter_count = f.var_parameter_count + 1 }
+pub place-by_reference : (w v : VisibleSites) (f g : Frame) (size_of : Label → ℕ) (o : Option ℕ) (name : Name) → ((k : ℕ) → site_at v.sites.items k ≡ sites_with_binding o (site.ByReference f.depth f.var_parameter_count) (site_at w.sites.items) k) → HidesMoreSites w v → g ≡ record f { var_parameter_count = f.var_parameter_count + 1 }
     → PlacesNames w v f (place_name (variable_slot f.depth) by_place (label_from_ordinal naming_by_spelling o name) (size_of (label_from_ordinal naming_by_spelling o name))) g
 place-by_reference w v f g size_of o name put follows is =
     let none : f.depth - f.depth ≡ 0 = omega arith in
@@ -137,9 +137,9 @@ place-by_reference w v f g size_of o name put follows is =
     subst (λ (z : Frame). PlacesNames w v f (place_name (variable_slot f.depth) by_place (label_from_ordinal naming_by_spelling o name) (size_of (label_from_ordinal naming_by_spelling o name))) z) (sym is)
     record {
       placed = λ p h. record {
-        holds = holds_bound w.sites.items v.sites.items f.depth p.placement o name (site.ByReference f.depth f.var_parameter_count) (in_slot (by_reference 0 p.reference_places)) (le_refl f.depth, seen ∙ ap (λ n. in_slot (by_reference 0 n)) h.reference_places) put h.holds;
+        holds = holds_bound w.sites.items v.sites.items f.depth p.placement o name (site.ByReference f.depth f.var_parameter_count) (in_slot (by_reference 0 p.var_parameters_so_far)) (le_refl f.depth, seen ∙ ap (λ n. in_slot (by_reference 0 n)) h.var_parameters_so_far) put h.holds;
         cells = h.cells;
-        reference_places = ap (λ n. n + 1) h.reference_places ∙ omega arith;
+        var_parameters_so_far = ap (λ n. n + 1) h.var_parameters_so_far ∙ omega arith;
       };
       follows = follows;
       depth = refl;
@@ -149,7 +149,7 @@ place-by_reference w v f g size_of o name put follows is =
 next-reports : (f : Frame) (s : Site) (n : ℕ) → IsNextSite f s → f.cells ≡ n → LocatesAs f.depth s (in_slot (variable_slot f.depth n))
 next-reports f s n next e = (next.0, next.1 ∙ ap (λ m. in_slot (variable_slot f.depth m)) e)
 
-pub place-in_activation : (w v : VisibleSites) (f g : Frame) (size_of : Label → ℕ) (o : Option ℕ) (name : Name) (s : Site) (n : ℕ) → IsNextSite f s → ((k : ℕ) → site_at v.sites.items k ≡ sites_with_binding o s (site_at w.sites.items) k) → Follows w v → g ≡ record f { cells = f.cells + n }
+pub place-in_activation : (w v : VisibleSites) (f g : Frame) (size_of : Label → ℕ) (o : Option ℕ) (name : Name) (s : Site) (n : ℕ) → IsNextSite f s → ((k : ℕ) → site_at v.sites.items k ≡ sites_with_binding o s (site_at w.sites.items) k) → HidesMoreSites w v → g ≡ record f { cells = f.cells + n }
     → n ≡ size_of (label_from_ordinal naming_by_spelling o name) → PlacesNames w v f (place_name (variable_slot f.depth) by_value (label_from_ordinal naming_by_spelling o name) (size_of (label_from_ordinal naming_by_spelling o name))) g
 place-in_activation w v f g size_of o name s n next put follows is size =
     let cells : g.cells ≡ f.cells + n = ap (λ (z : Frame). z.cells) is in
@@ -158,7 +158,7 @@ place-in_activation w v f g size_of o name s n next put follows is size =
         holds = subst (λ d. LocatesAll v.sites.items d ((label_from_ordinal naming_by_spelling o name, in_slot (variable_slot f.depth p.cells)) ∷ p.placement)) (sym (ap (λ (z : Frame). z.depth) is))
             (holds_bound w.sites.items v.sites.items f.depth p.placement o name s (in_slot (variable_slot f.depth p.cells)) (next-reports f s p.cells next h.cells) put h.holds);
         cells = cells ∙ (λ i. h.cells i + size i);
-        reference_places = ap (λ (z : Frame). z.var_parameter_count) is ∙ h.reference_places;
+        var_parameters_so_far = ap (λ (z : Frame). z.var_parameter_count) is ∙ h.var_parameters_so_far;
       };
       follows = follows;
       depth = ap (λ (z : Frame). z.depth) is;
@@ -168,7 +168,7 @@ place-in_activation w v f g size_of o name s n next put follows is size =
 -- names one after the other: what is left to place, over what is placed so far, gives what all give
 pub record InPlaces {A : Type 0} (fold : List A → PlacementState Label → PlacementState Label) (xs : List A) (w v : VisibleSites) (f g : Frame) (done : ℕ) : Type 0 where
   pub on : (p : PlacementState Label) → IsFrame w.sites.items f p → (now : PlacementState Label) × IsFrame v.sites.items g now × (fold (drop done xs) now ≡ fold xs p)
-  pub follows : Follows w v
+  pub follows : HidesMoreSites w v
   pub depth : g.depth ≡ f.depth
   pub more_cells : f.cells ≤ g.cells
 

@@ -29,15 +29,15 @@ use Rattle.ob0_run_machine.specs.Lowered as lowered
 use Rattle.ob0_run_machine.specs.View.{procedure_of, program_of, sequence_of}
 use Rattle.ob0_run_machine.specs.declared.code.Routine.{Routine}
 use Rattle.ob0_run_machine.specs.declared.code.LoweredCode.{LoweredCode}
-use Rattle.ob0_run_cells.specs.Activations.{CodeMeansBlock, PlacementState, Placement, RoutinesMeanProcedures, ProgramMeans, at_target, parameter_placement, bind_to_nowhere, inward_placement, label_table, outermost_placement, local_target, place_parameters, place_variables}
+use Rattle.ob0_run_cells.specs.Activations.{CodeMeansBlock, PlacementState, Placement, RoutinesMeanProcedures, ProgramMeans, at_target, parameter_placement, bind_without_place, inward_placement, label_table, outermost_placement, local_target, place_parameters, place_variables}
 use Rattle.ob0_run_cells.specs.Lowering.{in_activation, of_module}
 use Rattle.ob0_run_lowering.specs.LoweredBodies.{LowersBody}
 use Rattle.ob0_run_lowering.specs.Scenes.{place_seen_from, site_at}
 use Rattle.ob0_run_lowering.specs.declared.scene.Scene.{Scene}
 use Rattle.ob0_run_lowering.specs.declared.scene.Site.TheVariants as site
 use Rattle.ob0_run_lowering.specs.KnownBlocks.{AreDeclared, BlockIsDeclared, ObjectByOrdinal}
-use Rattle.ob0_run_lowering.specs.Blocks.{LowersProcedures, KeepsRoutines, HasRoutinesFrom, LowersBlock, MeansBlock, Ready, BlockState}
-use Rattle.ob0_run_lowering.specs.PlacedNames.{Follows, IsRestored, LocatesAll, IsFrame, PlacementMatches, PlacesNames, declared_size, place_variable_declarations, place_sections, sites_with_binding, variable_slot}
+use Rattle.ob0_run_lowering.specs.Blocks.{LowersProcedures, KeepsRoutines, HasRoutinesFrom, LowersBlock, MeansBlock, IsReadyToLower, BlockState}
+use Rattle.ob0_run_lowering.specs.PlacedNames.{HidesMoreSites, IsRestored, LocatesAll, IsFrame, PlacementMatches, PlacesNames, declared_size, place_variable_declarations, place_sections, sites_with_binding, variable_slot}
 use Rattle.ob0_run_lowering.specs.declared.programs.Lowering.{Lowering}
 use Rattle.ob0_run_lowering.specs.declared.visible_sites.Frame.{Frame}
 use Rattle.ob0_run_lowering.specs.declared.visible_sites.VisibleSites.{VisibleSites}
@@ -48,16 +48,16 @@ use Rattle.ob0_run_lowering.proofs.FollowingSites.{follows_back, follows_itself,
 -- one after the other
 
 pub goes_itself : (t : Tables) (w : Lowering) (d : ℕ) (ps : Tree Label (items procedure)) → LowersProcedures t w w d ps ps
-goes_itself t w d ps = record { on = λ s statements ready. record { now = s; ready = ready; mean = λ table code later means. means }; follows = follows_itself w.visible; longer = le_refl (length w.procedures.items); grown = λ i e get. get }
+goes_itself t w d ps = record { lowers_from = λ s statements ready. record { now = s; ready = ready; composes_meaning = λ table code later means. means }; follows = follows_itself w.visible; longer = le_refl (length w.procedures.items); grown = λ i e get. get }
 
 pub goes_then : (t : Tables) (w v u : Lowering) (d : ℕ) (ps qs rest : Tree Label (items procedure)) → LowersProcedures t w v d ps qs → LowersProcedures t v u d qs rest → LowersProcedures t w u d ps rest
 goes_then t w v u d ps qs rest a b = record {
-  on = λ s statements ready.
-      let first = a.on s statements ready in
-      let second = b.on first.now statements first.ready in record {
+  lowers_from = λ s statements ready.
+      let first = a.lowers_from s statements ready in
+      let second = b.lowers_from first.now statements first.ready in record {
         now = second.now;
         ready = second.ready;
-        mean = λ table code later means. first.mean table code (λ i e le get. later i e le (b.grown i e get)) (second.mean table code (λ i e le get. later i e (omega (arith, le, a.longer)) get) means);
+        composes_meaning = λ table code later means. first.composes_meaning table code (λ i e le get. later i e le (b.grown i e get)) (second.composes_meaning table code (λ i e le get. later i e (omega (arith, le, a.longer)) get) means);
       };
   follows = follows_then w.visible v.visible u.visible a.follows b.follows;
   longer = omega (arith, a.longer, b.longer);
@@ -114,7 +114,7 @@ kept-later table a b c d i e k later = λ j x le get.
 pub record IsProcedure (t : Tables) (w v u after : Lowering) (depth index : ℕ) (o : Option ℕ) (name : Name) (fs : Tree Label (maybe formals)) (b : Tree Label block) (first f : Frame) (entry : Routine) : Type 0 where
   pub index_is : index ≡ length w.procedures.items
   pub sites : (k : ℕ) → site_at v.visible.sites.items k ≡ sites_with_binding o (site.Procedure depth index) (site_at w.visible.sites.items) k
-  pub announced : Follows w.visible v.visible
+  pub announced : HidesMoreSites w.visible v.visible
   pub pushed : (e : Routine) × (v.procedures.items ≡ w.procedures.items ++ e ∷ [])
   pub first_is : first ≡ record { depth = suc depth; cells = 0; var_parameter_count = 0 }
   pub placed : (inside : VisibleSites) × PlacesNames v.visible inside first (place_sections (variable_slot first.depth) (declared_size t) (formal_sections fs)) f × LowersBlock t (record { visible = inside; procedures = v.procedures }) u f b entry
@@ -135,22 +135,22 @@ procedure_goes t w v u after depth index o name fs b closing rest first f entry 
     let places = is.placed.1 in
     let block_is : LowersBlock t inside u f b entry = is.placed.2 in
     record {
-      on = λ s statements ready.
+      lowers_from = λ s statements ready.
           let parts : FitParts s.env s.next statements x fs b closing rest = procedure-parts s.env s.next statements x fs b closing rest ready.fits in
           let ps : List (TypedParameter Label) = parts.listed in
           let headed : TypeEnvironment Label = bind_procedure x ps s.env in
-          let known = ready.declared_following ps parts.typed in
+          let known = ready.procedures_are_declared ps parts.typed in
           let outer : Placement Label = (x, local_target index) ∷ s.placement in
           let none : depth - depth ≡ 0 = omega arith in
           let seen : place_seen_from depth (site.Procedure depth index) ≡ local_target index = ap (λ n. at_target (record { procedure = index; up = n })) none in
           let held_there : LocatesAll v.visible.sites.items depth outer = holds_bound w.visible.sites.items v.visible.sites.items depth s.placement o name (site.Procedure depth index) (local_target index) (le_refl depth, seen) is.sites ready.holds in
           let matched : PlacementMatches headed outer = (refl, (record { procedure = index; up = 0 }, refl), ready.matches) in
           let now : BlockState = record { env = headed; placement = outer; next = s.next + procedure_constructor_count (declares_procedure x fs b closing) } in
-          let empty : PlacementState Label = record { placement = inward_placement outer; cells = 0; reference_places = 0 } in
+          let empty : PlacementState Label = record { placement = inward_placement outer; cells = 0; var_parameters_so_far = 0 } in
           let begun : IsFrame v.visible.sites.items first empty = record {
             holds = subst (λ d. LocatesAll v.visible.sites.items d (inward_placement outer)) (sym deep) (holds_inward v.visible.sites.items depth outer held_there);
             cells = ap (λ (z : Frame). z.cells) is.first_is;
-            reference_places = ap (λ (z : Frame). z.var_parameter_count) is.first_is;
+            var_parameters_so_far = ap (λ (z : Frame). z.var_parameter_count) is.first_is;
           } in
           let all_placed : place_parameters ps empty ≡ place_sections (variable_slot first.depth) (declared_size t) (formal_sections fs) empty =
           sections_placed t (formal_sections fs) s.next s.env headed ps empty parts.typed known.0 ∙ ap (λ d. place_sections (variable_slot d) (declared_size t) (formal_sections fs) empty) (sym deep) in
@@ -158,16 +158,16 @@ procedure_goes t w v u after depth index o name fs b closing rest first f entry 
           let inner_matches : PlacementMatches (bind_typed_parameters ps headed) (parameter_placement ps outer).placement = parameters_match ps headed empty (matches_inward headed outer matched) in
           let slots : variable_slot f.depth ≡ in_activation 0 = ap variable_slot (places.depth ∙ deep) in
           let at : ℕ = s.next + formals_constructor_count (formal_sections fs) in
-          let lowers : MeansBlock inside u f b entry (bind_typed_parameters ps headed) (parameter_placement ps outer) at = block_is.on (bind_typed_parameters ps headed) (parameter_placement ps outer) at inner_matches entered parts.block_right known.1 in record {
+          let lowers : MeansBlock inside u f b entry (bind_typed_parameters ps headed) (parameter_placement ps outer) at = block_is.lowers_from (bind_typed_parameters ps headed) (parameter_placement ps outer) at inner_matches entered parts.block_right known.1 in record {
             now = now;
             ready = record {
-              declared_there = typed_before (declared_object_in t) ps headed known.0;
+              environment_is_declared = typed_before (declared_object_in t) ps headed known.0;
               matches = matched;
               holds = holds_same v.visible.sites.items after.visible.sites.items depth outer is.back.1 held_there;
               fits = parts.rest_right;
-              declared_following = known.2;
+              procedures_are_declared = known.2;
             };
-            mean = λ table code later means. (
+            composes_meaning = λ table code later means. (
               index,
               record {
                 parameters = ps;
@@ -196,7 +196,7 @@ pub block_lowers : (t : Tables) (w v : Lowering) (inside : VisibleSites) (cs : T
     → scene.types.now ≡ t → scene.sites.now ≡ v.visible.sites.items → scene.depth ≡ own.depth → LowersBody scene (sequence_of entry.body.items) statements → entry.cells ≡ own.cells - f.cells
     → LowersBlock t w v f (forms_block (declares cs ts vs ps) statements) entry
 block_lowers t w v inside cs ts vs ps statements f own scene entry places goes types sites deep lowers cells = record {
-  on = λ env p k matches frame fits known.
+  lowers_from = λ env p k matches frame fits known.
       let b : Tree Label block = forms_block (declares cs ts vs ps) statements in
       let parts = block-parts env k b fits in
       let inner : TypeEnvironment Label = parts.0 in
@@ -204,22 +204,22 @@ block_lowers t w v inside cs ts vs ps statements f own scene entry places goes t
       let first : TypeEnvironment Label = declared_parts.0 in
       let known_parts = known inner parts.1 in
       let at = variable_slot f.depth in
-      let hidden : Placement Label = bind_to_nowhere (declared_type_names (section_types ts)) (bind_to_nowhere (constant_names (section_constants cs)) p.placement) in
+      let hidden : Placement Label = bind_without_place (declared_type_names (section_types ts)) (bind_without_place (constant_names (section_constants cs)) p.placement) in
       let start : PlacementState Label = record p { placement = hidden } in
       let q : PlacementState Label = place_variable_declarations at (declared_size t) (section_variables vs) start in
-      let begun : IsFrame w.visible.sites.items f start = record { holds = holds_hidden w.visible.sites.items f.depth (declared_type_names (section_types ts)) (bind_to_nowhere (constant_names (section_constants cs)) p.placement) (holds_hidden w.visible.sites.items f.depth (constant_names (section_constants cs)) p.placement frame.holds); cells = frame.cells; reference_places = frame.reference_places } in
+      let begun : IsFrame w.visible.sites.items f start = record { holds = holds_hidden w.visible.sites.items f.depth (declared_type_names (section_types ts)) (bind_without_place (constant_names (section_constants cs)) p.placement) (holds_hidden w.visible.sites.items f.depth (constant_names (section_constants cs)) p.placement frame.holds); cells = frame.cells; var_parameters_so_far = frame.var_parameters_so_far } in
       let laid : IsFrame inside.sites.items own q = places.placed start begun in
-      let ready : Ready t inside.sites.items own.depth (record { env = inner; placement = q.placement; next = constructors_before_procedures k b }) statements ps = record {
-        declared_there = known_parts.0;
+      let ready : IsReadyToLower t inside.sites.items own.depth (record { env = inner; placement = q.placement; next = constructors_before_procedures k b }) statements ps = record {
+        environment_is_declared = known_parts.0;
         matches = groups_match at (declared_size t) (section_variables vs) (constructors_before_variables k b) first inner start declared_parts.2 (first_match b k env first p.placement declared_parts.1 matches);
         holds = laid.holds;
         fits = parts.2;
-        declared_following = known_parts.1;
+        procedures_are_declared = known_parts.1;
       } in
-      let gone = goes.on (record { env = inner; placement = q.placement; next = constructors_before_procedures k b }) statements ready in
+      let gone = goes.lowers_from (record { env = inner; placement = q.placement; next = constructors_before_procedures k b }) statements ready in
       let now : BlockState = gone.now in
       let last = gone.ready in
-      let seen = sees scene now.env now.placement (subst (λ z. AreDeclared (declared_object_in z) now.env) (sym types) last.declared_there) last.matches
+      let seen = sees scene now.env now.placement (subst (λ z. AreDeclared (declared_object_in z) now.env) (sym types) last.environment_is_declared) last.matches
       (subst (λ d. LocatesAll scene.sites.now d now.placement) (sym deep) (subst (λ xs. LocatesAll xs own.depth now.placement) (sym sites) last.holds)) in record {
         means = λ table later. record {
           first = first;
@@ -229,7 +229,7 @@ block_lowers t w v inside cs ts vs ps statements f own scene entry places goes t
           variables_declared = declared_parts.2;
           variables_placed = groups_placed t at (section_variables vs) (constructors_before_variables k b) first inner start declared_parts.2 known_parts.0;
           cells_counted = omega (arith, cells, laid.cells, frame.cells, places.more_cells);
-          inside = gone.mean table (sequence_of entry.body.items) later (lowers now.env now.placement seen (body-fits now.env now.next statements last.fits));
+          inside = gone.composes_meaning table (sequence_of entry.body.items) later (lowers now.env now.placement seen (body-fits now.env now.next statements last.fits));
         };
       };
   follows = follows_then w.visible inside v.visible places.follows goes.follows;
@@ -283,14 +283,14 @@ unfolding WellTyped passes_type_check
 module-fits m well = sym (numbering_keeps_type_check-holds m) ∙ well.1
 
 abbrev outermost_placed : PlacementState Label
-outermost_placed = record { placement = outermost_placement naming_by_label; cells = 0; reference_places = 0 }
+outermost_placed = record { placement = outermost_placement naming_by_label; cells = 0; var_parameters_so_far = 0 }
 
 module_means : (t : Tables) (m : Tree Name module_text) (w v : Lowering) (b : Tree Label block) (entry : Routine) → WellTyped m → ((k : ℕ) → declared_object_in t k ≡ declared_object m k) → module_block (numbered m) ≡ b
     → w.visible.sites.items ≡ [] → LowersBlock t w v (record { depth = 0; cells = 0; var_parameter_count = 0 }) b entry → MeansBlock w v (record { depth = 0; cells = 0; var_parameter_count = 0 }) b entry (outermost_environment naming_by_label) outermost_placed 0
 module_means t m w v b entry well known is sites lowers =
     let known_blocks : BlockIsDeclared (declared_object_in t) (outermost_environment naming_by_label) 0 (module_block (numbered m)) = subst (λ (objects : ObjectByOrdinal). BlockIsDeclared objects (outermost_environment naming_by_label) 0 (module_block (numbered m))) (λ i k. sym (known k) i) (module-declared m well) in
-    lowers.on (outermost_environment naming_by_label) outermost_placed 0 outermost-matches
-    (record { holds = subst (λ xs. LocatesAll xs 0 (outermost_placement naming_by_label)) (sym sites) outermost-holds; cells = refl; reference_places = refl })
+    lowers.lowers_from (outermost_environment naming_by_label) outermost_placed 0 outermost-matches
+    (record { holds = subst (λ xs. LocatesAll xs 0 (outermost_placement naming_by_label)) (sym sites) outermost-holds; cells = refl; var_parameters_so_far = refl })
     (subst (λ z. block_is_well_typed naming_by_label (outermost_environment naming_by_label) 0 z ≡ true) is (module-fits m well)) (subst (λ z. BlockIsDeclared (declared_object_in t) (outermost_environment naming_by_label) 0 z) is known_blocks)
 
 pub program_means : (t : Tables) (m : Tree Name module_text) (w v : Lowering) (b : Tree Label block) (entry : Routine) (program : LoweredCode) → WellTyped m → ((k : ℕ) → declared_object_in t k ≡ declared_object m k) → module_block (numbered m) ≡ b

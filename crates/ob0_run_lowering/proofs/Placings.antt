@@ -13,11 +13,11 @@ use Rattle.ob0_language_types.specs.WellTyped.{Mode, Signature, TypeEnvironment,
 use Rattle.ob0_language_types.proofs.Literals.{some_inverse}
 use Rattle.ob0_language_types.proofs.TypedElsewhere.{then_some}
 use Rattle.ob0_language_values.specs.Values.{Shape}
-use Rattle.ob0_run_cells.specs.Activations.{PlacementState, Placement, BindingPlace, at_target, first_slot, first_target, suffix_from_name, bind_to_nowhere, in_slot, inward_placement, inward_slot, inward_binding_place, nowhere, place_names, place_parameters, place_variables, slot_of, slot_in_placement, target_of, target_in_placement, place_name}
+use Rattle.ob0_run_cells.specs.Activations.{PlacementState, Placement, BindingPlace, at_target, first_slot, first_target, suffix_from_name, bind_without_place, in_slot, inward_placement, inward_slot, inward_binding_place, nowhere, place_names, place_parameters, place_variables, slot_of, slot_in_placement, target_of, target_in_placement, place_name}
 use Rattle.ob0_run_cells.specs.Cells.{size}
 use Rattle.ob0_run_cells.specs.LoweredStatements.{Target}
 use Rattle.ob0_run_cells.specs.Lowering.{Slot, in_activation, by_reference}
-use Rattle.ob0_run_lowering.specs.Scenes.{Sees, object_at, place_seen_from, site_at, slot_at, target_at}
+use Rattle.ob0_run_lowering.specs.Scenes.{SceneAgrees, object_at, place_seen_from, site_at, slot_at, target_at}
 use Rattle.ob0_run_lowering.specs.declared.scene.Scene.{Scene}
 use Rattle.ob0_run_lowering.specs.declared.scene.Site.{Site}
 use Rattle.ob0_run_lowering.specs.declared.scene.Site.TheVariants as site
@@ -47,7 +47,7 @@ holds_nowhere sites d x placement h = λ k. by k (same_label (declared k) x)
     by k true = tt
     by k false = h k
 
-pub holds_hidden : (sites : List Site) (d : ℕ) (xs : List Label) (placement : Placement Label) → LocatesAll sites d placement → LocatesAll sites d (bind_to_nowhere xs placement)
+pub holds_hidden : (sites : List Site) (d : ℕ) (xs : List Label) (placement : Placement Label) → LocatesAll sites d placement → LocatesAll sites d (bind_without_place xs placement)
 holds_hidden sites d [] placement h = h
 holds_hidden sites d (x ∷ xs) placement h = holds_hidden sites d xs ((x, nowhere) ∷ placement) (holds_nowhere sites d x placement h)
 
@@ -121,7 +121,7 @@ reports_target : (d : ℕ) (s : Site) (w : BindingPlace) (t : Target) → w ≡ 
 reports_target d s w t e h = (subst (LocatesAs d s) e h).1 ∙ sym e
 
 -- a scene is right at a body whose names are known and whose placing is held
-pub sees : (scene : Scene) (env : TypeEnvironment Label) (placement : Placement Label) → AreDeclared (declared_object_in scene.types.now) env → PlacementMatches env placement → LocatesAll scene.sites.now scene.depth placement → Sees scene (meanings naming_by_label env) (slot_in_placement naming_by_label placement) (target_in_placement naming_by_label placement)
+pub sees : (scene : Scene) (env : TypeEnvironment Label) (placement : Placement Label) → AreDeclared (declared_object_in scene.types.now) env → PlacementMatches env placement → LocatesAll scene.sites.now scene.depth placement → SceneAgrees scene (meanings naming_by_label env) (slot_in_placement naming_by_label placement) (target_in_placement naming_by_label placement)
 sees scene env placement known m h = record {
   bound = λ x o e. let f = declared_found (declared_object_in scene.types.now) env known x o e in ap (object_at scene.types.now) f.1 ∙ f.2;
   written = refl;
@@ -139,25 +139,25 @@ sees scene env placement known m h = record {
 
 -- constants and types
 
-constants_match : (cs : Tree Label (items constant)) (env inner : TypeEnvironment Label) (placement : Placement Label) → declare_constants naming_by_label env cs ≡ Some inner → PlacementMatches env placement → PlacementMatches inner (bind_to_nowhere (constant_names cs) placement)
+constants_match : (cs : Tree Label (items constant)) (env inner : TypeEnvironment Label) (placement : Placement Label) → declare_constants naming_by_label env cs ≡ Some inner → PlacementMatches env placement → PlacementMatches inner (bind_without_place (constant_names cs) placement)
 unfolding declare_constants
 constants_match end env inner placement h m = subst (λ e. PlacementMatches e placement) (some_inverse h) m
 constants_match (more (declares_constant x e) cs) env inner placement h m =
     let f = then_some (constant_value (meanings naming_by_label env) e) (λ v. declare_constants naming_by_label ((x, a_constant v) ∷ env) cs) inner h in
     constants_match cs ((x, a_constant f.0) ∷ env) inner ((x, nowhere) ∷ placement) f.2 (refl, tt, m)
 
-types_match : (ds : Tree Label (items type_definition)) (k : ℕ) (env inner : TypeEnvironment Label) (placement : Placement Label) → declare_types naming_by_label env k ds ≡ Some inner → PlacementMatches env placement → PlacementMatches inner (bind_to_nowhere (declared_type_names ds) placement)
+types_match : (ds : Tree Label (items type_definition)) (k : ℕ) (env inner : TypeEnvironment Label) (placement : Placement Label) → declare_types naming_by_label env k ds ≡ Some inner → PlacementMatches env placement → PlacementMatches inner (bind_without_place (declared_type_names ds) placement)
 unfolding declare_types
 types_match end k env inner placement h m = subst (λ e. PlacementMatches e placement) (some_inverse h) m
 types_match (more (declares_type x u) ds) k env inner placement h m =
     let f = then_some (denoted_type (meanings naming_by_label env) k u) (λ s. declare_types naming_by_label ((x, a_type s) ∷ env) (k + constructor_count u) ds) inner h in
     types_match ds (k + constructor_count u) ((x, a_type f.0) ∷ env) inner ((x, nowhere) ∷ placement) f.2 (refl, tt, m)
 
-pub first_match : (b : Tree Label block) (k : ℕ) (env first : TypeEnvironment Label) (placement : Placement Label) → declare_constants_and_types naming_by_label env k b ≡ Some first → PlacementMatches env placement → PlacementMatches first (bind_to_nowhere (declared_type_names (block_types b)) (bind_to_nowhere (constant_names (block_constants b)) placement))
+pub first_match : (b : Tree Label block) (k : ℕ) (env first : TypeEnvironment Label) (placement : Placement Label) → declare_constants_and_types naming_by_label env k b ≡ Some first → PlacementMatches env placement → PlacementMatches first (bind_without_place (declared_type_names (block_types b)) (bind_without_place (constant_names (block_constants b)) placement))
 unfolding declare_constants_and_types
 first_match b k env first placement h m =
     let f = then_some (declare_constants naming_by_label env (block_constants b)) (λ e. declare_types naming_by_label e k (block_types b)) first h in
-    types_match (block_types b) k f.0 first (bind_to_nowhere (constant_names (block_constants b)) placement) f.2 (constants_match (block_constants b) env f.0 placement f.1 m)
+    types_match (block_types b) k f.0 first (bind_without_place (constant_names (block_constants b)) placement) f.2 (constants_match (block_constants b) env f.0 placement f.1 m)
 
 -- names of one type
 
@@ -177,7 +177,7 @@ names_placed t at (x ∷ xs) s env p a =
 
 one_matches : (at : ℕ → Slot) (mode : Mode) (x : Label) (n : ℕ) (s : Shape) (env : TypeEnvironment Label) (p : PlacementState Label) → PlacementMatches env p.placement → PlacementMatches ((x, a_variable s) ∷ env) (place_name at mode x n p).placement
 one_matches at by_value x n s env p m = (refl, (at p.cells, refl), m)
-one_matches at by_place x n s env p m = (refl, (by_reference 0 p.reference_places, refl), m)
+one_matches at by_place x n s env p m = (refl, (by_reference 0 p.var_parameters_so_far, refl), m)
 
 names_match : (at : ℕ → Slot) (size_of : Label → ℕ) (mode : Mode) (xs : List Label) (s : Shape) (env : TypeEnvironment Label) (p : PlacementState Label) → PlacementMatches env p.placement → PlacementMatches (bind_names xs (a_variable s) env) (place_each at size_of mode xs p).placement
 names_match at size_of mode [] s env p m = m

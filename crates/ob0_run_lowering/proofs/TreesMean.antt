@@ -5,7 +5,7 @@ use Rattle.ob0_tree.specs.Places.{token_value_at}
 use Rattle.ob0_language_names.specs.Names.{Label, label_text}
 use Rattle.ob0_scope_table.specs.LabelledTrees.{tree_with_labels, label_at_token}
 use Rattle.ob0_language_types.specs.Expressions.{Meanings, Object, a_constant, a_variable}
-use Rattle.ob0_language_types.specs.Typing.{addition_type, negation_type, constant_of, element_type, field_type, multiplication_type, object_type, relation_type, sign_type, type_after_selectors, type_of, type_of_addends, type_of_factor, type_of_multipliers, type_of_simple, type_of_term, value_type}
+use Rattle.ob0_language_types.specs.Typing.{addition_type, negation_type, constant_of, element_type, field_type, multiplication_type, type_of_variable_or_constant, relation_type, sign_type, type_after_selectors, type_of, type_of_addends, type_of_factor, type_of_multipliers, type_of_simple, type_of_term, value_type}
 use Rattle.ob0_language_types.specs.WellTyped.{Signature, TypeMeanings}
 use Rattle.ob0_language_types.proofs.TypedElsewhere.{then_some}
 use Rattle.ob0_language_types.proofs.Literals.{some_inverse}
@@ -18,8 +18,8 @@ use Rattle.ob0_run_cells.specs.Lowering.{OutcomeByMoment, PlaceStartsChain, Plac
 use Rattle.ob0_run_cells.specs.Lowering as lowering
 use Rattle.ob0_run_cells.proofs.LoweredNumbers.{integer-means}
 use Rattle.ob0_run_cells.proofs.LoweredPlaces as places
-use Rattle.ob0_run_lowering.specs.Codes.{ExpressionCode, CodeMeans, FoundPlace, a_number, a_truth, addition_code, constant_code, element_at_place, element_place, indexed_place, record_field_place, multiplication_code, named_code, signed_code, code_at_place}
-use Rattle.ob0_run_lowering.specs.Scenes.{Sees, object_at, slot_at}
+use Rattle.ob0_run_lowering.specs.Codes.{ExpressionCode, CodeMeans, FoundPlace, a_number, a_truth, addition_code, constant_code, element_at_place, element_place, indexed_place, record_field_place, multiplication_code, designator_code, signed_code, code_at_place}
+use Rattle.ob0_run_lowering.specs.Scenes.{SceneAgrees, object_at, slot_at}
 use Rattle.ob0_run_lowering.specs.Trees.{addends_code, base_place, expression_code, factor_code, multipliers_code, selected_place, simple_code, term_code, variable_place}
 use Rattle.ob0_run_lowering.specs.declared.scene.Scene.{Scene}
 use Rattle.ob0_run_lowering.proofs.PartsFound.{element-same, leads-from}
@@ -97,7 +97,7 @@ module _ (checked : TypeMeanings Label) (slots : Label → Slot) where
       )
   element-step c q _ _ t e rest whole leads h hc = absurd (cc)
 
-module _ (scene : Scene) (checked : TypeMeanings Label) (slots : Label → Slot) (targets : Label → Target) (sees : Sees scene checked slots targets) where
+module _ (scene : Scene) (checked : TypeMeanings Label) (slots : Label → Slot) (targets : Label → Target) (sees : SceneAgrees scene checked slots targets) where
   -- the place at the end of a path
   abbrev Selected : Tree ℕ (items selector) → Type 0
   Selected path =
@@ -113,18 +113,18 @@ module _ (scene : Scene) (checked : TypeMeanings Label) (slots : Label → Slot)
       let (q, eq, hq) = selected (slot_place (slot_at scene x)) v s (place_of_designator x (tree_with_labels scene.resolved.now path)) leads h in
       (q, ap (λ o. selected_place scene (variable_place (slot_place (slot_at scene x)) o) (tree_with_labels scene.resolved.now path)) (sees.bound x (a_variable v) e) ∙ eq, hq)
 
-  named-means : (x : Label) (path : Tree ℕ (items selector)) (s : Shape) (o : Option (Object Shape Signature)) → Selected path → checked.object_for x ≡ o → option_and_then (λ t. type_after_selectors checked t (tree_with_labels scene.resolved.now path)) (object_type o) ≡ Some s
-      → CodeMeans checked slots (named_code (constant_of (object_at scene.types.now x)) (selected_place scene (base_place scene x) (tree_with_labels scene.resolved.now path))) s (value_of_factor (designator x (tree_with_labels scene.resolved.now path)))
+  named-means : (x : Label) (path : Tree ℕ (items selector)) (s : Shape) (o : Option (Object Shape Signature)) → Selected path → checked.object_for x ≡ o → option_and_then (λ t. type_after_selectors checked t (tree_with_labels scene.resolved.now path)) (type_of_variable_or_constant o) ≡ Some s
+      → CodeMeans checked slots (designator_code (constant_of (object_at scene.types.now x)) (selected_place scene (base_place scene x) (tree_with_labels scene.resolved.now path))) s (value_of_factor (designator x (tree_with_labels scene.resolved.now path)))
   named-means x path s (Some (a_variable v)) selected e h =
       let (q, eq, hq) = variable-means x path s v selected e h in
       let there = sees.bound x (a_variable v) e in
       subst (λ c. CodeMeans checked slots c s (value_of_factor (designator x (tree_with_labels scene.resolved.now path))))
-      (sym (ap (λ o. named_code (constant_of o) (selected_place scene (base_place scene x) (tree_with_labels scene.resolved.now path))) there ∙ ap (named_code None) eq))
+      (sym (ap (λ o. designator_code (constant_of o) (selected_place scene (base_place scene x) (tree_with_labels scene.resolved.now path))) there ∙ ap (designator_code None) eq))
       (place-means checked slots x v (tree_with_labels scene.resolved.now path) q s e hq)
   named-means x path s (Some (a_constant v)) selected e h =
       let there = sees.bound x (a_constant v) e in
       subst (λ c. CodeMeans checked slots c s (value_of_factor (designator x (tree_with_labels scene.resolved.now path))))
-      (sym (ap (λ o. named_code (constant_of o) (selected_place scene (base_place scene x) (tree_with_labels scene.resolved.now path))) there))
+      (sym (ap (λ o. designator_code (constant_of o) (selected_place scene (base_place scene x) (tree_with_labels scene.resolved.now path))) there))
       (constant-means checked slots x v (tree_with_labels scene.resolved.now path) s e h)
   named-means x path s _ selected e h = absurd (cc)
 

@@ -19,7 +19,7 @@ use Rattle.ob0_run_cells.specs.Activations.{CodeMeansBlock, PlacementState, Plac
 use Rattle.ob0_run_cells.specs.Lowering.{Slot}
 use Rattle.ob0_run_lowering.specs.declared.scene.Site.{Site}
 use Rattle.ob0_run_lowering.specs.KnownBlocks.{AreDeclared, BlockIsDeclared, ProceduresAreDeclared}
-use Rattle.ob0_run_lowering.specs.PlacedNames.{Follows, LocatesAll, IsFrame, PlacementMatches, variable_slot}
+use Rattle.ob0_run_lowering.specs.PlacedNames.{HidesMoreSites, LocatesAll, IsFrame, PlacementMatches, variable_slot}
 use Rattle.ob0_run_lowering.specs.declared.programs.Lowering.{Lowering}
 use Rattle.ob0_run_lowering.specs.declared.visible_sites.Frame.{Frame}
 
@@ -47,13 +47,13 @@ pub record BlockState : Type 0 where
 -- States that the remaining procedures `ps` and the statements of a block are well-typed in a
 -- state. The table of declarations has the object of each name in scope, and of each name that
 -- these procedures declare. The table of sites has the place of each name in scope.
-pub record Ready (t : Tables) (sites : List Site) (depth : ℕ) (s : BlockState)
+pub record IsReadyToLower (t : Tables) (sites : List Site) (depth : ℕ) (s : BlockState)
     (statements : Tree Label (maybe body)) (ps : Tree Label (items procedure)) : Type 0 where
-  pub declared_there : AreDeclared (declared_object_in t) s.env
+  pub environment_is_declared : AreDeclared (declared_object_in t) s.env
   pub matches : PlacementMatches s.env s.placement
   pub holds : LocatesAll sites depth s.placement
   pub fits : procedures_are_well_typed naming_by_label s.env s.next statements ps ≡ true
-  pub declared_following : ProceduresAreDeclared (declared_object_in t) s.env s.next ps
+  pub procedures_are_declared : ProceduresAreDeclared (declared_object_in t) s.env s.next ps
 
 -- States that the routines of a table mean the remaining procedures of a block, and that `code`
 -- means the block's statements.
@@ -67,14 +67,14 @@ RestOfBlockMeans table s code statements ps =
     RoutinesMeanProcedures (label_table table) s.env s.placement s.next code statements ps
 
 -- States that lowering starts in the state `s` with the remaining procedures `ps` of a block, and
--- reaches the state `now` with the remaining procedures `left`. `mean` is about each table that has
+-- reaches the state `now` with the remaining procedures `left`. `composes_meaning` is about each table that has
 -- the routines that were added: if the table and some code mean `left` in the state `now`, they
 -- mean `ps` in the state `s`.
 pub record LowersFromState (t : Tables) (w v : Lowering) (depth : ℕ) (s : BlockState)
     (statements : Tree Label (maybe body)) (ps left : Tree Label (items procedure)) : Type 0 where
   pub now : BlockState
-  pub ready : Ready t v.visible.sites.items depth now statements left
-  pub mean : (table : List lowered.Routine) (code : lowered.Instructions)
+  pub ready : IsReadyToLower t v.visible.sites.items depth now statements left
+  pub composes_meaning : (table : List lowered.Routine) (code : lowered.Instructions)
       → HasRoutinesFrom table (length w.procedures.items) v.procedures.items
       → RestOfBlockMeans table now code statements left
       → RestOfBlockMeans table s code statements ps
@@ -85,10 +85,10 @@ pub record LowersFromState (t : Tables) (w v : Lowering) (depth : ℕ) (s : Bloc
 -- grow.
 pub record LowersProcedures (t : Tables) (w v : Lowering) (depth : ℕ) (ps left : Tree Label (items procedure))
     : Type 0 where
-  pub on : (s : BlockState) (statements : Tree Label (maybe body))
-      → Ready t w.visible.sites.items depth s statements ps
+  pub lowers_from : (s : BlockState) (statements : Tree Label (maybe body))
+      → IsReadyToLower t w.visible.sites.items depth s statements ps
       → LowersFromState t w v depth s statements ps left
-  pub follows : Follows w.visible v.visible
+  pub follows : HidesMoreSites w.visible v.visible
   pub longer : length w.procedures.items ≤ length v.procedures.items
   pub grown : KeepsRoutines w.procedures.items v.procedures.items
 
@@ -106,12 +106,12 @@ pub record MeansBlock (w v : Lowering) (f : Frame) (b : Tree Label block) (entry
 -- grow.
 pub record LowersBlock (t : Tables) (w v : Lowering) (f : Frame) (b : Tree Label block)
     (entry : Routine) : Type 0 where
-  pub on : (env : TypeEnvironment Label) (p : PlacementState Label) (k : ℕ)
+  pub lowers_from : (env : TypeEnvironment Label) (p : PlacementState Label) (k : ℕ)
       → PlacementMatches env p.placement
       → IsFrame w.visible.sites.items f p
       → block_is_well_typed naming_by_label env k b ≡ true
       → BlockIsDeclared (declared_object_in t) env k b
       → MeansBlock w v f b entry env p k
-  pub follows : Follows w.visible v.visible
+  pub follows : HidesMoreSites w.visible v.visible
   pub longer : length w.procedures.items ≤ length v.procedures.items
   pub grown : KeepsRoutines w.procedures.items v.procedures.items

@@ -65,9 +65,9 @@ constant_code (members k ms) = no_code
 
 -- Returns the code of a designator. For a constant, this is the code of its value. For any other
 -- designator (None), it is the code of the value at the place that was found.
-abbrev pub named_code : Option Value → Option FoundPlace → ExpressionCode
-named_code (Some v) found = constant_code v
-named_code None found = code_at found
+abbrev pub designator_code : Option Value → Option FoundPlace → ExpressionCode
+designator_code (Some v) found = constant_code v
+designator_code None found = code_at found
 
 -- returns the code of an operation on two numbers, or `no_code` if an operand isn't a number
 abbrev pub number_operation : lowered.Operator → ExpressionCode → ExpressionCode → ExpressionCode

@@ -1,5 +1,5 @@
 -- States that statements are lowered to code that means them in a scene. A clause about statements
--- covers all checked names, slots and targets that agree with the scene (`Sees`). It says that the
+-- covers all checked names, slots and targets that agree with the scene (`SceneAgrees`). It says that the
 -- code of a tree means the tree, if the tree is well-typed with these names (`HoldsInScene`). If
 -- the tree isn't well-typed, nothing is claimed about its code. The parts of a well-typed tree are
 -- well-typed, so each law of `ob0_run_cells` is lifted to this form once (`proofs/HoldsInScene`).
@@ -19,17 +19,17 @@ use Rattle.ob0_run_cells.specs.Activations.{CodeMeansBody, Placement, slot_in_pl
 use Rattle.ob0_run_cells.specs.LoweredStatements.{CodeMeansArguments, CodeMeansElse, CodeMeansElsifs, CodeMeansFurtherStatements, CodeMeansSequence, CodeMeansStatement, Target}
 use Rattle.ob0_run_cells.specs.Lowering.{Slot, TruthMeans, value_of_expression}
 use Rattle.ob0_run_lowering.specs.declared.scene.Scene.{Scene}
-use Rattle.ob0_run_lowering.specs.Scenes.{Sees}
+use Rattle.ob0_run_lowering.specs.Scenes.{SceneAgrees}
 
 -- States that `Means` holds for all checked names, slots and targets that agree with a scene
--- (`Sees`), if `fits` is true for these names.
+-- (`SceneAgrees`), if `fits` is true for these names.
 abbrev pub HoldsInScene : Scene
     → (TypeMeanings Label → Bool)
     → (TypeMeanings Label → (Label → Slot) → (Label → Target) → Type 0)
     → Type 0
 HoldsInScene scene fits Means =
     (checked : TypeMeanings Label) (slots : Label → Slot) (targets : Label → Target)
-    → Sees scene checked slots targets
+    → SceneAgrees scene checked slots targets
     → IsTrue (fits checked)
     → Means checked slots targets
 
@@ -101,11 +101,11 @@ LowersElsifs scene bs cs rest last =
     (λ checked slots targets. CodeMeansElsifs checked slots targets bs cs rest last)
 
 -- States that instructions mean a body in each environment and each placement that agree with the
--- scene (`Sees`), if the body is well-typed in the environment.
+-- scene (`SceneAgrees`), if the body is well-typed in the environment.
 abbrev pub LowersBody : Scene → lowered.Instructions → Tree Label (maybe body) → Type 0
 LowersBody scene cs b =
     (env : TypeEnvironment Label) (placement : Placement Label)
-    → Sees scene (meanings naming_by_label env) (slot_in_placement naming_by_label placement)
+    → SceneAgrees scene (meanings naming_by_label env) (slot_in_placement naming_by_label placement)
     (target_in_placement naming_by_label placement)
     → IsTrue (body_is_well_typed naming_by_label env b)
     → CodeMeansBody naming_by_label env placement cs b

@@ -1,5 +1,5 @@
 -- States that expressions, designators and arguments are lowered to code that means them. This
--- holds for all checked names and slots that agree with the scene (`Sees`).
+-- holds for all checked names and slots that agree with the scene (`SceneAgrees`).
 -- Rule: none; for contracts of lowering.
 use Rattle.std.specs.Prelude.{◌≡◌, ℕ, true, Some}
 use Rattle.ob0_tree.specs.Tree.{Tree, expression, items, selector}
@@ -15,10 +15,10 @@ use Rattle.ob0_run_machine.specs.View.{argument_of, number_of, place_of, truth_o
 use Rattle.ob0_run_machine.specs.declared.code.Argument.{Argument}
 use Rattle.ob0_run_machine.specs.declared.code.Number.{Number}
 use Rattle.ob0_run_machine.specs.declared.code.Truth.{Truth}
-use Rattle.ob0_run_cells.specs.LoweredStatements.{CodeMeansArgument, IsAt, Target}
+use Rattle.ob0_run_cells.specs.LoweredStatements.{CodeMeansArgument, IsLoneDesignatorAt, Target}
 use Rattle.ob0_run_cells.specs.Lowering.{OutcomeByMoment, NumberMeans, PlaceMeans, Slot, TruthMeans, place_of_designator, value_of_expression}
 use Rattle.ob0_run_lowering.specs.Codes.{CodeMeans}
-use Rattle.ob0_run_lowering.specs.Scenes.{Sees}
+use Rattle.ob0_run_lowering.specs.Scenes.{SceneAgrees}
 use Rattle.ob0_run_lowering.specs.Trees.{code_of}
 use Rattle.ob0_run_lowering.specs.declared.lowered.TypedPlace.{TypedPlace}
 use Rattle.ob0_run_lowering.specs.declared.lowered.LoweredExpression.{LoweredExpression}
@@ -29,11 +29,11 @@ use Rattle.ob0_run_lowering.specs.declared.scene.Scene.{Scene}
 abbrev pub LoweredMeans : TypeMeanings Label → (Label → Slot) → LoweredExpression → Shape → OutcomeByMoment Label Value → Type 0
 LoweredMeans checked slots l s value = CodeMeans checked slots (code_of l) s value
 
--- States that `P` holds for all checked names and slots that agree with a scene (`Sees`).
+-- States that `P` holds for all checked names and slots that agree with a scene (`SceneAgrees`).
 abbrev pub ForAllSeen : Scene → (TypeMeanings Label → (Label → Slot) → Type 0) → Type 0
 ForAllSeen scene P =
     (checked : TypeMeanings Label) (slots : Label → Slot) (targets : Label → Target)
-    → Sees scene checked slots targets
+    → SceneAgrees scene checked slots targets
     → P checked slots
 
 -- States that code means an expression in a scene. If the expression has no type, nothing is
@@ -80,7 +80,7 @@ LocatesLoneDesignator scene e l =
     ForAllSeen scene (λ checked slots. (s : Shape)
     → variable_type checked (lone_designator (tree_with_labels scene.resolved.now e)) ≡ Some s
     → (type_shape (shapes_of scene.types.now) l.type_id ≡ s)
-    × IsAt checked slots (place_of l.place) s (tree_with_labels scene.resolved.now e))
+    × IsLoneDesignatorAt checked slots (place_of l.place) s (tree_with_labels scene.resolved.now e))
 
 -- States that a lowered argument means an argument in a scene. If the argument doesn't fit its
 -- parameter, nothing is claimed.

@@ -144,12 +144,12 @@ OrdinalsAreBelow n (h ∷ hs) = (suc h.ordinal ≤ n) × OrdinalsAreBelow n hs
 
 -- States that the table `v` results from the table `w` by hiding more sites, and that restoring
 -- these sites in `v` results in the sites of `w`.
-pub record Follows (w v : VisibleSites) : Type 0 where
+pub record HidesMoreSites (w v : VisibleSites) : Type 0 where
   pub more : List HiddenSite
   pub added : v.hidden.items ≡ w.hidden.items ++ more
   pub within : OrdinalsAreBelow (length v.sites.items) more
   pub longer : length w.sites.items ≤ length v.sites.items
-  pub goes_back : (k : ℕ) → sites_before_hiding more (site_at v.sites.items) k ≡ site_at w.sites.items k
+  pub restores_sites : (k : ℕ) → sites_before_hiding more (site_at v.sites.items) k ≡ site_at w.sites.items k
 
 -- States that the table `v` is a restored table. It has the sites and the hidden sites of `w`,
 -- which is the table before sites were hidden. It is as long as `u`, which is the table after they
@@ -165,7 +165,7 @@ IsRestored w u v =
 pub record IsFrame (sites : List Site) (f : Frame) (p : PlacementState Label) : Type 0 where
   pub holds : LocatesAll sites f.depth p.placement
   pub cells : f.cells ≡ p.cells
-  pub reference_places : f.var_parameter_count ≡ p.reference_places
+  pub var_parameters_so_far : f.var_parameter_count ≡ p.var_parameters_so_far
 
 -- States that names are placed in a table of sites and a frame. `w` and `f` are the table and the
 -- frame before, `v` and `g` are the table and the frame after. If `w` and `f` match a placement,
@@ -173,6 +173,6 @@ pub record IsFrame (sites : List Site) (f : Frame) (p : PlacementState Label) : 
 pub record PlacesNames (w v : VisibleSites) (f : Frame) (step : PlacementState Label → PlacementState Label) (g : Frame)
     : Type 0 where
   pub placed : (p : PlacementState Label) → IsFrame w.sites.items f p → IsFrame v.sites.items g (step p)
-  pub follows : Follows w v
+  pub follows : HidesMoreSites w v
   pub depth : g.depth ≡ f.depth
   pub more_cells : f.cells ≤ g.cells

@@ -1,6 +1,6 @@
 -- Defines the object, the slot and the target that a scene has for a name. A scene (`Scene`) is the
 -- data that is needed to lower a body. Also states that a scene is right for the checked names of a
--- body (`Sees`).
+-- body (`SceneAgrees`).
 -- Rule: none; for contracts of lowering.
 use Rattle.std.specs.Prelude.{◌≡◌, ℕ, ◌-◌, List, slice_index_or, Some, None, Option}
 use Rattle.ob0_language_names.specs.Names.{Label, as_written, declared, label_text}
@@ -54,7 +54,7 @@ object_at t (as_written x) = None
 -- States that a scene is right for the checked names of a body, their slots and their targets. The
 -- scene has the object of each bound name, the slot of each variable, and the target of each
 -- procedure.
-pub record Sees (scene : Scene) (checked : TypeMeanings Label) (slots : Label → Slot)
+pub record SceneAgrees (scene : Scene) (checked : TypeMeanings Label) (slots : Label → Slot)
     (targets : Label → Target) : Type 0 where
   pub bound : (x : Label) (o : Object Shape Signature)
       → checked.object_for x ≡ Some o

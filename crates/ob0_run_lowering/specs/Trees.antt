@@ -12,7 +12,7 @@ use Rattle.ob0_language_values.specs.Values.{Shape}
 use Rattle.ob0_run_machine.specs.Lowered as lowered
 use Rattle.ob0_run_machine.specs.View.{number_of, place_of, truth_of}
 use Rattle.ob0_run_cells.specs.Lowering.{slot_place}
-use Rattle.ob0_run_lowering.specs.Codes.{ExpressionCode, FoundPlace, a_block, a_number, a_truth, addition_code, indexed_place, record_field_place, multiplication_code, named_code, negation_code, no_code, relation_code, signed_code}
+use Rattle.ob0_run_lowering.specs.Codes.{ExpressionCode, FoundPlace, a_block, a_number, a_truth, addition_code, indexed_place, record_field_place, multiplication_code, designator_code, negation_code, no_code, relation_code, signed_code}
 use Rattle.ob0_run_lowering.specs.Scenes.{object_at, slot_at}
 use Rattle.ob0_run_lowering.specs.declared.lowered.TypedPlace.{TypedPlace}
 use Rattle.ob0_run_lowering.specs.declared.lowered.LoweredExpression.{LoweredExpression}
@@ -73,7 +73,7 @@ abbrev mutual
   -- at a place.
   pub factor_code : Scene → Tree Label factor → ExpressionCode
   factor_code scene (designator x path) =
-      named_code (constant_of (object_at scene.types.now x))
+      designator_code (constant_of (object_at scene.types.now x))
       (selected_place scene (base_place scene x) path)
   factor_code scene (integer n) = a_number (lowered.literal (pos n))
   factor_code scene (parenthesised e) = expression_code scene e

@@ -5,8 +5,8 @@
 //! lower with a scene (`Scene`), which says where lowered code finds each name in a body. A
 //! variable has a slot (`Slot`), which is its place. A procedure has a target (`Target`), which a
 //! call enters. The contracts of the first two layers hold if the scene has the object, the slot or
-//! the target of each checked name (`Sees`), so they mention no environments, placements or
-//! blocks. The third layer proves `Sees` for each body. If an expression has a type, its
+//! the target of each checked name (`SceneAgrees`), so they mention no environments, placements or
+//! blocks. The third layer proves `SceneAgrees` for each body. If an expression has a type, its
 //! code means the expression (`LowersExpression`). If an expression has no type, nothing is claimed
 //! about its code. So every tree is accepted and lowered.
 #![tactic(auto)]

@@ -46,7 +46,7 @@ impl Lowering {
     ghost use Rattle.ob0_run_lowering.specs.Scenes.{site_at};
     ghost use Rattle.ob0_run_lowering.specs.declared.scene.Site.TheVariants as site;
     ghost use Rattle.ob0_run_machine.specs.declared.code.Routine as code;
-    ghost use Rattle.ob0_run_lowering.specs.PlacedNames.{Follows, sites_with_binding};
+    ghost use Rattle.ob0_run_lowering.specs.PlacedNames.{HidesMoreSites, sites_with_binding};
 
     /// Stores the code of a procedure at the procedure's index. Does nothing if the list of
     /// procedures has no such index.
@@ -74,7 +74,7 @@ impl Lowering {
             → site_at self.new.visible.sites.items k
             ≡ sites_with_binding (ordinal_in context.now.resolved.now.ordinals name) (site.Procedure depth i)
             (site_at self.old.visible.sites.items) k) }
-        ensures follows { IfOk result (λ i. Follows self.old.visible self.new.visible) }
+        ensures follows { IfOk result (λ i. HidesMoreSites self.old.visible self.new.visible) }
         ensures pushed { IfOk result (λ i. (e : code.Routine)
             × (self.new.procedures.items ≡ self.old.procedures.items ++ e ∷ [])) }
     {

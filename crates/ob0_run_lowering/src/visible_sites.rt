@@ -78,7 +78,7 @@ impl VisibleSites {
     ghost use Rattle.ob0_language_names.specs.Parts.{formal_sections, names_in_list, section_variables};
     ghost use Rattle.ob0_scope_table.specs.LabelledTrees.{tree_with_labels, label_at_token};
     ghost use Rattle.ob0_run_cells.specs.Activations.{place_name};
-    ghost use Rattle.ob0_run_lowering.specs.PlacedNames.{Follows, IsRestored, PlacesNames, declared_size, place_each, sites_with_binding, variable_slot};
+    ghost use Rattle.ob0_run_lowering.specs.PlacedNames.{HidesMoreSites, IsRestored, PlacesNames, declared_size, place_each, sites_with_binding, variable_slot};
     ghost use Rattle.ob0_run_lowering.specs.PlacedNames as placed;
     ghost use Rattle.ob0_types_table.specs.Tables.{mode_of};
 
@@ -135,7 +135,7 @@ impl VisibleSites {
         ensures sites { OnOk result ((k : ℕ)
             → site_at self.new.sites.items k
             ≡ sites_with_binding (Some ordinal) site (site_at self.old.sites.items) k) }
-        ensures follows { OnOk result (Follows self.old self.new) }
+        ensures follows { OnOk result (HidesMoreSites self.old self.new) }
     {
         self.make_room_for(ordinal)?;
         let earlier_site = self.site_of_ordinal(ordinal);
@@ -153,7 +153,7 @@ impl VisibleSites {
         ensures sites { OnOk result ((k : ℕ)
             → site_at self.new.sites.items k
             ≡ sites_with_binding ordinal site (site_at self.old.sites.items) k) }
-        ensures follows { OnOk result (Follows self.old self.new) }
+        ensures follows { OnOk result (HidesMoreSites self.old self.new) }
     {
         match ordinal {
             None => Ok(()),
@@ -173,7 +173,7 @@ impl VisibleSites {
     /// list of hidden sites. The site that was hidden last is restored first.
     pub(crate) fn restore_hidden(&mut self, hidden_count: usize)
         ensures { (w : VisibleSites)
-            → Follows w self.old
+            → HidesMoreSites w self.old
             → hidden_count ≡ length w.hidden.items
             → IsRestored w self.old self.new }
     {

@@ -19,21 +19,21 @@ use Rattle.ob0_run_machine.specs.Answers.{end_of_stop, end_of}
 use Rattle.ob0_run_machine.specs.declared.code.Variable.{Variable}
 use Rattle.ob0_run_machine.specs.declared.code.Comparator.TheVariants as relation
 use Rattle.ob0_run_machine.specs.Evaluation.{Halt, Levels, StepResult, TurnBound, address, cell_at, compare, ends, gives, truth, ◌>>=◌}
-use Rattle.ob0_run_machine.specs.Execution.{CallEffect, CallArguments, MachineProgress, MachineState, choose, levels_in_call, execute, execute_all, execute_branches, continue_with, no_room, pass_all, running, stopped, execute_while, execute_repeat, use_result}
+use Rattle.ob0_run_machine.specs.Execution.{CallEffect, CallArguments, MachineProgress, MachineState, choose_by_truth, levels_in_call, execute, execute_sequence, execute_branches, continue_with, no_room, pass_all, running, stopped, execute_while, execute_repeat, use_result}
 use Rattle.ob0_run_machine.specs.Lowered as lowered
-use Rattle.ob0_run_machine.specs.Machines.{MachineDoes, CodeEffect, PerformsCalls, CallPostcondition, MachineSteps, StopsRun, StopsPassing, statement_effect, sequence_effect, elsifs_effect, entry_effect, output_items, passed_arguments, state_of}
+use Rattle.ob0_run_machine.specs.Machines.{StepHasEffect, CodeEffect, PerformsCalls, CallPostcondition, IsProgressAfterStep, StopsRun, StopsPassing, statement_effect, sequence_effect, elsifs_effect, entry_effect, output_items, passed_arguments, state_of}
 use Rattle.ob0_run_machine.specs.View.{all_branches, argument_of, conditional_of, call_of, variable_relation, variable_increase, elsif_branches, else_statements, repeat_of, sequence_of, statement_of, truth_of, variable_of}
 
 stopped_then : (o : Option Halt) (m : Machine) (p : MachineProgress) (k : MachineState → MachineProgress) → StopsRun o m p → StopsRun o m (continue_with p k)
 stopped_then (Some x) m p k h = ap (λ p. continue_with p k) h
 stopped_then None m p k h = h
 
-failed_then : (e : Stop) (m : Machine) (p : MachineProgress) (k : MachineState → MachineProgress) → MachineSteps (Err e) m p → MachineSteps (Err e) m (continue_with p k)
+failed_then : (e : Stop) (m : Machine) (p : MachineProgress) (k : MachineState → MachineProgress) → IsProgressAfterStep (Err e) m p → IsProgressAfterStep (Err e) m (continue_with p k)
 failed_then e = stopped_then (end_of_stop e)
 
 -- the exit of a `?`
-pub leaving : {post : CallPostcondition} {r : Result (Unit {0}) Stop} {e : Stop} {m m' : Machine} {f : CodeEffect} → (y : Stop) × (r ≡ Err y) × (y ≡ e) → MachineDoes post (Err e) m m' f → MachineDoes post r m m' f
-leaving {post = post} {r = r} {m = m} {m' = m'} {f = f} q h = subst (λ r. MachineDoes post r m m' f) (sym q.1) (subst (λ y. MachineDoes post (Err y) m m' f) (sym q.2) h)
+pub leaving : {post : CallPostcondition} {r : Result (Unit {0}) Stop} {e : Stop} {m m' : Machine} {f : CodeEffect} → (y : Stop) × (r ≡ Err y) × (y ≡ e) → StepHasEffect post (Err e) m m' f → StepHasEffect post r m m' f
+leaving {post = post} {r = r} {m = m} {m' = m'} {f = f} q h = subst (λ r. StepHasEffect post r m m' f) (sym q.1) (subst (λ y. StepHasEffect post (Err y) m m' f) (sym q.2) h)
 
 -- what is done ends the run so
 abbrev pub EndsRun : CallPostcondition → EvaluationFault → Machine → Machine → CodeEffect → Type 0
@@ -41,66 +41,66 @@ EndsRun post e m m' f = (enters : CallEffect) → PerformsCalls post enters → 
 
 -- the exit of a `?` at what ends the run
 pub ending_by : {post : CallPostcondition} {r : Result (Unit {0}) Stop} {m m' : Machine} {f : CodeEffect} (e : EvaluationFault) → (y : Stop) × (r ≡ Err y) × (end_of_stop y ≡ Some (end_of e))
-    → EndsRun post e m m' f → MachineDoes post r m m' f
+    → EndsRun post e m m' f → StepHasEffect post r m m' f
 ending_by {m = m} {m' = m'} {f = f} e q h = leaving (q.0, q.1, refl) record { has_effect = λ enters p. subst (λ o. StopsRun o m' (f enters (state_of m))) (sym q.2) (h enters p) }
 
 -- a truth that is known
 pub settled : {a b : Bool} {o : StepResult Bool} → gives a ≡ o → a ≡ b → gives b ≡ o
 settled h e = sym (ap gives e) ∙ h
 
-pub does_statement : {post : CallPostcondition} {r : Result (Unit {0}) Stop} {m m' : Machine} (t : ℕ) (ls : Levels) {a b : lowered.Instruction} → a ≡ b → MachineDoes post r m m' (statement_effect t ls a) → MachineDoes post r m m' (statement_effect t ls b)
-does_statement {post = post} {r = r} {m = m} {m' = m'} t ls e h = subst (λ a. MachineDoes post r m m' (statement_effect t ls a)) e h
+pub does_statement : {post : CallPostcondition} {r : Result (Unit {0}) Stop} {m m' : Machine} (t : ℕ) (ls : Levels) {a b : lowered.Instruction} → a ≡ b → StepHasEffect post r m m' (statement_effect t ls a) → StepHasEffect post r m m' (statement_effect t ls b)
+does_statement {post = post} {r = r} {m = m} {m' = m'} t ls e h = subst (λ a. StepHasEffect post r m m' (statement_effect t ls a)) e h
 
 -- sequences
 
 -- what was executed so far, with what is left, is the whole
 pub record InSequence (post : CallPostcondition) (start now : Machine) (t : ℕ) (ls : Levels) (xs : List Instruction) (k : ℕ) : Type 0 where
-  pub so_far : (enters : CallEffect) → PerformsCalls post enters → execute_all enters t ls (sequence_of xs) (state_of start) ≡ execute_all enters t ls (sequence_of (drop k xs)) (state_of now)
+  pub so_far : (enters : CallEffect) → PerformsCalls post enters → execute_sequence enters t ls (sequence_of xs) (state_of start) ≡ execute_sequence enters t ls (sequence_of (drop k xs)) (state_of now)
 
 execute-next : (enters : CallEffect) (t : ℕ) (ls : Levels) (xs : List Instruction) (k : ℕ) (x : Instruction) (s : MachineState) → k < length xs → x ≡ get_or xs k x
-    → execute_all enters t ls (sequence_of (drop k xs)) s ≡ continue_with (execute enters t ls (statement_of x) s) (execute_all enters t ls (sequence_of (drop (k + 1) xs)))
+    → execute_sequence enters t ls (sequence_of (drop k xs)) s ≡ continue_with (execute enters t ls (statement_of x) s) (execute_sequence enters t ls (sequence_of (drop (k + 1) xs)))
 unfolding execute
-execute-next enters t ls xs k x s less is = ap (λ ys. execute_all enters t ls (sequence_of ys) s) (drop_more xs k x less ∙ ap (λ z. z ∷ drop (k + 1) xs) (sym is))
+execute-next enters t ls xs k x s less is = ap (λ ys. execute_sequence enters t ls (sequence_of ys) s) (drop_more xs k x less ∙ ap (λ z. z ∷ drop (k + 1) xs) (sym is))
 
-execute-last : (enters : CallEffect) (t : ℕ) (ls : Levels) (xs : List Instruction) (k : ℕ) (s : MachineState) → length xs ≤ k → execute_all enters t ls (sequence_of (drop k xs)) s ≡ running s
+execute-last : (enters : CallEffect) (t : ℕ) (ls : Levels) (xs : List Instruction) (k : ℕ) (s : MachineState) → length xs ≤ k → execute_sequence enters t ls (sequence_of (drop k xs)) s ≡ running s
 unfolding execute
-execute-last enters t ls xs k s all = ap (λ ys. execute_all enters t ls (sequence_of ys) s) (drop_all k xs all)
+execute-last enters t ls xs k s all = ap (λ ys. execute_sequence enters t ls (sequence_of ys) s) (drop_all k xs all)
 
 pub sequence_begins : {post : CallPostcondition} {start : Machine} {t : ℕ} {ls : Levels} {xs : List Instruction} → InSequence post start start t ls xs 0
 sequence_begins = record { so_far = λ enters p. refl }
 
 pub sequence_on : {post : CallPostcondition} {start now m : Machine} {t : ℕ} {ls : Levels} {xs : List Instruction} {k : ℕ} (u : Unit {0}) (x : Instruction) → InSequence post start now t ls xs k → k < length xs → x ≡ get_or xs k x
-    → MachineDoes post (Ok u) now m (statement_effect t ls (statement_of x)) → InSequence post start m t ls xs (k + 1)
+    → StepHasEffect post (Ok u) now m (statement_effect t ls (statement_of x)) → InSequence post start m t ls xs (k + 1)
 sequence_on {now = now} {t = t} {ls = ls} {xs = xs} {k = k} u x c less is h = record {
   so_far = λ enters p.
-      c.so_far enters p ∙ execute-next enters t ls xs k x (state_of now) less is ∙ ap (λ q. continue_with q (execute_all enters t ls (sequence_of (drop (k + 1) xs)))) (h.has_effect enters p);
+      c.so_far enters p ∙ execute-next enters t ls xs k x (state_of now) less is ∙ ap (λ q. continue_with q (execute_sequence enters t ls (sequence_of (drop (k + 1) xs)))) (h.has_effect enters p);
 }
 
 pub sequence_fails : {post : CallPostcondition} {start now m : Machine} {t : ℕ} {ls : Levels} {xs : List Instruction} {k : ℕ} (e : Stop) (x : Instruction) → InSequence post start now t ls xs k → k < length xs → x ≡ get_or xs k x
-    → MachineDoes post (Err e) now m (statement_effect t ls (statement_of x)) → MachineDoes post (Err e) start m (sequence_effect t ls (sequence_of xs))
+    → StepHasEffect post (Err e) now m (statement_effect t ls (statement_of x)) → StepHasEffect post (Err e) start m (sequence_effect t ls (sequence_of xs))
 sequence_fails {now = now} {m = m} {t = t} {ls = ls} {xs = xs} {k = k} e x c less is h = record {
   has_effect = λ enters p.
-      subst (MachineSteps (Err e) m) (sym (c.so_far enters p ∙ execute-next enters t ls xs k x (state_of now) less is))
-      (failed_then e m (execute enters t ls (statement_of x) (state_of now)) (execute_all enters t ls (sequence_of (drop (k + 1) xs))) (h.has_effect enters p));
+      subst (IsProgressAfterStep (Err e) m) (sym (c.so_far enters p ∙ execute-next enters t ls xs k x (state_of now) less is))
+      (failed_then e m (execute enters t ls (statement_of x) (state_of now)) (execute_sequence enters t ls (sequence_of (drop (k + 1) xs))) (h.has_effect enters p));
 }
 
-pub sequence_ends : {post : CallPostcondition} {start now : Machine} {t : ℕ} {ls : Levels} {xs : List Instruction} {k : ℕ} (u : Unit {0}) → InSequence post start now t ls xs k → length xs ≤ k → MachineDoes post (Ok u) start now (sequence_effect t ls (sequence_of xs))
+pub sequence_ends : {post : CallPostcondition} {start now : Machine} {t : ℕ} {ls : Levels} {xs : List Instruction} {k : ℕ} (u : Unit {0}) → InSequence post start now t ls xs k → length xs ≤ k → StepHasEffect post (Ok u) start now (sequence_effect t ls (sequence_of xs))
 sequence_ends {now = now} {t = t} {ls = ls} {xs = xs} {k = k} u c all = record { has_effect = λ enters p. c.so_far enters p ∙ execute-last enters t ls xs k (state_of now) all }
 
 -- branches
 
 abbrev pub from_branches : CallEffect → ℕ → Levels → Conditional → List Branch → MachineState → MachineProgress
-from_branches enters t ls i bs = execute_branches enters t ls (all_branches bs) (execute_all enters t ls (else_statements i))
+from_branches enters t ls i bs = execute_branches enters t ls (all_branches bs) (execute_sequence enters t ls (else_statements i))
 
 pub record InBranches (post : CallPostcondition) (start now : Machine) (t : ℕ) (ls : Levels) (i : Conditional) (xs : List Branch) (k : ℕ) : Type 0 where
   pub so_far : (enters : CallEffect) → PerformsCalls post enters → elsifs_effect t ls (elsif_branches i) (else_statements i) enters (state_of start) ≡ from_branches enters t ls i (drop k xs) (state_of now)
 
 branch-next : (enters : CallEffect) (t : ℕ) (ls : Levels) (i : Conditional) (xs : List Branch) (k : ℕ) (x : Branch) (s : MachineState) → k < length xs → x ≡ get_or xs k x
-    → from_branches enters t ls i (drop k xs) s ≡ choose s (truth ls s.cells (truth_of x.condition)) (execute_all enters t ls (sequence_of x.body.items)) (from_branches enters t ls i (drop (k + 1) xs))
+    → from_branches enters t ls i (drop k xs) s ≡ choose_by_truth s (truth ls s.cells (truth_of x.condition)) (execute_sequence enters t ls (sequence_of x.body.items)) (from_branches enters t ls i (drop (k + 1) xs))
 unfolding execute
 branch-next enters t ls i xs k x s less is = ap (λ ys. from_branches enters t ls i ys s) (drop_more xs k x less ∙ ap (λ z. z ∷ drop (k + 1) xs) (sym is))
 
-branch-last : (enters : CallEffect) (t : ℕ) (ls : Levels) (i : Conditional) (xs : List Branch) (k : ℕ) (s : MachineState) → length xs ≤ k → from_branches enters t ls i (drop k xs) s ≡ execute_all enters t ls (else_statements i) s
+branch-last : (enters : CallEffect) (t : ℕ) (ls : Levels) (i : Conditional) (xs : List Branch) (k : ℕ) (s : MachineState) → length xs ≤ k → from_branches enters t ls i (drop k xs) s ≡ execute_sequence enters t ls (else_statements i) s
 unfolding execute
 branch-last enters t ls i xs k s all = ap (λ ys. from_branches enters t ls i ys s) (drop_all k xs all)
 
@@ -111,35 +111,35 @@ pub branches_on : {post : CallPostcondition} {start now : Machine} {t : ℕ} {ls
     → gives false ≡ truth ls now.cells.items (truth_of x.condition) → InBranches post start now t ls i xs (k + 1)
 branches_on {now = now} {t = t} {ls = ls} {i = i} {xs = xs} {k = k} x c less is h = record {
   so_far = λ enters p. c.so_far enters p ∙ branch-next enters t ls i xs k x (state_of now) less is
-      ∙ ap (λ o. choose (state_of now) o (execute_all enters t ls (sequence_of x.body.items)) (from_branches enters t ls i (drop (k + 1) xs))) (sym h);
+      ∙ ap (λ o. choose_by_truth (state_of now) o (execute_sequence enters t ls (sequence_of x.body.items)) (from_branches enters t ls i (drop (k + 1) xs))) (sym h);
 }
 
 pub branches_fail : {post : CallPostcondition} {start now : Machine} {t : ℕ} {ls : Levels} {i : Conditional} {xs : List Branch} {k : ℕ} (e : EvaluationFault) (x : Branch) → InBranches post start now t ls i xs k → k < length xs → x ≡ get_or xs k x
     → ends (end_of e) ≡ truth ls now.cells.items (truth_of x.condition) → EndsRun post e start now (elsifs_effect t ls (elsif_branches i) (else_statements i))
 branches_fail {now = now} {t = t} {ls = ls} {i = i} {xs = xs} {k = k} e x c less is h = λ enters p.
     c.so_far enters p ∙ branch-next enters t ls i xs k x (state_of now) less is
-    ∙ ap (λ o. choose (state_of now) o (execute_all enters t ls (sequence_of x.body.items)) (from_branches enters t ls i (drop (k + 1) xs))) (sym h)
+    ∙ ap (λ o. choose_by_truth (state_of now) o (execute_sequence enters t ls (sequence_of x.body.items)) (from_branches enters t ls i (drop (k + 1) xs))) (sym h)
 
 pub branch_taken : {post : CallPostcondition} {start now m : Machine} {t : ℕ} {ls : Levels} {i : Conditional} {xs : List Branch} {k : ℕ} (r : Result (Unit {0}) Stop) (ss : List Instruction) (x : Branch) → InBranches post start now t ls i xs k → k < length xs → x ≡ get_or xs k x
-    → gives true ≡ truth ls now.cells.items (truth_of x.condition) → ss ≡ x.body.items → MachineDoes post r now m (sequence_effect t ls (sequence_of ss)) → MachineDoes post r start m (elsifs_effect t ls (elsif_branches i) (else_statements i))
+    → gives true ≡ truth ls now.cells.items (truth_of x.condition) → ss ≡ x.body.items → StepHasEffect post r now m (sequence_effect t ls (sequence_of ss)) → StepHasEffect post r start m (elsifs_effect t ls (elsif_branches i) (else_statements i))
 branch_taken {now = now} {m = m} {t = t} {ls = ls} {i = i} {xs = xs} {k = k} r ss x c less is h same d = record {
   has_effect = λ enters p.
-      subst (MachineSteps r m) (sym (c.so_far enters p ∙ branch-next enters t ls i xs k x (state_of now) less is
-      ∙ ap (λ o. choose (state_of now) o (execute_all enters t ls (sequence_of x.body.items)) (from_branches enters t ls i (drop (k + 1) xs))) (sym h)
-      ∙ ap (λ ss. execute_all enters t ls (sequence_of ss) (state_of now)) (sym same))) (d.has_effect enters p);
+      subst (IsProgressAfterStep r m) (sym (c.so_far enters p ∙ branch-next enters t ls i xs k x (state_of now) less is
+      ∙ ap (λ o. choose_by_truth (state_of now) o (execute_sequence enters t ls (sequence_of x.body.items)) (from_branches enters t ls i (drop (k + 1) xs))) (sym h)
+      ∙ ap (λ ss. execute_sequence enters t ls (sequence_of ss) (state_of now)) (sym same))) (d.has_effect enters p);
 }
 
 pub branches_end : {post : CallPostcondition} {start now m : Machine} {t : ℕ} {ls : Levels} {i : Conditional} {xs : List Branch} {k : ℕ} (r : Result (Unit {0}) Stop) (ss : List Instruction) → InBranches post start now t ls i xs k → length xs ≤ k
-    → ss ≡ (out-Conditional i).otherwise.items → MachineDoes post r now m (sequence_effect t ls (sequence_of ss)) → MachineDoes post r start m (elsifs_effect t ls (elsif_branches i) (else_statements i))
+    → ss ≡ (out-Conditional i).otherwise.items → StepHasEffect post r now m (sequence_effect t ls (sequence_of ss)) → StepHasEffect post r start m (elsifs_effect t ls (elsif_branches i) (else_statements i))
 branches_end {now = now} {m = m} {t = t} {ls = ls} {i = i} {xs = xs} {k = k} r ss c all same d = record {
   has_effect = λ enters p.
-      subst (MachineSteps r m) (sym (c.so_far enters p ∙ branch-last enters t ls i xs k (state_of now) all ∙ ap (λ ss. execute_all enters t ls (sequence_of ss) (state_of now)) (sym same))) (d.has_effect enters p);
+      subst (IsProgressAfterStep r m) (sym (c.so_far enters p ∙ branch-last enters t ls i xs k (state_of now) all ∙ ap (λ ss. execute_sequence enters t ls (sequence_of ss) (state_of now)) (sym same))) (d.has_effect enters p);
 }
 
 -- IF: its first condition
 
 abbrev if_chosen : CallEffect → ℕ → Levels → Conditional → MachineState → StepResult Bool → MachineProgress
-if_chosen enters t ls i s o = choose s o (execute_all enters t ls (sequence_of (out-Conditional i).body.items)) (elsifs_effect t ls (elsif_branches i) (else_statements i) enters)
+if_chosen enters t ls i s o = choose_by_truth s o (execute_sequence enters t ls (sequence_of (out-Conditional i).body.items)) (elsifs_effect t ls (elsif_branches i) (else_statements i) enters)
 
 if-goes : (enters : CallEffect) (t : ℕ) (ls : Levels) (i : Conditional) (s : MachineState) (o : StepResult Bool) → o ≡ truth ls s.cells (truth_of (out-Conditional i).condition) → execute enters t ls (conditional_of i) s ≡ if_chosen enters t ls i s o
 unfolding execute
@@ -149,19 +149,19 @@ pub if_fails : {post : CallPostcondition} (m : Machine) (t : ℕ) (ls : Levels) 
 if_fails m t ls i e h = λ enters p. if-goes enters t ls i (state_of m) (ends (end_of e)) h
 
 pub if_taken : {post : CallPostcondition} {m m' : Machine} (t : ℕ) (ls : Levels) (i : Conditional) (r : Result (Unit {0}) Stop) (ss : List Instruction) → gives true ≡ truth ls m.cells.items (truth_of (out-Conditional i).condition)
-    → ss ≡ (out-Conditional i).body.items → MachineDoes post r m m' (sequence_effect t ls (sequence_of ss)) → MachineDoes post r m m' (statement_effect t ls (conditional_of i))
+    → ss ≡ (out-Conditional i).body.items → StepHasEffect post r m m' (sequence_effect t ls (sequence_of ss)) → StepHasEffect post r m m' (statement_effect t ls (conditional_of i))
 if_taken {m = m} {m' = m'} t ls i r ss h same d = record {
-  has_effect = λ enters p. subst (MachineSteps r m') (sym (if-goes enters t ls i (state_of m) (gives true) h ∙ ap (λ ss. execute_all enters t ls (sequence_of ss) (state_of m)) (sym same))) (d.has_effect enters p);
+  has_effect = λ enters p. subst (IsProgressAfterStep r m') (sym (if-goes enters t ls i (state_of m) (gives true) h ∙ ap (λ ss. execute_sequence enters t ls (sequence_of ss) (state_of m)) (sym same))) (d.has_effect enters p);
 }
 
 pub if_passed : {post : CallPostcondition} {m m' : Machine} (t : ℕ) (ls : Levels) (i : Conditional) (r : Result (Unit {0}) Stop) → gives false ≡ truth ls m.cells.items (truth_of (out-Conditional i).condition)
-    → MachineDoes post r m m' (elsifs_effect t ls (elsif_branches i) (else_statements i)) → MachineDoes post r m m' (statement_effect t ls (conditional_of i))
-if_passed {m = m} {m' = m'} t ls i r h d = record { has_effect = λ enters p. subst (MachineSteps r m') (sym (if-goes enters t ls i (state_of m) (gives false) h)) (d.has_effect enters p) }
+    → StepHasEffect post r m m' (elsifs_effect t ls (elsif_branches i) (else_statements i)) → StepHasEffect post r m m' (statement_effect t ls (conditional_of i))
+if_passed {m = m} {m' = m'} t ls i r h d = record { has_effect = λ enters p. subst (IsProgressAfterStep r m') (sym (if-goes enters t ls i (state_of m) (gives false) h)) (d.has_effect enters p) }
 
 -- WHILE
 
 abbrev pub turning : CallEffect → ℕ → ℕ → Levels → lowered.Truth → List Instruction → MachineState → MachineProgress
-turning enters left t ls w xs = execute_while left (λ s'. truth ls s'.cells w) (execute_all enters t ls (sequence_of xs))
+turning enters left t ls w xs = execute_while left (λ s'. truth ls s'.cells w) (execute_sequence enters t ls (sequence_of xs))
 
 pub record InWhile (post : CallPostcondition) (start now : Machine) (t : ℕ) (ls : Levels) (w : lowered.Truth) (xs : List Instruction) (left : ℕ) : Type 0 where
   pub so_far : (enters : CallEffect) → PerformsCalls post enters → execute enters t ls (lowered.while_loop w (sequence_of xs)) (state_of start) ≡ turning enters left t ls w xs (state_of now)
@@ -173,9 +173,9 @@ while_begins = record { so_far = λ enters p. refl }
 -- a turn more, or the bound
 pub once_more : CallEffect → ℕ → ℕ → Levels → lowered.Truth → List Instruction → MachineState → MachineProgress
 once_more enters zero t ls w xs s = stopped TurnBound s.output
-once_more enters (suc left) t ls w xs s = continue_with (execute_all enters t ls (sequence_of xs) s) (turning enters left t ls w xs)
+once_more enters (suc left) t ls w xs s = continue_with (execute_sequence enters t ls (sequence_of xs) s) (turning enters left t ls w xs)
 
-turning-goes : (enters : CallEffect) (left t : ℕ) (ls : Levels) (w : lowered.Truth) (xs : List Instruction) (s : MachineState) → turning enters left t ls w xs s ≡ choose s (truth ls s.cells w) (once_more enters left t ls w xs) running
+turning-goes : (enters : CallEffect) (left t : ℕ) (ls : Levels) (w : lowered.Truth) (xs : List Instruction) (s : MachineState) → turning enters left t ls w xs s ≡ choose_by_truth s (truth ls s.cells w) (once_more enters left t ls w xs) running
 unfolding once_more
 turning-goes enters zero t ls w xs s = refl
 turning-goes enters (suc left) t ls w xs s = refl
@@ -188,40 +188,40 @@ one_less : (n : ℕ) → n ≢ 0 → n ≡ suc (n - 1)
 one_less zero h = absurd (h refl)
 one_less (suc n) h = omega arith
 
-once-more : (enters : CallEffect) (left t : ℕ) (ls : Levels) (w : lowered.Truth) (xs : List Instruction) (s : MachineState) → left ≢ 0 → once_more enters left t ls w xs s ≡ continue_with (execute_all enters t ls (sequence_of xs) s) (turning enters (left - 1) t ls w xs)
+once-more : (enters : CallEffect) (left t : ℕ) (ls : Levels) (w : lowered.Truth) (xs : List Instruction) (s : MachineState) → left ≢ 0 → once_more enters left t ls w xs s ≡ continue_with (execute_sequence enters t ls (sequence_of xs) s) (turning enters (left - 1) t ls w xs)
 unfolding once_more
 once-more enters left t ls w xs s e = ap (λ left. once_more enters left t ls w xs s) (one_less left e)
 
 while-chosen : {post : CallPostcondition} {start now : Machine} {t : ℕ} {ls : Levels} {w : lowered.Truth} {xs : List Instruction} {left : ℕ} (o : StepResult Bool) → InWhile post start now t ls w xs left → o ≡ truth ls now.cells.items w
-    → (enters : CallEffect) → PerformsCalls post enters → execute enters t ls (lowered.while_loop w (sequence_of xs)) (state_of start) ≡ choose (state_of now) o (once_more enters left t ls w xs) running
-while-chosen {now = now} {t = t} {ls = ls} {w = w} {xs = xs} {left = left} o c h enters p = c.so_far enters p ∙ turning-goes enters left t ls w xs (state_of now) ∙ ap (λ o. choose (state_of now) o (once_more enters left t ls w xs) running) (sym h)
+    → (enters : CallEffect) → PerformsCalls post enters → execute enters t ls (lowered.while_loop w (sequence_of xs)) (state_of start) ≡ choose_by_truth (state_of now) o (once_more enters left t ls w xs) running
+while-chosen {now = now} {t = t} {ls = ls} {w = w} {xs = xs} {left = left} o c h enters p = c.so_far enters p ∙ turning-goes enters left t ls w xs (state_of now) ∙ ap (λ o. choose_by_truth (state_of now) o (once_more enters left t ls w xs) running) (sym h)
 
 pub while_fails : {post : CallPostcondition} {start now : Machine} {t : ℕ} {ls : Levels} {w : lowered.Truth} {xs : List Instruction} {left : ℕ} (e : EvaluationFault) → InWhile post start now t ls w xs left → ends (end_of e) ≡ truth ls now.cells.items w
     → EndsRun post e start now (statement_effect t ls (lowered.while_loop w (sequence_of xs)))
 while_fails e c h = while-chosen (ends (end_of e)) c h
 
 pub while_ends : {post : CallPostcondition} {start now : Machine} {t : ℕ} {ls : Levels} {w : lowered.Truth} {xs : List Instruction} {left : ℕ} (u : Unit {0}) → InWhile post start now t ls w xs left → gives false ≡ truth ls now.cells.items w
-    → MachineDoes post (Ok u) start now (statement_effect t ls (lowered.while_loop w (sequence_of xs)))
+    → StepHasEffect post (Ok u) start now (statement_effect t ls (lowered.while_loop w (sequence_of xs)))
 while_ends u c h = record { has_effect = while-chosen (gives false) c h }
 
 pub while_bound : {post : CallPostcondition} {start now : Machine} {t : ℕ} {ls : Levels} {w : lowered.Truth} {xs : List Instruction} {left : ℕ} → InWhile post start now t ls w xs left → gives true ≡ truth ls now.cells.items w → left ≡ 0
-    → MachineDoes post (Err stop.TurnBound) start now (statement_effect t ls (lowered.while_loop w (sequence_of xs)))
+    → StepHasEffect post (Err stop.TurnBound) start now (statement_effect t ls (lowered.while_loop w (sequence_of xs)))
 while_bound {now = now} {t = t} {ls = ls} {w = w} {xs = xs} {left = left} c h e = record { has_effect = λ enters p. while-chosen (gives true) c h enters p ∙ once-none enters left t ls w xs (state_of now) e }
 
 pub while_on : {post : CallPostcondition} {start now m : Machine} {t : ℕ} {ls : Levels} {w : lowered.Truth} {xs : List Instruction} {left : ℕ} (u : Unit {0}) (ss : List Instruction) → InWhile post start now t ls w xs left → gives true ≡ truth ls now.cells.items w → left ≢ 0
-    → ss ≡ xs → MachineDoes post (Ok u) now m (sequence_effect t ls (sequence_of ss)) → InWhile post start m t ls w xs (left - 1)
+    → ss ≡ xs → StepHasEffect post (Ok u) now m (sequence_effect t ls (sequence_of ss)) → InWhile post start m t ls w xs (left - 1)
 while_on {now = now} {t = t} {ls = ls} {w = w} {xs = xs} {left = left} u ss c h e same d = record {
   so_far = λ enters p. while-chosen (gives true) c h enters p ∙ once-more enters left t ls w xs (state_of now) e
-      ∙ ap (λ q. continue_with q (turning enters (left - 1) t ls w xs)) (ap (λ ss. execute_all enters t ls (sequence_of ss) (state_of now)) (sym same) ∙ d.has_effect enters p);
+      ∙ ap (λ q. continue_with q (turning enters (left - 1) t ls w xs)) (ap (λ ss. execute_sequence enters t ls (sequence_of ss) (state_of now)) (sym same) ∙ d.has_effect enters p);
 }
 
 pub while_body_fails : {post : CallPostcondition} {start now m : Machine} {t : ℕ} {ls : Levels} {w : lowered.Truth} {xs : List Instruction} {left : ℕ} (x : Stop) (ss : List Instruction) → InWhile post start now t ls w xs left → gives true ≡ truth ls now.cells.items w → left ≢ 0
-    → ss ≡ xs → MachineDoes post (Err x) now m (sequence_effect t ls (sequence_of ss)) → MachineDoes post (Err x) start m (statement_effect t ls (lowered.while_loop w (sequence_of xs)))
+    → ss ≡ xs → StepHasEffect post (Err x) now m (sequence_effect t ls (sequence_of ss)) → StepHasEffect post (Err x) start m (statement_effect t ls (lowered.while_loop w (sequence_of xs)))
 while_body_fails {now = now} {m = m} {t = t} {ls = ls} {w = w} {xs = xs} {left = left} x ss c h e same d = record {
   has_effect = λ enters p.
-      subst (MachineSteps (Err x) m) (sym (while-chosen (gives true) c h enters p ∙ once-more enters left t ls w xs (state_of now) e
-      ∙ ap (λ q. continue_with q (turning enters (left - 1) t ls w xs)) (ap (λ ss. execute_all enters t ls (sequence_of ss) (state_of now)) (sym same))))
-      (failed_then x m (execute_all enters t ls (sequence_of ss) (state_of now)) (turning enters (left - 1) t ls w xs) (d.has_effect enters p));
+      subst (IsProgressAfterStep (Err x) m) (sym (while-chosen (gives true) c h enters p ∙ once-more enters left t ls w xs (state_of now) e
+      ∙ ap (λ q. continue_with q (turning enters (left - 1) t ls w xs)) (ap (λ ss. execute_sequence enters t ls (sequence_of ss) (state_of now)) (sym same))))
+      (failed_then x m (execute_sequence enters t ls (sequence_of ss) (state_of now)) (turning enters (left - 1) t ls w xs) (d.has_effect enters p));
 }
 
 -- the statements of a counting loop: some, and one after them
@@ -237,37 +237,37 @@ continued_twice (stopped e out) f g k h = refl
 continued_twice no_room f g k h = refl
 
 all-after : (enters : CallEffect) (t : ℕ) (ls : Levels) (xs : List Instruction) (x : Instruction) (s : MachineState)
-    → execute_all enters t ls (sequence_of (xs ++ x ∷ [])) s ≡ continue_with (execute_all enters t ls (sequence_of xs) s) (execute enters t ls (statement_of x))
+    → execute_sequence enters t ls (sequence_of (xs ++ x ∷ [])) s ≡ continue_with (execute_sequence enters t ls (sequence_of xs) s) (execute enters t ls (statement_of x))
 unfolding execute
 all-after enters t ls [] x s = continued_running (execute enters t ls (statement_of x) s) _ (λ s. refl)
 all-after enters t ls (y ∷ ys) x s = continued_twice (execute enters t ls (statement_of y) s) _ _ (execute enters t ls (statement_of x)) (all-after enters t ls ys x)
 
-pub then_last : {post : CallPostcondition} {r : Result (Unit {0}) Stop} {start now m : Machine} (t : ℕ) (ls : Levels) (xs : List Instruction) (u : Unit {0}) (x : Instruction) → MachineDoes post (Ok u) start now (sequence_effect t ls (sequence_of xs))
-    → MachineDoes post r now m (statement_effect t ls (statement_of x)) → MachineDoes post r start m (sequence_effect t ls (sequence_of (xs ++ x ∷ [])))
+pub then_last : {post : CallPostcondition} {r : Result (Unit {0}) Stop} {start now m : Machine} (t : ℕ) (ls : Levels) (xs : List Instruction) (u : Unit {0}) (x : Instruction) → StepHasEffect post (Ok u) start now (sequence_effect t ls (sequence_of xs))
+    → StepHasEffect post r now m (statement_effect t ls (statement_of x)) → StepHasEffect post r start m (sequence_effect t ls (sequence_of (xs ++ x ∷ [])))
 then_last {r = r} {start = start} {now = now} {m = m} t ls xs u x d e = record {
   has_effect = λ enters p.
-      subst (MachineSteps r m) (sym (all-after enters t ls xs x (state_of start) ∙ ap (λ q. continue_with q (execute enters t ls (statement_of x))) (d.has_effect enters p))) (e.has_effect enters p);
+      subst (IsProgressAfterStep r m) (sym (all-after enters t ls xs x (state_of start) ∙ ap (λ q. continue_with q (execute enters t ls (statement_of x))) (d.has_effect enters p))) (e.has_effect enters p);
 }
 
-pub before_last : {post : CallPostcondition} {start m : Machine} (t : ℕ) (ls : Levels) (xs : List Instruction) (e : Stop) (x : Instruction) → MachineDoes post (Err e) start m (sequence_effect t ls (sequence_of xs))
-    → MachineDoes post (Err e) start m (sequence_effect t ls (sequence_of (xs ++ x ∷ [])))
+pub before_last : {post : CallPostcondition} {start m : Machine} (t : ℕ) (ls : Levels) (xs : List Instruction) (e : Stop) (x : Instruction) → StepHasEffect post (Err e) start m (sequence_effect t ls (sequence_of xs))
+    → StepHasEffect post (Err e) start m (sequence_effect t ls (sequence_of (xs ++ x ∷ [])))
 before_last {start = start} {m = m} t ls xs e x d = record {
   has_effect = λ enters p.
-      subst (MachineSteps (Err e) m) (sym (all-after enters t ls xs x (state_of start))) (failed_then e m (execute_all enters t ls (sequence_of xs) (state_of start)) (execute enters t ls (statement_of x)) (d.has_effect enters p));
+      subst (IsProgressAfterStep (Err e) m) (sym (all-after enters t ls xs x (state_of start))) (failed_then e m (execute_sequence enters t ls (sequence_of xs) (state_of start)) (execute enters t ls (statement_of x)) (d.has_effect enters p));
 }
 
-pub steps_by : (m : Machine) (r : Result (Unit {0}) Stop) (p : MachineProgress) (e : EvaluationFault) → (y : Stop) × (r ≡ Err y) × (end_of_stop y ≡ Some (end_of e)) → stopped (end_of e) (output_items m.output.items) ≡ p → MachineSteps r m p
-steps_by m r p e q h = subst (λ r. MachineSteps r m p) (sym q.1) (subst (λ o. StopsRun o m p) (sym q.2) (sym h))
+pub steps_by : (m : Machine) (r : Result (Unit {0}) Stop) (p : MachineProgress) (e : EvaluationFault) → (y : Stop) × (r ≡ Err y) × (end_of_stop y ≡ Some (end_of e)) → stopped (end_of e) (output_items m.output.items) ≡ p → IsProgressAfterStep r m p
+steps_by m r p e q h = subst (λ r. IsProgressAfterStep r m p) (sym q.1) (subst (λ o. StopsRun o m p) (sym q.2) (sym h))
 
-pub steps_as : (enters : CallEffect) (t : ℕ) (ls : Levels) (v : Variable) (r : Result (Unit {0}) Stop) (m : Machine) (s : MachineState) {a b : ℤ} → a ≡ b → MachineSteps r m (execute enters t ls (variable_increase v a) s) → MachineSteps r m (execute enters t ls (variable_increase v b) s)
-steps_as enters t ls v r m s e h = subst (λ n. MachineSteps r m (execute enters t ls (variable_increase v n) s)) e h
+pub steps_as : (enters : CallEffect) (t : ℕ) (ls : Levels) (v : Variable) (r : Result (Unit {0}) Stop) (m : Machine) (s : MachineState) {a b : ℤ} → a ≡ b → IsProgressAfterStep r m (execute enters t ls (variable_increase v a) s) → IsProgressAfterStep r m (execute enters t ls (variable_increase v b) s)
+steps_as enters t ls v r m s e h = subst (λ n. IsProgressAfterStep r m (execute enters t ls (variable_increase v n) s)) e h
 
 pub loop_as : {post : CallPostcondition} {r : Result (Unit {0}) Stop} {m m' : Machine} (t : ℕ) (ls : Levels) (v u : Variable) (xs : List Instruction) {n n' b b' : ℤ} → n ≡ n' → b ≡ b'
-    → MachineDoes post r m m' (statement_effect t ls (lowered.while_loop (variable_relation relation.Less v (lowered.literal n)) (sequence_of (xs ++ Increase u b ∷ []))))
-    → MachineDoes post r m m' (statement_effect t ls (lowered.while_loop (variable_relation relation.Less v (lowered.literal n')) (sequence_of (xs ++ Increase u b' ∷ []))))
+    → StepHasEffect post r m m' (statement_effect t ls (lowered.while_loop (variable_relation relation.Less v (lowered.literal n)) (sequence_of (xs ++ Increase u b ∷ []))))
+    → StepHasEffect post r m m' (statement_effect t ls (lowered.while_loop (variable_relation relation.Less v (lowered.literal n')) (sequence_of (xs ++ Increase u b' ∷ []))))
 loop_as {post = post} {r = r} {m = m} {m' = m'} t ls v u xs {n = n} {b' = b'} e f h =
-    subst (λ n. MachineDoes post r m m' (statement_effect t ls (lowered.while_loop (variable_relation relation.Less v (lowered.literal n)) (sequence_of (xs ++ Increase u b' ∷ []))))) e
-    (subst (λ b. MachineDoes post r m m' (statement_effect t ls (lowered.while_loop (variable_relation relation.Less v (lowered.literal n)) (sequence_of (xs ++ Increase u b ∷ []))))) f h)
+    subst (λ n. StepHasEffect post r m m' (statement_effect t ls (lowered.while_loop (variable_relation relation.Less v (lowered.literal n)) (sequence_of (xs ++ Increase u b' ∷ []))))) e
+    (subst (λ b. StepHasEffect post r m m' (statement_effect t ls (lowered.while_loop (variable_relation relation.Less v (lowered.literal n)) (sequence_of (xs ++ Increase u b ∷ []))))) f h)
 
 -- a variable at a known address that is compared with a literal
 pub compared_at : (ls : Levels) (cells : List ℤ) (v : Variable) (a : ℕ) (n : ℤ) (b : Bool) → address ls cells (variable_of v) ≡ gives a → b ≡ compare lowered.less (cell_at cells a) n → gives b ≡ truth ls cells (variable_relation relation.Less v (lowered.literal n))
@@ -276,7 +276,7 @@ compared_at ls cells v a n b h e = ap gives e ∙ ap (λ o. (o >>= (λ a. gives 
 -- REPEAT
 
 abbrev pub turning_until : CallEffect → ℕ → ℕ → Levels → RepeatLoop → MachineState → MachineProgress
-turning_until enters left t ls r = execute_repeat left (λ s'. truth ls s'.cells (truth_of r.condition)) (execute_all enters t ls (sequence_of r.body.items))
+turning_until enters left t ls r = execute_repeat left (λ s'. truth ls s'.cells (truth_of r.condition)) (execute_sequence enters t ls (sequence_of r.body.items))
 
 pub record InRepeat (post : CallPostcondition) (start now : Machine) (t : ℕ) (ls : Levels) (r : RepeatLoop) (left : ℕ) : Type 0 where
   pub so_far : (enters : CallEffect) → PerformsCalls post enters → execute enters t ls (repeat_of r) (state_of start) ≡ turning_until enters left t ls r (state_of now)
@@ -291,9 +291,9 @@ again enters (suc left) t ls r s = turning_until enters left t ls r s
 
 -- after a turn
 abbrev pub turned : CallEffect → ℕ → ℕ → Levels → RepeatLoop → MachineState → MachineProgress
-turned enters left t ls r s = choose s (truth ls s.cells (truth_of r.condition)) running (again enters left t ls r)
+turned enters left t ls r s = choose_by_truth s (truth ls s.cells (truth_of r.condition)) running (again enters left t ls r)
 
-until-goes : (enters : CallEffect) (left t : ℕ) (ls : Levels) (r : RepeatLoop) (s : MachineState) → turning_until enters left t ls r s ≡ continue_with (execute_all enters t ls (sequence_of r.body.items) s) (turned enters left t ls r)
+until-goes : (enters : CallEffect) (left t : ℕ) (ls : Levels) (r : RepeatLoop) (s : MachineState) → turning_until enters left t ls r s ≡ continue_with (execute_sequence enters t ls (sequence_of r.body.items) s) (turned enters left t ls r)
 unfolding again
 until-goes enters zero t ls r s = refl
 until-goes enters (suc left) t ls r s = refl
@@ -307,12 +307,12 @@ unfolding again
 again-more enters left t ls r s e = ap (λ left. again enters left t ls r s) (one_less left e)
 
 pub repeat_body_fails : {post : CallPostcondition} {start now m : Machine} {t : ℕ} {ls : Levels} {r : RepeatLoop} {left : ℕ} (x : Stop) (ss : List Instruction) → InRepeat post start now t ls r left
-    → ss ≡ r.body.items → MachineDoes post (Err x) now m (sequence_effect t ls (sequence_of ss)) → MachineDoes post (Err x) start m (statement_effect t ls (repeat_of r))
+    → ss ≡ r.body.items → StepHasEffect post (Err x) now m (sequence_effect t ls (sequence_of ss)) → StepHasEffect post (Err x) start m (statement_effect t ls (repeat_of r))
 repeat_body_fails {now = now} {m = m} {t = t} {ls = ls} {r = r} {left = left} x ss c same d = record {
   has_effect = λ enters p.
-      subst (MachineSteps (Err x) m) (sym (c.so_far enters p ∙ until-goes enters left t ls r (state_of now)
-      ∙ ap (λ q. continue_with q (turned enters left t ls r)) (ap (λ ss. execute_all enters t ls (sequence_of ss) (state_of now)) (sym same))))
-      (failed_then x m (execute_all enters t ls (sequence_of ss) (state_of now)) (turned enters left t ls r) (d.has_effect enters p));
+      subst (IsProgressAfterStep (Err x) m) (sym (c.so_far enters p ∙ until-goes enters left t ls r (state_of now)
+      ∙ ap (λ q. continue_with q (turned enters left t ls r)) (ap (λ ss. execute_sequence enters t ls (sequence_of ss) (state_of now)) (sym same))))
+      (failed_then x m (execute_sequence enters t ls (sequence_of ss) (state_of now)) (turned enters left t ls r) (d.has_effect enters p));
 }
 
 -- a turn was made
@@ -320,26 +320,26 @@ pub record Turned (post : CallPostcondition) (start now : Machine) (t : ℕ) (ls
   pub so_far : (enters : CallEffect) → PerformsCalls post enters → execute enters t ls (repeat_of r) (state_of start) ≡ turned enters left t ls r (state_of now)
 
 pub turn_made : {post : CallPostcondition} {start now m : Machine} {t : ℕ} {ls : Levels} {r : RepeatLoop} {left : ℕ} (u : Unit {0}) (ss : List Instruction) → InRepeat post start now t ls r left
-    → ss ≡ r.body.items → MachineDoes post (Ok u) now m (sequence_effect t ls (sequence_of ss)) → Turned post start m t ls r left
+    → ss ≡ r.body.items → StepHasEffect post (Ok u) now m (sequence_effect t ls (sequence_of ss)) → Turned post start m t ls r left
 turn_made {now = now} {t = t} {ls = ls} {r = r} {left = left} u ss c same d = record {
   so_far = λ enters p. c.so_far enters p ∙ until-goes enters left t ls r (state_of now)
-      ∙ ap (λ q. continue_with q (turned enters left t ls r)) (ap (λ ss. execute_all enters t ls (sequence_of ss) (state_of now)) (sym same) ∙ d.has_effect enters p);
+      ∙ ap (λ q. continue_with q (turned enters left t ls r)) (ap (λ ss. execute_sequence enters t ls (sequence_of ss) (state_of now)) (sym same) ∙ d.has_effect enters p);
 }
 
 turned-chosen : {post : CallPostcondition} {start now : Machine} {t : ℕ} {ls : Levels} {r : RepeatLoop} {left : ℕ} (o : StepResult Bool) → Turned post start now t ls r left → o ≡ truth ls now.cells.items (truth_of r.condition)
-    → (enters : CallEffect) → PerformsCalls post enters → execute enters t ls (repeat_of r) (state_of start) ≡ choose (state_of now) o running (again enters left t ls r)
-turned-chosen {now = now} {t = t} {ls = ls} {r = r} {left = left} o c h enters p = c.so_far enters p ∙ ap (λ o. choose (state_of now) o running (again enters left t ls r)) (sym h)
+    → (enters : CallEffect) → PerformsCalls post enters → execute enters t ls (repeat_of r) (state_of start) ≡ choose_by_truth (state_of now) o running (again enters left t ls r)
+turned-chosen {now = now} {t = t} {ls = ls} {r = r} {left = left} o c h enters p = c.so_far enters p ∙ ap (λ o. choose_by_truth (state_of now) o running (again enters left t ls r)) (sym h)
 
 pub repeat_fails : {post : CallPostcondition} {start now : Machine} {t : ℕ} {ls : Levels} {r : RepeatLoop} {left : ℕ} (e : EvaluationFault) → Turned post start now t ls r left → ends (end_of e) ≡ truth ls now.cells.items (truth_of r.condition)
     → EndsRun post e start now (statement_effect t ls (repeat_of r))
 repeat_fails e c h = turned-chosen (ends (end_of e)) c h
 
 pub repeat_ends : {post : CallPostcondition} {start now : Machine} {t : ℕ} {ls : Levels} {r : RepeatLoop} {left : ℕ} (u : Unit {0}) → Turned post start now t ls r left → gives true ≡ truth ls now.cells.items (truth_of r.condition)
-    → MachineDoes post (Ok u) start now (statement_effect t ls (repeat_of r))
+    → StepHasEffect post (Ok u) start now (statement_effect t ls (repeat_of r))
 repeat_ends u c h = record { has_effect = turned-chosen (gives true) c h }
 
 pub repeat_bound : {post : CallPostcondition} {start now : Machine} {t : ℕ} {ls : Levels} {r : RepeatLoop} {left : ℕ} → Turned post start now t ls r left → gives false ≡ truth ls now.cells.items (truth_of r.condition) → left ≡ 0
-    → MachineDoes post (Err stop.TurnBound) start now (statement_effect t ls (repeat_of r))
+    → StepHasEffect post (Err stop.TurnBound) start now (statement_effect t ls (repeat_of r))
 repeat_bound {now = now} {t = t} {ls = ls} {r = r} {left = left} c h e = record { has_effect = λ enters p. turned-chosen (gives false) c h enters p ∙ again-none enters left t ls r (state_of now) e }
 
 pub repeat_on : {post : CallPostcondition} {start now : Machine} {t : ℕ} {ls : Levels} {r : RepeatLoop} {left : ℕ} → Turned post start now t ls r left → gives false ≡ truth ls now.cells.items (truth_of r.condition) → left ≢ 0
@@ -360,7 +360,7 @@ passing_stops m m' None memory out kept given next h = ap has_failed kept ∙ h
 
 pub call_fails : {post : CallPostcondition} {m m' : Machine} (memory : Memory) (e : Stop) (t : ℕ) (ls : Levels) (c : call.ProcedureCall) (xs : List Argument) (none : List ℕ)
     → none ≡ [] → xs ≡ c.arguments.items → StopsPassing (end_of_stop e) memory (pass_all ls (map argument_of xs) (passed_arguments m.cells.items none)) → m'.output ≡ m.output → m'.memory ≡ memory
-    → MachineDoes post (Err e) m m' (statement_effect t ls (call_of c))
+    → StepHasEffect post (Err e) m m' (statement_effect t ls (call_of c))
 call_fails {m = m} {m' = m'} memory e t ls c xs none empty same h out kept = record {
   has_effect = λ enters p. subst (StopsRun (end_of_stop e) m') (sym (call-goes t ls c enters (state_of m)
       ∙ ap (λ o. use_result (state_of m) o (λ p. enters c.procedure (levels_in_call ls (length m.cells.items) c.up p) record (state_of m) { cells = p.cells }))
@@ -371,11 +371,11 @@ call_fails {m = m} {m' = m'} memory e t ls c xs none empty same h out kept = rec
 pub call_enters : {post : CallPostcondition} {m m' : Machine} {r : Result (Unit {0}) Stop} (cells : List ℤ) (addresses : List ℕ) (t : ℕ) (ls inner : Levels) (c : call.ProcedureCall) (xs : List Argument) (none : List ℕ)
     → none ≡ [] → xs ≡ c.arguments.items → pass_all ls (map argument_of xs) (passed_arguments m.cells.items none) ≡ gives (passed_arguments cells addresses)
     → inner ≡ levels_in_call ls (length m.cells.items) c.up (passed_arguments cells addresses)
-    → ((enters : CallEffect) → PerformsCalls post enters → MachineSteps r m' (enters c.procedure inner (record (state_of m) { cells = cells })))
-    → MachineDoes post r m m' (statement_effect t ls (call_of c))
+    → ((enters : CallEffect) → PerformsCalls post enters → IsProgressAfterStep r m' (enters c.procedure inner (record (state_of m) { cells = cells })))
+    → StepHasEffect post r m m' (statement_effect t ls (call_of c))
 call_enters {m = m} {m' = m'} {r = r} cells addresses t ls inner c xs none empty same h seen done = record {
   has_effect = λ enters p.
-      subst (MachineSteps r m') (sym (call-goes t ls c enters (state_of m)
+      subst (IsProgressAfterStep r m') (sym (call-goes t ls c enters (state_of m)
       ∙ ap (λ o. use_result (state_of m) o (λ p. enters c.procedure (levels_in_call ls (length m.cells.items) c.up p) record (state_of m) { cells = p.cells }))
       (ap (λ xs. pass_all ls (map argument_of xs) (passed_arguments m.cells.items [])) (sym same) ∙ ap (λ none. pass_all ls (map argument_of xs) (passed_arguments m.cells.items none)) (sym empty) ∙ h)
       ∙ ap (λ ls. enters c.procedure ls record (state_of m) { cells = cells }) (sym seen)))
@@ -383,8 +383,8 @@ call_enters {m = m} {m' = m'} {r = r} cells addresses t ls inner c xs none empty
 }
 
 pub enters_as : {post : CallPostcondition} {m m' : Machine} {r : Result (Unit {0}) Stop} (k up base : ℕ) (addresses : List ℕ) (ls inner : Levels) → inner ≡ levels_in_call ls base up (passed_arguments m.cells.items addresses)
-    → ((enters : CallEffect) → PerformsCalls post enters → MachineSteps r m' (enters k inner (state_of m))) → MachineDoes post r m m' (entry_effect k up ls base addresses)
-enters_as {m = m} {m' = m'} {r = r} k up base addresses ls inner seen done = record { has_effect = λ enters p. subst (λ seen. MachineSteps r m' (enters k seen (state_of m))) seen (done enters p) }
+    → ((enters : CallEffect) → PerformsCalls post enters → IsProgressAfterStep r m' (enters k inner (state_of m))) → StepHasEffect post r m m' (entry_effect k up ls base addresses)
+enters_as {m = m} {m' = m'} {r = r} k up base addresses ls inner seen done = record { has_effect = λ enters p. subst (λ seen. IsProgressAfterStep r m' (enters k seen (state_of m))) seen (done enters p) }
 
 -- the levels of an activation that is made
 following : (o : _) → enclosing_levels (level.back-Level-enclosing o) ≡ levels_of_option o
@@ -397,5 +397,5 @@ level_made x = ap levels_of (level.rolls-Level' x) ∙ ap (λ outer. record { ba
 pub entered_as : {base n : ℕ} {addresses given : List ℕ} {outer seen : Levels} → base ≡ n → addresses ≡ given → outer ≡ seen → record { base = base; addresses = addresses } ∷ outer ≡ record { base = n; addresses = given } ∷ seen
 entered_as {base} {n} {addresses} {given} {outer} {seen} a b c = cc
 
-pub does_sequence : {post : CallPostcondition} {r : Result (Unit {0}) Stop} {m m' : Machine} (t : ℕ) (ls : Levels) {xs ys : List Instruction} → xs ≡ ys → MachineDoes post r m m' (sequence_effect t ls (sequence_of xs)) → MachineDoes post r m m' (sequence_effect t ls (sequence_of ys))
-does_sequence {post = post} {r = r} {m = m} {m' = m'} t ls e h = subst (λ xs. MachineDoes post r m m' (sequence_effect t ls (sequence_of xs))) e h
+pub does_sequence : {post : CallPostcondition} {r : Result (Unit {0}) Stop} {m m' : Machine} (t : ℕ) (ls : Levels) {xs ys : List Instruction} → xs ≡ ys → StepHasEffect post r m m' (sequence_effect t ls (sequence_of xs)) → StepHasEffect post r m m' (sequence_effect t ls (sequence_of ys))
+does_sequence {post = post} {r = r} {m = m} {m' = m'} t ls e h = subst (λ xs. StepHasEffect post r m m' (sequence_effect t ls (sequence_of xs))) e h

@@ -10,10 +10,10 @@ use Rattle.ob0_run_machine.specs.declared.machine.Machine.{Machine}
 use Rattle.ob0_run_machine.specs.Answers.{end_of_stop}
 use Rattle.ob0_run_machine.specs.Evaluation as ending
 use Rattle.ob0_run_machine.specs.Evaluation.{CallBound, Levels, innermost_level}
-use Rattle.ob0_run_machine.specs.Execution.{MachineProgress, MachineState, OutputItem, activate, call, execute_all, run_result, drop_variables, no_room, module_levels, run, running, stopped, run_with_cells, zeros}
+use Rattle.ob0_run_machine.specs.Execution.{MachineProgress, MachineState, OutputItem, activate, call, execute_sequence, run_result, drop_variables, no_room, module_levels, run, running, stopped, run_with_cells, zeros}
 use Rattle.ob0_run_machine.specs.Levels.{levels_of}
 use Rattle.ob0_run_machine.specs.Lowered.{Routine}
-use Rattle.ob0_run_machine.specs.Machines.{MachineDoes, CallSteps, StopsRun, PerformsCalls, CallPostcondition, MachineSteps, activation_effect, sequence_effect, output_items, state_of}
+use Rattle.ob0_run_machine.specs.Machines.{StepHasEffect, IsProgressAfterCall, StopsRun, PerformsCalls, CallPostcondition, IsProgressAfterStep, activation_effect, sequence_effect, output_items, state_of}
 use Rattle.ob0_run_machine.specs.declared.machine.Item.{Item}
 use Rattle.ob0_run_machine.specs.Lowered as lowered
 use Rattle.ob0_run_machine.specs.View.{program_of, sequence_of}
@@ -35,7 +35,7 @@ call-goes : (ps : List Routine) (c t k : ℕ) (ls : Levels) (s : MachineState) �
 unfolding call
 call-goes ps c t k ls s e = ap (λ c. call ps c t k ls s) (one_less c e)
 
-pub call_ends : (m : Machine) (program : LoweredCode) (c t k : ℕ) (l : level.Level) → c ≡ 0 → CallSteps (Err stop.CallBound) m m program c t k l
+pub call_ends : (m : Machine) (program : LoweredCode) (c t k : ℕ) (l : level.Level) → c ≡ 0 → IsProgressAfterCall (Err stop.CallBound) m m program c t k l
 call_ends m program c t k l e = call-none (program_of program).procedures c t k (levels_of l) (state_of m) e
 
 module _ (m m₂ : Machine) (program : LoweredCode) (c t k : ℕ) (l : level.Level) (o : Option Routine) (post : CallPostcondition) (more : c ≢ 0) (found : o ≡ slice_get (program_of program).procedures k)
@@ -48,14 +48,14 @@ module _ (m m₂ : Machine) (program : LoweredCode) (c t k : ℕ) (l : level.Lev
   dropped (Some x) p h = ap (drop_variables (innermost_level (levels_of l)).base) h
   dropped None p h = h
 
-  pub call_fails : (e : Stop) → MachineDoes post (Err e) m m₂ (activation_effect o t (levels_of l)) → CallSteps (Err e) m m₂ program c t k l
+  pub call_fails : (e : Stop) → StepHasEffect post (Err e) m m₂ (activation_effect o t (levels_of l)) → IsProgressAfterCall (Err e) m m₂ program c t k l
   call_fails e d = subst (StopsRun (end_of_stop e) m₂) (sym goes) (dropped (end_of_stop e) _ (d.has_effect _ performs))
 
-  pub call_returns : (m₃ : Machine) (u v : Unit {0}) → MachineDoes post (Ok u) m m₂ (activation_effect o t (levels_of l)) → state_of m₃ ≡ record (state_of m₂) { cells = take (innermost_level (levels_of l)).base m₂.cells.items } → CallSteps (Ok v) m m₃ program c t k l
+  pub call_returns : (m₃ : Machine) (u v : Unit {0}) → StepHasEffect post (Ok u) m m₂ (activation_effect o t (levels_of l)) → state_of m₃ ≡ record (state_of m₂) { cells = take (innermost_level (levels_of l)).base m₂.cells.items } → IsProgressAfterCall (Ok v) m m₃ program c t k l
   call_returns m₃ u v d cut = goes ∙ ap (drop_variables (innermost_level (levels_of l)).base) (d.has_effect _ performs) ∙ ap running (sym cut)
 
 -- the body
-pub activates_none : {post : CallPostcondition} {m : Machine} {o : Option Routine} (u : Unit {0}) (t : ℕ) (ls : Levels) → o ≡ None → MachineDoes post (Ok u) m m (activation_effect o t ls)
+pub activates_none : {post : CallPostcondition} {m : Machine} {o : Option Routine} (u : Unit {0}) (t : ℕ) (ls : Levels) → o ≡ None → StepHasEffect post (Ok u) m m (activation_effect o t ls)
 unfolding activate
 activates_none {m = m} u t ls e = record { has_effect = λ enters p. ap (λ o. activate enters t ls o (state_of m)) e }
 
@@ -68,26 +68,26 @@ has_room cells more n same few =
 pub with-room : (n : ℕ) (next : MachineState → MachineProgress) (s : MachineState) (more : List ℤ) → more ≡ s.cells ++ zeros n → length more < 2 ^ 64 → run_with_cells n next s ≡ next (record s { cells = s.cells ++ zeros n })
 with-room n next s more same few = ap (λ b. if b then next (record s { cells = s.cells ++ zeros n }) else no_room) (has_room s.cells more n same few)
 
-activate-goes : (enters : _) (t : ℕ) (ls : Levels) (o : Option Routine) (p : Routine) (s : MachineState) → o ≡ Some p → activate enters t ls o s ≡ run_with_cells p.cells (execute_all enters t ls p.body) s
+activate-goes : (enters : _) (t : ℕ) (ls : Levels) (o : Option Routine) (p : Routine) (s : MachineState) → o ≡ Some p → activate enters t ls o s ≡ run_with_cells p.cells (execute_sequence enters t ls p.body) s
 unfolding activate
 activate-goes enters t ls o p s e = ap (λ o. activate enters t ls o s) e
 
 pub activates : {post : CallPostcondition} {r : Result (Unit {0}) Stop} {m m₂ m' : Machine} {o : Option Routine} (t : ℕ) (ls : Levels) (p : Routine) → o ≡ Some p → m₂.cells.items ≡ m.cells.items ++ zeros p.cells → length m₂.cells.items < 2 ^ 64
-    → state_of m₂ ≡ record (state_of m) { cells = m.cells.items ++ zeros p.cells } → MachineDoes post r m₂ m' (sequence_effect t ls p.body) → MachineDoes post r m m' (activation_effect o t ls)
+    → state_of m₂ ≡ record (state_of m) { cells = m.cells.items ++ zeros p.cells } → StepHasEffect post r m₂ m' (sequence_effect t ls p.body) → StepHasEffect post r m m' (activation_effect o t ls)
 activates {r = r} {m = m} {m₂ = m₂} {m' = m'} {o = o} t ls p e grown few more d = record {
   has_effect = λ enters performs.
-      subst (MachineSteps r m') (sym (activate-goes enters t ls o p (state_of m) e ∙ with-room p.cells (execute_all enters t ls p.body) (state_of m) m₂.cells.items grown few ∙ ap (execute_all enters t ls p.body) (sym more))) (d.has_effect enters performs);
+      subst (IsProgressAfterStep r m') (sym (activate-goes enters t ls o p (state_of m) e ∙ with-room p.cells (execute_sequence enters t ls p.body) (state_of m) m₂.cells.items grown few ∙ ap (execute_sequence enters t ls p.body) (sym more))) (d.has_effect enters performs);
 }
 
-pub leaving_steps : (r : Result (Unit {0}) Stop) (e : Stop) (m : Machine) (p : MachineProgress) → (y : Stop) × (r ≡ Err y) × (y ≡ e) → MachineSteps (Err e) m p → MachineSteps r m p
-leaving_steps r e m p q h = subst (λ r. MachineSteps r m p) (sym q.1) (subst (λ y. MachineSteps (Err y) m p) (sym q.2) h)
+pub leaving_steps : (r : Result (Unit {0}) Stop) (e : Stop) (m : Machine) (p : MachineProgress) → (y : Stop) × (r ≡ Err y) × (y ≡ e) → IsProgressAfterStep (Err e) m p → IsProgressAfterStep r m p
+leaving_steps r e m p q h = subst (λ r. IsProgressAfterStep r m p) (sym q.1) (subst (λ y. IsProgressAfterStep (Err y) m p) (sym q.2) h)
 
 -- the statements of a program
 pub block_runs : (m m' : Machine) (program : LoweredCode) (c t : ℕ) (r : Result (Unit {0}) Stop) (post : CallPostcondition) (inner : Levels) (xs : List Instruction) → PerformsCalls post (call (program_of program).procedures c t)
-    → inner ≡ module_levels → xs ≡ program.body.items → MachineDoes post r m m' (sequence_effect t inner (sequence_of xs)) → MachineSteps r m' (body_run (program_of program) c t (state_of m))
+    → inner ≡ module_levels → xs ≡ program.body.items → StepHasEffect post r m m' (sequence_effect t inner (sequence_of xs)) → IsProgressAfterStep r m' (body_run (program_of program) c t (state_of m))
 block_runs m m' program c t r post inner xs performs seen same d =
-    subst (λ xs. MachineSteps r m' (sequence_effect t module_levels (sequence_of xs) (call (program_of program).procedures c t) (state_of m))) same
-    (subst (λ inner. MachineSteps r m' (sequence_effect t inner (sequence_of xs) (call (program_of program).procedures c t) (state_of m))) seen (d.has_effect _ performs))
+    subst (λ xs. IsProgressAfterStep r m' (sequence_effect t module_levels (sequence_of xs) (call (program_of program).procedures c t) (state_of m))) same
+    (subst (λ inner. IsProgressAfterStep r m' (sequence_effect t inner (sequence_of xs) (call (program_of program).procedures c t) (state_of m))) seen (d.has_effect _ performs))
 
 -- whole runs
 abbrev pub state_with : List ℤ → List ℤ → List OutputItem → MachineState
@@ -105,7 +105,7 @@ index_ending_at : (o : Option ending.Halt) (m : Machine) (p : MachineProgress) (
 index_ending_at (Some e) m p r end is h steps = ap (λ e. Some (record { output = output_items m.output.items; ending = e })) (ap meaning_of_end (ok-same r is h.1) ∙ h.2) ∙ sym (ap run_result steps)
 index_ending_at None m p r end is h steps = let no = subst IsErr is h in absurd (cc)
 
-pub ended_by : (m : Machine) (p : MachineProgress) (executed : Result (Unit {0}) Stop) (r : Result End AllocError) (end : End) → r ≡ Ok end → IsEndOf executed r → MachineSteps executed m p
+pub ended_by : (m : Machine) (p : MachineProgress) (executed : Result (Unit {0}) Stop) (r : Result End AllocError) (end : End) → r ≡ Ok end → IsEndOf executed r → IsProgressAfterStep executed m p
     → Some (record { output = output_items m.output.items; ending = meaning_of_end end }) ≡ run_result p
 ended_by m p (Ok done) r end is h steps = ap (λ e. Some (record { output = output_items m.output.items; ending = meaning_of_end e })) (ok-same r is h) ∙ sym (ap run_result steps)
 ended_by m p (Err s) r end is h steps = index_ending_at (end_of_stop s) m p r end is h steps

@@ -42,13 +42,13 @@ continue_with no_room next = no_room
 
 -- Continues a run with one of two steps, which the value of a condition chooses. If the evaluation
 -- of the condition ends the run, the run ends, and both steps are skipped.
-abbrev pub choose : MachineState → StepResult Bool
+abbrev pub choose_by_truth : MachineState → StepResult Bool
     → (MachineState → MachineProgress)
     → (MachineState → MachineProgress)
     → MachineProgress
-choose s (gives true) when_true when_false = when_true s
-choose s (gives false) when_true when_false = when_false s
-choose s (ends e) when_true when_false = stopped e s.output
+choose_by_truth s (gives true) when_true when_false = when_true s
+choose_by_truth s (gives false) when_true when_false = when_false s
+choose_by_truth s (ends e) when_true when_false = stopped e s.output
 
 -- returns the state with one more item at the end of the output
 abbrev pub append_output : MachineState → OutputItem → MachineState
@@ -119,9 +119,9 @@ abbrev pub execute_while : ℕ → (MachineState → StepResult Bool)
     → MachineState
     → MachineProgress
 execute_while zero condition statements s =
-    choose s (condition s) (λ s'. stopped TurnBound s'.output) running
+    choose_by_truth s (condition s) (λ s'. stopped TurnBound s'.output) running
 execute_while (suc t) condition statements s =
-    choose s (condition s) (λ s'. continue_with (statements s') (execute_while t condition statements))
+    choose_by_truth s (condition s) (λ s'. continue_with (statements s') (execute_while t condition statements))
     running
 
 -- Returns the run of a REPEAT, with at most `t` iterations after the first. The condition is
@@ -133,9 +133,9 @@ abbrev pub execute_repeat : ℕ → (MachineState → StepResult Bool)
     → MachineProgress
 execute_repeat zero condition turn s =
     continue_with (turn s)
-    (λ s'. choose s' (condition s') running (λ s''. stopped TurnBound s''.output))
+    (λ s'. choose_by_truth s' (condition s') running (λ s''. stopped TurnBound s''.output))
 execute_repeat (suc t) condition turn s =
-    continue_with (turn s) (λ s'. choose s' (condition s') running (execute_repeat t condition turn))
+    continue_with (turn s) (λ s'. choose_by_truth s' (condition s') running (execute_repeat t condition turn))
 
 -- The type of the effect of a call whose arguments have been passed. The effect is a function of
 -- the procedure's index, of the activations that the procedure's body can see (its own first), and
@@ -169,20 +169,20 @@ unfoldable mutual
       use_result s (number ls s.cells n) (λ v. running (append_output s (number_out v)))
   execute enter t ls writes_line s = running (append_output s line_out)
   execute enter t ls (chooses bs otherwise) s =
-      execute_branches enter t ls bs (execute_all enter t ls otherwise) s
+      execute_branches enter t ls bs (execute_sequence enter t ls otherwise) s
   execute enter t ls (while_loop c body) s =
-      execute_while t (λ s'. truth ls s'.cells c) (execute_all enter t ls body) s
+      execute_while t (λ s'. truth ls s'.cells c) (execute_sequence enter t ls body) s
   execute enter t ls (repeat_loop body c) s =
-      execute_repeat (t - 1) (λ s'. truth ls s'.cells c) (execute_all enter t ls body) s
+      execute_repeat (t - 1) (λ s'. truth ls s'.cells c) (execute_sequence enter t ls body) s
   execute enter t ls (calls k up args) s =
       use_result s (pass_all ls args record { cells = s.cells; addresses = [] })
       (λ p. enter k (levels_in_call ls (length s.cells) up p) record s { cells = p.cells })
 
   -- returns the run of a list of statements, one after the other
-  pub execute_all : CallEffect → ℕ → Levels → Instructions → MachineState → MachineProgress
-  execute_all enter t ls no_statement s = running s
-  execute_all enter t ls (next_statement a rest) s =
-      continue_with (execute enter t ls a s) (execute_all enter t ls rest)
+  pub execute_sequence : CallEffect → ℕ → Levels → Instructions → MachineState → MachineProgress
+  execute_sequence enter t ls no_statement s = running s
+  execute_sequence enter t ls (next_statement a rest) s =
+      continue_with (execute enter t ls a s) (execute_sequence enter t ls rest)
 
   -- returns the run of the first branch with a TRUE condition, or of `otherwise` if no condition is
   -- TRUE
@@ -192,7 +192,7 @@ unfoldable mutual
       → MachineProgress
   execute_branches enter t ls no_branch otherwise s = otherwise s
   execute_branches enter t ls (branch c body rest) otherwise s =
-      choose s (truth ls s.cells c) (execute_all enter t ls body)
+      choose_by_truth s (truth ls s.cells c) (execute_sequence enter t ls body)
       (execute_branches enter t ls rest otherwise)
 
 -- Drops all cells of a run's state except the first `n`. A run that has ended or has no room is
@@ -213,9 +213,9 @@ run_with_cells n next s =
 -- Returns the run of a procedure's body. Before the body runs, the cells of the procedure's own
 -- variables are added at the end. If there is no procedure (None), the state is unchanged.
 unfoldable pub activate : CallEffect → ℕ → Levels → Option Routine → MachineState → MachineProgress
-unfolding execute_all
+unfolding execute_sequence
 activate enter t ls None s = running s
-activate enter t ls (Some p) s = run_with_cells p.cells (execute_all enter t ls p.body) s
+activate enter t ls (Some p) s = run_with_cells p.cells (execute_sequence enter t ls p.body) s
 
 -- Returns the effect of a call of one of the procedures in a list, if `c` calls may still be
 -- opened, including this call. The procedure's body runs, and then the cells of its activation are
@@ -246,8 +246,8 @@ module_levels = record { base = 0; addresses = [] } ∷ []
 -- Returns the run of a program on an input, with the bounds `c` on open calls and `t` on the
 -- iterations of each execution of a loop. Returns None if the run has no room for its cells.
 unfoldable pub run : LoweredCode → List ℤ → ℕ → ℕ → Option MachineRun
-unfolding execute_all call
+unfolding execute_sequence call
 run program input c t =
     run_result (run_with_cells program.cells
-    (execute_all (call program.procedures c t) t module_levels program.body) record
+    (execute_sequence (call program.procedures c t) t module_levels program.body) record
     { cells = []; input = input; output = [] })

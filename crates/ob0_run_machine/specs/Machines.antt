@@ -2,7 +2,7 @@
 -- `Execution` defines. The state has only cells, input and output, since the functions get the
 -- bound on iterations as a parameter. The contract of a step that allocates nothing is an equation
 -- (`progress_after_step`). The contract of any other step has a case for each result
--- (`MachineSteps`, `Passes`). `MachineDoes` is a record, so lemmas about it can have implicit
+-- (`IsProgressAfterStep`, `IsOutcomeOfPassing`). `StepHasEffect` is a record, so lemmas about it can have implicit
 -- arguments. The same holds for the invariants of loops in `proofs/Executing` (`InSequence`,
 -- `InBranches`, `InWhile`, `InRepeat`). There is a lemma for each way to continue a loop or to
 -- leave it.
@@ -20,7 +20,7 @@ use Rattle.ob0_run_machine.specs.declared.memory.Memory.{Memory}
 use Rattle.ob0_run_machine.specs.Allocations.{has_failed}
 use Rattle.ob0_run_machine.specs.Answers.{end_of_stop, end_of}
 use Rattle.ob0_run_machine.specs.Evaluation.{Halt, Levels, StepResult, ends, gives}
-use Rattle.ob0_run_machine.specs.Execution.{CallEffect, CallArguments, MachineProgress, MachineState, OutputItem, activate, call, levels_in_call, execute, execute_all, execute_branches, line_out, number_out, running, stopped}
+use Rattle.ob0_run_machine.specs.Execution.{CallEffect, CallArguments, MachineProgress, MachineState, OutputItem, activate, call, levels_in_call, execute, execute_sequence, execute_branches, line_out, number_out, running, stopped}
 use Rattle.ob0_run_machine.specs.Levels.{levels_of}
 use Rattle.ob0_run_machine.specs.Lowered.{Branches, Routine, Instruction, Instructions}
 use Rattle.ob0_run_machine.specs.View.{program_of}
@@ -55,9 +55,9 @@ StopsRun None m p = has_failed m.memory ≡ true
 
 -- States that `p` is the progress of a run after a step with this result. `m` is the machine after
 -- the step. The run continues in the machine's state, or has ended as `StopsRun` says.
-abbrev pub MachineSteps : Result (Unit {0}) Stop → Machine → MachineProgress → Type 0
-MachineSteps (Ok done) m p = p ≡ running (state_of m)
-MachineSteps (Err s) m p = StopsRun (end_of_stop s) m p
+abbrev pub IsProgressAfterStep : Result (Unit {0}) Stop → Machine → MachineProgress → Type 0
+IsProgressAfterStep (Ok done) m p = p ≡ running (state_of m)
+IsProgressAfterStep (Err s) m p = StopsRun (end_of_stop s) m p
 
 -- The type of the postcondition of a closure that performs calls. It relates the machine before the
 -- call, the procedure's index, the called activation, the result, and the machine after the call.
@@ -69,7 +69,7 @@ abbrev pub PerformsCalls : CallPostcondition → CallEffect → Type 0
 PerformsCalls post enters =
     (at : MutBor Machine) (k : ℕ) (l : Bor level.Level) (r : Result (Unit {0}) Stop)
     (after : MutBor Machine)
-    → post at k l r after → MachineSteps r after.now (enters k (levels_of l.now) (state_of at.now))
+    → post at k l r after → IsProgressAfterStep r after.now (enters k (levels_of l.now) (state_of at.now))
 
 -- The type of the effect of a part of a program, for example of a statement. The effect is a
 -- function from the effect of calls, and the state before the part runs, to the progress of the run
@@ -85,21 +85,21 @@ statement_effect t ls a enters s = execute enters t ls a s
 -- returns the effect of a list of statements, in the activations `ls`, with at most `t` iterations
 -- of each execution of a loop
 abbrev pub sequence_effect : ℕ → Levels → Instructions → CodeEffect
-sequence_effect t ls as_listed enters s = execute_all enters t ls as_listed s
+sequence_effect t ls as_listed enters s = execute_sequence enters t ls as_listed s
 
 -- returns the effect of the first branch with a TRUE condition, or of the statements `otherwise` if
 -- no condition is TRUE
 abbrev pub elsifs_effect : ℕ → Levels → Branches → Instructions → CodeEffect
 elsifs_effect t ls bs otherwise enters s =
-    execute_branches enters t ls bs (execute_all enters t ls otherwise) s
+    execute_branches enters t ls bs (execute_sequence enters t ls otherwise) s
 
 -- States that a step from the machine `m` to the machine `m'` with the result `r` has the effect
 -- `doing`. This has to hold for each effect of calls that agrees with the postcondition `post`.
-pub record MachineDoes (post : CallPostcondition) (r : Result (Unit {0}) Stop) (m m' : Machine) (doing : CodeEffect)
+pub record StepHasEffect (post : CallPostcondition) (r : Result (Unit {0}) Stop) (m m' : Machine) (doing : CodeEffect)
     : Type 0 where
   pub has_effect : (enters : CallEffect)
       → PerformsCalls post enters
-      → MachineSteps r m' (doing enters (state_of m))
+      → IsProgressAfterStep r m' (doing enters (state_of m))
 
 -- Returns the call arguments with these cells and addresses. The cells are all cells so far, with
 -- the passed values at the end.
@@ -121,9 +121,9 @@ StopsPassing None memory o = has_failed memory ≡ true
 
 -- States that `o` is the outcome of passing arguments, given the machine's result. If the result is
 -- Ok, `o` gives these cells and addresses. If it is an error, the run ends as `StopsPassing` says.
-abbrev pub Passes : Result (Unit {0}) Stop → Memory → List ℤ → List ℕ → StepResult CallArguments → Type 0
-Passes (Ok done) memory cells addresses o = o ≡ gives (passed_arguments cells addresses)
-Passes (Err s) memory cells addresses o = StopsPassing (end_of_stop s) memory o
+abbrev pub IsOutcomeOfPassing : Result (Unit {0}) Stop → Memory → List ℤ → List ℕ → StepResult CallArguments → Type 0
+IsOutcomeOfPassing (Ok done) memory cells addresses o = o ≡ gives (passed_arguments cells addresses)
+IsOutcomeOfPassing (Err s) memory cells addresses o = StopsPassing (end_of_stop s) memory o
 
 -- Returns the effect of a procedure's activation: the cells of the procedure's own variables are
 -- added, and then its body runs. If there is no procedure (None), nothing happens.
@@ -133,7 +133,7 @@ activation_effect o t ls enters s = activate enters t ls o s
 -- States that a call of the procedure with the index `k` leads from the machine `m` to the machine
 -- `m'` with the result `r`, according to `call`. `c` calls may still be opened, this one included.
 -- Each execution of a loop may make at most `t` iterations.
-abbrev pub CallSteps : Result (Unit {0}) Stop
+abbrev pub IsProgressAfterCall : Result (Unit {0}) Stop
     → Machine
     → Machine
     → LoweredCode
@@ -142,5 +142,5 @@ abbrev pub CallSteps : Result (Unit {0}) Stop
     → ℕ
     → level.Level
     → Type 0
-CallSteps r m m' program c t k l =
-    MachineSteps r m' (call (program_of program).procedures c t k (levels_of l) (state_of m))
+IsProgressAfterCall r m m' program c t k l =
+    IsProgressAfterStep r m' (call (program_of program).procedures c t k (levels_of l) (state_of m))

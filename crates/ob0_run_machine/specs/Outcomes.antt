@@ -9,7 +9,7 @@ use Rattle.ob0_run_machine.specs.declared.running.Outcome.{Outcome}
 use Rattle.ob0_run_machine.specs.declared.ending.Stop.{Stop}
 use Rattle.ob0_run_machine.specs.Answers.{end_of_stop}
 use Rattle.ob0_run_machine.specs.Evaluation.{CallBound, Divisor, Done, Halt, Index, InputEnd, Overflow, TurnBound}
-use Rattle.ob0_run_machine.specs.Execution.{MachineProgress, MachineRun, MachineState, call, execute_all, module_levels}
+use Rattle.ob0_run_machine.specs.Execution.{MachineProgress, MachineRun, MachineState, call, execute_sequence, module_levels}
 use Rattle.ob0_run_machine.specs.Lowered.{LoweredCode}
 use Rattle.ob0_run_machine.specs.Machines.{output_items}
 
@@ -44,4 +44,4 @@ run_of o = record { output = output_items o.output.items; ending = meaning_of_en
 -- returns the run of the statements of a program's body from the state `s`, with the bounds `c` on
 -- open calls and `t` on iterations
 abbrev pub body_run : LoweredCode → ℕ → ℕ → MachineState → MachineProgress
-body_run program c t s = execute_all (call program.procedures c t) t module_levels program.body s
+body_run program c t s = execute_sequence (call program.procedures c t) t module_levels program.body s

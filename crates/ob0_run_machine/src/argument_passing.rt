@@ -4,7 +4,7 @@
 ghost use Rattle.std.specs.Prelude.{map};
 ghost use Rattle.ob0_run_machine.specs.Execution.{pass_argument, pass_all};
 ghost use Rattle.ob0_run_machine.specs.Levels.{addresses_in, levels_of};
-ghost use Rattle.ob0_run_machine.specs.Machines.{Passes, passed_arguments};
+ghost use Rattle.ob0_run_machine.specs.Machines.{IsOutcomeOfPassing, passed_arguments};
 ghost use Rattle.ob0_run_machine.specs.View.{argument_of};
 
 use crate::addresses::VarAddresses;
@@ -25,7 +25,7 @@ fn pass_argument(
     cells: &mut Vec<i32>,
     addresses: &mut VarAddresses,
 ) -> Result<(), Stop>
-    ensures { Passes result memory.new cells.new.items (addresses_in addresses.new)
+    ensures { IsOutcomeOfPassing result memory.new cells.new.items (addresses_in addresses.new)
         (pass_argument (levels_of level.now) (argument_of argument.now)
         (passed_arguments cells.old.items (addresses_in addresses.old))) }
 {
@@ -60,7 +60,7 @@ pub(crate) fn pass_all(
     cells: &mut Vec<i32>,
     addresses: &mut VarAddresses,
 ) -> Result<(), Stop>
-    ensures { Passes result memory.new cells.new.items (addresses_in addresses.new)
+    ensures { IsOutcomeOfPassing result memory.new cells.new.items (addresses_in addresses.new)
         (pass_all (levels_of level.now) (map argument_of arguments.now)
         (passed_arguments cells.old.items (addresses_in addresses.old))) }
 {

@@ -3,7 +3,7 @@
 ghost use Rattle.std.specs.Prelude.{◌≡◌, map, option_map, slice_get, take};
 ghost use Rattle.ob0_run_machine.specs.Evaluation.{innermost_level};
 ghost use Rattle.ob0_run_machine.specs.Levels.{levels_of};
-ghost use Rattle.ob0_run_machine.specs.Machines.{MachineDoes, CallSteps, activation_effect, state_of};
+ghost use Rattle.ob0_run_machine.specs.Machines.{StepHasEffect, IsProgressAfterCall, activation_effect, state_of};
 ghost use Rattle.ob0_run_machine.specs.View.{procedure_of};
 
 use crate::code::{LoweredCode, Routine};
@@ -34,7 +34,7 @@ fn activate<F: Fn(&mut Machine<'_>, usize, &Level<'_>) -> Result<(), Stop>>(
     enter: &F,
 ) -> Result<(), Stop>
     requires { F.IsAlwaysCallable enter.now }
-    ensures { MachineDoes (F.post enter.now) result machine.old machine.new
+    ensures { StepHasEffect (F.post enter.now) result machine.old machine.new
         (activation_effect (option_map (λ p. procedure_of p.now) procedure.entry) turns
         (levels_of level.now)) }
 {
@@ -70,14 +70,14 @@ pub(crate) fn call(
     procedure: usize,
     level: &Level<'_>,
 ) -> Result<(), Stop>
-    ensures { CallSteps result machine.old machine.new program.now calls turns procedure level.now }
+    ensures { IsProgressAfterCall result machine.old machine.new program.now calls turns procedure level.now }
 {
     if calls == 0 {
         return Err(Stop::CallBound);
     }
     let left = calls - 1;
     let enter = |machine: &mut Machine<'_>, procedure: usize, level: &Level<'_>|
-        ensures { CallSteps result machine.old machine.new program.entry.now left turns procedure
+        ensures { IsProgressAfterCall result machine.old machine.new program.entry.now left turns procedure
             level.now }
     { call(program, left, turns, machine, procedure, level) };
     let called = procedure_at(program.procedures.as_slice(), procedure);

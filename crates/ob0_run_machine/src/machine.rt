@@ -3,7 +3,7 @@
 
 ghost use Rattle.std.specs.Prelude.{◌≡◌, ◌≤◌, OnErr, OnOk, length, slice_set, true, vec_capacity, vec_len};
 ghost use Rattle.ob0_run_machine.specs.Execution.{cells_after_copy, append_output, read_number};
-ghost use Rattle.ob0_run_machine.specs.Machines.{MachineSteps, item_of, state_of};
+ghost use Rattle.ob0_run_machine.specs.Machines.{IsProgressAfterStep, item_of, state_of};
 ghost use Rattle.ob0_run_machine.specs.Allocations.{has_failed};
 
 use crate::cell_copies::copy_cells;
@@ -68,7 +68,7 @@ impl<'i> Machine<'i> {
     /// Removes the next number from the input and stores it in the cell at an address. Returns
     /// `Stop::InputEnd` if no input is left.
     pub(crate) fn read_number(&mut self, address: usize) -> Result<(), Stop>
-        ensures { MachineSteps result self.new
+        ensures { IsProgressAfterStep result self.new
             (read_number (state_of self.old) address (state_of self.old).input) }
     {
         match self.input {

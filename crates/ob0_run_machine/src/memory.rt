@@ -1,8 +1,8 @@
 //! Defines the memory of a run (`Memory`). The lists of a run grow only by functions in this file,
 //! so the memory knows whether an allocation has failed.
 //!
-//! A step may report a failed allocation only if `Memory::fail` was called (`MachineSteps`,
-//! `Passes`). So a fault or a bound can't be reported as a failed allocation. A
+//! A step may report a failed allocation only if `Memory::fail` was called (`IsProgressAfterStep`,
+//! `IsOutcomeOfPassing`). So a fault or a bound can't be reported as a failed allocation. A
 //! function that grows a list fails only if the list had too little capacity (`full`). No contract
 //! states that the run needed the memory, or that the allocator refused the memory.
 

@@ -3,7 +3,7 @@
 ghost use Rattle.std.specs.Prelude.{◌≡◌, IfOk, Some};
 ghost use Rattle.ob0_run_machine.specs.Execution.{run};
 ghost use Rattle.ob0_run_machine.specs.Outcomes.{IsEndOf, body_run, run_of};
-ghost use Rattle.ob0_run_machine.specs.Machines.{MachineSteps, state_of};
+ghost use Rattle.ob0_run_machine.specs.Machines.{IsProgressAfterStep, state_of};
 ghost use Rattle.ob0_run_machine.specs.View.{program_of};
 
 use crate::calls::call;
@@ -49,7 +49,7 @@ fn execute(
     turns: u32,
     machine: &mut Machine<'_>,
 ) -> Result<(), Stop>
-    ensures { MachineSteps result machine.new
+    ensures { IsProgressAfterStep result machine.new
         (body_run (program_of program.now) calls turns (state_of machine.old)) }
 {
     let level = Level {

@@ -9,7 +9,7 @@ ghost use Rattle.ob0_run_machine.specs.declared.code.Instruction.{Increase};
 ghost use Rattle.ob0_run_machine.specs.Execution.{CallEffect, execute};
 ghost use Rattle.ob0_run_machine.specs.Levels.{levels_of};
 ghost use Rattle.ob0_run_machine.specs.Lowered as lowered;
-ghost use Rattle.ob0_run_machine.specs.Machines.{MachineDoes, MachineSteps, entry_effect, statement_effect, sequence_effect, elsifs_effect, progress_after_step, state_of};
+ghost use Rattle.ob0_run_machine.specs.Machines.{StepHasEffect, IsProgressAfterStep, entry_effect, statement_effect, sequence_effect, elsifs_effect, progress_after_step, state_of};
 ghost use Rattle.ob0_run_machine.specs.View.{operation_with_link, conditional_of, call_of, chain_of, variable_relation, variable_increase, number_of, elsif_branches, else_statements, place_of, repeat_of, variable_element_of, sequence_of, statement_of, truth_of, variable_of, while_of};
 
 use crate::addresses::VarAddresses;
@@ -198,7 +198,7 @@ fn copy_block(
 #[tactic(auto, unfolding(crate::specs::Execution::execute))]
 fn run_read(place: &Place, level: &Level<'_>, machine: &mut Machine<'_>) -> Result<(), Stop>
     ensures { (enters : CallEffect) (t : ℕ)
-        → MachineSteps result machine.new (execute enters t (levels_of level.now)
+        → IsProgressAfterStep result machine.new (execute enters t (levels_of level.now)
         (lowered.reads (place_of place.now)) (state_of machine.old)) }
 {
     let a = locate(place, level, machine.cells.as_slice())?;
@@ -208,7 +208,7 @@ fn run_read(place: &Place, level: &Level<'_>, machine: &mut Machine<'_>) -> Resu
 #[tactic(auto, unfolding(crate::specs::Execution::execute))]
 fn run_write(n: &Number, level: &Level<'_>, machine: &mut Machine<'_>) -> Result<(), Stop>
     ensures { (enters : CallEffect) (t : ℕ)
-        → MachineSteps result machine.new (execute enters t (levels_of level.now)
+        → IsProgressAfterStep result machine.new (execute enters t (levels_of level.now)
         (lowered.writes (number_of n.now)) (state_of machine.old)) }
 {
     let v = evaluate_number(n, level, machine.cells.as_slice())?;
@@ -219,7 +219,7 @@ fn run_write(n: &Number, level: &Level<'_>, machine: &mut Machine<'_>) -> Result
 #[tactic(auto, unfolding(crate::specs::Execution::execute))]
 fn run_write_line(level: &Level<'_>, machine: &mut Machine<'_>) -> Result<(), Stop>
     ensures { (enters : CallEffect) (t : ℕ)
-        → MachineSteps result machine.new
+        → IsProgressAfterStep result machine.new
         (execute enters t (levels_of level.now) lowered.writes_line (state_of machine.old)) }
 {
     machine.append_output(Item::Line)?;
@@ -239,7 +239,7 @@ fn enter_procedure<F: Fn(&mut Machine<'_>, usize, &Level<'_>) -> Result<(), Stop
     enter: &F,
 ) -> Result<(), Stop>
     requires { F.IsAlwaysCallable enter.now }
-    ensures { MachineDoes (F.post enter.now) result machine.old machine.new
+    ensures { StepHasEffect (F.post enter.now) result machine.old machine.new
         (entry_effect c.now.procedure c.now.up (levels_of level.now) base addresses.now) }
 {
     let entered = Level {
@@ -260,7 +260,7 @@ fn run_call<F: Fn(&mut Machine<'_>, usize, &Level<'_>) -> Result<(), Stop>>(
 ) -> Result<(), Stop>
     requires { F.IsAlwaysCallable enter.now }
     ensures { (t : ℕ)
-        → MachineDoes (F.post enter.now) result machine.old machine.new
+        → StepHasEffect (F.post enter.now) result machine.old machine.new
         (statement_effect t (levels_of level.now) (call_of c.now)) }
 {
     let base = machine.cell_count();
@@ -303,7 +303,7 @@ fn run_statement<F: Fn(&mut Machine<'_>, usize, &Level<'_>) -> Result<(), Stop>>
     enter: &F,
 ) -> Result<(), Stop>
     requires { F.IsAlwaysCallable enter.now }
-    ensures { MachineDoes (F.post enter.now) result machine.old machine.new
+    ensures { StepHasEffect (F.post enter.now) result machine.old machine.new
         (statement_effect turns (levels_of level.now) (statement_of s.now)) }
 {
     match s {
@@ -339,7 +339,7 @@ pub(crate) fn run_sequence_inline<F: Fn(&mut Machine<'_>, usize, &Level<'_>) -> 
     enter: &F,
 ) -> Result<(), Stop>
     requires { F.IsAlwaysCallable enter.now }
-    ensures { MachineDoes (F.post enter.now) result machine.old machine.new
+    ensures { StepHasEffect (F.post enter.now) result machine.old machine.new
         (sequence_effect turns (levels_of level.now) (sequence_of statements.now)) }
 {
     for s in statements {
@@ -360,7 +360,7 @@ pub(crate) fn run_sequence<F: Fn(&mut Machine<'_>, usize, &Level<'_>) -> Result<
     enter: &F,
 ) -> Result<(), Stop>
     requires { F.IsAlwaysCallable enter.now }
-    ensures { MachineDoes (F.post enter.now) result machine.old machine.new
+    ensures { StepHasEffect (F.post enter.now) result machine.old machine.new
         (sequence_effect turns (levels_of level.now) (sequence_of statements.now)) }
 {
     run_sequence_inline(statements, level, turns, machine, enter)
@@ -377,7 +377,7 @@ fn run_unless_empty<F: Fn(&mut Machine<'_>, usize, &Level<'_>) -> Result<(), Sto
     enter: &F,
 ) -> Result<(), Stop>
     requires { F.IsAlwaysCallable enter.now }
-    ensures { MachineDoes (F.post enter.now) result machine.old machine.new
+    ensures { StepHasEffect (F.post enter.now) result machine.old machine.new
         (sequence_effect turns (levels_of level.now) (sequence_of statements.now)) }
 {
     let count = statements.len();
@@ -399,7 +399,7 @@ fn run_conditional<F: Fn(&mut Machine<'_>, usize, &Level<'_>) -> Result<(), Stop
     enter: &F,
 ) -> Result<(), Stop>
     requires { F.IsAlwaysCallable enter.now }
-    ensures { MachineDoes (F.post enter.now) result machine.old machine.new
+    ensures { StepHasEffect (F.post enter.now) result machine.old machine.new
         (statement_effect turns (levels_of level.now) (conditional_of i.now)) }
 {
     if evaluate_condition(&i.condition, level, machine)? {
@@ -425,7 +425,7 @@ fn run_elsifs<F: Fn(&mut Machine<'_>, usize, &Level<'_>) -> Result<(), Stop>>(
     enter: &F,
 ) -> Result<(), Stop>
     requires { F.IsAlwaysCallable enter.now }
-    ensures { MachineDoes (F.post enter.now) result machine.old machine.new
+    ensures { StepHasEffect (F.post enter.now) result machine.old machine.new
         (elsifs_effect turns (levels_of level.now) (elsif_branches i.now) (else_statements i.now)) }
 {
     for branch in &i.others {
@@ -443,7 +443,7 @@ fn run_elsifs<F: Fn(&mut Machine<'_>, usize, &Level<'_>) -> Result<(), Stop>>(
 fn increase_or_stop(address: usize, by: i32, machine: &mut Machine<'_>) -> Result<(), Stop>
     ensures { (enters : CallEffect) (t : ℕ) (ls : Levels) (v : Variable)
         → address_of ls machine.old.cells.items (variable_of v) ≡ gives address
-        → MachineSteps result machine.new
+        → IsProgressAfterStep result machine.new
         (execute enters t ls (variable_increase v by) (state_of machine.old)) }
 {
     Ok(increase_at(address, by, machine)?)
@@ -482,7 +482,7 @@ fn run_counted_body<F: Fn(&mut Machine<'_>, usize, &Level<'_>) -> Result<(), Sto
     ensures { (v : Variable)
         → ((cells : List ℤ)
         → address_of (levels_of level.now) cells (variable_of v) ≡ gives address)
-        → MachineDoes (F.post enter.now) result machine.old machine.new
+        → StepHasEffect (F.post enter.now) result machine.old machine.new
         (sequence_effect turns (levels_of level.now)
         (sequence_of (statements.now ++ Increase v by ∷ []))) }
 {
@@ -508,7 +508,7 @@ fn run_counting_loop<F: Fn(&mut Machine<'_>, usize, &Level<'_>) -> Result<(), St
     enter: &F,
 ) -> Result<(), Stop>
     requires { F.IsAlwaysCallable enter.now }
-    ensures { MachineDoes (F.post enter.now) result machine.old machine.new
+    ensures { StepHasEffect (F.post enter.now) result machine.old machine.new
         (statement_effect turns (levels_of level.now) (lowered.while_loop
         (variable_relation Less variable (lowered.literal limit))
         (sequence_of (statements.now ++ Increase increased by ∷ [])))) }
@@ -540,7 +540,7 @@ fn run_while<F: Fn(&mut Machine<'_>, usize, &Level<'_>) -> Result<(), Stop>>(
     enter: &F,
 ) -> Result<(), Stop>
     requires { F.IsAlwaysCallable enter.now }
-    ensures { MachineDoes (F.post enter.now) result machine.old machine.new
+    ensures { StepHasEffect (F.post enter.now) result machine.old machine.new
         (statement_effect turns (levels_of level.now) (while_of w.now)) }
 {
     if let Truth::LessThanLiteral(v, limit) = &w.condition
@@ -565,7 +565,7 @@ fn run_general_while<F: Fn(&mut Machine<'_>, usize, &Level<'_>) -> Result<(), St
     enter: &F,
 ) -> Result<(), Stop>
     requires { F.IsAlwaysCallable enter.now }
-    ensures { MachineDoes (F.post enter.now) result machine.old machine.new
+    ensures { StepHasEffect (F.post enter.now) result machine.old machine.new
         (statement_effect turns (levels_of level.now) (while_of w.now)) }
 {
     let mut left = turns;
@@ -593,7 +593,7 @@ fn run_repeat<F: Fn(&mut Machine<'_>, usize, &Level<'_>) -> Result<(), Stop>>(
     enter: &F,
 ) -> Result<(), Stop>
     requires { F.IsAlwaysCallable enter.now }
-    ensures { MachineDoes (F.post enter.now) result machine.old machine.new
+    ensures { StepHasEffect (F.post enter.now) result machine.old machine.new
         (statement_effect turns (levels_of level.now) (repeat_of r.now)) }
 {
     let mut further = turns.saturating_sub(1);

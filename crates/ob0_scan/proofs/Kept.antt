@@ -14,7 +14,7 @@ use Rattle.ob0_scan.specs.declared.incremental_scan.RescannedMiddle.{RescannedMi
 use Rattle.ob0_scan.specs.Lexed.{Lexeme, text_of_lexemes}
 use Rattle.ob0_scan.specs.TextWithTokens.{TextWithTokens, IsScan}
 use Rattle.ob0_scan.specs.Reused.{span_after_shift, token_after_shift, tokens_before_change, comments_before_change, tokens_beginning_from}
-use Rattle.ob0_scan.specs.RescanState.{IsMovable, IsRescannedMiddle, AddsNewLexemes, with_middle}
+use Rattle.ob0_scan.specs.RescanState.{IsMovable, IsRescannedMiddle, AddsNewLexemes, scan_with_new_middle}
 use Rattle.ob0_scan.proofs.AtLexemes.{AtLexemes, of_tokens, of_comments, Full, Lies, full, lies, AreAscending, ascending, starts_after, back_later, front_all}
 use Rattle.ob0_scan.proofs.RescannedMiddle.{Settled, reused}
 
@@ -81,9 +81,9 @@ module _ (old : TextWithTokens) (o : IsScan old) (new : List ℕ) (from removed 
   lies_between ef eg tf tg st sc r w n m k l et ec =
       let ts = token_parts ef w n m in
       let cs = comment_parts eg w k l in
-      let tokens : (with_middle old new removed added b).tokens ≡ (fs ++ t.tokens.items) ++ map (token_after_shift removed added) rs =
+      let tokens : (scan_with_new_middle old new removed added b).tokens ≡ (fs ++ t.tokens.items) ++ map (token_after_shift removed added) rs =
       ap₂ (λ x y. x ++ (b.tokens.items ++ map (token_after_shift removed added) y)) ts.front ts.back ∙ ap (λ x. fs ++ (x ++ map (token_after_shift removed added) rs)) et ∙ sym (append_assoc fs t.tokens.items (map (token_after_shift removed added) rs)) in
-      let comments : (with_middle old new removed added b).comments ≡ (gs ++ t.comments.items) ++ map (span_after_shift removed added) qs =
+      let comments : (scan_with_new_middle old new removed added b).comments ≡ (gs ++ t.comments.items) ++ map (span_after_shift removed added) qs =
       ap₂ (λ x y. x ++ (b.comments.items ++ map (span_after_shift removed added) y)) cs.front cs.back ∙ ap (λ x. gs ++ (x ++ map (span_after_shift removed added) qs)) ec ∙ sym (append_assoc gs t.comments.items (map (span_after_shift removed added) qs)) in
       record {
         tokens_ordered = ts.ordered;
@@ -97,11 +97,11 @@ module _ (old : TextWithTokens) (o : IsScan old) (new : List ℕ) (from removed 
             (back_later (λ (x : Token). x.span.start) (t.at + removed - added) old.tokens (subst (AreAscending (λ (x : Token). x.span.start)) (sym o.tokens) (ascending of_tokens (λ (v : Span). v.start) starts_after 0 o.lexemes (full o.lexemes [] o.lexed.each)))));
         tokens_move = All-same (λ (x : Token). IsMovable removed added x.span) (drop b.old_end.tokens old.tokens) rs ts.back w.tokens_move;
         comments_move = All-same (λ (x : Span). IsMovable removed added x) (drop b.old_end.comments old.comments) qs cs.back w.comments_move;
-        scan = subst (λ (x : List Token). IsScan (record { text = new; tokens = x; comments = (with_middle old new removed added b).comments })) (sym tokens)
+        scan = subst (λ (x : List Token). IsScan (record { text = new; tokens = x; comments = (scan_with_new_middle old new removed added b).comments })) (sym tokens)
             (subst (λ (y : List Span). IsScan (record { text = new; tokens = (fs ++ t.tokens.items) ++ map (token_after_shift removed added) rs; comments = y })) (sym comments)
             (subst (λ (x : List Token). IsScan (record { text = new; tokens = (x ++ t.tokens.items) ++ map (token_after_shift removed added) rs; comments = (gs ++ t.comments.items) ++ map (span_after_shift removed added) qs })) tf
             (subst (λ (y : List Span). IsScan (record { text = new; tokens = (t.front.tokens.now ++ t.tokens.items) ++ map (token_after_shift removed added) rs; comments = (y ++ t.comments.items) ++ map (span_after_shift removed added) qs })) tg w.scan)));
-        reuses = reused old (with_middle old new removed added b) from removed added s t rs qs (length new) fs gs ef eg st sc r w.met tokens comments (length b.tokens.items + length b.comments.items) (omega (arith, ap length et, ap length ec));
+        reuses = reused old (scan_with_new_middle old new removed added b) from removed added s t rs qs (length new) fs gs ef eg st sc r w.met tokens comments (length b.tokens.items + length b.comments.items) (omega (arith, ap length et, ap length ec));
       }
 
 -- ---- a list whose items are changed one by one from the beginning

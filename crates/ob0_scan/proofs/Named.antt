@@ -11,7 +11,7 @@ use Rattle.ob0_scan.specs.declared.lexeme.TokenKind.{TokenKind}
 use Rattle.ob0_scan.specs.declared.incremental_scan.RescannedMiddle.{RescannedMiddle}
 use Rattle.ob0_scan.specs.TextWithTokens.{TextWithTokens, Word, text_in_span}
 use Rattle.ob0_scan.specs.Reused.{ReplacesRange, name_or_empty, names_in, words_of_tokens, span_after_shift, token_after_shift}
-use Rattle.ob0_scan.specs.RescanState.{IsRescannedMiddle, with_middle}
+use Rattle.ob0_scan.specs.RescanState.{IsRescannedMiddle, scan_with_new_middle}
 
 -- A part that lies within the first n bytes of a text is the same part of those n bytes.
 in_first : (text : List ℕ) (n s w : ℕ) → w ≤ n - s → take w (drop s (take n text)) ≡ take w (drop s text)
@@ -66,7 +66,7 @@ module _ {X : Type 0} (of : TokenKind → List ℕ → X) where
 
   written_stays : (old : TextWithTokens) (new : List ℕ) (from removed added : ℕ) (b : RescannedMiddle) → ReplacesRange old.text new from removed added → IsRescannedMiddle old new from removed added b
       → written new b.tokens.items ≡ written old.text (take (b.old_end.tokens - b.old_start.tokens) (drop b.old_start.tokens old.tokens))
-      → written new (with_middle old new removed added b).tokens ≡ written old.text old.tokens
+      → written new (scan_with_new_middle old new removed added b).tokens ≡ written old.text old.tokens
   written_stays old new from removed added b r w same =
       let front : List Token = take b.old_start.tokens old.tokens in
       let gone : List Token = take (b.old_end.tokens - b.old_start.tokens) (drop b.old_start.tokens old.tokens) in
@@ -87,17 +87,17 @@ module _ {X : Type 0} (of : TokenKind → List ℕ → X) where
 
 pub names_stay : (old : TextWithTokens) (new : List ℕ) (from removed added : ℕ) (b : RescannedMiddle) → ReplacesRange old.text new from removed added → IsRescannedMiddle old new from removed added b
     → names_in new b.tokens.items ≡ names_in old.text (take (b.old_end.tokens - b.old_start.tokens) (drop b.old_start.tokens old.tokens))
-    → names_in new (with_middle old new removed added b).tokens ≡ names_in old.text old.tokens
+    → names_in new (scan_with_new_middle old new removed added b).tokens ≡ names_in old.text old.tokens
 names_stay old new from removed added b r w same = written_stays name_or_empty old new from removed added b r w same
 
 pub words_stay : (old : TextWithTokens) (new : List ℕ) (from removed added : ℕ) (b : RescannedMiddle) → ReplacesRange old.text new from removed added → IsRescannedMiddle old new from removed added b
     → words_of_tokens new b.tokens.items ≡ words_of_tokens old.text (take (b.old_end.tokens - b.old_start.tokens) (drop b.old_start.tokens old.tokens))
-    → words_of_tokens new (with_middle old new removed added b).tokens ≡ words_of_tokens old.text old.tokens
+    → words_of_tokens new (scan_with_new_middle old new removed added b).tokens ≡ words_of_tokens old.text old.tokens
 words_stay old new from removed added b r w same = written_stays (λ k text. record { kind = k; text = text }) old new from removed added b r w same
 
 -- The tokens before the change have the same kinds and spellings as before.
 pub front_written : (old : TextWithTokens) (new : List ℕ) (from removed added : ℕ) (b : RescannedMiddle) → ReplacesRange old.text new from removed added → IsRescannedMiddle old new from removed added b
-    → take b.old_start.tokens (words_of_tokens new (with_middle old new removed added b).tokens) ≡ take b.old_start.tokens (words_of_tokens old.text old.tokens)
+    → take b.old_start.tokens (words_of_tokens new (scan_with_new_middle old new removed added b).tokens) ≡ take b.old_start.tokens (words_of_tokens old.text old.tokens)
 front_written old new from removed added b r w =
     let of : TokenKind → List ℕ → Word = λ k text. record { kind = k; text = text } in
     let front : List Token = take b.old_start.tokens old.tokens in
@@ -109,7 +109,7 @@ front_written old new from removed added b r w =
 
 pub back_written : (old : TextWithTokens) (new : List ℕ) (from removed added back : ℕ) (b : RescannedMiddle) → ReplacesRange old.text new from removed added → IsRescannedMiddle old new from removed added b
     → back ≡ b.old_start.tokens + length b.tokens.items
-    → drop back (words_of_tokens new (with_middle old new removed added b).tokens) ≡ drop b.old_end.tokens (words_of_tokens old.text old.tokens)
+    → drop back (words_of_tokens new (scan_with_new_middle old new removed added b).tokens) ≡ drop b.old_end.tokens (words_of_tokens old.text old.tokens)
 back_written old new from removed added back b r w at =
     let of : TokenKind → List ℕ → Word = λ k text. record { kind = k; text = text } in
     let front : List Token = take b.old_start.tokens old.tokens in

@@ -60,7 +60,7 @@ pub record IsMovable (removed added : ℕ) (span : Span) : Type 0 where
 pub record AddsOneLexeme (s t : Scanner) : Type 0 where
   pub kind : LexemeKind
   pub len : ℕ
-  pub clear : length s.faults.items ≡ 0
+  pub had_no_fault : length s.faults.items ≡ 0
   pub tokens : t.tokens.items ≡ s.tokens.items ++ token_at kind (span_from s.at len)
   pub comments : t.comments.items ≡ s.comments.items ++ comment_at kind (span_from s.at len)
 
@@ -90,8 +90,8 @@ pub record CanStopAt (old : TextWithTokens) (end from removed added at : ℕ) (t
 
 -- Returns the scan of the new text `new`: the old tokens and comments in front of the change, the
 -- newly read ones (in `b`), and the old ones behind the change, with shifted spans.
-abbrev pub with_middle : TextWithTokens → List ℕ → ℕ → ℕ → RescannedMiddle → TextWithTokens
-with_middle old new removed added b = record {
+abbrev pub scan_with_new_middle : TextWithTokens → List ℕ → ℕ → ℕ → RescannedMiddle → TextWithTokens
+scan_with_new_middle old new removed added b = record {
   text = new;
   tokens =
       take b.old_start.tokens old.tokens
@@ -117,6 +117,6 @@ pub record IsRescannedMiddle (old : TextWithTokens) (new : List ℕ) (from remov
       (drop b.old_end.tokens old.tokens)
   pub comments_move : All (λ (c : Span). IsMovable removed added c)
       (drop b.old_end.comments old.comments)
-  pub scan : IsScan (with_middle old new removed added b)
-  pub reuses : Reuses old (with_middle old new removed added b) from removed added
+  pub scan : IsScan (scan_with_new_middle old new removed added b)
+  pub reuses : Reuses old (scan_with_new_middle old new removed added b) from removed added
       (length b.tokens.items + length b.comments.items)

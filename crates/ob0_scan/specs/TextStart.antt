@@ -16,13 +16,13 @@ pub record StartsWithLexeme (text : List ℕ) (kind : LexemeKind) (len : ℕ) : 
 pub record IsLongestSymbol (text : List ℕ) (symbol : Symbol) (len : ℕ) : Type 0 where
   pub in_range : len ≤ length text
   pub spelled : take len text ≡ symbol_text symbol
-  pub longest : (other : Symbol) (following : List ℕ)
-      → symbol_text other ++ following ≡ text
-      → length (symbol_text other) ≤ len
+  pub longest : (other_symbol : Symbol) (rest_of_text : List ℕ)
+      → symbol_text other_symbol ++ rest_of_text ≡ text
+      → length (symbol_text other_symbol) ≤ len
 
 -- States that the text begins with no symbol.
 abbrev pub StartsWithNoSymbol : List ℕ → Type 0
-StartsWithNoSymbol text = (symbol : Symbol) (following : List ℕ) → symbol_text symbol ++ following ≢ text
+StartsWithNoSymbol text = (symbol : Symbol) (rest_of_text : List ℕ) → symbol_text symbol ++ rest_of_text ≢ text
 
 -- States that the text begins with no lexeme.
 abbrev pub StartsWithNoLexeme : List ℕ → Type 0

@@ -159,8 +159,8 @@ fn is_same_word(new_text: &[u8], new: Token, old_text: &[u8], old: Token) -> boo
     new.kind == old.kind && is_same_spelling(new_text, new.span, old_text, old.span)
 }
 
-/// Returns whether two lists of tokens, each of its own text, are equally long and have identifiers
-/// with the same spellings at the same indexes.
+/// Returns whether two lists of tokens of two texts are equally long and have identifiers with the
+/// same spellings at the same indexes.
 fn have_same_names(new_text: &[u8], new: &[Token], old_text: &[u8], old: &[Token]) -> bool
     ensures { result ≡ true → names_in new_text.now new.now ≡ names_in old_text.now old.now }
 {
@@ -181,15 +181,15 @@ fn is_same_name(new_text: &[u8], new: Token, old_text: &[u8], old: Token) -> boo
     ensures { result ≡ true → name_or_empty new.kind (text_in_span new_text.now new.span)
         ≡ name_or_empty old.kind (text_in_span old_text.now old.span) }
 {
-    if is_name(new.kind) {
-        is_name(old.kind) && is_same_spelling(new_text, new.span, old_text, old.span)
+    if is_identifier_kind(new.kind) {
+        is_identifier_kind(old.kind) && is_same_spelling(new_text, new.span, old_text, old.span)
     } else {
-        !is_name(old.kind)
+        !is_identifier_kind(old.kind)
     }
 }
 
 /// Returns whether a token of this kind is an identifier.
-fn is_name(kind: TokenKind) -> bool
+fn is_identifier_kind(kind: TokenKind) -> bool
     ensures yes { result ≡ true → kind ≡ Identifier }
     ensures no { result ≡ false → (text : List ℕ) → name_or_empty kind text ≡ [] }
 {
@@ -301,7 +301,7 @@ pub fn rescan(
     }
 }
 
-/// Turns the old tokens and comments into the tokens and comments of `new_text`. `from`, `removed`
+/// Changes the old tokens and comments to the tokens and comments of `new_text`. `from`, `removed`
 /// and `added` describe the change, as in `rescan`. In contrast to `rescan`, this function works in
 /// place: the old tokens in front of the change aren't copied. The result also compares the new
 /// tokens with the old tokens. If the new text has faults, the faults are returned with the old

@@ -80,7 +80,7 @@ fn comment_len(bytes: &[u8]) -> Option<usize>
     ensures in_range { IfSome result (λ len. len ≤ length bytes.now) }
     ensures closed { IfSome result (λ len. IsComment (take len bytes.now)) }
     ensures unclosed { IfNone result
-        ((prefix following : List ℕ) → IsComment prefix → prefix ++ following ≢ bytes.now) }
+        ((prefix rest_of_text : List ℕ) → IsComment prefix → prefix ++ rest_of_text ≢ bytes.now) }
 {
     let mut depth: usize = 1;
     let mut len = 2;

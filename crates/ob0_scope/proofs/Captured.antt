@@ -6,21 +6,21 @@ use Rattle.ob0_tree.specs.Tree.{Tree, module_text}
 use Rattle.ob0_scope.specs.declared.name_conflicts.FirstConflict as reported
 use Rattle.ob0_scope.specs.declared.name_conflicts.FirstConflict.TheVariants as reports
 use Rattle.ob0_language_names.specs.Names.{Name, same_name}
-use Rattle.ob0_language_names.specs.Occurrences.{Free, at_declaration, at_occurrence, bindings, scopes_in_block, declares_ordinal, first_name_conflict, first_difference, is_duplicate, another_has_name}
+use Rattle.ob0_language_names.specs.Occurrences.{Free, at_declaration, at_occurrence, bindings, scopes_in_block, declares_ordinal, first_name_conflict, first_difference, is_duplicate_name, another_declaration_has_name}
 use Rattle.ob0_language_names.specs.Parts.{module_block}
 use Rattle.ob0_scope.specs.Renames.{namesake, namesake_in, other_with_name, conflict_of}
 use Rattle.ob0_language_names.specs.Scopes.{Scope, renamed}
 use Rattle.ob0_scope.proofs.FirstCaptures.{free_means_no_conflict-holds}
 
-other_is : (own : Scope Name) (d : ℕ) (new : Name) → is_some (other_with_name own d new) ≡ another_has_name own d new
+other_is : (own : Scope Name) (d : ℕ) (new : Name) → is_some (other_with_name own d new) ≡ another_declaration_has_name own d new
 other_is [] d new = refl
-other_is (b ∷ own) d new = one (same_name b.0 new && not (b.1 == d)) (other_with_name own d new) (another_has_name own d new) (other_is own d new)
+other_is (b ∷ own) d new = one (same_name b.0 new && not (b.1 == d)) (other_with_name own d new) (another_declaration_has_name own d new) (other_is own d new)
   where
     one : (c : Bool) (found : Option ℕ) (rest : Bool) → is_some found ≡ rest → is_some (if c then Some b.1 else found) ≡ (c || rest)
     one true found rest e = refl
     one false found rest e = e
 
-namesake_is : (blocks : List (Scope Name)) (d : ℕ) (new : Name) → is_some (namesake_in blocks d new) ≡ list_any (λ own. declares_ordinal own d && another_has_name own d new) blocks
+namesake_is : (blocks : List (Scope Name)) (d : ℕ) (new : Name) → is_some (namesake_in blocks d new) ≡ list_any (λ own. declares_ordinal own d && another_declaration_has_name own d new) blocks
 namesake_is [] d new = refl
 namesake_is (own ∷ blocks) d new =
     both (if declares_ordinal own d then other_with_name own d new else None) (namesake_in blocks d new)
@@ -34,7 +34,7 @@ namesake_is (own ∷ blocks) d new =
     here true = refl
     here false = refl
 
-duplicate_is : (m : Tree Name module_text) (d : ℕ) (new : Name) (o : Option ℕ) → o ≡ namesake m d new → is_duplicate m d new ≡ is_some o
+duplicate_is : (m : Tree Name module_text) (d : ℕ) (new : Name) (o : Option ℕ) → o ≡ namesake m d new → is_duplicate_name m d new ≡ is_some o
 duplicate_is m d new o e = sym (namesake_is (scopes_in_block 7 [] (module_block m)) d new) ∙ ap is_some (sym e)
 
 pub captured_there : (m : Tree Name module_text) (d : ℕ) (new : Name) (other : ℕ) → Some other ≡ namesake m d new → Some at_declaration ≡ first_name_conflict m d new
@@ -63,7 +63,7 @@ free_where_none m d new found e = (
     nothing (Some c) h = absurd (cc)
 
 -- If no other declaration of the block has the name, there is no namesake.
-pub no_namesake : (m : Tree Name module_text) (d : ℕ) (new : Name) → is_duplicate m d new ≡ false → None ≡ namesake m d new
+pub no_namesake : (m : Tree Name module_text) (d : ℕ) (new : Name) → is_duplicate_name m d new ≡ false → None ≡ namesake m d new
 no_namesake m d new e = nothing (namesake m d new) (sym (duplicate_is m d new (namesake m d new) refl) ∙ e)
   where
     nothing : (o : Option ℕ) → is_some o ≡ false → None ≡ o

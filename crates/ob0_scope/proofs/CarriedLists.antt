@@ -8,7 +8,7 @@ use Rattle.ob0_tree.specs.declared.tree.Role.{Role}
 use Rattle.ob0_tree.specs.declared.tree.Role.TheVariants as role
 use Rattle.ob0_tree.specs.Order.{AreAscending, names_without_roles}
 use Rattle.ob0_tree.proofs.Occurring.{looked_up_only, looked_up_only-append}
-use Rattle.ob0_tree.specs.FirstIdentifier.{first_token_of}
+use Rattle.ob0_tree.specs.FirstIdentifier.{token_of_first_identifier}
 use Rattle.ob0_tree.proofs.AscendingNumbers.{AllBelow, AllFrom, ascend_second, ascending_below, ascending_from, before_one, below_more, from_first, from_less, leaves_append}
 use Rattle.ob0_tree.proofs.MappedIdentifiers.{beside_role}
 use Rattle.ob0_scope_table.specs.Resolution.{declaring_names, ordinal_in}
@@ -37,7 +37,7 @@ some_first {x = x} e = ap (λ (o : Option ℕ). number o) e
     number None = x
     number (Some z) = z
 
-pub parted : (before own after : List (Role × ℕ)) (closes : Role) (first closing high : ℕ) → first_token_of own ≡ Some first → AreAscending 0 (names_without_roles (before ++ (own ++ ((closes, closing) ∷ after)))) high
+pub parted : (before own after : List (Role × ℕ)) (closes : Role) (first closing high : ℕ) → token_of_first_identifier own ≡ Some first → AreAscending 0 (names_without_roles (before ++ (own ++ ((closes, closing) ∷ after)))) high
     → Parted before own ((closes, closing) ∷ after) first closing high
 parted before [] after closes first closing high e h = absurd (cc)
 parted before (x ∷ own) after closes first closing high e h =

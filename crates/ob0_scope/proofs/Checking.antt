@@ -13,7 +13,7 @@ use Rattle.ob0_tree.specs.Tree.{Tree, block, body, constants, declares, declares
 use Rattle.ob0_tree.specs.Places.{token_text_at}
 use Rattle.ob0_tree.specs.View.{fields_of, further_fields_of_group, items_of, record_of_list}
 use Rattle.ob0_language_names.specs.ConsistentNames.{block_names, further_field_names, is_among, procedure_names}
-use Rattle.ob0_scope_table.specs.DeclaredTwice.{duplicate_faults, block_declaration_faults, closing_name_faults, duplicate_fault, duplicate_field_faults, duplicate_field_faults_in_formals, duplicate_field_faults_in_group, duplicate_field_faults_in_groups, procedure_declaration_faults, procedures_declaration_faults, duplicate_field_faults_in_types, fault_unless, duplicate_field_faults_in_variables}
+use Rattle.ob0_scope_table.specs.DuplicatesAndEndNames.{duplicate_faults, block_declaration_faults, closing_name_faults, duplicate_fault, duplicate_field_faults, duplicate_field_faults_in_formals, duplicate_field_faults_in_group, duplicate_field_faults_in_groups, procedure_declaration_faults, procedures_declaration_faults, duplicate_field_faults_in_types, fault_unless, duplicate_field_faults_in_variables}
 use Rattle.ob0_language_names.specs.Names.{Name, same_name}
 use Rattle.ob0_language_names.specs.Parts.{constant_names, formal_names, formal_sections, declared_type_names, section_constants, section_types, section_variables, variable_names}
 use Rattle.ob0_language_names.proofs.NameEquality.{same_name-comm}

@@ -13,9 +13,9 @@ use Rattle.ob0_tree.specs.declared.tree.Role.TheVariants as role
 use Rattle.ob0_tree.specs.Tree.{identifiers, occurrences}
 use Rattle.ob0_tree.specs.ParsedModule.{ParsedModule, IsParsed, tree_of}
 use Rattle.ob0_tree.specs.Places.{token_text_at}
-use Rattle.ob0_scope_table.specs.DeclaredTwice.{declaration_faults}
+use Rattle.ob0_scope_table.specs.DuplicatesAndEndNames.{declaration_faults}
 use Rattle.ob0_language_names.specs.Names.{Name, naming_by_spelling}
-use Rattle.ob0_scope_table.specs.Resolution.{AreFaultsOf, IsNumberingTable, IsResolution, OnlyNamesHaveOrdinals, declaring_names, is_declaration_fault, is_undeclared_fault, is_unbound, label_at, ordinal_in, span_at, undeclared_faults_by_labels, undeclared_faults, undeclared_faults_by_table, ordinal_and_spelling}
+use Rattle.ob0_scope_table.specs.Resolution.{AreNameFaultsOf, IsNumberingTable, IsResolution, OnlyNamesHaveOrdinals, declaring_names, is_duplicate_or_end_name, is_undeclared_fault, is_unbound, label_at, ordinal_in, span_at, undeclared_faults_by_labels, undeclared_faults, undeclared_faults_by_table, ordinal_and_spelling}
 use Rattle.ob0_language_names.specs.Scopes.{label_from_ordinal}
 use Rattle.ob0_scope_numbering.specs.Marks.{with_marks}
 use Rattle.ob0_scope_numbering.specs.MarkWalk.{WalkState, initial_walk, visit_module}
@@ -26,11 +26,11 @@ use Rattle.ob0_scope_numbering.proofs.Tables.{kept_elsewhere, marks_in_table, no
 use Rattle.ob0_scope.proofs.TwiceOnce.{twice_alone, twice_where}
 use Rattle.ob0_tree.proofs.Occurring.{looked_up-occurrences}
 
-undeclared_none : (o : Option ℕ) (s : Span) (rest : List Fault) → list_any is_declaration_fault rest ≡ false → list_any is_declaration_fault (if is_some o then rest else record { code = code.Undeclared; span = s } ∷ rest) ≡ false
+undeclared_none : (o : Option ℕ) (s : Span) (rest : List Fault) → list_any is_duplicate_or_end_name rest ≡ false → list_any is_duplicate_or_end_name (if is_some o then rest else record { code = code.Undeclared; span = s } ∷ rest) ≡ false
 undeclared_none None s rest e = e
 undeclared_none (Some k) s rest e = e
 
-undeclared_declares : (source : TextWithTokens) (ordinals : List (Option ℕ)) (is : List ℕ) → list_any is_declaration_fault (undeclared_faults_by_table source ordinals is) ≡ false
+undeclared_declares : (source : TextWithTokens) (ordinals : List (Option ℕ)) (is : List ℕ) → list_any is_duplicate_or_end_name (undeclared_faults_by_table source ordinals is) ≡ false
 undeclared_declares source ordinals [] = refl
 undeclared_declares source ordinals (i ∷ is) = undeclared_none (ordinal_in ordinals i) (span_at source i) (undeclared_faults_by_table source ordinals is) (undeclared_declares source ordinals is)
 
@@ -57,7 +57,7 @@ not_false : (a : Bool) → not a ≡ false → a ≡ true
 not_false true e = refl
 not_false false e = absurd (cc)
 
-apart : (c : FaultCode) (s : Span) → is_declaration_fault (record { code = c; span = s }) ≡ true → is_undeclared_fault (record { code = c; span = s }) ≡ false
+apart : (c : FaultCode) (s : Span) → is_duplicate_or_end_name (record { code = c; span = s }) ≡ true → is_undeclared_fault (record { code = c; span = s }) ≡ false
 apart code.Undeclared s e = absurd (cc)
 apart _ s e = refl
 
@@ -65,11 +65,11 @@ left_out : (b : Bool) (f : Fault) (fs gs : List Fault) → b ≡ false → fs �
 left_out true f fs gs e h = absurd (cc)
 left_out false f fs gs e h = h
 
-declarations_left_out : (fs gs : List Fault) → list_any (λ f. not (is_declaration_fault f)) fs ≡ false → filter is_undeclared_fault (fs ++ gs) ≡ filter is_undeclared_fault gs
+declarations_left_out : (fs gs : List Fault) → list_any (λ f. not (is_duplicate_or_end_name f)) fs ≡ false → filter is_undeclared_fault (fs ++ gs) ≡ filter is_undeclared_fault gs
 declarations_left_out [] gs e = refl
 declarations_left_out (f ∷ fs) gs e =
-    let h = or_parts (not (is_declaration_fault f)) (list_any (λ f. not (is_declaration_fault f)) fs) e in
-    left_out (is_undeclared_fault f) f (filter is_undeclared_fault (fs ++ gs)) (filter is_undeclared_fault gs) (apart f.code f.span (not_false (is_declaration_fault f) h.0)) (declarations_left_out fs gs h.1)
+    let h = or_parts (not (is_duplicate_or_end_name f)) (list_any (λ f. not (is_duplicate_or_end_name f)) fs) e in
+    left_out (is_undeclared_fault f) f (filter is_undeclared_fault (fs ++ gs)) (filter is_undeclared_fault gs) (apart f.code f.span (not_false (is_duplicate_or_end_name f) h.0)) (declarations_left_out fs gs h.1)
 
 no_more : (a b : Bool) → b ≡ false → (a || b) ≡ a
 no_more true b e = refl
@@ -80,23 +80,23 @@ undeclared_unbound m ordinals numbering =
     unbound_all m.source ordinals (occurrences (tree_of m)) ∙ ap (undeclared_faults_by_labels m.source (occurrences (tree_of m))) (sym (bindings_by_table m ordinals numbering))
 
 -- The faults of a module are the faults of its declarations, then the undeclared names.
-pub faults_reported : (m : ParsedModule) (ordinals : List (Option ℕ)) → IsNumberingTable m ordinals → AreFaultsOf m (declaration_faults m ++ undeclared_faults_by_table m.source ordinals (occurrences (tree_of m)))
+pub faults_reported : (m : ParsedModule) (ordinals : List (Option ℕ)) → IsNumberingTable m ordinals → AreNameFaultsOf m (declaration_faults m ++ undeclared_faults_by_table m.source ordinals (occurrences (tree_of m)))
 faults_reported m ordinals numbering =
     let once = declaration_faults m in
     let unbound = undeclared_faults_by_table m.source ordinals (occurrences (tree_of m)) in
     let each : unbound ≡ undeclared_faults m = undeclared_unbound m ordinals numbering in
     record {
       by_kind = ap (λ fs. once ++ fs) each;
-      declared_twice = list_any-append is_declaration_fault once unbound
-          ∙ (no_more (list_any is_declaration_fault once) (list_any is_declaration_fault unbound) (undeclared_declares m.source ordinals (occurrences (tree_of m))) ∙ twice_where m);
+      declared_twice = list_any-append is_duplicate_or_end_name once unbound
+          ∙ (no_more (list_any is_duplicate_or_end_name once) (list_any is_duplicate_or_end_name unbound) (undeclared_declares m.source ordinals (occurrences (tree_of m))) ∙ twice_where m);
       undeclared = declarations_left_out once unbound (twice_alone m) ∙ (all_occurrences m.source ordinals (occurrences (tree_of m)) ∙ each);
     }
 
 -- A module with its faults and a table that has all its marks is resolved.
-pub resolution_marked : (m : ParsedModule) (ordinals : List (Option ℕ)) (declarations uses : List ℕ) (once faults : List Fault) → IsParsed m → HasMarks (ordinal_in ordinals) (visit_module (tree_of m) (initial_walk (original_spellings m.source))).marks → OnlyNamesHaveOrdinals m ordinals
-    → declarations ≡ declaring_names (identifiers role.Declaring (tree_of m)) → uses ≡ occurrences (tree_of m) → once ≡ declaration_faults m → faults ≡ once ++ undeclared_faults_by_table m.source ordinals uses
-    → IsResolution (record { module_read = m; ordinals = ordinals; declarations = declarations; uses = uses; faults = faults })
-resolution_marked m ordinals declarations uses once faults parsed are_there alone declaring occurring twice all =
+pub resolution_marked : (m : ParsedModule) (ordinals : List (Option ℕ)) (declaration_tokens uses : List ℕ) (once faults : List Fault) → IsParsed m → HasMarks (ordinal_in ordinals) (visit_module (tree_of m) (initial_walk (original_spellings m.source))).marks → OnlyNamesHaveOrdinals m ordinals
+    → declaration_tokens ≡ declaring_names (identifiers role.Declaring (tree_of m)) → uses ≡ occurrences (tree_of m) → once ≡ declaration_faults m → faults ≡ once ++ undeclared_faults_by_table m.source ordinals uses
+    → IsResolution (record { module_read = m; ordinals = ordinals; declaration_tokens = declaration_tokens; uses = uses; faults = faults })
+resolution_marked m ordinals declaration_tokens uses once faults parsed are_there alone declaring occurring twice all =
     let numbered_so = module_passed (ordinal_in ordinals) (label_from_ordinal naming_by_spelling) (original_spellings m.source) (tree_of m) (initial_walk (original_spellings m.source)) (at_start (original_spellings m.source)) in
     let paired = module_passed (ordinal_in ordinals) ordinal_and_spelling (original_spellings m.source) (tree_of m) (initial_walk (original_spellings m.source)) (at_start (original_spellings m.source)) in
     let numbering : IsNumberingTable m ordinals = (numbered_so.agree are_there).1 in
@@ -107,22 +107,22 @@ resolution_marked m ordinals declarations uses once faults parsed are_there alon
       ordinals_only_at_names = alone;
       declaring = declaring;
       occurring = occurring;
-      reported = subst (AreFaultsOf m) (sym (all ∙ (λ i. twice i ++ undeclared_faults_by_table m.source ordinals (occurring i)))) (faults_reported m ordinals numbering);
+      reported = subst (AreNameFaultsOf m) (sym (all ∙ (λ i. twice i ++ undeclared_faults_by_table m.source ordinals (occurring i)))) (faults_reported m ordinals numbering);
     }
 
 -- A visited module with its faults and the table of its marks is resolved.
-pub resolution_made : (m : ParsedModule) (v : WalkState) (ordinals : List (Option ℕ)) (declarations uses : List ℕ) (once faults : List Fault) → IsParsed m → v ≡ visit_module (tree_of m) (initial_walk (original_spellings m.source))
-    → ordinals ≡ with_marks (replicate (length m.source.tokens) None) v.marks → declarations ≡ v.declarations → uses ≡ v.uses → once ≡ declaration_faults m → faults ≡ once ++ undeclared_faults_by_table m.source ordinals uses
-    → IsResolution (record { module_read = m; ordinals = ordinals; declarations = declarations; uses = uses; faults = faults })
-resolution_made m v ordinals declarations uses once faults parsed gone tabled declares occurs twice all =
+pub resolution_made : (m : ParsedModule) (v : WalkState) (ordinals : List (Option ℕ)) (declaration_tokens uses : List ℕ) (once faults : List Fault) → IsParsed m → v ≡ visit_module (tree_of m) (initial_walk (original_spellings m.source))
+    → ordinals ≡ with_marks (replicate (length m.source.tokens) None) v.marks → declaration_tokens ≡ v.declaration_tokens → uses ≡ v.uses → once ≡ declaration_faults m → faults ≡ once ++ undeclared_faults_by_table m.source ordinals uses
+    → IsResolution (record { module_read = m; ordinals = ordinals; declaration_tokens = declaration_tokens; uses = uses; faults = faults })
+resolution_made m v ordinals declaration_tokens uses once faults parsed gone tabled declares occurs twice all =
     let w = original_spellings m.source in
     let passed = module_passed (ordinal_in ordinals) (label_from_ordinal naming_by_spelling) w (tree_of m) (initial_walk w) (at_start w) in
     let table : ordinals ≡ with_marks (replicate (length m.source.tokens) None) (visit_module (tree_of m) (initial_walk w)).marks = tabled ∙ ap (λ (v : WalkState). with_marks (replicate (length m.source.tokens) None) v.marks) gone in
     let marks = (visit_module (tree_of m) (initial_walk w)).marks in
     let nothing : List (Option ℕ) = replicate (length m.source.tokens) None in
-    resolution_marked m ordinals declarations uses once faults parsed (marks_in_table m w v ordinals parsed gone tabled)
+    resolution_marked m ordinals declaration_tokens uses once faults parsed (marks_in_table m w v ordinals parsed gone tabled)
     (λ token e.
     ap (λ (os : List (Option ℕ)). ordinal_in os token) table
     ∙ (kept_elsewhere marks nothing token (ap (list_any (λ i. i == token)) passed.tokens ∙ e) ∙ none_at (length m.source.tokens) token))
-    (declares ∙ (ap (λ (v : WalkState). v.declarations) gone ∙ passed.declared))
+    (declares ∙ (ap (λ (v : WalkState). v.declaration_tokens) gone ∙ passed.declared))
     (occurs ∙ (ap (λ (v : WalkState). v.uses) gone ∙ (passed.used ∙ looked_up-occurrences role.Declaring (λ n xs. refl) (tree_of m)))) twice all

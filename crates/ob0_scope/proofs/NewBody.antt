@@ -24,11 +24,11 @@ use Rattle.ob0_tree.proofs.Leaves.{leaves_ascend}
 use Rattle.ob0_tree.proofs.Occurring.{looked_up-occurrences, looked_up_only}
 use Rattle.ob0_language_names.specs.Names.{naming_by_spelling}
 use Rattle.ob0_language_names.specs.Scopes.{relabel_module}
-use Rattle.ob0_tree.specs.FirstIdentifier.{first_token_of}
+use Rattle.ob0_tree.specs.FirstIdentifier.{token_of_first_identifier}
 use Rattle.ob0_tree.proofs.AscendingNumbers.{AllBelow, AllFrom, below_more, from_less, leaves_append}
 use Rattle.ob0_tree.proofs.MappedIdentifiers.{beside_role, identifiers-mapped_tree, leaves_mapped}
 use Rattle.ob0_scope_table.specs.BodyReplaced.{IsBodyReplaced, PathToBody, body_at_path, closing_name_in_module, moved_token_index, path_to_body_in_module, module_without_body}
-use Rattle.ob0_scope_table.specs.DeclaredTwice.{declaration_faults}
+use Rattle.ob0_scope_table.specs.DuplicatesAndEndNames.{declaration_faults}
 use Rattle.ob0_scope_table.specs.OneBody.{is_outside}
 use Rattle.ob0_scope_table.specs.Resolution.{IsBindingTable, IsResolution, binding_at, declaring_names, ordinal_in, undeclared_faults_by_table, ordinal_and_spelling}
 use Rattle.ob0_scope_table.specs.declared.resolved.Bindings.{Bindings}
@@ -43,7 +43,7 @@ use Rattle.ob0_scope_numbering.proofs.BodyTables.{HasMarksAt, body_renumbered}
 use Rattle.ob0_scope_table.proofs.FewTokens.{few_tokens}
 use Rattle.ob0_scope_numbering.proofs.Passing.{HasMarks, at_start, module_passed, tokens_of}
 use Rattle.ob0_scope_numbering.proofs.Tables.{marks_in_table}
-use Rattle.ob0_scope.specs.Carried.{IsNewBody, carried_tokens, carried_ordinals, no_names, old_closing_token, with_name}
+use Rattle.ob0_scope.specs.Carried.{IsNewBody, carried_tokens, carried_ordinals, no_names, old_closing_token, with_identifier}
 use Rattle.ob0_scope.specs.declared.body_range.BodyRange.{BodyRange}
 use Rattle.ob0_scope.proofs.BodyExact.{module_exact}
 use Rattle.ob0_scope.proofs.BodySplit.{split_module}
@@ -53,7 +53,7 @@ use Rattle.ob0_scope.proofs.WithoutRelabelled.{without_relabelled}
 
 -- ---- the names of a body
 
-later_names : (xs : List (Role × ℕ)) (f : ℕ) (us : List ℕ) → state_after_identifiers with_name xs (record { first = Some f; uses = us }) ≡ record { first = Some f; uses = us ++ looked_up_only xs }
+later_names : (xs : List (Role × ℕ)) (f : ℕ) (us : List ℕ) → state_after_identifiers with_identifier xs (record { first = Some f; uses = us }) ≡ record { first = Some f; uses = us ++ looked_up_only xs }
 later_names [] f us = ap (λ l. record { first = Some f; uses = l }) (sym (append-nil us))
 later_names ((role.LookedUp, i) ∷ xs) f us = later_names xs f (us ++ (i ∷ [])) ∙ ap (λ l. record { first = Some f; uses = l }) (append_assoc us (i ∷ []) (looked_up_only xs))
 later_names ((role.Declaring, i) ∷ xs) f us = later_names xs f us
@@ -61,7 +61,7 @@ later_names ((role.ClosingName, i) ∷ xs) f us = later_names xs f us
 later_names ((role.FieldName, i) ∷ xs) f us = later_names xs f us
 later_names ((role.ModuleName, i) ∷ xs) f us = later_names xs f us
 
-pub names_walked : (xs : List (Role × ℕ)) → state_after_identifiers with_name xs no_names ≡ record { first = first_token_of xs; uses = looked_up_only xs }
+pub names_walked : (xs : List (Role × ℕ)) → state_after_identifiers with_identifier xs no_names ≡ record { first = token_of_first_identifier xs; uses = looked_up_only xs }
 names_walked [] = refl
 names_walked ((role.LookedUp, i) ∷ xs) = later_names xs i (i ∷ [])
 names_walked ((role.Declaring, i) ∷ xs) = later_names xs i []
@@ -124,8 +124,8 @@ module _ (old new : ParsedModule) (path : PathToBody) (s : SameParts) (r : IsBod
       let sn = split_module path (tree_of new) in
       let own = identifiers role.Declaring (body_at_path path (tree_of old)) in
       let others = identifiers role.Declaring (body_at_path path (tree_of new)) in
-      let po = parted so.before own so.after so.closes r.first old_closing (length old.source.tokens) r.old_first (subst (λ l. AreAscending 0 (names_without_roles l) (length old.source.tokens)) so.whole_is (leaves_ascend old r.old_parsed)) in
-      let pn = parted sn.before others sn.after sn.closes r.first new_closing (length new.source.tokens) r.new_first (subst (λ l. AreAscending 0 (names_without_roles l) (length new.source.tokens)) sn.whole_is (leaves_ascend new r.new_parsed)) in
+      let po = parted so.before own so.after so.closes r.first old_closing (length old.source.tokens) r.first_identifier_of_old_body (subst (λ l. AreAscending 0 (names_without_roles l) (length old.source.tokens)) so.whole_is (leaves_ascend old r.old_parsed)) in
+      let pn = parted sn.before others sn.after sn.closes r.first new_closing (length new.source.tokens) r.first_identifier_of_new_body (subst (λ l. AreAscending 0 (names_without_roles l) (length new.source.tokens)) sn.whole_is (leaves_ascend new r.new_parsed)) in
       let old_tail : List (Role × ℕ) = (so.closes, old_closing) ∷ so.after in
       let new_tail : List (Role × ℕ) = (sn.closes, new_closing) ∷ sn.after in
       let old_range = r.old_range in
@@ -164,7 +164,7 @@ module _ (old new : ParsedModule) (path : PathToBody) (s : SameParts) (r : IsBod
   old_inside : old_closing < length old.source.tokens
   old_inside =
       let so = split_module path (tree_of old) in
-      (parted so.before (identifiers role.Declaring (body_at_path path (tree_of old))) so.after so.closes r.first old_closing (length old.source.tokens) r.old_first
+      (parted so.before (identifiers role.Declaring (body_at_path path (tree_of old))) so.after so.closes r.first old_closing (length old.source.tokens) r.first_identifier_of_old_body
       (subst (λ l. AreAscending 0 (names_without_roles l) (length old.source.tokens)) so.whole_is (leaves_ascend old r.old_parsed))).few
 
   -- The old index of the closing name follows from the new one.
@@ -345,12 +345,12 @@ module _ (old new : ParsedModule) (path : PathToBody) (range : BodyRange) (known
 
 -- ---- the complete result
 
-pub new_body_bound : (m : ParsedModule) (b : Bindings) (range : BodyRange) (own : List ℕ) (ordinals : List (Option ℕ)) (declarations uses : List ℕ) (once faults : List Fault) → IsNewBody m b range own
-    → length m.source.tokens ≤ length (carried_ordinals range b.ordinals.items) → declarations ≡ carried_tokens range b.declarations.items []
-    → ordinals ≡ (renumber_module declarations range.first (tree_of m) (initial_walk_over (original_spellings m.source) (carried_ordinals range b.ordinals.items))).marks → uses ≡ carried_tokens range b.occurrences.items own
+pub new_body_bound : (m : ParsedModule) (b : Bindings) (range : BodyRange) (own : List ℕ) (ordinals : List (Option ℕ)) (declaration_tokens uses : List ℕ) (once faults : List Fault) → IsNewBody m b range own
+    → length m.source.tokens ≤ length (carried_ordinals range b.ordinals.items) → declaration_tokens ≡ carried_tokens range b.declaration_tokens.items []
+    → ordinals ≡ (renumber_module declaration_tokens range.first (tree_of m) (initial_walk_over (original_spellings m.source) (carried_ordinals range b.ordinals.items))).marks → uses ≡ carried_tokens range b.occurrences.items own
     → once ≡ declaration_faults m → faults ≡ once ++ undeclared_faults_by_table m.source ordinals uses
-    → IsResolution (record { module_read = m; ordinals = ordinals; declarations = declarations; uses = uses; faults = faults })
-new_body_bound m b range own ordinals declarations uses once faults n long declared numbered used twice all =
+    → IsResolution (record { module_read = m; ordinals = ordinals; declaration_tokens = declaration_tokens; uses = uses; faults = faults })
+new_body_bound m b range own ordinals declaration_tokens uses once faults n long declared numbered used twice all =
     let was = n.was_bound in
     let old = was.old in
     let path = was.path in
@@ -359,7 +359,7 @@ new_body_bound m b range own ordinals declarations uses once faults n long decla
     let res = was.resolved in
     let w = original_spellings m.source in
     let there : path_to_body_in_module s.prefix (tree_of m) ≡ path = r.new_path in
-    let first : range.first ≡ r.first = some_first (sym n.first ∙ (ap (λ y. first_token_of (identifiers role.Declaring (body_at_path y (tree_of m)))) there ∙ r.new_first)) in
+    let first : range.first ≡ r.first = some_first (sym n.first ∙ (ap (λ y. token_of_first_identifier (identifiers role.Declaring (body_at_path y (tree_of m)))) there ∙ r.first_identifier_of_new_body)) in
     let front = r.front in
     let lies = module_exact s.prefix s.new_suffix range.first range.closing (omega (arith, first, front)) (tree_of m) (length m.source.tokens) r.new_in_body (leaves_ascend m r.new_parsed) n.first n.closing in
     let known = known_in old m path s range r first (n.closing ∙ ap (λ y. closing_name_in_module y (tree_of m)) there) n.old_closing in
@@ -385,7 +385,7 @@ new_body_bound m b range own ordinals declarations uses once faults n long decla
     let tokens : tokens_of marks ≡ before ++ (names_without_roles known.others ++ map (far range) after) = paired.tokens ∙ new_names old m path range known table res.ordinals_only_at_names in
     let outside = marks_at out (ordinal_in kept_table) (ordinal_in full) marks has (subst (AgreeAt out (ordinal_in kept_table) (ordinal_in full)) (sym tokens) agree) in
     let nothing : declaring_names known.others ≡ [] = ap declaring_names known.others_are ∙ (declares_nothing tt (body_at_path path (tree_of m))).plain in
-    let declaring : declarations ≡ declaring_names (identifiers role.Declaring (tree_of m)) =
+    let declaring : declaration_tokens ≡ declaring_names (identifiers role.Declaring (tree_of m)) =
     declared
     ∙ ((λ i. carried_tokens range ((res.declaring ∙ ap declaring_names known.olds) i) (sym nothing i))
     ∙ (carried_picked range declaring_names known.before known.own known.after known.others known.high picks_declaring known.old_parts known.few ∙ ap declaring_names (sym known.news))) in
@@ -396,8 +396,8 @@ new_body_bound m b range own ordinals declarations uses once faults n long decla
     ∙ ((λ i. carried_tokens range (old_uses i) (own_is i))
     ∙ (carried_picked range looked_up_only known.before known.own known.after known.others known.high picks_looked_up known.old_parts known.few
     ∙ (ap looked_up_only (sym known.news) ∙ looked_up-occurrences role.Declaring (λ n xs. refl) (tree_of m)))) in
-    let renumbered = body_renumbered m range.first range.closing kept_table declarations r.new_parsed r.new_scan lies outside declaring long in
-    resolution_marked m ordinals declarations uses once faults r.new_parsed
+    let renumbered = body_renumbered m range.first range.closing kept_table declaration_tokens r.new_parsed r.new_scan lies outside declaring long in
+    resolution_marked m ordinals declaration_tokens uses once faults r.new_parsed
     (subst (λ (os : List (Option ℕ)). HasMarks (ordinal_in os) marks) (sym numbered) renumbered.marks)
     (λ token e. ap (λ (os : List (Option ℕ)). ordinal_in os token) numbered ∙ (renumbered.elsewhere token e ∙ kept_alone old m path range known table res.ordinals_only_at_names token e))
     declaring occurring twice all

@@ -10,7 +10,7 @@ use Rattle.std.proofs.lemmas.Slice.Eq.{bytes_eq-Decides}
 use Rattle.ob0_tree.specs.Tree.{Sort, Tree, mapped_tree, occurrences, block, constant, constants, formals, further_name, further_section, item, items, maybe, module_text, names, procedure, section, type_definition, type_definitions, variable, variables, adds, array_type, assigns, begins, branches, calls, compares, declares, declares_constant, declares_constants, declares_procedure, declares_type, declares_types, declares_variable, declares_variables, designator, else_branch, elsif_branch, empty, end, field, forms_block, index, integer, is_module, listed, more, multiplies, named_type, negation, no_arguments, no_fields, no_formals, none, one, parenthesised, product, record_type, relates, repeat_loop, runs, some_arguments, some_fields, some_formals, sum, then_argument, then_fields, then_name, then_section, then_statement, value_section, variable_section, while_loop}
 use Rattle.ob0_language_names.specs.Mapping.{map_names}
 use Rattle.ob0_language_names.specs.Names.{Label, Name, naming_by_spelling, as_written, declared, same_name}
-use Rattle.ob0_language_names.specs.Occurrences.{Free, bindings, scopes_in_block, scopes_in_procedure, scopes_in_procedures, declares_ordinal, another_has_name}
+use Rattle.ob0_language_names.specs.Occurrences.{Free, bindings, scopes_in_block, scopes_in_procedure, scopes_in_procedures, declares_ordinal, another_declaration_has_name}
 use Rattle.ob0_language_names.specs.Parts.{constant_names, formal_names, formal_sections, further_names, declared_type_names, names_in_list, procedure_name, section_constants, section_names, section_types, section_variables, variable_names}
 use Rattle.ob0_language_names.specs.Scopes.{Labelling, Scope, ordinal_after_names, ordinal_after_procedure, label_from_ordinal, body_scope, declare_names, declare_procedure_names, first_procedure_ordinal, first_type_ordinal, first_variable_ordinal, label_names, label_of, ordinal_of, predeclared_scope, procedures_scope, relabel_block, relabel_constant_section, relabel_constants, relabel_formals, relabel_names, relabel_procedure, relabel_procedures, relabel_section, relabel_sections, relabel_type_section, relabel_types, relabel_uses, relabel_variable_section, relabel_variables, renamed, same_ordinal, types_scope, variables_scope}
 use Rattle.ob0_language_names.proofs.DistinctNames.{new_name}
@@ -396,7 +396,7 @@ module _ (d : ℕ) (new : Name) (f : ℕ → Name) (g : ℕ → ℕ) (fresh : (i
   NewScope [] = Unit {0}
   NewScope (b ∷ scope) = (same_name b.0 new ≡ false) × NewScope scope
 
-  none_named : (own : Scope Name) → NewScope own → another_has_name own d new ≡ false
+  none_named : (own : Scope Name) → NewScope own → another_declaration_has_name own d new ≡ false
   none_named [] all = refl
   none_named (b ∷ own) all = λ i. (all.0 i && not (b.1 == d)) || none_named own all.1 i
 
@@ -410,7 +410,7 @@ module _ (d : ℕ) (new : Name) (f : ℕ → Name) (g : ℕ → ℕ) (fresh : (i
       new_procedures (ordinal_after_procedure (suc k) (mapped_tree f g (declares_procedure x fs b closing))) ps ((f x, k) ∷ scope) (fresh x, others)
 
   abbrev clashes : Scope Name → Bool
-  clashes own = declares_ordinal own d && another_has_name own d new
+  clashes own = declares_ordinal own d && another_declaration_has_name own d new
 
   mutual
     no_clash-block : (k : ℕ) (own : Scope Name) → NewScope own → (b : Tree ℕ block) → list_any clashes (scopes_in_block k own (mapped_tree f g b)) ≡ false

@@ -24,13 +24,13 @@ use Rattle.ob0_scope_table.specs.FaultTokens.{AreWrittenAlike, moved_faults}
 use Rattle.ob0_scope_table.proofs.FaultTokens.{names_same}
 use Rattle.ob0_scope_table.proofs.TokenOrder.{faults_move}
 use Rattle.ob0_language_names.specs.ConsistentNames.{has_consistent_names}
-use Rattle.ob0_scope_table.specs.DeclaredTwice.{declaration_faults}
+use Rattle.ob0_scope_table.specs.DuplicatesAndEndNames.{declaration_faults}
 use Rattle.ob0_language_names.specs.Names.{Name, naming_by_spelling}
-use Rattle.ob0_scope_table.specs.Resolution.{AreFaultsOf, IsBindingTable, IsNumberingTable, IsResolution, OnlyNamesHaveOrdinals, is_declaration_fault, is_undeclared_fault, ordinal_in, undeclared_faults, undeclared_faults_by_table, ordinal_and_spelling}
+use Rattle.ob0_scope_table.specs.Resolution.{AreNameFaultsOf, IsBindingTable, IsNumberingTable, IsResolution, OnlyNamesHaveOrdinals, is_duplicate_or_end_name, is_undeclared_fault, ordinal_in, undeclared_faults, undeclared_faults_by_table, ordinal_and_spelling}
 use Rattle.ob0_language_names.specs.Scopes.{Labelling, label_from_ordinal, relabel_module}
 use Rattle.ob0_scope_table.specs.declared.resolved.Bindings.{Bindings}
 use Rattle.ob0_scope_numbering.specs.MarkWalk.{initial_walk}
-use Rattle.ob0_scope.specs.Respelled.{AreMoved, AreNamedAlike, BindingsMoveWithTokens, BindingsDependOnNames}
+use Rattle.ob0_scope.specs.Respelled.{AreBindingsWithMovedFaults, AreNamedAlike, BindingsMoveWithTokens, BindingsDependOnNames}
 use Rattle.ob0_scope_numbering.specs.Written.{original_spellings}
 use Rattle.ob0_scope.proofs.Alike.{AllAlike, alike}
 use Rattle.ob0_scope.proofs.Made.{faults_reported, undeclared_unbound}
@@ -80,9 +80,9 @@ neither : (a b c : Bool) → (a || b) ≡ false → (not a || c) ≡ false → �
 neither true b c e h = absurd (cc)
 neither false b c e h = absurd (cc)
 
-none_reported : (fs : List Fault) → list_any is_declaration_fault fs ≡ false → list_any (λ f. not (is_declaration_fault f)) fs ≡ false → fs ≡ []
+none_reported : (fs : List Fault) → list_any is_duplicate_or_end_name fs ≡ false → list_any (λ f. not (is_duplicate_or_end_name f)) fs ≡ false → fs ≡ []
 none_reported [] e h = refl
-none_reported (f ∷ fs) e h = absurd (neither (is_declaration_fault f) (list_any is_declaration_fault fs) (list_any (λ f. not (is_declaration_fault f)) fs) e h)
+none_reported (f ∷ fs) e h = absurd (neither (is_duplicate_or_end_name f) (list_any is_duplicate_or_end_name fs) (list_any (λ f. not (is_duplicate_or_end_name f)) fs) e h)
 
 -- ---- the bindings are unchanged
 
@@ -112,7 +112,7 @@ module _ (old new : TextWithTokens) (tree : ModuleTree) (b : Bindings) (w : AreN
     nothing_twice =
         let once : has_consistent_names (named_tree_of (parsed_module new tree)) ≡ has_consistent_names (named_tree_of (parsed_module old tree)) = ap has_consistent_names same_names ∙ once_with old (token_value_at new) (token_value_at old) read in
         none_reported (declaration_faults (parsed_module new tree))
-        (twice_where (parsed_module new tree) ∙ (ap not once ∙ (sym r.reported.declared_twice ∙ ap (list_any is_declaration_fault) none)))
+        (twice_where (parsed_module new tree) ∙ (ap not once ∙ (sym r.reported.declared_twice ∙ ap (list_any is_duplicate_or_end_name) none)))
         (twice_alone (parsed_module new tree))
 
     nothing_unbound : undeclared_faults_by_table new b.ordinals.items (occurrences read) ≡ []
@@ -120,9 +120,9 @@ module _ (old new : TextWithTokens) (tree : ModuleTree) (b : Bindings) (w : AreN
         all_bound old new b.ordinals.items (occurrences read)
         (undeclared_unbound (parsed_module old tree) b.ordinals.items r.numbering ∙ (sym r.reported.undeclared ∙ ap (filter is_undeclared_fault) none))
 
-    nothing_at_fault : AreFaultsOf (parsed_module new tree) b.faults.items
+    nothing_at_fault : AreNameFaultsOf (parsed_module new tree) b.faults.items
     nothing_at_fault =
-        subst (AreFaultsOf (parsed_module new tree)) ((λ i. nothing_twice i ++ nothing_unbound i) ∙ sym none) (faults_reported (parsed_module new tree) b.ordinals.items numbering)
+        subst (AreNameFaultsOf (parsed_module new tree)) ((λ i. nothing_twice i ++ nothing_unbound i) ∙ sym none) (faults_reported (parsed_module new tree) b.ordinals.items numbering)
 
 pub bindings_depend_on_names : BindingsDependOnNames
 bindings_depend_on_names old new tree b w parsed r none = record {
@@ -144,7 +144,7 @@ named_alike old new w = record {
       ∙ (ap (map (λ (x : Word). name_or_empty x.kind x.text)) w.same_words ∙ map-map (λ (x : Word). name_or_empty x.kind x.text) (word_of_token old.text) old.tokens);
 }
 
-module _ (old new : TextWithTokens) (tree : ModuleTree) (b c : Bindings) (w : AreWrittenAlike old new) (r : IsResolution (resolution_with (parsed_module old tree) b)) (m : AreMoved old new b c) where
+module _ (old new : TextWithTokens) (tree : ModuleTree) (b c : Bindings) (w : AreWrittenAlike old new) (r : IsResolution (resolution_with (parsed_module old tree) b)) (m : AreBindingsWithMovedFaults old new b c) where
   abbrev before : ParsedModule
   before = parsed_module old tree
 
@@ -160,9 +160,9 @@ module _ (old new : TextWithTokens) (tree : ModuleTree) (b c : Bindings) (w : Ar
       ∙ (ap (moved_faults old new) r.reported.by_kind
       ∙ faults_move old new w (declaration_faults before ++ undeclared_faults before) (declaration_faults after ++ undeclared_faults after) (names_same old new w tree))
 
-  faults_moved : AreFaultsOf after c.faults.items
+  faults_moved : AreNameFaultsOf after c.faults.items
   faults_moved =
-      subst (AreFaultsOf after) (ap (λ fs. declaration_faults after ++ fs) (undeclared_unbound after b.ordinals.items numbered_alike) ∙ sym faults_there) (faults_reported after b.ordinals.items numbered_alike)
+      subst (AreNameFaultsOf after) (ap (λ fs. declaration_faults after ++ fs) (undeclared_unbound after b.ordinals.items numbered_alike) ∙ sym faults_there) (faults_reported after b.ordinals.items numbered_alike)
 
 pub bindings_move_with_tokens : BindingsMoveWithTokens
 bindings_move_with_tokens old new tree b c w parsed r m = record {
@@ -170,7 +170,7 @@ bindings_move_with_tokens old new tree b c w parsed r m = record {
   numbering = subst (IsNumberingTable (parsed_module new tree)) (sym m.ordinals) (numbered_alike old new tree b c w r m);
   binding = subst (IsBindingTable (parsed_module new tree)) (sym m.ordinals) (labelled old new tree b (named_alike old new w) r ordinal_and_spelling);
   ordinals_only_at_names = subst (OnlyNamesHaveOrdinals (parsed_module new tree)) (sym m.ordinals) r.ordinals_only_at_names;
-  declaring = m.declarations ∙ r.declaring;
+  declaring = m.declaration_tokens ∙ r.declaring;
   occurring = m.occurrences ∙ r.occurring;
   reported = faults_moved old new tree b c w r m;
 }

@@ -12,9 +12,9 @@ use Rattle.ob0_language_names.specs.ConsistentNames.{are_distinct, block_has_con
 use Rattle.ob0_language_names.specs.Names.{Name, same_name}
 use Rattle.ob0_language_names.specs.Parts.{constant_names, formal_names, formal_sections, declared_type_names, procedure_name, section_constants, section_types, section_variables, variable_names}
 use Rattle.ob0_scope_table.specs.BodyReplaced.{IsBodyReplaced, PathToBody, block_without, procedure_without, procedures_without, path_to_body_in_module, module_without_body}
-use Rattle.ob0_scope_table.specs.DeclaredTwice.{declaration_faults}
+use Rattle.ob0_scope_table.specs.DuplicatesAndEndNames.{declaration_faults}
 use Rattle.ob0_scope_table.specs.OneBody.{IsBodyChange, is_outside}
-use Rattle.ob0_scope_table.specs.Resolution.{is_declaration_fault}
+use Rattle.ob0_scope_table.specs.Resolution.{is_duplicate_or_end_name}
 use Rattle.ob0_scope_table.proofs.BodyOutside.{module_outside}
 use Rattle.ob0_scope_table.proofs.BodyReplaced.{names_outside, text_by_word, value_by_word, without_mapped}
 use Rattle.ob0_scope_table.proofs.MappedAlike.{mapped_alike}
@@ -71,15 +71,15 @@ still_once_written old m low high parsed change =
 
 -- ---- the reported faults
 
-nothing_left : (fs : List Fault) → list_any is_declaration_fault fs ≡ false → list_any (λ f. not (is_declaration_fault f)) fs ≡ false → fs ≡ []
+nothing_left : (fs : List Fault) → list_any is_duplicate_or_end_name fs ≡ false → list_any (λ f. not (is_duplicate_or_end_name f)) fs ≡ false → fs ≡ []
 nothing_left [] e h = refl
-nothing_left (f ∷ fs) e h = absurd (one (is_declaration_fault f) e h)
+nothing_left (f ∷ fs) e h = absurd (one (is_duplicate_or_end_name f) e h)
   where
-    one : (b : Bool) → (b || list_any is_declaration_fault fs) ≡ false → (not b || list_any (λ f. not (is_declaration_fault f)) fs) ≡ false → ⊥
+    one : (b : Bool) → (b || list_any is_duplicate_or_end_name fs) ≡ false → (not b || list_any (λ f. not (is_duplicate_or_end_name f)) fs) ≡ false → ⊥
     one true e h = absurd (cc)
     one false e h = absurd (cc)
 
 -- A module has no fault of declarations if `known` has none. The list has one exactly if the module
 -- does.
-pub nothing_twice : (m : ParsedModule) (known : List Fault) → list_any is_declaration_fault known ≡ not (has_consistent_names (named_tree_of m)) → list_any is_declaration_fault known ≡ false → declaration_faults m ≡ []
+pub nothing_twice : (m : ParsedModule) (known : List Fault) → list_any is_duplicate_or_end_name known ≡ not (has_consistent_names (named_tree_of m)) → list_any is_duplicate_or_end_name known ≡ false → declaration_faults m ≡ []
 nothing_twice m known e h = nothing_left (declaration_faults m) (twice_where m ∙ (sym e ∙ h)) (twice_alone m)

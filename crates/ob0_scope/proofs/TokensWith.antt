@@ -267,7 +267,7 @@ module _ (ordinals : List (Option ℕ)) (d : ℕ) where
 -- ---- the tokens of a declaration
 
 pub bound_with : (r : Resolution) (d : ℕ) (include : Bool) → IsResolution r
-    → tokens_bound_from (omitted_token include (declaration_token r.declarations d)) d (first_bound_token (declaration_token r.declarations d)) r.ordinals ≡ tokens_bound_to r.module_read d include
+    → tokens_bound_from (omitted_token include (declaration_token r.declaration_tokens d)) d (first_bound_token (declaration_token r.declaration_tokens d)) r.ordinals ≡ tokens_bound_to r.module_read d include
 bound_with r d include is =
     let ids = identifiers role.Declaring (tree_of r.module_read) in
     one (ltb d 7) refl ids (in_order r is) (rising 0 (names_without_roles ids) (length r.module_read.source.tokens) (leaves_ascend r.module_read is.parsed)) (λ j le. is.ordinals_only_at_names j) is.declaring ∙ bound_listed r d include is
@@ -285,11 +285,11 @@ bound_with r d include is =
     placed ids order rise alone above None e = everywhere ids order rise alone (λ i at. let back : i ≡ d - 7 = omega (arith, at) in ap (slice_get (declaring_names ids)) back ∙ e) include
     placed ids order rise alone above (Some t) e = from_declaring r.ordinals d include 7 (d - 7) 0 ids t order (omega (arith, above)) e rise alone
 
-    one : (b : Bool) → ltb d 7 ≡ b → (ids : List (Role × ℕ)) → AreInOrder (ordinal_in r.ordinals) 7 ids → Rising 0 (names_without_roles ids) → Alone r.ordinals d 0 (names_without_roles ids) → r.declarations ≡ declaring_names ids
-        → tokens_bound_from (omitted_token include (declaration_token r.declarations d)) d (first_bound_token (declaration_token r.declarations d)) r.ordinals ≡ tokens_listed r.ordinals include d ids
+    one : (b : Bool) → ltb d 7 ≡ b → (ids : List (Role × ℕ)) → AreInOrder (ordinal_in r.ordinals) 7 ids → Rising 0 (names_without_roles ids) → Alone r.ordinals d 0 (names_without_roles ids) → r.declaration_tokens ≡ declaring_names ids
+        → tokens_bound_from (omitted_token include (declaration_token r.declaration_tokens d)) d (first_bound_token (declaration_token r.declaration_tokens d)) r.ordinals ≡ tokens_listed r.ordinals include d ids
     one true e ids order rise alone declaring =
-        ap (λ b. let found = if b then None else slice_get r.declarations (d - 7) in tokens_bound_from (omitted_token include found) d (first_bound_token found) r.ordinals) e
+        ap (λ b. let found = if b then None else slice_get r.declaration_tokens (d - 7) in tokens_bound_from (omitted_token include found) d (first_bound_token found) r.ordinals) e
         ∙ everywhere ids order rise alone (λ i at. absurd (omega (arith, at, ltb-true d 7 e))) include
     one false e ids order rise alone declaring =
-        ap (λ b. let found = if b then None else slice_get r.declarations (d - 7) in tokens_bound_from (omitted_token include found) d (first_bound_token found) r.ordinals) e
-        ∙ placed ids order rise alone (ltb-false d 7 e) (slice_get r.declarations (d - 7)) (ap (λ ds. slice_get ds (d - 7)) (sym declaring))
+        ap (λ b. let found = if b then None else slice_get r.declaration_tokens (d - 7) in tokens_bound_from (omitted_token include found) d (first_bound_token found) r.ordinals) e
+        ∙ placed ids order rise alone (ltb-false d 7 e) (slice_get r.declaration_tokens (d - 7)) (ap (λ ds. slice_get ds (d - 7)) (sym declaring))

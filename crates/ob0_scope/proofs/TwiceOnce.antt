@@ -10,10 +10,10 @@ use Rattle.ob0_tree.specs.ParsedModule.{ParsedModule, named_tree_of, tree_of}
 use Rattle.ob0_tree.specs.Places.{token_text_at, token_value_at}
 use Rattle.ob0_tree.specs.Tree.{Sort, Tree, mapped_tree, array_type, block, body, constant, constants, declares, declares_constant, declares_constants, declares_procedure, declares_type, declares_types, declares_variable, declares_variables, end, fields, formals, further_fields, further_name, further_section, forms_block, is_module, item, items, listed, maybe, module_text, more, named_type, names, no_fields, no_formals, none, one, procedure, record_type, section, some_fields, some_formals, then_fields, then_name, then_section, type_definition, type_definitions, value_section, variable, variable_section, variables, written_type}
 use Rattle.ob0_language_names.specs.ConsistentNames.{are_distinct, block_names, block_has_consistent_names, has_consistent_names, has_distinct_fields, formals_have_distinct_fields, group_field_names, group_has_distinct_fields, further_field_names, groups_have_distinct_fields, is_among, procedure_names, procedure_has_consistent_names, procedures_have_consistent_names, types_have_distinct_fields, variables_have_distinct_fields}
-use Rattle.ob0_scope_table.specs.DeclaredTwice.{duplicate_faults, block_declaration_faults, closing_name_faults, duplicate_fault, end_name_fault, duplicate_field_faults, duplicate_field_faults_in_formals, duplicate_field_faults_in_group, duplicate_field_faults_in_groups, tree_declaration_faults, procedure_declaration_faults, procedures_declaration_faults, declaration_faults, duplicate_field_faults_in_types, fault_unless, duplicate_field_faults_in_variables}
+use Rattle.ob0_scope_table.specs.DuplicatesAndEndNames.{duplicate_faults, block_declaration_faults, closing_name_faults, duplicate_fault, end_name_fault, duplicate_field_faults, duplicate_field_faults_in_formals, duplicate_field_faults_in_group, duplicate_field_faults_in_groups, tree_declaration_faults, procedure_declaration_faults, procedures_declaration_faults, declaration_faults, duplicate_field_faults_in_types, fault_unless, duplicate_field_faults_in_variables}
 use Rattle.ob0_language_names.specs.Names.{Name, same_name}
 use Rattle.ob0_language_names.specs.Parts.{constant_names, formal_names, formal_sections, further_names, declared_type_names, names_in_list, section_constants, section_names, section_type, section_types, section_variables, variable_names}
-use Rattle.ob0_scope_table.specs.Resolution.{is_declaration_fault}
+use Rattle.ob0_scope_table.specs.Resolution.{is_duplicate_or_end_name}
 use Rattle.ob0_language_names.proofs.NameEquality.{same_name-comm}
 use Rattle.ob0_language_names.proofs.DistinctNames.{and-swap}
 
@@ -68,14 +68,14 @@ five_texts text a b c d e =
 -- ---- nothing is reported exactly if everything is declared once
 
 abbrev fine : List Fault → Bool
-fine fs = not (list_any is_declaration_fault fs)
+fine fs = not (list_any is_duplicate_or_end_name fs)
 
 not_or : (a b : Bool) → not (a || b) ≡ (not a && not b)
 not_or true b = refl
 not_or false b = refl
 
 fine_both : (xs ys : List Fault) (a b : Bool) → fine xs ≡ a → fine ys ≡ b → fine (xs ++ ys) ≡ (a && b)
-fine_both xs ys a b e h = ap not (list_any-append is_declaration_fault xs ys) ∙ (not_or (list_any is_declaration_fault xs) (list_any is_declaration_fault ys) ∙ (λ i. e i && h i))
+fine_both xs ys a b e h = ap not (list_any-append is_duplicate_or_end_name xs ys) ∙ (not_or (list_any is_duplicate_or_end_name xs) (list_any is_duplicate_or_end_name ys) ∙ (λ i. e i && h i))
 
 fine_duplicate : (source : TextWithTokens) (token : ℕ) (b : Bool) → fine (fault_unless b (duplicate_fault source token)) ≡ b
 fine_duplicate source token true = refl
@@ -247,8 +247,8 @@ not_not : (a b : Bool) → not a ≡ b → a ≡ not b
 not_not true b e = ap not e
 not_not false b e = ap not e
 
-pub twice_where : (m : ParsedModule) → list_any is_declaration_fault (declaration_faults m) ≡ not (has_consistent_names (named_tree_of m))
-twice_where m = not_not (list_any is_declaration_fault (declaration_faults m)) (has_consistent_names (named_tree_of m)) (module-fine (token_value_at m.source) m.source (tree_of m))
+pub twice_where : (m : ParsedModule) → list_any is_duplicate_or_end_name (declaration_faults m) ≡ not (has_consistent_names (named_tree_of m))
+twice_where m = not_not (list_any is_duplicate_or_end_name (declaration_faults m)) (has_consistent_names (named_tree_of m)) (module-fine (token_value_at m.source) m.source (tree_of m))
 
 -- The test for duplicate declarations in a tree doesn't depend on its numbers.
 pub once_with : (source : TextWithTokens) (f g : ℕ → ℕ) (t : Tree ℕ module_text) → has_consistent_names (mapped_tree (token_text_at source) f t) ≡ has_consistent_names (mapped_tree (token_text_at source) g t)
@@ -257,10 +257,10 @@ once_with source f g t = sym (module-fine f source t) ∙ module-fine g source t
 -- ---- nothing else is reported
 
 abbrev others : List Fault → Bool
-others fs = list_any (λ f. not (is_declaration_fault f)) fs
+others fs = list_any (λ f. not (is_duplicate_or_end_name f)) fs
 
 no_others : (xs ys : List Fault) → others xs ≡ false → others ys ≡ false → others (xs ++ ys) ≡ false
-no_others xs ys e h = list_any-append (λ f. not (is_declaration_fault f)) xs ys ∙ (λ i. e i || h i)
+no_others xs ys e h = list_any-append (λ f. not (is_duplicate_or_end_name f)) xs ys ∙ (λ i. e i || h i)
 
 duplicate-alone : (source : TextWithTokens) (token : ℕ) (b : Bool) → others (fault_unless b (duplicate_fault source token)) ≡ false
 duplicate-alone source token true = refl
@@ -330,5 +330,5 @@ module-alone : (source : TextWithTokens) (t : Tree ℕ module_text) → others (
 module-alone source (is_module x b closing) =
     no_others (closing_name_faults source x closing) (block_declaration_faults source [] b) (closing-alone source closing (same_name (token_text_at source x) (token_text_at source closing))) (block-alone source [] b)
 
-pub twice_alone : (m : ParsedModule) → list_any (λ f. not (is_declaration_fault f)) (declaration_faults m) ≡ false
+pub twice_alone : (m : ParsedModule) → list_any (λ f. not (is_duplicate_or_end_name f)) (declaration_faults m) ≡ false
 twice_alone m = module-alone m.source (tree_of m)

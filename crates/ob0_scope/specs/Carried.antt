@@ -7,7 +7,7 @@ use Rattle.ob0_tree.specs.declared.tree.Role.{Role}
 use Rattle.ob0_tree.specs.declared.tree.Role.TheVariants as role
 use Rattle.ob0_tree.specs.ParsedModule.{ParsedModule, tree_of}
 use Rattle.ob0_tree.specs.Tree.{identifiers, occurrences}
-use Rattle.ob0_tree.specs.FirstIdentifier.{first_token_of}
+use Rattle.ob0_tree.specs.FirstIdentifier.{token_of_first_identifier}
 use Rattle.ob0_scope_table.specs.BodyReplaced.{body_at_path, closing_name_in_module, path_to_body_in_module}
 use Rattle.ob0_scope_table.specs.declared.resolved.Bindings.{Bindings}
 use Rattle.ob0_scope.specs.NewBody.{WasBoundBeforeNewBody}
@@ -23,22 +23,22 @@ abbrev pub no_names : NamesInBody
 no_names = record { first = None; uses = [] }
 
 -- returns `first`, the first identifier seen in a body; if none has been seen (None), returns the identifier `i`
-abbrev pub first_or : Option ℕ → ℕ → Option ℕ
-first_or first i = if is_some first then first else Some i
+abbrev pub first_identifier_or : Option ℕ → ℕ → Option ℕ
+first_identifier_or first i = if is_some first then first else Some i
 
 -- adds an occurrence to the names of a body
-abbrev pub with_use : ℕ → NamesInBody → NamesInBody
-with_use i names = record names { uses = names.uses ++ (i ∷ []) }
+abbrev pub with_occurrence : ℕ → NamesInBody → NamesInBody
+with_occurrence i names = record names { uses = names.uses ++ (i ∷ []) }
 
 -- adds an identifier with its role to the names of a body; the identifier is an occurrence only if its role is
 -- `LookedUp`
-abbrev pub with_name : Role → ℕ → NamesInBody → NamesInBody
-with_name role.LookedUp i names =
-    record { first = first_or names.first i; uses = names.uses ++ (i ∷ []) }
-with_name role.Declaring i names = record names { first = first_or names.first i }
-with_name role.ClosingName i names = record names { first = first_or names.first i }
-with_name role.FieldName i names = record names { first = first_or names.first i }
-with_name role.ModuleName i names = record names { first = first_or names.first i }
+abbrev pub with_identifier : Role → ℕ → NamesInBody → NamesInBody
+with_identifier role.LookedUp i names =
+    record { first = first_identifier_or names.first i; uses = names.uses ++ (i ∷ []) }
+with_identifier role.Declaring i names = record names { first = first_identifier_or names.first i }
+with_identifier role.ClosingName i names = record names { first = first_identifier_or names.first i }
+with_identifier role.FieldName i names = record names { first = first_identifier_or names.first i }
+with_identifier role.ModuleName i names = record names { first = first_identifier_or names.first i }
 
 -- returns the tokens of a list that are before the replaced body in the text
 abbrev pub tokens_before_body : BodyRange → List ℕ → List ℕ
@@ -63,14 +63,14 @@ abbrev pub carried_tokens : BodyRange → List ℕ → List ℕ → List ℕ
 carried_tokens range tokens own = tokens_before_body range tokens ++ (own ++ tokens_after_body range tokens)
 
 -- returns the first `n` entries of a table, filled up with None if the table is shorter
-abbrev pub padded : ℕ → List (Option ℕ) → List (Option ℕ)
-padded n table = take n table ++ replicate (n - length table) None
+abbrev pub padded_with_none : ℕ → List (Option ℕ) → List (Option ℕ)
+padded_with_none n table = take n table ++ replicate (n - length table) None
 
 -- returns a table of ordinals with each entry at its token's new index; the entries of the new body
 -- are None
 abbrev pub carried_ordinals : BodyRange → List (Option ℕ) → List (Option ℕ)
 carried_ordinals range table =
-    padded range.closing (take range.first table) ++ drop range.old_closing table
+    padded_with_none range.closing (take range.first table) ++ drop range.old_closing table
 
 -- returns the old token index of the closing name after the replaced statements, given its index in the changed text;
 -- at most 2^64 - 1
@@ -82,7 +82,7 @@ old_closing_token same closing = min (closing - same.new_suffix + same.old_suffi
 pub record IsNewBody (m : ParsedModule) (b : Bindings) (range : BodyRange) (own : List ℕ) : Type 0 where
   pub same : SameParts
   pub was_bound : WasBoundBeforeNewBody m b same
-  pub first : first_token_of (identifiers role.Declaring (body_at_path (path_to_body_in_module same.prefix (tree_of m)) (tree_of m)))
+  pub first : token_of_first_identifier (identifiers role.Declaring (body_at_path (path_to_body_in_module same.prefix (tree_of m)) (tree_of m)))
       ≡ Some range.first
   pub closing : range.closing ≡ closing_name_in_module (path_to_body_in_module same.prefix (tree_of m)) (tree_of m)
   pub old_closing : range.old_closing ≡ old_closing_token same range.closing

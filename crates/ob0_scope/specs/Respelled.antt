@@ -30,9 +30,9 @@ BindingsDependOnNames =
 
 -- states that the bindings `c` are the bindings `b` with each fault moved from the text `old` to the same tokens of the
 -- text `new`
-pub record AreMoved (old new : TextWithTokens) (b c : Bindings) : Type 0 where
+pub record AreBindingsWithMovedFaults (old new : TextWithTokens) (b c : Bindings) : Type 0 where
   pub ordinals : c.ordinals.items ≡ b.ordinals.items
-  pub declarations : c.declarations.items ≡ b.declarations.items
+  pub declaration_tokens : c.declaration_tokens.items ≡ b.declaration_tokens.items
   pub occurrences : c.occurrences.items ≡ b.occurrences.items
   pub faults : c.faults.items ≡ moved_faults old new b.faults.items
 
@@ -45,5 +45,5 @@ BindingsMoveWithTokens =
     → AreWrittenAlike old new
     → IsParsed (parsed_module new tree)
     → IsResolution (resolution_with (parsed_module old tree) b)
-    → AreMoved old new b c
+    → AreBindingsWithMovedFaults old new b c
     → IsResolution (resolution_with (parsed_module new tree) c)

@@ -3,7 +3,7 @@
 ghost use Rattle.std.specs.Prelude.{◌≡◌, ◌++◌, ◌∷◌, [], IfOk, OnOk};
 ghost use Rattle.ob0_tree.specs.View.{block_of, body_of, procedure_of};
 ghost use Rattle.ob0_scope_table.specs.BodyReplaced.{body_at_path_in_block, body_at_path_in_procedure, closing_name_in_block, closing_name_in_procedure, path_to_body_in_block, path_to_body_in_procedure};
-ghost use Rattle.ob0_scope.specs.Carried.{tokens_after_body, tokens_before_body, carried_tokens, carried_ordinals, old_closing_token, shifted_token, with_use};
+ghost use Rattle.ob0_scope.specs.Carried.{tokens_after_body, tokens_before_body, carried_tokens, carried_ordinals, old_closing_token, shifted_token, with_occurrence};
 
 use ob0_scan::SameParts;
 use ob0_scope_table::OrdinalEntry;
@@ -45,9 +45,9 @@ impl Model for BodyNames {
 }
 
 impl Visitor for BodyNames {
-    ghost use Rattle.ob0_scope.specs.Carried.{with_name};
+    ghost use Rattle.ob0_scope.specs.Carried.{with_identifier};
 
-    ghost seen = { with_name };
+    ghost seen = { with_identifier };
 
     fn see_identifier(&mut self, role: Role, token: usize) -> Result<(), AllocError> {
         if self.first.is_none() {
@@ -66,7 +66,7 @@ impl Visitor for BodyNames {
 impl BodyNames {
     /// Appends an occurrence to the body's occurrences.
     fn append_use(&mut self, token: usize) -> Result<(), AllocError>
-        ensures { OnOk result (self.new ≡ with_use token self.old) }
+        ensures { OnOk result (self.new ≡ with_occurrence token self.old) }
     {
         self.uses.push(token)?;
         Ok(())

@@ -38,16 +38,16 @@ pub fn rebind_body(
     }
     let Bindings {
         ordinals,
-        declarations,
+        declaration_tokens,
         occurrences,
         faults: known,
     } = old;
-    let ordinals = renumber_body(alloc, read, ordinals, &declarations, low)?;
+    let ordinals = renumber_body(alloc, read, ordinals, &declaration_tokens, low)?;
     let mut faults = recheck_declarations(alloc, read, &known)?;
     report_undeclared(&mut faults, tokens, &ordinals, &occurrences)?;
     Ok(Bindings {
         ordinals,
-        declarations,
+        declaration_tokens,
         occurrences,
         faults,
     })
@@ -101,14 +101,14 @@ fn carry_unchanged_bindings(
     if table.len() < tokens.tokens().len() {
         return bindings_of(alloc, read);
     }
-    let declarations = range.carry_tokens(alloc, &old.declarations, &[])?;
-    let ordinals = renumber_body(alloc, read, table, &declarations, range.first)?;
+    let declaration_tokens = range.carry_tokens(alloc, &old.declaration_tokens, &[])?;
+    let ordinals = renumber_body(alloc, read, table, &declaration_tokens, range.first)?;
     let occurrences = range.carry_tokens(alloc, &old.occurrences, own)?;
     let mut faults = recheck_declarations(alloc, read, &old.faults)?;
     report_undeclared(&mut faults, tokens, &ordinals, &occurrences)?;
     Ok(Bindings {
         ordinals,
-        declarations,
+        declaration_tokens,
         occurrences,
         faults,
     })

@@ -12,8 +12,8 @@ ghost use Rattle.ob0_tree.specs.View.{items_of, names_of, type_of, record_type_o
 ghost use Rattle.ob0_language_names.specs.Names.{same_name};
 ghost use Rattle.ob0_language_names.specs.Parts.{names_in_list, constant_names, declared_type_names, variable_names, formal_names, formal_sections, section_constants, section_types, section_variables};
 ghost use Rattle.ob0_language_names.specs.ConsistentNames.{block_names, has_consistent_names, group_field_names, is_among, procedure_names};
-ghost use Rattle.ob0_scope_table.specs.Resolution.{is_declaration_fault};
-ghost use Rattle.ob0_scope_table.specs.DeclaredTwice.{duplicate_faults, block_declaration_faults, closing_name_faults, duplicate_fault, duplicate_field_faults, duplicate_field_faults_in_formals, duplicate_field_faults_in_group, procedure_declaration_faults, declaration_faults, duplicate_field_faults_in_types, fault_unless, duplicate_field_faults_in_variables};
+ghost use Rattle.ob0_scope_table.specs.Resolution.{is_duplicate_or_end_name};
+ghost use Rattle.ob0_scope_table.specs.DuplicatesAndEndNames.{duplicate_faults, block_declaration_faults, closing_name_faults, duplicate_fault, duplicate_field_faults, duplicate_field_faults_in_formals, duplicate_field_faults_in_group, procedure_declaration_faults, declaration_faults, duplicate_field_faults_in_types, fault_unless, duplicate_field_faults_in_variables};
 
 use ob0_scan::{Fault, FaultCode, Tokens};
 use ob0_scope_table::token_span;
@@ -70,22 +70,22 @@ pub(crate) fn recheck_declarations<'t>(
     read: &'t Module<'t>,
     known: &[Fault],
 ) -> Result<Vec<Fault>, AllocError>
-    requires { list_any is_declaration_fault known.now
+    requires { list_any is_duplicate_or_end_name known.now
         ≡ not (has_consistent_names (named_tree_of read.now)) }
     ensures { IfOk result (λ faults. faults.items ≡ declaration_faults read.now) }
 {
-    if has_declaration_fault(known) {
+    if has_duplicate_or_end_name(known) {
         return check_declarations(alloc, read);
     }
     Ok(Vec::new(alloc))
 }
 
 /// Returns whether one of the faults is a duplicate declaration or a wrong closing name.
-fn has_declaration_fault(faults: &[Fault]) -> bool
-    ensures { result ≡ list_any is_declaration_fault faults.now }
+fn has_duplicate_or_end_name(faults: &[Fault]) -> bool
+    ensures { result ≡ list_any is_duplicate_or_end_name faults.now }
 {
     for fault in faults {
-        if is_declaration_fault(fault) {
+        if is_duplicate_or_end_name(fault) {
             return true;
         }
     }
@@ -93,8 +93,8 @@ fn has_declaration_fault(faults: &[Fault]) -> bool
 }
 
 /// Returns whether the fault is a duplicate declaration or a wrong closing name.
-fn is_declaration_fault(fault: &Fault) -> bool
-    ensures { result ≡ is_declaration_fault fault.now }
+fn is_duplicate_or_end_name(fault: &Fault) -> bool
+    ensures { result ≡ is_duplicate_or_end_name fault.now }
 {
     fault.code == FaultCode::Duplicate || fault.code == FaultCode::EndName
 }

@@ -28,12 +28,12 @@ pub fn bindings_of(alloc: Global, module: &Module<'_>) -> Result<Bindings, Alloc
 {
     let tokens = module.tokens();
     let numbering = number_identifiers(alloc, module, Spellings::original_spellings(tokens))?;
-    let (declarations, occurrences, ordinals) = numbering.into_parts();
+    let (declaration_tokens, occurrences, ordinals) = numbering.into_parts();
     let mut faults = check_declarations(alloc, module)?;
     report_undeclared(&mut faults, tokens, &ordinals, &occurrences)?;
     Ok(Bindings {
         ordinals,
-        declarations,
+        declaration_tokens,
         occurrences,
         faults,
     })

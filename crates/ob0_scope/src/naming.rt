@@ -134,7 +134,7 @@ fn first_identifier_at_offset(tokens: &[Token], offset: usize) -> Option<usize>
     ensures { TokensAreDisjoint 0 tokens.now
         → result ≡ position_from (is_identifier_at_offset offset) 0 tokens.now }
 {
-    let place = count_ended_before(tokens, offset);
+    let place = count_ending_before(tokens, offset);
     if place >= tokens.len() {
         return None;
     }
@@ -152,7 +152,7 @@ fn first_identifier_at_offset(tokens: &[Token], offset: usize) -> Option<usize>
 }
 
 /// Returns the number of tokens that end before the byte offset `offset`.
-fn count_ended_before(tokens: &[Token], offset: usize) -> usize
+fn count_ending_before(tokens: &[Token], offset: usize) -> usize
     ensures bound { result ≤ length tokens.now }
     ensures point { IsNonDecreasingBy (λ (t : token.Token). t.span.end) tokens.now
         → IsPartitionPoint (λ (t : token.Token). nat_lt t.span.end offset ≡ true)

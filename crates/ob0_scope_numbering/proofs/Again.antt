@@ -11,10 +11,10 @@ use Rattle.ob0_scope_numbering.specs.TableWalk.{WalkState, put_ordinal}
 
 -- states that the declarations from an index onwards are still to be counted
 pub record Catching (all : List ℕ) (token : ℕ) (start : WalkState) (index : ℕ) (now : WalkState) : Type 0 where
-  pub so_far : (record now { declarations = now.declarations ++ prefix_before token (drop index all) }) ≡ with_declarations_before all token start
+  pub so_far : (record now { declaration_tokens = now.declaration_tokens ++ prefix_before token (drop index all) }) ≡ with_declarations_before all token start
 
 abbrev with_declarations : WalkState → List ℕ → WalkState
-with_declarations v ds = record v { declarations = ds }
+with_declarations v ds = record v { declaration_tokens = ds }
 
 pub catches_on : (all : List ℕ) (token : ℕ) (start : WalkState) (k : ℕ) (now : WalkState) (x : ℕ) → Catching all token start k now → k < length all → ((d : ℕ) → x ≡ get_or all k d) → x < token
     → Catching all token start (k + 1) (with_declaration x now)
@@ -22,17 +22,17 @@ catches_on all token start k now x w inside here less =
     let split : drop k all ≡ x ∷ drop (k + 1) all = drop_more all k x inside ∙ ap (λ y. y ∷ drop (k + 1) all) (sym (here x)) in
     let first : prefix_before token (drop k all) ≡ x ∷ prefix_before token (drop (k + 1) all) =
     ap (prefix_before token) split ∙ ap (λ b. if b then x ∷ prefix_before token (drop (k + 1) all) else []) (lt-ltb x token less) in
-    record { so_far = ap (with_declarations now) (append_assoc now.declarations (x ∷ []) (prefix_before token (drop (k + 1) all)) ∙ ap (λ l. now.declarations ++ l) (sym first)) ∙ w.so_far }
+    record { so_far = ap (with_declarations now) (append_assoc now.declaration_tokens (x ∷ []) (prefix_before token (drop (k + 1) all)) ∙ ap (λ l. now.declaration_tokens ++ l) (sym first)) ∙ w.so_far }
 
 pub caught_at : (all : List ℕ) (token : ℕ) (start : WalkState) (k : ℕ) (now : WalkState) (x : ℕ) → Catching all token start k now → k < length all → ((d : ℕ) → x ≡ get_or all k d) → token ≤ x → now ≡ with_declarations_before all token start
 caught_at all token start k now x w inside here le =
     let split : drop k all ≡ x ∷ drop (k + 1) all = drop_more all k x inside ∙ ap (λ y. y ∷ drop (k + 1) all) (sym (here x)) in
     let none : prefix_before token (drop k all) ≡ [] = ap (prefix_before token) split ∙ ap (λ b. if b then x ∷ prefix_before token (drop (k + 1) all) else []) (le-ltb x token le) in
-    ap (with_declarations now) (sym (append-nil now.declarations) ∙ ap (λ l. now.declarations ++ l) (sym none)) ∙ w.so_far
+    ap (with_declarations now) (sym (append-nil now.declaration_tokens) ∙ ap (λ l. now.declaration_tokens ++ l) (sym none)) ∙ w.so_far
 
 pub caught_all : (all : List ℕ) (token : ℕ) (start : WalkState) (k : ℕ) (now : WalkState) → Catching all token start k now → length all ≤ k → now ≡ with_declarations_before all token start
 caught_all all token start k now w past =
-    ap (with_declarations now) (sym (append-nil now.declarations) ∙ ap (λ l. now.declarations ++ prefix_before token l) (sym (drop_all k all past))) ∙ w.so_far
+    ap (with_declarations now) (sym (append-nil now.declaration_tokens) ∙ ap (λ l. now.declaration_tokens ++ prefix_before token l) (sym (drop_all k all past))) ∙ w.so_far
 
 abbrev parts_of : Procedure → Tree ℕ (item procedure)
 parts_of q = declares_procedure (out-Procedure q).name (formals_of (out-Procedure q).formals) (block_of (out-Procedure q).block) (out-Procedure q).closing

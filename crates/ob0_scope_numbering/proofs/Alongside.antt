@@ -57,8 +57,8 @@ module _ (out : ℕ → Bool) (a b : Spellings) (same_name : (i : ℕ) → out i
     pub first : x.writing ≡ a
     pub second : y.writing ≡ b
     pub scope : x.scope ≡ y.scope
-    pub declarations : x.declarations ≡ y.declarations
-    pub outside : AllOut out x.declarations
+    pub declaration_tokens : x.declaration_tokens ≡ y.declaration_tokens
+    pub outside : AllOut out x.declaration_tokens
 
   -- states that the marks that two walks add are alike
   pub record Adds (x y x' y' : WalkState) : Type 0 where
@@ -124,21 +124,21 @@ module _ (out : ℕ → Bool) (a b : Spellings) (same_name : (i : ℕ) → out i
   pub record Keeps (x x' : WalkState) : Type 0 where
     pub writing : x'.writing ≡ x.writing
     pub scope : x'.scope ≡ x.scope
-    pub declarations : x'.declarations ≡ x.declarations
+    pub declaration_tokens : x'.declaration_tokens ≡ x.declaration_tokens
 
   found_keeps : (r : Role) (i : ℕ) (x : WalkState) → Keeps x (visit_identifier r i x)
-  found_keeps role.LookedUp i x = record { writing = refl; scope = refl; declarations = refl }
-  found_keeps role.Declaring i x = record { writing = refl; scope = refl; declarations = refl }
-  found_keeps role.ClosingName i x = record { writing = refl; scope = refl; declarations = refl }
-  found_keeps role.FieldName i x = record { writing = refl; scope = refl; declarations = refl }
-  found_keeps role.ModuleName i x = record { writing = refl; scope = refl; declarations = refl }
+  found_keeps role.LookedUp i x = record { writing = refl; scope = refl; declaration_tokens = refl }
+  found_keeps role.Declaring i x = record { writing = refl; scope = refl; declaration_tokens = refl }
+  found_keeps role.ClosingName i x = record { writing = refl; scope = refl; declaration_tokens = refl }
+  found_keeps role.FieldName i x = record { writing = refl; scope = refl; declaration_tokens = refl }
+  found_keeps role.ModuleName i x = record { writing = refl; scope = refl; declaration_tokens = refl }
 
   all_keep : (xs : List (Role × ℕ)) (x : WalkState) → Keeps x (visit_identifiers xs x)
-  all_keep [] x = record { writing = refl; scope = refl; declarations = refl }
+  all_keep [] x = record { writing = refl; scope = refl; declaration_tokens = refl }
   all_keep (r ∷ rs) x =
       let one = found_keeps r.0 r.1 x in
       let rest = all_keep rs (visit_identifier r.0 r.1 x) in
-      record { writing = rest.writing ∙ one.writing; scope = rest.scope ∙ one.scope; declarations = rest.declarations ∙ one.declarations }
+      record { writing = rest.writing ∙ one.writing; scope = rest.scope ∙ one.scope; declaration_tokens = rest.declaration_tokens ∙ one.declaration_tokens }
 
   all_see : (x y x' y' : WalkState) → Sees x y → Keeps x x' → Keeps y y' → Sees x' y'
   all_see x y x' y' at k l = record { first = k.writing ∙ at.first; second = l.writing ∙ at.second; scope = k.scope ∙ (at.scope ∙ sym l.scope) }
@@ -161,8 +161,8 @@ module _ (out : ℕ → Bool) (a b : Spellings) (same_name : (i : ℕ) → out i
           first = k.writing ∙ at.first;
           second = l.writing ∙ at.second;
           scope = k.scope ∙ (at.scope ∙ sym l.scope);
-          declarations = k.declarations ∙ (at.declarations ∙ sym l.declarations);
-          outside = subst (AllOut out) (sym k.declarations) at.outside;
+          declaration_tokens = k.declaration_tokens ∙ (at.declaration_tokens ∙ sym l.declaration_tokens);
+          outside = subst (AllOut out) (sym k.declaration_tokens) at.outside;
         };
         adds = used_adds t x y (sees x y at);
       }
@@ -171,14 +171,14 @@ module _ (out : ℕ → Bool) (a b : Spellings) (same_name : (i : ℕ) → out i
 
   pub marked_goes : (i : ℕ) (o p : Option ℕ) (x y : WalkState) → o ≡ p → Beside x y → Goes x y (with_mark i o x) (with_mark i p y)
   marked_goes i o p x y e at = record {
-    at = record { first = at.first; second = at.second; scope = at.scope; declarations = at.declarations; outside = at.outside };
+    at = record { first = at.first; second = at.second; scope = at.scope; declaration_tokens = at.declaration_tokens; outside = at.outside };
     adds = adds_one x y (with_mark i o x) (with_mark i p y) i o p refl refl (λ h. e);
   }
 
   pub numbered_goes : (i : ℕ) (x y : WalkState) → out i ≡ true → Beside x y → Goes x y (number_declaration i x) (number_declaration i y)
   numbered_goes i x y o at = record {
-    at = record { first = at.first; second = at.second; scope = at.scope; declarations = ap (λ ds. ds ++ (i ∷ [])) at.declarations; outside = out_both out x.declarations (i ∷ []) at.outside (o, tt) };
-    adds = adds_one x y (number_declaration i x) (number_declaration i y) i (Some (7 + length x.declarations)) (Some (7 + length y.declarations)) refl refl (λ h. ap (λ ds. Some (7 + length ds)) at.declarations);
+    at = record { first = at.first; second = at.second; scope = at.scope; declaration_tokens = ap (λ ds. ds ++ (i ∷ [])) at.declaration_tokens; outside = out_both out x.declaration_tokens (i ∷ []) at.outside (o, tt) };
+    adds = adds_one x y (number_declaration i x) (number_declaration i y) i (Some (7 + length x.declaration_tokens)) (Some (7 + length y.declaration_tokens)) refl refl (λ h. ap (λ ds. Some (7 + length ds)) at.declaration_tokens);
   }
 
   all_numbered : (is : List ℕ) (x y : WalkState) → AllOut out is → Beside x y → Goes x y (number_declarations is x) (number_declarations is y)
@@ -194,14 +194,14 @@ module _ (out : ℕ → Bool) (a b : Spellings) (same_name : (i : ℕ) → out i
   -- Making the declarations visible, starting at one of them, keeps two walks at the same place.
   shown_goes : (n m : ℕ) (x y : WalkState) → n ≡ m → Beside x y → Beside (with_visible_names_from n x) (with_visible_names_from m y)
   shown_goes n m x y e at =
-      let later = out_later out n x.declarations at.outside in
+      let later = out_later out n x.declaration_tokens at.outside in
       record {
         first = at.first;
         second = at.second;
-        scope = (λ j. declare_names (7 + n) (map (spelling_at (at.first j)) (drop n x.declarations)) (at.scope j))
-            ∙ (ap (λ ns. declare_names (7 + n) ns y.scope) (names_same (drop n x.declarations) later)
-            ∙ (λ j. declare_names (7 + e j) (map (spelling_at (sym at.second j)) (drop (e j) (at.declarations j))) y.scope));
-        declarations = at.declarations;
+        scope = (λ j. declare_names (7 + n) (map (spelling_at (at.first j)) (drop n x.declaration_tokens)) (at.scope j))
+            ∙ (ap (λ ns. declare_names (7 + n) ns y.scope) (names_same (drop n x.declaration_tokens) later)
+            ∙ (λ j. declare_names (7 + e j) (map (spelling_at (sym at.second j)) (drop (e j) (at.declaration_tokens j))) y.scope));
+        declaration_tokens = at.declaration_tokens;
         outside = at.outside;
       }
 
@@ -209,10 +209,10 @@ module _ (out : ℕ → Bool) (a b : Spellings) (same_name : (i : ℕ) → out i
   then_shown n m {x' = x'} {y' = y'} e p = record { at = shown_goes n m x' y' e p.at; adds = record { firsts = p.adds.firsts; seconds = p.adds.seconds; first_is = p.adds.first_is; second_is = p.adds.second_is; alike = p.adds.alike } }
 
   group_goes : {s : Sort} (is : List ℕ) (t : Tree ℕ s) (x y : WalkState) → AllOut out is → Beside x y
-      → Goes x y (with_visible_names_from (length x.declarations) (visit_part t (number_declarations is x))) (with_visible_names_from (length y.declarations) (visit_part t (number_declarations is y)))
+      → Goes x y (with_visible_names_from (length x.declaration_tokens) (visit_part t (number_declarations is x))) (with_visible_names_from (length y.declaration_tokens) (visit_part t (number_declarations is y)))
   group_goes is t x y o at =
       let one = all_numbered is x y o at in
-      then_shown (length x.declarations) (length y.declarations) (ap length at.declarations) (goes_then one (used_goes t (number_declarations is x) (number_declarations is y) one.at))
+      then_shown (length x.declaration_tokens) (length y.declaration_tokens) (ap length at.declaration_tokens) (goes_then one (used_goes t (number_declarations is x) (number_declarations is y) one.at))
 
   further_out : (ns : Tree ℕ (items further_name)) → AllOut out (identifier_names ns) → AllOut out (further_names ns)
   further_out end o = tt
@@ -286,11 +286,11 @@ module _ (out : ℕ → Bool) (a b : Spellings) (same_name : (i : ℕ) → out i
       goes_then p (goes_then q r)
 
   left_goes : (n m : ℕ) (x y : WalkState) → n ≡ m → Beside x y → Beside (truncate_scope n x) (truncate_scope m y)
-  left_goes n m x y e at = record { first = at.first; second = at.second; scope = λ j. drop (length (at.scope j) - e j) (at.scope j); declarations = at.declarations; outside = at.outside }
+  left_goes n m x y e at = record { first = at.first; second = at.second; scope = λ j. drop (length (at.scope j) - e j) (at.scope j); declaration_tokens = at.declaration_tokens; outside = at.outside }
 
   -- Two walks through a procedure's name and parameters end at the same place.
   pub heading_goes : (n : ℕ) (fs : Tree ℕ (maybe formals)) (x y : WalkState) → out n ≡ true → AllOut out (identifier_names fs) → Beside x y
-      → Goes x y (state_after_heading (length x.declarations) (length x.scope) (visit_formals fs (number_declaration n x))) (state_after_heading (length y.declarations) (length y.scope) (visit_formals fs (number_declaration n y)))
+      → Goes x y (state_after_heading (length x.declaration_tokens) (length x.scope) (visit_formals fs (number_declaration n x))) (state_after_heading (length y.declaration_tokens) (length y.scope) (visit_formals fs (number_declaration n y)))
   heading_goes n fs x y o f at =
       let p = numbered_goes n x y o at in
       let q = goes_then p (formals_go fs (number_declaration n x) (number_declaration n y) f p.at) in
@@ -298,7 +298,7 @@ module _ (out : ℕ → Bool) (a b : Spellings) (same_name : (i : ℕ) → out i
       let y₁ = visit_formals fs (number_declaration n y) in
       let left = left_goes (length x.scope) (length y.scope) x₁ y₁ (ap length at.scope) q.at in
       let kept : Goes x y (truncate_scope (length x.scope) x₁) (truncate_scope (length y.scope) y₁) = record { at = left; adds = record { firsts = q.adds.firsts; seconds = q.adds.seconds; first_is = q.adds.first_is; second_is = q.adds.second_is; alike = q.adds.alike } } in
-      then_shown (length x.declarations) (length y.declarations) (ap length at.declarations) kept
+      then_shown (length x.declaration_tokens) (length y.declaration_tokens) (ap length at.declaration_tokens) kept
 
   -- Two walks over the end of a procedure's block end at the same place. Its name is visible again,
   -- and its closing name is marked.
@@ -310,7 +310,7 @@ module _ (out : ℕ → Bool) (a b : Spellings) (same_name : (i : ℕ) → out i
         first = at.first;
         second = at.second;
         scope = λ j. ((ap (λ w. spelling_at w n) at.first ∙ (same_name n o ∙ ap (λ w. spelling_at w n) (sym at.second))) j, e j) ∷ left.scope j;
-        declarations = at.declarations;
+        declaration_tokens = at.declaration_tokens;
         outside = at.outside;
       } in
       let last = marked_goes closing (Some k) (Some l) (leave_block n k outer x) (leave_block n l out_too y) (ap Some e) shown in
@@ -341,7 +341,7 @@ module _ (out : ℕ → Bool) (a b : Spellings) (same_name : (i : ℕ) → out i
         let f = out_parts out (identifiers role.Declaring fs) (identifiers role.Declaring t ++ ((role.ClosingName, closing) ∷ [])) o.1 in
         let g = out_parts out (identifiers role.Declaring t) ((role.ClosingName, closing) ∷ []) f.1 in
         let h = heading_goes n fs x y o.0 f.0 at in
-        let x₁ = state_after_heading (length x.declarations) (length x.scope) (visit_formals fs (number_declaration n x)) in
-        let y₁ = state_after_heading (length y.declarations) (length y.scope) (visit_formals fs (number_declaration n y)) in
+        let x₁ = state_after_heading (length x.declaration_tokens) (length x.scope) (visit_formals fs (number_declaration n x)) in
+        let y₁ = state_after_heading (length y.declaration_tokens) (length y.scope) (visit_formals fs (number_declaration n y)) in
         let i = block_goes t x₁ y₁ g.0 h.at in
-        goes_then h (goes_then i (ending_goes n closing (7 + length x.declarations) (7 + length y.declarations) (length x.scope) (length y.scope) (visit_block t x₁) (visit_block t y₁) o.0 (ap (λ ds. 7 + length ds) at.declarations) (ap length at.scope) i.at))
+        goes_then h (goes_then i (ending_goes n closing (7 + length x.declaration_tokens) (7 + length y.declaration_tokens) (length x.scope) (length y.scope) (visit_block t x₁) (visit_block t y₁) o.0 (ap (λ ds. 7 + length ds) at.declaration_tokens) (ap length at.scope) i.at))

@@ -106,10 +106,10 @@ module _ (old new : Spellings) (all : List ℕ) (bound low high : ℕ) (same : (
     pub second : w.writing ≡ new
     pub scope : v.scope ≡ w.scope
     pub behind : List ℕ
-    pub is : w.declarations ≡ v.declarations ++ behind
+    pub is : w.declaration_tokens ≡ v.declaration_tokens ++ behind
 
   abbrev Itself : WalkState → Type 0
-  Itself w = At w new w.scope (7 + length w.declarations)
+  Itself w = At w new w.scope (7 + length w.declaration_tokens)
 
   -- states that the walk to the body adds the same marks as the complete walk, except at tokens
   -- outside the range
@@ -120,20 +120,20 @@ module _ (old new : Spellings) (all : List ℕ) (bound low high : ℕ) (same : (
     pub covers : Covers out near.adds.seconds added
 
   on_behind : (v w : WalkState) → On v w → Behind v w
-  on_behind v w at = record { first = at.first; second = at.second; scope = at.scope; behind = []; is = sym at.declarations ∙ sym (append-nil v.declarations) }
+  on_behind v w at = record { first = at.first; second = at.second; scope = at.scope; behind = []; is = sym at.declaration_tokens ∙ sym (append-nil v.declaration_tokens) }
 
-  caught : (x : ℕ) (extra : List ℕ) (v w : WalkState) → Behind v w → all ≡ w.declarations ++ (x ∷ extra) → On (with_declarations_before all x v) w
+  caught : (x : ℕ) (extra : List ℕ) (v w : WalkState) → Behind v w → all ≡ w.declaration_tokens ++ (x ∷ extra) → On (with_declarations_before all x v) w
   caught x extra v w at e =
-      let split : all ≡ v.declarations ++ (at.behind ++ (x ∷ extra)) = e ∙ (ap (λ ds. ds ++ (x ∷ extra)) at.is ∙ append_assoc v.declarations at.behind (x ∷ extra)) in
-      let rest : drop (length v.declarations) all ≡ at.behind ++ (x ∷ extra) = ap (drop (length v.declarations)) split ∙ drop-append_seam v.declarations (at.behind ++ (x ∷ extra)) in
-      let low_ones = before_one 0 w.declarations x extra bound (subst (λ l. AreAscending 0 l bound) e rise) in
-      let below = below_second x v.declarations at.behind (subst (AllBelow x) at.is low_ones) in
+      let split : all ≡ v.declaration_tokens ++ (at.behind ++ (x ∷ extra)) = e ∙ (ap (λ ds. ds ++ (x ∷ extra)) at.is ∙ append_assoc v.declaration_tokens at.behind (x ∷ extra)) in
+      let rest : drop (length v.declaration_tokens) all ≡ at.behind ++ (x ∷ extra) = ap (drop (length v.declaration_tokens)) split ∙ drop-append_seam v.declaration_tokens (at.behind ++ (x ∷ extra)) in
+      let low_ones = before_one 0 w.declaration_tokens x extra bound (subst (λ l. AreAscending 0 l bound) e rise) in
+      let below = below_second x v.declaration_tokens at.behind (subst (AllBelow x) at.is low_ones) in
       record {
         first = at.first;
         second = at.second;
         scope = at.scope;
-        declarations = ap (λ l. v.declarations ++ prefix_before x l) rest ∙ (ap (λ l. v.declarations ++ l) (stops_at x at.behind extra below) ∙ sym at.is);
-        outside = all_in (v.declarations ++ prefix_before x (drop (length v.declarations) all));
+        declaration_tokens = ap (λ l. v.declaration_tokens ++ prefix_before x l) rest ∙ (ap (λ l. v.declaration_tokens ++ l) (stops_at x at.behind extra below) ∙ sym at.is);
+        outside = all_in (v.declaration_tokens ++ prefix_before x (drop (length v.declaration_tokens) all));
       }
 
   -- Two walks through the same part from the same place make the same marks.
@@ -167,7 +167,7 @@ module _ (old new : Spellings) (all : List ℕ) (bound low high : ℕ) (same : (
   name_first : (q : Tree ℕ (item procedure)) → declaring_names (identifiers role.Declaring q) ≡ procedure_name q ∷ others_declared q
   name_first (declares_procedure x fs b closing) = refl
 
-  name_passed : (q : Tree ℕ (item procedure)) (w : WalkState) → (procedure_name (spelled nowhere written new value q), 7 + length w.declarations) ∷ w.scope ≡ (spelling_at new (procedure_name q), 7 + length w.declarations) ∷ w.scope
+  name_passed : (q : Tree ℕ (item procedure)) (w : WalkState) → (procedure_name (spelled nowhere written new value q), 7 + length w.declaration_tokens) ∷ w.scope ≡ (spelling_at new (procedure_name q), 7 + length w.declaration_tokens) ∷ w.scope
   name_passed (declares_procedure x fs b closing) w = refl
 
   statements_declare_nothing : (t : Tree ℕ (maybe body)) → declaring_names (identifiers role.Declaring t) ≡ []
@@ -178,18 +178,18 @@ module _ (old new : Spellings) (all : List ℕ) (bound low high : ℕ) (same : (
   abbrev Rest : Tree ℕ (items procedure) → Tree ℕ (maybe body) → Type 0
   Rest ps statements =
       (o w v : WalkState) (from to : ℕ) (extra : List ℕ) → is_in_procedures low high ps statements ≡ true → AreAscending from (identifier_names ps ++ identifier_names statements) to
-      → all ≡ w.declarations ++ (declaring_names (identifiers role.Declaring ps) ++ extra) → Itself w → Near o w → Behind v w
+      → all ≡ w.declaration_tokens ++ (declaring_names (identifiers role.Declaring ps) ++ extra) → Itself w → Near o w → Behind v w
       → Reaches o w v (visit_part statements (visit_procedures ps o)) (visit_part statements (visit_procedures ps w)) (renumber_procedures put_ordinal all low ps statements v)
 
   abbrev Here : Tree ℕ (item procedure) → Type 0
   Here q =
       (o w v : WalkState) (from to : ℕ) (extra : List ℕ) → is_in_procedure low high q ≡ true → high ≤ closing_name q → AreAscending from (identifier_names q) to
-      → all ≡ w.declarations ++ (declaring_names (identifiers role.Declaring q) ++ extra) → Itself w → Near o w → On v w
+      → all ≡ w.declaration_tokens ++ (declaring_names (identifiers role.Declaring q) ++ extra) → Itself w → Near o w → On v w
       → Reaches o w v (visit_procedure q o) (visit_procedure q w) (renumber_procedure put_ordinal all low q v)
 
   -- One more procedure is either skipped, or has the body in it.
   one_procedure : (q : Tree ℕ (item procedure)) (ps : Tree ℕ (items procedure)) (statements : Tree ℕ (maybe body)) (o w v : WalkState) (from to : ℕ) (rest : List ℕ) → Rest ps statements → Here q
-      → all ≡ w.declarations ++ (declaring_names (identifiers role.Declaring q) ++ (declaring_names (identifiers role.Declaring ps) ++ rest)) → Itself w → Near o w → On (with_declarations_before all (procedure_name q) v) w
+      → all ≡ w.declaration_tokens ++ (declaring_names (identifiers role.Declaring q) ++ (declaring_names (identifiers role.Declaring ps) ++ rest)) → Itself w → Near o w → On (with_declarations_before all (procedure_name q) v) w
       → AreAscending from (identifier_names q ++ (identifier_names ps ++ identifier_names statements)) to → (b : Bool) → nat_lt (closing_name q) low ≡ b
       → (if b then is_in_procedures low high ps statements else nat_le high (closing_name q) && is_in_procedure low high q) ≡ true
       → Reaches o w v (visit_part statements (visit_procedures ps (visit_procedure q o))) (visit_part statements (visit_procedures ps (visit_procedure q w)))
@@ -198,10 +198,10 @@ module _ (old new : Spellings) (all : List ℕ) (bound low high : ℕ) (same : (
       let x = procedure_name q in
       let v₁ = with_declarations_before all x v in
       let w₁ = visit_procedure q w in
-      let passed = procedure_passed nowhere written new value q w w.scope (7 + length w.declarations) at in
-      let next : all ≡ w₁.declarations ++ (declaring_names (identifiers role.Declaring ps) ++ rest) =
+      let passed = procedure_passed nowhere written new value q w w.scope (7 + length w.declaration_tokens) at in
+      let next : all ≡ w₁.declaration_tokens ++ (declaring_names (identifiers role.Declaring ps) ++ rest) =
       first
-      ∙ (sym (append_assoc w.declarations (declaring_names (identifiers role.Declaring q)) (declaring_names (identifiers role.Declaring ps) ++ rest))
+      ∙ (sym (append_assoc w.declaration_tokens (declaring_names (identifiers role.Declaring q)) (declaring_names (identifiers role.Declaring ps) ++ rest))
       ∙ ap (λ l. l ++ (declaring_names (identifiers role.Declaring ps) ++ rest)) (sym passed.declared)) in
       let less : closing_name q < low = grind (arith, nat_tests) in
       let outside = below_out low high (identifier_names q) (procedure_below low q from to less (ascend_first from (identifier_names q) (identifier_names ps ++ identifier_names statements) to parts)) in
@@ -209,9 +209,9 @@ module _ (old new : Spellings) (all : List ℕ) (bound low high : ℕ) (same : (
       let behind₁ : Behind (with_procedure_skipped x v₁) w₁ = record {
         first = on.first;
         second = passed.at.writing;
-        scope = (λ j. (spelling_at (on.first j) x, 7 + length (on.declarations j)) ∷ on.scope j) ∙ sym (passed.at.scope ∙ name_passed q w);
+        scope = (λ j. (spelling_at (on.first j) x, 7 + length (on.declaration_tokens j)) ∷ on.scope j) ∙ sym (passed.at.scope ∙ name_passed q w);
         behind = declaring_names (identifiers role.Declaring q);
-        is = passed.declared ∙ ap (λ ds. ds ++ declaring_names (identifiers role.Declaring q)) (sym on.declarations);
+        is = passed.declared ∙ ap (λ ds. ds ++ declaring_names (identifiers role.Declaring q)) (sym on.declaration_tokens);
       } in
       let tokens : tokens_of n.adds.seconds ≡ identifier_names q = tokens_added w.marks w₁.marks n.adds.seconds (identifier_names q) n.adds.second_is passed.tokens in
       let covered = covers_all out n.adds.seconds (subst (AllOut out) (sym tokens) outside) in
@@ -222,7 +222,7 @@ module _ (old new : Spellings) (all : List ℕ) (bound low high : ℕ) (same : (
       let both = and_parts (nat_le high (closing_name q)) (is_in_procedure low high q) inside_it in
       let reaches_end = both.0 in
       let le : high ≤ closing_name q = grind (arith, nat_tests) in
-      let passed = procedure_passed nowhere written new value q w w.scope (7 + length w.declarations) at in
+      let passed = procedure_passed nowhere written new value q w w.scope (7 + length w.declaration_tokens) at in
       let h = here o w v₁ from to (declaring_names (identifiers role.Declaring ps) ++ rest) both.1 le (ascend_first from (identifier_names q) (identifier_names ps ++ identifier_names statements) to parts) first at near on in
       let w₁ = visit_procedure q w in
       let w₂ = visit_procedures ps w₁ in
@@ -230,8 +230,8 @@ module _ (old new : Spellings) (all : List ℕ) (bound low high : ℕ) (same : (
       let outside = out_split out (identifier_names ps) (identifier_names statements) (above_out low high (closing_name q + 1) (identifier_names ps ++ identifier_names statements) to (omega (arith, le)) beyond) in
       let n = procedures_go out old new same ps (visit_procedure q o) w₁ outside.0 h.near.at in
       let m = used_goes out old new same statements (visit_procedures ps (visit_procedure q o)) w₂ n.at in
-      let p₁ = procedures_passed nowhere written new value ps w₁ w₁.scope (7 + length w₁.declarations) (at_itself passed.at) in
-      let p₂ = used_passed nowhere written new value statements w₂ w₂.scope (7 + length w₂.declarations) tt (at_itself p₁.at) in
+      let p₁ = procedures_passed nowhere written new value ps w₁ w₁.scope (7 + length w₁.declaration_tokens) (at_itself passed.at) in
+      let p₂ = used_passed nowhere written new value statements w₂ w₂.scope (7 + length w₂.declaration_tokens) tt (at_itself p₁.at) in
       let t₁ : tokens_of n.adds.seconds ≡ identifier_names ps = tokens_added w₁.marks w₂.marks n.adds.seconds (identifier_names ps) n.adds.second_is p₁.tokens in
       let t₂ : tokens_of m.adds.seconds ≡ identifier_names statements = tokens_added w₂.marks (visit_part statements w₂).marks m.adds.seconds (identifier_names statements) m.adds.second_is p₂.tokens in
       let c₁ = covers_all out n.adds.seconds (subst (AllOut out) (sym t₁) outside.0) in
@@ -245,7 +245,7 @@ module _ (old new : Spellings) (all : List ℕ) (bound low high : ℕ) (same : (
 
   mutual
     pub block_reached : (b : Tree ℕ block) (o w v : WalkState) (from to : ℕ) (extra : List ℕ) → is_in_block low high b ≡ true → AreAscending from (identifier_names b) to
-        → all ≡ w.declarations ++ (declaring_names (identifiers role.Declaring b) ++ extra) → Itself w → Near o w → On v w → Reaches o w v (visit_block b o) (visit_block b w) (renumber_block put_ordinal all low b v)
+        → all ≡ w.declaration_tokens ++ (declaring_names (identifiers role.Declaring b) ++ extra) → Itself w → Near o w → On v w → Reaches o w v (visit_block b o) (visit_block b w) (renumber_block put_ordinal all low b v)
     block_reached (forms_block (declares cs ts vs ps) statements) o w v from to extra inside_it rising declared at near on =
         let c = identifiers role.Declaring cs in
         let t = identifiers role.Declaring ts in
@@ -262,18 +262,18 @@ module _ (old new : Spellings) (all : List ℕ) (bound low high : ℕ) (same : (
         let w₁ = visit_constant_section cs w in
         let w₂ = visit_type_section ts w₁ in
         let w₃ = visit_variable_section vs w₂ in
-        let a = constant_section_passed nowhere written new value cs w w.scope (7 + length w.declarations) at in
+        let a = constant_section_passed nowhere written new value cs w w.scope (7 + length w.declaration_tokens) at in
         let a₂ = type_section_passed nowhere written new value ts w₁ _ _ a.at in
         let a₃ = variable_section_passed nowhere written new value vs w₂ _ _ a₂.at in
         let passed = pass_then nowhere written new value a (pass_then nowhere written new value a₂ a₃) in
         let d : (xs ys : List (Role × ℕ)) → declaring_names (xs ++ ys) ≡ declaring_names xs ++ declaring_names ys = declaring_names-append in
         let none : declaring_names s ≡ [] = statements_declare_nothing statements in
         let lists : declaring_names ((c ++ (t ++ (g ++ p))) ++ s) ≡ declaring_names (c ++ (t ++ g)) ++ declaring_names p = simp (declaring_names-append, append_assoc, none, append-nil) in
-        let here : all ≡ w₃.declarations ++ (declaring_names p ++ extra) =
+        let here : all ≡ w₃.declaration_tokens ++ (declaring_names p ++ extra) =
         declared
-        ∙ (ap (λ l. w.declarations ++ (l ++ extra)) lists
-        ∙ (ap (λ l. w.declarations ++ l) (append_assoc (declaring_names (c ++ (t ++ g))) (declaring_names p) extra)
-        ∙ (sym (append_assoc w.declarations (declaring_names (c ++ (t ++ g))) (declaring_names p ++ extra))
+        ∙ (ap (λ l. w.declaration_tokens ++ (l ++ extra)) lists
+        ∙ (ap (λ l. w.declaration_tokens ++ l) (append_assoc (declaring_names (c ++ (t ++ g))) (declaring_names p) extra)
+        ∙ (sym (append_assoc w.declaration_tokens (declaring_names (c ++ (t ++ g))) (declaring_names p ++ extra))
         ∙ ap (λ l. l ++ (declaring_names p ++ extra)) (sym passed.declared)))) in
         let o₃ = visit_variable_section vs (visit_type_section ts (visit_constant_section cs o)) in
         let v₃ = visit_variable_section vs (visit_type_section ts (visit_constant_section cs v)) in
@@ -281,7 +281,7 @@ module _ (old new : Spellings) (all : List ℕ) (bound low high : ℕ) (same : (
         joined_reach o w v o₃ w₃ v₃ _ _ _ n m.adds rest
 
     pub procedures_reached : (ps : Tree ℕ (items procedure)) (statements : Tree ℕ (maybe body)) (o w v : WalkState) (from to : ℕ) (extra : List ℕ) → is_in_procedures low high ps statements ≡ true → AreAscending from (identifier_names ps ++ identifier_names statements) to
-        → all ≡ w.declarations ++ (declaring_names (identifiers role.Declaring ps) ++ extra) → Itself w → Near o w → Behind v w
+        → all ≡ w.declaration_tokens ++ (declaring_names (identifiers role.Declaring ps) ++ extra) → Itself w → Near o w → Behind v w
         → Reaches o w v (visit_part statements (visit_procedures ps o)) (visit_part statements (visit_procedures ps w)) (renumber_procedures put_ordinal all low ps statements v)
     procedures_reached end statements o w v from to extra inside_it rising declared at near behind =
         let n = used_goes out old new same statements o w near in
@@ -292,13 +292,13 @@ module _ (old new : Spellings) (all : List ℕ) (bound low high : ℕ) (same : (
         let ips = identifiers role.Declaring ps in
         let split : names_without_roles (iq ++ ips) ++ identifier_names statements ≡ identifier_names q ++ (identifier_names ps ++ identifier_names statements) = simp (leaves_append, append_assoc) in
         let parts = subst (λ l. AreAscending from l to) split rising in
-        let first : all ≡ w.declarations ++ (declaring_names iq ++ (declaring_names ips ++ rest)) =
-        declared ∙ (ap (λ l. w.declarations ++ (l ++ rest)) (declaring_names-append iq ips) ∙ ap (λ l. w.declarations ++ l) (append_assoc (declaring_names iq) (declaring_names ips) rest)) in
-        let on = caught (procedure_name q) (others_declared q ++ (declaring_names ips ++ rest)) v w behind (first ∙ ap (λ l. w.declarations ++ (l ++ (declaring_names ips ++ rest))) (name_first q)) in
+        let first : all ≡ w.declaration_tokens ++ (declaring_names iq ++ (declaring_names ips ++ rest)) =
+        declared ∙ (ap (λ l. w.declaration_tokens ++ (l ++ rest)) (declaring_names-append iq ips) ∙ ap (λ l. w.declaration_tokens ++ l) (append_assoc (declaring_names iq) (declaring_names ips) rest)) in
+        let on = caught (procedure_name q) (others_declared q ++ (declaring_names ips ++ rest)) v w behind (first ∙ ap (λ l. w.declaration_tokens ++ (l ++ (declaring_names ips ++ rest))) (name_first q)) in
         one_procedure q ps statements o w v from to rest (procedures_reached ps statements) (procedure_reached q) first at near on parts (nat_lt (closing_name q) low) refl inside_it
 
     pub procedure_reached : (q : Tree ℕ (item procedure)) (o w v : WalkState) (from to : ℕ) (extra : List ℕ) → is_in_procedure low high q ≡ true → high ≤ closing_name q → AreAscending from (identifier_names q) to
-        → all ≡ w.declarations ++ (declaring_names (identifiers role.Declaring q) ++ extra) → Itself w → Near o w → On v w
+        → all ≡ w.declaration_tokens ++ (declaring_names (identifiers role.Declaring q) ++ extra) → Itself w → Near o w → On v w
         → Reaches o w v (visit_procedure q o) (visit_procedure q w) (renumber_procedure put_ordinal all low q v)
     procedure_reached (declares_procedure x fs b closing) o w v from to extra inside_it le rising declared at near on =
         let f = identifiers role.Declaring fs in
@@ -311,20 +311,20 @@ module _ (old new : Spellings) (all : List ℕ) (bound low high : ℕ) (same : (
         let before = below_out low high (x ∷ names_without_roles f) (below_block low high b (x ∷ names_without_roles f) from to inside_it (ascend_first from ((x ∷ names_without_roles f) ++ names_without_roles i) (closing ∷ []) to (subst (λ l. AreAscending from l to) joined parts))) in
         let n = heading_goes out old new same x fs o w before.0 before.1 near in
         let m = heading_goes (λ i. true) new new nothing_new x fs v w refl (all_in (identifier_names fs)) on in
-        let passed = heading_passed nowhere written new value x fs w w.scope (7 + length w.declarations) at in
-        let o₁ = state_after_heading (length o.declarations) (length o.scope) (visit_formals fs (number_declaration x o)) in
-        let w₁ = state_after_heading (length w.declarations) (length w.scope) (visit_formals fs (number_declaration x w)) in
-        let v₁ = state_after_heading (length v.declarations) (length v.scope) (visit_formals fs (number_declaration x v)) in
+        let passed = heading_passed nowhere written new value x fs w w.scope (7 + length w.declaration_tokens) at in
+        let o₁ = state_after_heading (length o.declaration_tokens) (length o.scope) (visit_formals fs (number_declaration x o)) in
+        let w₁ = state_after_heading (length w.declaration_tokens) (length w.scope) (visit_formals fs (number_declaration x w)) in
+        let v₁ = state_after_heading (length v.declaration_tokens) (length v.scope) (visit_formals fs (number_declaration x v)) in
         let lists : declaring_names ((role.Declaring, x) ∷ (f ++ (i ++ last))) ≡ declaring_names ((role.Declaring, x) ∷ f) ++ declaring_names i = simp (declaring_names-append, append-nil) in
-        let here : all ≡ w₁.declarations ++ (declaring_names i ++ extra) =
+        let here : all ≡ w₁.declaration_tokens ++ (declaring_names i ++ extra) =
         declared
-        ∙ (ap (λ l. w.declarations ++ (l ++ extra)) lists
-        ∙ (ap (λ l. w.declarations ++ l) (append_assoc (declaring_names ((role.Declaring, x) ∷ f)) (declaring_names i) extra)
-        ∙ (sym (append_assoc w.declarations (declaring_names ((role.Declaring, x) ∷ f)) (declaring_names i ++ extra))
+        ∙ (ap (λ l. w.declaration_tokens ++ (l ++ extra)) lists
+        ∙ (ap (λ l. w.declaration_tokens ++ l) (append_assoc (declaring_names ((role.Declaring, x) ∷ f)) (declaring_names i) extra)
+        ∙ (sym (append_assoc w.declaration_tokens (declaring_names ((role.Declaring, x) ∷ f)) (declaring_names i ++ extra))
         ∙ ap (λ l. l ++ (declaring_names i ++ extra)) (sym passed.declared)))) in
         let r = block_reached b o₁ w₁ v₁ from to extra inside_it own here (at_itself passed.at) n.at m.at in
-        let e = ending_goes out old new same x closing (7 + length o.declarations) (7 + length w.declarations) (length o.scope) (length w.scope) (visit_block b o₁) (visit_block b w₁) before.0 (ap (λ ds. 7 + length ds) near.declarations) (ap length near.scope) r.near.at in
-        let mark : OrdinalMark = record { token = closing; ordinal = Some (7 + length w.declarations) } in
+        let e = ending_goes out old new same x closing (7 + length o.declaration_tokens) (7 + length w.declaration_tokens) (length o.scope) (length w.scope) (visit_block b o₁) (visit_block b w₁) before.0 (ap (λ ds. 7 + length ds) near.declaration_tokens) (ap length near.scope) r.near.at in
+        let mark : OrdinalMark = record { token = closing; ordinal = Some (7 + length w.declaration_tokens) } in
         let ends : e.adds.seconds ≡ mark ∷ [] = same_added (visit_block b w₁).marks ((visit_block b w₁).marks ++ (mark ∷ [])) e.adds.seconds (mark ∷ []) e.adds.second_is refl in
         let closed = subst (λ ms. Covers out ms []) (sym ends) (covers_more mark (is_above_out low high closing le) covers_none) in
         let reached = joined_reach o w v o₁ w₁ v₁ (visit_block b o₁) (visit_block b w₁) (renumber_block put_ordinal all low b v₁) n m.adds r in
@@ -350,12 +350,12 @@ module _ (old new : Spellings) (all : List ℕ) (bound low high : ℕ) (same : (
       let le : high ≤ closing = grind (arith, nat_tests) in
       let o = initial_walk old in
       let w = initial_walk new in
-      let near : Near o w = record { first = refl; second = refl; scope = refl; declarations = refl; outside = tt } in
+      let near : Near o w = record { first = refl; second = refl; scope = refl; declaration_tokens = refl; outside = tt } in
       let n = marked_goes out old new same x None None o w refl near in
       let o₁ = with_mark x None o in
       let w₁ = with_mark x None w in
       let at : Itself w₁ = record { writing = refl; scope = refl; next = refl; before = (at_start new).before } in
-      let on : On w w₁ = record { first = refl; second = refl; scope = refl; declarations = refl; outside = tt } in
+      let on : On w w₁ = record { first = refl; second = refl; scope = refl; declaration_tokens = refl; outside = tt } in
       let split : names_without_roles (i ++ last) ≡ names_without_roles i ++ (closing ∷ []) = leaves_append i last in
       let parts : AreAscending 0 ((x ∷ names_without_roles i) ++ (closing ∷ [])) to = subst (λ l. AreAscending 0 (x ∷ l) to) split rising in
       let own : AreAscending 0 (x ∷ names_without_roles i) to = ascend_first 0 (x ∷ names_without_roles i) (closing ∷ []) to parts in

@@ -14,7 +14,7 @@ names_further (x ∷ xs) = ap (λ l. x ∷ l) (names_further xs)
 -- states that the declarations from an index onwards are still to be shown
 pub record Showing (first : ℕ) (start : WalkState) (index : ℕ) (now : WalkState) : Type 0 where
   pub so_far : with_visible_names_from index now ≡ with_visible_names_from first start
-  pub kept : now.declarations ≡ start.declarations
+  pub kept : now.declaration_tokens ≡ start.declaration_tokens
 
 pub sections_first : (ss : List ParameterSection) (v : WalkState) → visit_sections (items_of further_section_of ss) v ≡ visit_formals (one (formals_of_list ss)) v
 sections_first [] v = refl

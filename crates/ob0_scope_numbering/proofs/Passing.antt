@@ -92,11 +92,11 @@ used_in_order table src s k ((role.ModuleName, i) ∷ xs) rest low e h order = (
 pub record At (v : WalkState) (src : Spellings) (s : Scope Name) (k : ℕ) : Type 0 where
   pub writing : v.writing ≡ src
   pub scope : v.scope ≡ s
-  pub next : 7 + length v.declarations ≡ k
+  pub next : 7 + length v.declaration_tokens ≡ k
   pub before : AreBefore k s
 
 -- The state has its own visible names and its own number of declarations.
-pub at_itself : {v : WalkState} {src : Spellings} {s : Scope Name} {k : ℕ} → At v src s k → At v src v.scope (7 + length v.declarations)
+pub at_itself : {v : WalkState} {src : Spellings} {s : Scope Name} {k : ℕ} → At v src s k → At v src v.scope (7 + length v.declaration_tokens)
 at_itself {v = v} {k = k} at = record { writing = at.writing; scope = refl; next = refl; before = subst (λ n. AreBefore n v.scope) (sym at.next) (subst (AreBefore k) (sym at.scope) at.before) }
 
 pub at_start : (src : Spellings) → At (initial_walk src) src (predeclared_scope naming_by_spelling) 7
@@ -146,7 +146,7 @@ left_extends {s = s} e =
 record FoundAll (table : ℕ → Option ℕ) (src : Spellings) (v w : WalkState) (xs : List (Role × ℕ)) : Type 0 where
   writing : w.writing ≡ v.writing
   scope : w.scope ≡ v.scope
-  kept : w.declarations ≡ v.declarations
+  kept : w.declaration_tokens ≡ v.declaration_tokens
   used : w.uses ≡ v.uses ++ looked_up_only xs
   tokens : tokens_of w.marks ≡ tokens_of v.marks ++ names_without_roles xs
   agree : v.writing ≡ src → HasMarks table w.marks → HasMarks table v.marks × AllFit table src v.scope xs
@@ -196,11 +196,11 @@ found_every table src (x ∷ xs) v =
 -- and the claim P about a table with all marks
 pub record Passed (table : ℕ → Option ℕ) (src : Spellings) (v w : WalkState) (ids : List (Role × ℕ)) (s : Scope Name) (k : ℕ) (P : Type 0) : Type 0 where
   pub at : At w src s k
-  pub declared : w.declarations ≡ v.declarations ++ declaring_names ids
+  pub declared : w.declaration_tokens ≡ v.declaration_tokens ++ declaring_names ids
   pub used : w.uses ≡ v.uses ++ looked_up_only ids
   pub tokens : tokens_of w.marks ≡ tokens_of v.marks ++ names_without_roles ids
   pub agree : HasMarks table w.marks → HasMarks table v.marks × P
-  pub in_order : HasMarks table w.marks → (later : List (Role × ℕ)) → AreInOrder table k later → AreInOrder table (7 + length v.declarations) (ids ++ later)
+  pub in_order : HasMarks table w.marks → (later : List (Role × ℕ)) → AreInOrder table k later → AreInOrder table (7 + length v.declaration_tokens) (ids ++ later)
 
 module _ {M : Type 0} (table : ℕ → Option ℕ) (label : Labelling Name M) (src : Spellings) (value : ℕ → ℕ) where
   abbrev Passes : WalkState → WalkState → List (Role × ℕ) → Scope Name → ℕ → Type 0 → Type 0
@@ -215,7 +215,7 @@ module _ {M : Type 0} (table : ℕ → Option ℕ) (label : Labelling Name M) (s
   by_table t = mapped_tree (λ i. label (table i) (spelling_at src i)) value t
 
   pass_nothing : (v : WalkState) (s : Scope Name) (k : ℕ) → At v src s k → Passes v v [] s k (Unit {0})
-  pass_nothing v s k at = record { at = at; declared = sym (append-nil v.declarations); used = sym (append-nil v.uses); tokens = sym (append-nil (tokens_of v.marks)); agree = λ h. (h, tt); in_order = λ h later. subst (λ n. AreInOrder table n later) (sym at.next) }
+  pass_nothing v s k at = record { at = at; declared = sym (append-nil v.declaration_tokens); used = sym (append-nil v.uses); tokens = sym (append-nil (tokens_of v.marks)); agree = λ h. (h, tt); in_order = λ h later. subst (λ n. AreInOrder table n later) (sym at.next) }
 
   pub pass_then : {a b c : WalkState} {xs ys : List (Role × ℕ)} {s s' : Scope Name} {k k' : ℕ} {P Q : Type 0} → Passes a b xs s k P → Passes b c ys s' k' Q → Passes a c (xs ++ ys) s' k' (Two P Q)
   pass_then {a = a} {xs = xs} {ys = ys} p q =
@@ -226,7 +226,7 @@ module _ {M : Type 0} (table : ℕ → Option ℕ) (label : Labelling Name M) (s
         tokens = joined names_without_roles xs ys _ _ _ (map-append (λ x. x.1) xs ys) p.tokens q.tokens;
         agree = λ h. let later = q.agree h in let now = p.agree later.0 in (now.0, record { first = now.1; second = later.1 });
         in_order = λ h later o.
-            subst (AreInOrder table (7 + length a.declarations)) (sym (append_assoc xs ys later))
+            subst (AreInOrder table (7 + length a.declaration_tokens)) (sym (append_assoc xs ys later))
             (p.in_order (q.agree h).0 (ys ++ later) (subst (λ n. AreInOrder table n (ys ++ later)) p.at.next (q.in_order h later o)));
       }
 
@@ -237,12 +237,12 @@ module _ {M : Type 0} (table : ℕ → Option ℕ) (label : Labelling Name M) (s
   pass_is {a = a} {s = s} {s' = s'} {k = k} e f g p =
       record {
         at = record { writing = p.at.writing; scope = p.at.scope ∙ f; next = p.at.next ∙ g; before = subst (λ n. AreBefore n s') g (subst (AreBefore k) f p.at.before) };
-        declared = p.declared ∙ ap (λ ids. a.declarations ++ declaring_names ids) e;
+        declared = p.declared ∙ ap (λ ids. a.declaration_tokens ++ declaring_names ids) e;
         used = p.used ∙ ap (λ ids. a.uses ++ looked_up_only ids) e;
         tokens = p.tokens ∙ ap (λ ids. tokens_of a.marks ++ names_without_roles ids) e;
         agree = p.agree;
         in_order = λ h later o.
-            subst (λ ids. AreInOrder table (7 + length a.declarations) (ids ++ later)) e (p.in_order h later (subst (λ n. AreInOrder table n later) (sym g) o));
+            subst (λ ids. AreInOrder table (7 + length a.declaration_tokens) (ids ++ later)) e (p.in_order h later (subst (λ n. AreInOrder table n later) (sym g) o));
       }
 
   pub used_passed : {σ : Sort} (t : Tree ℕ σ) (v : WalkState) (s : Scope Name) (k : ℕ) → IsPlain σ → At v src s k
@@ -252,7 +252,7 @@ module _ {M : Type 0} (table : ℕ → Option ℕ) (label : Labelling Name M) (s
       let f = found_every table src (identifiers role.Declaring t) v in
       record {
         at = record { writing = f.writing ∙ at.writing; scope = f.scope ∙ at.scope; next = ap (λ ds. 7 + length ds) f.kept ∙ at.next; before = at.before };
-        declared = f.kept ∙ (sym (append-nil v.declarations) ∙ ap (λ ds. v.declarations ++ ds) (sym plain));
+        declared = f.kept ∙ (sym (append-nil v.declaration_tokens) ∙ ap (λ ds. v.declaration_tokens ++ ds) (sym plain));
         used = f.used;
         tokens = f.tokens;
         agree = λ h.
@@ -265,9 +265,9 @@ module _ {M : Type 0} (table : ℕ → Option ℕ) (label : Labelling Name M) (s
 
   number_passed : (x : ℕ) (v : WalkState) (s : Scope Name) (k : ℕ) → At v src s k → Passes v (number_declaration x v) ((role.Declaring, x) ∷ []) s (suc k) (table x ≡ Some k)
   number_passed x v s k at =
-      let m : OrdinalMark = record { token = x; ordinal = Some (7 + length v.declarations) } in
+      let m : OrdinalMark = record { token = x; ordinal = Some (7 + length v.declaration_tokens) } in
       record {
-        at = record { writing = at.writing; scope = at.scope; next = omega (arith, length-append v.declarations (x ∷ []), at.next); before = before_later k (suc k) s (omega arith) at.before };
+        at = record { writing = at.writing; scope = at.scope; next = omega (arith, length-append v.declaration_tokens (x ∷ []), at.next); before = before_later k (suc k) s (omega arith) at.before };
         declared = refl;
         used = sym (append-nil v.uses);
         tokens = mark_added v.marks m;
@@ -281,7 +281,7 @@ module _ {M : Type 0} (table : ℕ → Option ℕ) (label : Labelling Name M) (s
       let m : OrdinalMark = record { token = x; ordinal = ordinal } in
       record {
         at = record { writing = at.writing; scope = at.scope; next = at.next; before = at.before };
-        declared = sym (append-nil v.declarations) ∙ ap (λ ds. v.declarations ++ ds) (sym no_declaration);
+        declared = sym (append-nil v.declaration_tokens) ∙ ap (λ ds. v.declaration_tokens ++ ds) (sym no_declaration);
         used = sym (append-nil v.uses) ∙ ap (λ us. v.uses ++ us) (sym no_use);
         tokens = mark_added v.marks m;
         agree = λ h. let parts = marks_split table v.marks (m ∷ []) h in (parts.0, parts.1.0);
@@ -335,12 +335,12 @@ module _ {M : Type 0} (table : ℕ → Option ℕ) (label : Labelling Name M) (s
 
   -- The declarations of a part are visible after it.
   show_passed : {a b : WalkState} {xs : List (Role × ℕ)} {s s' : Scope Name} {k k' : ℕ} {P : Type 0} (ns : List Name) → At a src s k → map (spelling_at src) (declaring_names xs) ≡ ns → Passes a b xs s' k' P
-      → Passes a (with_visible_names_from (length a.declarations) b) xs (declare_names k ns s') k' P
+      → Passes a (with_visible_names_from (length a.declaration_tokens) b) xs (declare_names k ns s') k' P
   show_passed {a = a} {b = b} {xs = xs} {s' = s'} {k = k} {k' = k'} ns at are p =
-      let left : drop (length a.declarations) b.declarations ≡ declaring_names xs = ap (drop (length a.declarations)) p.declared ∙ drop_past a.declarations (declaring_names xs) in
-      let visible : declare_names (7 + length a.declarations) (map (spelling_at b.writing) (drop (length a.declarations) b.declarations)) b.scope ≡ declare_names k ns s' =
+      let left : drop (length a.declaration_tokens) b.declaration_tokens ≡ declaring_names xs = ap (drop (length a.declaration_tokens)) p.declared ∙ drop_past a.declaration_tokens (declaring_names xs) in
+      let visible : declare_names (7 + length a.declaration_tokens) (map (spelling_at b.writing) (drop (length a.declaration_tokens) b.declaration_tokens)) b.scope ≡ declare_names k ns s' =
       (λ i. declare_names (at.next i) (map (spelling_at (p.at.writing i)) (left i)) (p.at.scope i)) ∙ ap (λ ns. declare_names k ns s') are in
-      let count : k + length ns ≤ k' = omega (arith, at.next, p.at.next, ap length p.declared, length-append a.declarations (declaring_names xs), length-map (spelling_at src) (declaring_names xs), ap length are) in
+      let count : k + length ns ≤ k' = omega (arith, at.next, p.at.next, ap length p.declared, length-append a.declaration_tokens (declaring_names xs), length-map (spelling_at src) (declaring_names xs), ap length are) in
       record {
         at = record { writing = p.at.writing; scope = visible; next = p.at.next; before = names_before k ns s' k' count p.at.before };
         declared = p.declared;
@@ -361,7 +361,7 @@ module _ {M : Type 0} (table : ℕ → Option ℕ) (label : Labelling Name M) (s
 
   -- Names of one type are visible after their type.
   group_passed : (ns : Tree ℕ names) (t : Tree ℕ written_type) (v : WalkState) (s : Scope Name) (k : ℕ) → At v src s k
-      → Passes v (with_visible_names_from (length v.declarations) (visit_part t (number_declarations (names_in_list ns) v))) (identifiers role.Declaring ns ++ identifiers role.Declaring t)
+      → Passes v (with_visible_names_from (length v.declaration_tokens) (visit_part t (number_declarations (names_in_list ns) v))) (identifiers role.Declaring ns ++ identifiers role.Declaring t)
       (declare_names k (names_in_list (spelled ns)) s) (ordinal_after_names k (names_in_list (spelled ns)))
       (Two (relabel_names label k (spelled ns) ≡ by_table ns) (relabel_uses naming_by_spelling label s (spelled t) ≡ by_table t))
   group_passed ns t v s k at =
@@ -481,7 +481,7 @@ module _ {M : Type 0} (table : ℕ → Option ℕ) (label : Labelling Name M) (s
 
   -- The name and the parameters of a procedure are passed like any part.
   pub heading_passed : (x : ℕ) (fs : Tree ℕ (maybe formals)) (v : WalkState) (s : Scope Name) (k : ℕ) → At v src s k
-      → Passes v (state_after_heading (length v.declarations) (length v.scope) (visit_formals fs (number_declaration x v))) ((role.Declaring, x) ∷ identifiers role.Declaring fs)
+      → Passes v (state_after_heading (length v.declaration_tokens) (length v.scope) (visit_formals fs (number_declaration x v))) ((role.Declaring, x) ∷ identifiers role.Declaring fs)
       (declare_names (suc k) (formal_names (formal_sections (spelled fs))) ((spelling_at src x, k) ∷ s)) (ordinal_after_names (suc k) (formal_names (formal_sections (spelled fs))))
       (Two (table x ≡ Some k) (relabel_formals naming_by_spelling label s (suc k) (spelled fs) ≡ by_table fs))
   heading_passed x fs v s k at =
@@ -524,7 +524,7 @@ module _ {M : Type 0} (table : ℕ → Option ℕ) (label : Labelling Name M) (s
         → Passes v (visit_procedure p v) (identifiers role.Declaring p) ((procedure_name (spelled p), k) ∷ s) (ordinal_after_procedure (suc k) (spelled p))
         (relabel_procedure naming_by_spelling label s k (spelled p) ≡ by_table p)
     procedure_passed (declares_procedure x fs b closing) v s k at =
-        let own = length v.declarations in
+        let own = length v.declaration_tokens in
         let outside = length v.scope in
         let name = spelling_at src x in
         let formal = formal_names (formal_sections (spelled fs)) in

@@ -25,14 +25,14 @@ with_entries-added table (m ∷ ms) i ordinal = with_entries-added (set table m.
 
 -- returns the state with a table that has the entries of the listed marks
 abbrev entered : List (Option ℕ) → listing.WalkState → tabling.WalkState
-entered table v = record { writing = v.writing; scope = v.scope; declarations = v.declarations; uses = v.uses; marks = with_entries table v.marks }
+entered table v = record { writing = v.writing; scope = v.scope; declaration_tokens = v.declaration_tokens; uses = v.uses; marks = with_entries table v.marks }
 
 module _ (table : List (Option ℕ)) where
   with_mark-entered : (i : ℕ) (ordinal : Option ℕ) (v : listing.WalkState) → tabling.with_mark i ordinal (entered table v) ≡ entered table (listing.with_mark i ordinal v)
   with_mark-entered i ordinal v = ap (λ marks. record (entered table v) { marks = marks }) (with_entries-added table v.marks i ordinal)
 
   number_declaration-entered : (i : ℕ) (v : listing.WalkState) → tabling.number_declaration i (entered table v) ≡ entered table (listing.number_declaration i v)
-  number_declaration-entered i v = ap (λ marks. record (entered table v) { declarations = v.declarations ++ (i ∷ []); marks = marks }) (with_entries-added table v.marks i (Some (7 + length v.declarations)))
+  number_declaration-entered i v = ap (λ marks. record (entered table v) { declaration_tokens = v.declaration_tokens ++ (i ∷ []); marks = marks }) (with_entries-added table v.marks i (Some (7 + length v.declaration_tokens)))
 
   number_declarations-entered : (is : List ℕ) (v : listing.WalkState) → tabling.number_declarations is (entered table v) ≡ entered table (listing.number_declarations is v)
   number_declarations-entered [] v = refl
@@ -54,8 +54,8 @@ module _ (table : List (Option ℕ)) where
 
   -- Visiting names and the part after them with a table enters their listed marks.
   names-entered : {s : Sort} (is : List ℕ) (t : Tree ℕ s) (v : listing.WalkState)
-      → tabling.with_visible_names_from (length v.declarations) (tabling.visit_part t (tabling.number_declarations is (entered table v))) ≡ entered table (listing.with_visible_names_from (length v.declarations) (listing.visit_part t (listing.number_declarations is v)))
-  names-entered is t v = ap (tabling.with_visible_names_from (length v.declarations)) (ap (tabling.visit_part t) (number_declarations-entered is v) ∙ used-entered t (listing.number_declarations is v))
+      → tabling.with_visible_names_from (length v.declaration_tokens) (tabling.visit_part t (tabling.number_declarations is (entered table v))) ≡ entered table (listing.with_visible_names_from (length v.declaration_tokens) (listing.visit_part t (listing.number_declarations is v)))
+  names-entered is t v = ap (tabling.with_visible_names_from (length v.declaration_tokens)) (ap (tabling.visit_part t) (number_declarations-entered is v) ∙ used-entered t (listing.number_declarations is v))
 
   constant-entered : (c : Tree ℕ (item constant)) (v : listing.WalkState) → tabling.visit_constant c (entered table v) ≡ entered table (listing.visit_constant c v)
   constant-entered (declares_constant x e) v = names-entered (x ∷ []) e v
@@ -105,26 +105,26 @@ module _ (table : List (Option ℕ)) where
 
   -- Visiting the declarations of a block before its procedures with a table enters their listed
   -- marks.
-  declarations-entered : (cs : Tree ℕ (maybe constants)) (ts : Tree ℕ (maybe type_definitions)) (vs : Tree ℕ (maybe variables)) (v : listing.WalkState)
+  declaration_tokens-entered : (cs : Tree ℕ (maybe constants)) (ts : Tree ℕ (maybe type_definitions)) (vs : Tree ℕ (maybe variables)) (v : listing.WalkState)
       → tabling.visit_variable_section vs (tabling.visit_type_section ts (tabling.visit_constant_section cs (entered table v)))
       ≡ entered table (listing.visit_variable_section vs (listing.visit_type_section ts (listing.visit_constant_section cs v)))
-  declarations-entered cs ts vs v =
+  declaration_tokens-entered cs ts vs v =
       let v₁ = listing.visit_constant_section cs v in
       let v₂ = listing.visit_type_section ts v₁ in
       ap (tabling.visit_variable_section vs) (ap (tabling.visit_type_section ts) (constant_section-entered cs v) ∙ type_section-entered ts v₁) ∙ variable_section-entered vs v₂
 
   -- Visiting the heading before a procedure's block with a table enters its listed marks.
   heading-entered : (x : ℕ) (fs : Tree ℕ (maybe formals)) (v : listing.WalkState)
-      → tabling.state_after_heading (length v.declarations) (length v.scope) (tabling.visit_formals fs (tabling.number_declaration x (entered table v)))
-      ≡ entered table (listing.state_after_heading (length v.declarations) (length v.scope) (listing.visit_formals fs (listing.number_declaration x v)))
+      → tabling.state_after_heading (length v.declaration_tokens) (length v.scope) (tabling.visit_formals fs (tabling.number_declaration x (entered table v)))
+      ≡ entered table (listing.state_after_heading (length v.declaration_tokens) (length v.scope) (listing.visit_formals fs (listing.number_declaration x v)))
   heading-entered x fs v =
-      ap (tabling.state_after_heading (length v.declarations) (length v.scope)) (ap (tabling.visit_formals fs) (number_declaration-entered x v) ∙ formals-entered fs (listing.number_declaration x v))
+      ap (tabling.state_after_heading (length v.declaration_tokens) (length v.scope)) (ap (tabling.visit_formals fs) (number_declaration-entered x v) ∙ formals-entered fs (listing.number_declaration x v))
 
   mutual
     block-entered : (b : Tree ℕ block) (v : listing.WalkState) → tabling.visit_block b (entered table v) ≡ entered table (listing.visit_block b v)
     block-entered (forms_block (declares cs ts vs ps) statements) v =
         let w = listing.visit_variable_section vs (listing.visit_type_section ts (listing.visit_constant_section cs v)) in
-        ap (tabling.visit_part statements) (ap (tabling.visit_procedures ps) (declarations-entered cs ts vs v) ∙ procedures-entered ps w) ∙ used-entered statements (listing.visit_procedures ps w)
+        ap (tabling.visit_part statements) (ap (tabling.visit_procedures ps) (declaration_tokens-entered cs ts vs v) ∙ procedures-entered ps w) ∙ used-entered statements (listing.visit_procedures ps w)
 
     procedures-entered : (ps : Tree ℕ (items procedure)) (v : listing.WalkState) → tabling.visit_procedures ps (entered table v) ≡ entered table (listing.visit_procedures ps v)
     procedures-entered end v = refl
@@ -132,9 +132,9 @@ module _ (table : List (Option ℕ)) where
 
     procedure-entered : (p : Tree ℕ (item procedure)) (v : listing.WalkState) → tabling.visit_procedure p (entered table v) ≡ entered table (listing.visit_procedure p v)
     procedure-entered (declares_procedure x fs b closing) v =
-        let ordinal = 7 + length v.declarations in
+        let ordinal = 7 + length v.declaration_tokens in
         let outside = length v.scope in
-        let w = listing.state_after_heading (length v.declarations) outside (listing.visit_formals fs (listing.number_declaration x v)) in
+        let w = listing.state_after_heading (length v.declaration_tokens) outside (listing.visit_formals fs (listing.number_declaration x v)) in
         ap (λ w. tabling.with_mark closing (Some ordinal) (tabling.leave_block x ordinal outside w)) (ap (tabling.visit_block b) (heading-entered x fs v) ∙ block-entered b w)
         ∙ with_mark-entered closing (Some ordinal) (listing.leave_block x ordinal outside (listing.visit_block b w))
 
@@ -151,7 +151,7 @@ module _ (table : List (Option ℕ)) where
     revisit_block-entered : (all : List ℕ) (low : ℕ) (b : Tree ℕ block) (v : listing.WalkState) → renumber_block tabling.put_ordinal all low b (entered table v) ≡ entered table (renumber_block listing.put_ordinal all low b v)
     revisit_block-entered all low (forms_block (declares cs ts vs ps) statements) v =
         let w = listing.visit_variable_section vs (listing.visit_type_section ts (listing.visit_constant_section cs v)) in
-        ap (renumber_procedures tabling.put_ordinal all low ps statements) (declarations-entered cs ts vs v) ∙ procedures_again-entered all low ps statements w
+        ap (renumber_procedures tabling.put_ordinal all low ps statements) (declaration_tokens-entered cs ts vs v) ∙ procedures_again-entered all low ps statements w
 
     procedures_again-entered : (all : List ℕ) (low : ℕ) (ps : Tree ℕ (items procedure)) (statements : Tree ℕ (maybe body)) (v : listing.WalkState)
         → renumber_procedures tabling.put_ordinal all low ps statements (entered table v) ≡ entered table (renumber_procedures listing.put_ordinal all low ps statements v)
@@ -164,7 +164,7 @@ module _ (table : List (Option ℕ)) where
 
     revisit_procedure-entered : (all : List ℕ) (low : ℕ) (p : Tree ℕ (item procedure)) (v : listing.WalkState) → renumber_procedure tabling.put_ordinal all low p (entered table v) ≡ entered table (renumber_procedure listing.put_ordinal all low p v)
     revisit_procedure-entered all low (declares_procedure x fs b closing) v =
-        let w = listing.state_after_heading (length v.declarations) (length v.scope) (listing.visit_formals fs (listing.number_declaration x v)) in
+        let w = listing.state_after_heading (length v.declaration_tokens) (length v.scope) (listing.visit_formals fs (listing.number_declaration x v)) in
         ap (renumber_block tabling.put_ordinal all low b) (heading-entered x fs v) ∙ revisit_block-entered all low b w
 
 -- returns the marks of the walk to one body

@@ -21,17 +21,17 @@ prefix_before token (x ∷ xs) = if nat_lt x token then x ∷ prefix_before toke
 abbrev pub with_declarations_before : {M : Type 0} → List ℕ → ℕ → WalkState M → WalkState M
 with_declarations_before all token v =
     record v {
-      declarations = v.declarations ++ prefix_before token (drop (length v.declarations) all);
+      declaration_tokens = v.declaration_tokens ++ prefix_before token (drop (length v.declaration_tokens) all);
     }
 
 -- appends this declaring token to the list of declarations, without visiting the declaration
 abbrev pub with_declaration : {M : Type 0} → ℕ → WalkState M → WalkState M
-with_declaration token v = record v { declarations = v.declarations ++ (token ∷ []) }
+with_declaration token v = record v { declaration_tokens = v.declaration_tokens ++ (token ∷ []) }
 
 -- makes the name of the procedure that is declared at the token `x` visible with the next ordinal,
 -- without visiting the procedure
 abbrev pub with_procedure_skipped : {M : Type 0} → ℕ → WalkState M → WalkState M
-with_procedure_skipped x v = with_visible_name x (predeclared_count + length v.declarations) v
+with_procedure_skipped x v = with_visible_name x (predeclared_count + length v.declaration_tokens) v
 
 -- In the following definitions, `put_ordinal` adds the ordinal of the identifier at a token to the
 -- ordinals so far. `all` has the declaring tokens of the whole module. The walk goes to the body
@@ -60,7 +60,7 @@ module _ {M : Type 0} (put_ordinal : ℕ → Option ℕ → M → M) (all : List
     -- visits a procedure's name, its parameters and its block, but not its closing name
     pub renumber_procedure : Tree ℕ (item procedure) → WalkState M → WalkState M
     renumber_procedure (declares_procedure x fs b closing) v =
-        renumber_block b (state_after_heading (length v.declarations) (length v.scope)
+        renumber_block b (state_after_heading (length v.declaration_tokens) (length v.scope)
         (visit_formals put_ordinal fs (number_declaration put_ordinal x v)))
 
 -- returns the state before the first identifier of a module, with this table of ordinals
@@ -69,7 +69,7 @@ initial_walk_over writing table =
     record {
       writing = writing;
       scope = predeclared_scope naming_by_spelling;
-      declarations = [];
+      declaration_tokens = [];
       uses = [];
       marks = table;
     }

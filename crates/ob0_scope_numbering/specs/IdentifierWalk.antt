@@ -13,13 +13,13 @@ use Rattle.ob0_language_names.specs.Parts.{names_in_list}
 use Rattle.ob0_language_names.specs.Scopes.{Scope, declare_names, ordinal_of, predeclared_count}
 
 -- The state of the walk. `writing` has the spellings of all identifiers, and `scope` the visible
--- names. The other fields are about the identifiers visited so far. `declarations` has the tokens
+-- names. The other fields are about the identifiers visited so far. `declaration_tokens` has the tokens
 -- of declaring names, `uses` the tokens of looked-up names, and `marks` the ordinals of all
 -- identifiers.
 pub record WalkState (M : Type 0) : Type 0 where
   pub writing : Spellings
   pub scope : Scope Name
-  pub declarations : List ℕ
+  pub declaration_tokens : List ℕ
   pub uses : List ℕ
   pub marks : M
 
@@ -33,7 +33,7 @@ abbrev pub with_visible_names_from : {M : Type 0} → ℕ → WalkState M → Wa
 with_visible_names_from first v =
     record v {
       scope
-          = declare_names (predeclared_count + first) (map (spelling_at v.writing) (drop first v.declarations)) v.scope;
+          = declare_names (predeclared_count + first) (map (spelling_at v.writing) (drop first v.declaration_tokens)) v.scope;
     }
 
 -- removes all bindings of the scope except the oldest `len`
@@ -63,8 +63,8 @@ module _ {M : Type 0} (put_ordinal : ℕ → Option ℕ → M → M) where
   abbrev pub number_declaration : ℕ → WalkState M → WalkState M
   number_declaration i v =
       record v {
-        declarations = v.declarations ++ (i ∷ []);
-        marks = put_ordinal i (Some (predeclared_count + length v.declarations)) v.marks;
+        declaration_tokens = v.declaration_tokens ++ (i ∷ []);
+        marks = put_ordinal i (Some (predeclared_count + length v.declaration_tokens)) v.marks;
       }
 
   abbrev pub number_declarations : List ℕ → WalkState M → WalkState M
@@ -94,14 +94,14 @@ module _ {M : Type 0} (put_ordinal : ℕ → Option ℕ → M → M) where
   -- visits the declaration of a constant, and then makes the constant's name visible
   abbrev pub visit_constant : Tree ℕ (item constant) → WalkState M → WalkState M
   visit_constant (declares_constant x e) v =
-      with_visible_names_from (length v.declarations) (visit_part e (number_declaration x v))
+      with_visible_names_from (length v.declaration_tokens) (visit_part e (number_declaration x v))
 
   abbrev pub visit_constants : Tree ℕ (items constant) → WalkState M → WalkState M
   visit_constants end v = v
   visit_constants (more c cs) v = visit_constants cs (visit_constant c v)
 
   abbrev pub visit_type : Tree ℕ (item type_definition) → WalkState M → WalkState M
-  visit_type (declares_type x t) v = with_visible_names_from (length v.declarations) (visit_part t (number_declaration x v))
+  visit_type (declares_type x t) v = with_visible_names_from (length v.declaration_tokens) (visit_part t (number_declaration x v))
 
   abbrev pub visit_types : Tree ℕ (items type_definition) → WalkState M → WalkState M
   visit_types end v = v
@@ -109,7 +109,7 @@ module _ {M : Type 0} (put_ordinal : ℕ → Option ℕ → M → M) where
 
   abbrev pub visit_variable : Tree ℕ (item variable) → WalkState M → WalkState M
   visit_variable (declares_variable ns t) v =
-      with_visible_names_from (length v.declarations) (visit_part t (number_declarations (names_in_list ns) v))
+      with_visible_names_from (length v.declaration_tokens) (visit_part t (number_declarations (names_in_list ns) v))
 
   abbrev pub visit_variables : Tree ℕ (items variable) → WalkState M → WalkState M
   visit_variables end v = v
@@ -117,9 +117,9 @@ module _ {M : Type 0} (put_ordinal : ℕ → Option ℕ → M → M) where
 
   abbrev pub visit_section : Tree ℕ section → WalkState M → WalkState M
   visit_section (value_section ns t) v =
-      with_visible_names_from (length v.declarations) (visit_part t (number_declarations (names_in_list ns) v))
+      with_visible_names_from (length v.declaration_tokens) (visit_part t (number_declarations (names_in_list ns) v))
   visit_section (variable_section ns t) v =
-      with_visible_names_from (length v.declarations) (visit_part t (number_declarations (names_in_list ns) v))
+      with_visible_names_from (length v.declaration_tokens) (visit_part t (number_declarations (names_in_list ns) v))
 
   abbrev pub visit_sections : Tree ℕ (items further_section) → WalkState M → WalkState M
   visit_sections end v = v
@@ -157,9 +157,9 @@ module _ {M : Type 0} (put_ordinal : ℕ → Option ℕ → M → M) where
     -- visits a procedure: its name, its parameters, its block and its closing name
     pub visit_procedure : Tree ℕ (item procedure) → WalkState M → WalkState M
     visit_procedure (declares_procedure x fs b closing) v =
-        with_mark closing (Some (predeclared_count + length v.declarations))
-        (leave_block x (predeclared_count + length v.declarations) (length v.scope)
-        (visit_block b (state_after_heading (length v.declarations) (length v.scope)
+        with_mark closing (Some (predeclared_count + length v.declaration_tokens))
+        (leave_block x (predeclared_count + length v.declaration_tokens) (length v.scope)
+        (visit_block b (state_after_heading (length v.declaration_tokens) (length v.scope)
         (visit_formals fs (number_declaration x v)))))
 
   abbrev pub visit_module : Tree ℕ module_text → WalkState M → WalkState M

@@ -138,7 +138,7 @@ initial_walk writing =
     record {
       writing = writing;
       scope = predeclared_scope naming_by_spelling;
-      declarations = [];
+      declaration_tokens = [];
       uses = [];
       marks = [];
     }

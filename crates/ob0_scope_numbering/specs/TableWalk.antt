@@ -145,7 +145,7 @@ initial_walk writing =
     record {
       writing = writing;
       scope = predeclared_scope naming_by_spelling;
-      declarations = [];
+      declaration_tokens = [];
       uses = [];
       marks = replicate (length writing.source.tokens) None;
     }
@@ -157,7 +157,7 @@ enter_marks table v =
     record {
       writing = v.writing;
       scope = v.scope;
-      declarations = v.declarations;
+      declaration_tokens = v.declaration_tokens;
       uses = v.uses;
       marks = with_marks table v.marks;
     }

@@ -104,12 +104,12 @@ pub(crate) struct NameEntry<'t> {
 /// A list of names with their newest bindings, each name once (`entries`). The name that a renaming
 /// introduces is first. The other names follow in the order in which they were first bound. The map
 /// `name_positions` gives a name's position in `entries` in logarithmic time, whatever the names
-/// are. The table `recent` usually gives the position of a recently found name at once.
+/// are. The table `recent_positions` usually gives the position of a recently found name at once.
 #[derive(Drop)]
 pub(crate) struct NewestBindings<'t> {
     entries: Vec<NameEntry<'t>>,
     name_positions: BTreeMap<Key<'t>, usize>,
-    recent: Vec<usize>,
+    recent_positions: Vec<usize>,
 }
 
 impl<'t> Model for NewestBindings<'t> {
@@ -143,7 +143,7 @@ impl<'t> NewestBindings<'t> {
         Ok(NewestBindings {
             entries: Vec::new(alloc),
             name_positions: BTreeMap::new(alloc),
-            recent: empty_recent_slots(alloc)?,
+            recent_positions: empty_recent_slots(alloc)?,
         })
     }
 
@@ -164,7 +164,7 @@ impl<'t> NewestBindings<'t> {
     fn find_in_recent(&self, slot: usize, name: &'t str) -> Option<usize>
         ensures { IfSome result (λ name_position. position_of_name self.now name.now ≡ Some name_position) }
     {
-        let name_position = match self.recent.get(slot) {
+        let name_position = match self.recent_positions.get(slot) {
             None => return None,
             Some(name_position) => *name_position,
         };
@@ -179,8 +179,8 @@ impl<'t> NewestBindings<'t> {
     fn remember_position(&mut self, slot: usize, name_position: usize)
         ensures { self.new ≡ self.old }
     {
-        if slot < self.recent.len() {
-            self.recent[slot] = name_position;
+        if slot < self.recent_positions.len() {
+            self.recent_positions[slot] = name_position;
         }
     }
 

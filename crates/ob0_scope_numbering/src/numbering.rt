@@ -51,7 +51,7 @@ use std::marker::Model;
 
 /// The state of the walk inside a module. `table` has the ordinal of each identifier visited so
 /// far, at the index of its token. `visible` has the names that are visible at the present place.
-/// `declarations` has the tokens of the declaring names so far, and `occurrences` the tokens of
+/// `declaration_tokens` has the tokens of the declaring names so far, and `occurrences` the tokens of
 /// the looked-up names. `declaration` is the ordinal of a renamed declaration, or None if nothing
 /// is renamed. `ordinals` has each token's ordinal before the renaming: an identifier whose ordinal
 /// in this list is `declaration` gets the name that the renaming introduces.
@@ -61,7 +61,7 @@ pub struct Numbering<'t> {
     ordinals: &'t [OrdinalEntry],
     declaration: Option<usize>,
     visible: VisibleBindings<'t>,
-    declarations: Vec<usize>,
+    declaration_tokens: Vec<usize>,
     occurrences: Vec<usize>,
     table: Vec<OrdinalEntry>,
 }
@@ -79,7 +79,7 @@ impl<'t> Model for Numbering<'t> {
         new = n.visible.new_name;
       };
       scope = n.visible.scope;
-      declarations = n.declarations.items;
+      declaration_tokens = n.declaration_tokens.items;
       uses = n.occurrences.items;
       marks = n.table.items;
     } };
@@ -157,7 +157,7 @@ fn visit_module<'t>(
         ordinals: writing.ordinals,
         declaration: writing.declaration,
         visible: scope_with_predeclared_names(alloc, writing.new)?,
-        declarations: Vec::new(alloc),
+        declaration_tokens: Vec::new(alloc),
         occurrences: Vec::new(alloc),
         table,
     };
@@ -186,7 +186,7 @@ pub fn renumber_body(
         ordinals: &[],
         declaration: None,
         visible: scope_with_predeclared_names(alloc, "")?,
-        declarations: Vec::new(alloc),
+        declaration_tokens: Vec::new(alloc),
         occurrences: Vec::new(alloc),
         table,
     };
@@ -214,7 +214,7 @@ impl<'t> Numbering<'t> {
     /// Returns the tokens of the declaring names, the tokens of the looked-up names, and the table
     /// of ordinals.
     pub fn into_parts(self) -> (Vec<usize>, Vec<usize>, Vec<OrdinalEntry>)
-        ensures declarations { result.0.items ≡ self.entry.declarations }
+        ensures declaration_tokens { result.0.items ≡ self.entry.declaration_tokens }
         ensures uses { result.1.items ≡ self.entry.uses }
         ensures table { result.2.items ≡ self.entry.marks }
     {
@@ -223,18 +223,18 @@ impl<'t> Numbering<'t> {
             ordinals: _,
             declaration: _,
             visible: _,
-            declarations,
+            declaration_tokens,
             occurrences,
             table,
         } = self;
-        (declarations, occurrences, table)
+        (declaration_tokens, occurrences, table)
     }
 
     /// Returns the number of declarations so far, without the predeclared ones.
     fn declaration_count(&self) -> usize
-        ensures { result ≡ length self.now.declarations }
+        ensures { result ≡ length self.now.declaration_tokens }
     {
-        self.declarations.len()
+        self.declaration_tokens.len()
     }
 
     /// Returns the number of bindings in the scope, including the hidden ones.
@@ -256,11 +256,11 @@ impl<'t> Numbering<'t> {
     /// Gives the declaring name at a token the next ordinal, and returns this ordinal. The name
     /// isn't visible yet.
     fn number_name(&mut self, token: usize) -> Result<usize, AllocError>
-        ensures next { IfOk result (λ ordinal. ordinal ≡ predeclared_count + length self.old.declarations) }
+        ensures next { IfOk result (λ ordinal. ordinal ≡ predeclared_count + length self.old.declaration_tokens) }
         ensures numbered { OnOk result (self.new ≡ number_declaration token self.old) }
     {
-        let ordinal = ordinal_at_index(self.declarations.len());
-        self.declarations.push(token)?;
+        let ordinal = ordinal_at_index(self.declaration_tokens.len());
+        self.declaration_tokens.push(token)?;
         self.mark_ordinal(token, Some(ordinal));
         Ok(ordinal)
     }
@@ -282,8 +282,8 @@ impl<'t> Numbering<'t> {
     fn make_names_visible_from(&mut self, first: usize) -> Result<(), AllocError>
         ensures { OnOk result (self.new ≡ with_visible_names_from first self.old) }
     {
-        for index in first..self.declarations.len() {
-            let token = self.declarations[index];
+        for index in first..self.declaration_tokens.len() {
+            let token = self.declaration_tokens[index];
             self.make_name_visible(token, ordinal_at_index(index))?;
         }
         Ok(())
@@ -496,7 +496,7 @@ impl<'t> Numbering<'t> {
     fn append_declaration(&mut self, token: usize) -> Result<(), AllocError>
         ensures { OnOk result (self.new ≡ with_declaration token self.old) }
     {
-        self.declarations.push(token)?;
+        self.declaration_tokens.push(token)?;
         Ok(())
     }
 
@@ -505,7 +505,7 @@ impl<'t> Numbering<'t> {
     fn skip_procedure(&mut self, token: usize) -> Result<(), AllocError>
         ensures { OnOk result (self.new ≡ with_procedure_skipped token self.old) }
     {
-        let next = self.declarations.len();
+        let next = self.declaration_tokens.len();
         self.make_name_visible(token, ordinal_at_index(next))
     }
 

@@ -11,8 +11,8 @@ use Rattle.ob0_tree.specs.View.{block_of, body_of, constants_of, items_of, proce
 use Rattle.ob0_tree.specs.declared.tree.Block.{Block, out-Block}
 use Rattle.ob0_tree.specs.declared.tree.Procedure.{Procedure, out-Procedure}
 use Rattle.ob0_tree.proofs.Viewed.{block_parts, procedure_parts}
-use Rattle.ob0_scope_table.specs.BodyPlaces.{body_place_around, body_place_if, body_place_in_block, body_place_in_procedure}
-use Rattle.ob0_tree.specs.FirstIdentifier.{first_token_of}
+use Rattle.ob0_scope_table.specs.BodyPlaces.{body_place_around, body_place_of_statements_if, body_place_in_block, body_place_in_procedure}
+use Rattle.ob0_tree.specs.FirstIdentifier.{token_of_first_identifier}
 use Rattle.ob0_scope_table.specs.BodyReplaced.{PathToBody, body_at_path, body_at_path_in_block, body_at_path_in_procedure, closing_name_in_module, closing_name_in_block, closing_name_in_procedure, shift_path, path_to_body_in_procedures, path_to_body_in_block, path_to_body_in_procedure, path_to_body_in_module}
 use Rattle.ob0_scope_table.specs.OneBody.{begins_at_or_before, closing_name, is_in_block, is_in_body, is_in_procedure, is_in_procedures}
 use Rattle.ob0_scope_table.specs.declared.one_body.BodyPlace.{BodyPlace}
@@ -25,18 +25,18 @@ a_place first closing = Some (record { first = first; closing = closing })
 -- states that a place belongs to a sought body with this closing name
 pub record IsPlaceOf (sought : Bool) (statements : Tree ℕ (maybe body)) (closing : ℕ) (p : BodyPlace) : Type 0 where
   pub is_bound_to_declaration : sought ≡ true
-  pub first : first_token_of (identifiers role.Declaring statements) ≡ Some p.first
+  pub first : token_of_first_identifier (identifiers role.Declaring statements) ≡ Some p.first
   pub closes : closing ≡ p.closing
 
-place_there : (statements : Tree ℕ (maybe body)) (closing : ℕ) (p : BodyPlace) (o : Option ℕ) → first_token_of (identifiers role.Declaring statements) ≡ o
+place_there : (statements : Tree ℕ (maybe body)) (closing : ℕ) (p : BodyPlace) (o : Option ℕ) → token_of_first_identifier (identifiers role.Declaring statements) ≡ o
     → option_map (λ first. record { first = first; closing = closing }) o ≡ Some p → IsPlaceOf true statements closing p
 place_there statements closing p None is e = absurd (cc)
 place_there statements closing p (Some first) is e =
     let same = same_Some (record { first = first; closing = closing }) p e in
     record { is_bound_to_declaration = refl; first = is ∙ ap (λ (q : BodyPlace). Some q.first) same; closes = ap (λ (q : BodyPlace). q.closing) same }
 
-place_read : (sought : Bool) (statements : Tree ℕ (maybe body)) (closing : ℕ) (p : BodyPlace) → body_place_if sought statements closing ≡ Some p → IsPlaceOf sought statements closing p
-place_read true statements closing p e = place_there statements closing p (first_token_of (identifiers role.Declaring statements)) refl e
+place_read : (sought : Bool) (statements : Tree ℕ (maybe body)) (closing : ℕ) (p : BodyPlace) → body_place_of_statements_if sought statements closing ≡ Some p → IsPlaceOf sought statements closing p
+place_read true statements closing p e = place_there statements closing p (token_of_first_identifier (identifiers role.Declaring statements)) refl e
 place_read false statements closing p e = absurd (cc)
 
 -- The place that is found in a module belongs to the sought body.
@@ -47,20 +47,20 @@ body_place_read low high t p e = place_read (is_in_body low high t) (body_at_pat
 -- ---- the place of some statements, from their first identifier
 
 abbrev pub place_by : ℕ → ℕ → List (Role × ℕ) → Option BodyPlace
-place_by low closing xs = if begins_at_or_before low xs then option_map (λ first. record { first = first; closing = closing }) (first_token_of xs) else None
+place_by low closing xs = if begins_at_or_before low xs then option_map (λ first. record { first = first; closing = closing }) (token_of_first_identifier xs) else None
 
 module _ (low closing : ℕ) where
-  by_none : (xs : List (Role × ℕ)) → first_token_of xs ≡ None → None ≡ place_by low closing xs
+  by_none : (xs : List (Role × ℕ)) → token_of_first_identifier xs ≡ None → None ≡ place_by low closing xs
   by_none [] e = refl
   by_none (x ∷ xs) e = absurd (cc)
 
-  by_after : (xs : List (Role × ℕ)) (first : ℕ) → first_token_of xs ≡ Some first → low < first → None ≡ place_by low closing xs
+  by_after : (xs : List (Role × ℕ)) (first : ℕ) → token_of_first_identifier xs ≡ Some first → low < first → None ≡ place_by low closing xs
   by_after [] first e less = refl
   by_after (x ∷ xs) first e less =
       let same = same_Some x.1 first e in
       ap (λ b. if b then a_place x.1 closing else None) (sym (lt-leb x.1 low (omega (arith, same, less))))
 
-  by_from : (xs : List (Role × ℕ)) (first : ℕ) → first_token_of xs ≡ Some first → first ≤ low → a_place first closing ≡ place_by low closing xs
+  by_from : (xs : List (Role × ℕ)) (first : ℕ) → token_of_first_identifier xs ≡ Some first → first ≤ low → a_place first closing ≡ place_by low closing xs
   by_from [] first e le = absurd (cc)
   by_from (x ∷ xs) first e le =
       let same = same_Some x.1 first e in
@@ -68,15 +68,15 @@ module _ (low closing : ℕ) where
 
   module _ (statements : Tree ℕ (maybe body)) where
     abbrev own_place : Option BodyPlace
-    own_place = body_place_if (begins_at_or_before low (identifiers role.Declaring statements)) statements closing
+    own_place = body_place_of_statements_if (begins_at_or_before low (identifiers role.Declaring statements)) statements closing
 
-    pub placed_none : first_token_of (identifiers role.Declaring statements) ≡ None → None ≡ own_place
+    pub placed_none : token_of_first_identifier (identifiers role.Declaring statements) ≡ None → None ≡ own_place
     placed_none e = by_none (identifiers role.Declaring statements) e
 
-    pub placed_after : (first : ℕ) → first_token_of (identifiers role.Declaring statements) ≡ Some first → low < first → None ≡ own_place
+    pub placed_after : (first : ℕ) → token_of_first_identifier (identifiers role.Declaring statements) ≡ Some first → low < first → None ≡ own_place
     placed_after first e less = by_after (identifiers role.Declaring statements) first e less
 
-    pub placed_from : (first : ℕ) → first_token_of (identifiers role.Declaring statements) ≡ Some first → first ≤ low → a_place first closing ≡ own_place
+    pub placed_from : (first : ℕ) → token_of_first_identifier (identifiers role.Declaring statements) ≡ Some first → first ≤ low → a_place first closing ≡ own_place
     placed_from first e le = by_from (identifiers role.Declaring statements) first e le
 
 -- ---- among procedures
@@ -96,11 +96,11 @@ module _ (cs : Tree ℕ (maybe constants)) (ts : Tree ℕ (maybe type_definition
 module _ (low high own : ℕ) where
   -- returns the place in a procedure that doesn't close before the range
   abbrev pub place_reached : ℕ → Tree ℕ (item procedure) → Option BodyPlace
-  place_reached closing p = body_place_if (nat_le high closing && is_in_procedure low high p) (body_at_path_in_procedure (path_to_body_in_procedure low p) p) (closing_name_in_procedure (path_to_body_in_procedure low p) p)
+  place_reached closing p = body_place_of_statements_if (nat_le high closing && is_in_procedure low high p) (body_at_path_in_procedure (path_to_body_in_procedure low p) p) (closing_name_in_procedure (path_to_body_in_procedure low p) p)
 
   -- returns the place in procedures, or else in the statements of their block
   abbrev pub place_among : Tree ℕ (items procedure) → Tree ℕ (maybe body) → Option BodyPlace
-  place_among end statements = body_place_if (begins_at_or_before low (identifiers role.Declaring statements)) statements own
+  place_among end statements = body_place_of_statements_if (begins_at_or_before low (identifiers role.Declaring statements)) statements own
   place_among (more p ps) statements = if nat_lt (closing_name p) low then place_among ps statements else place_reached (closing_name p) p
 
   pub among_block : (cs : Tree ℕ (maybe constants)) (ts : Tree ℕ (maybe type_definitions)) (vs : Tree ℕ (maybe variables)) (ps : Tree ℕ (items procedure)) (statements : Tree ℕ (maybe body))
@@ -108,13 +108,13 @@ module _ (low high own : ℕ) where
   among_block cs ts vs end statements = refl
   among_block cs ts vs (more p ps) statements =
       elim (nat_lt (closing_name p) low) as (λ z.
-      body_place_if (if z then is_in_procedures low high ps statements else nat_le high (closing_name p) && is_in_procedure low high p)
+      body_place_of_statements_if (if z then is_in_procedures low high ps statements else nat_le high (closing_name p) && is_in_procedure low high p)
       (body_at_path_in_block (if z then shift_path (path_to_body_in_procedures low ps) else zero ∷ path_to_body_in_procedure low p) (forms_block (declares cs ts vs (more p ps)) statements))
       (closing_name_in_block (if z then shift_path (path_to_body_in_procedures low ps) else zero ∷ path_to_body_in_procedure low p) own (forms_block (declares cs ts vs (more p ps)) statements))
       ≡ (if z then place_among ps statements else place_reached (closing_name p) p)) [
         | true ↦
-            ap (λ b. body_place_if (is_in_procedures low high ps statements) b (closing_name_in_block (shift_path (path_to_body_in_procedures low ps)) own (forms_block (declares cs ts vs (more p ps)) statements))) (body_later cs ts vs p ps statements (path_to_body_in_procedures low ps))
-            ∙ (ap (body_place_if (is_in_procedures low high ps statements) (body_at_path_in_block (path_to_body_in_procedures low ps) (forms_block (declares cs ts vs ps) statements))) (closing_later cs ts vs p ps statements (path_to_body_in_procedures low ps) own)
+            ap (λ b. body_place_of_statements_if (is_in_procedures low high ps statements) b (closing_name_in_block (shift_path (path_to_body_in_procedures low ps)) own (forms_block (declares cs ts vs (more p ps)) statements))) (body_later cs ts vs p ps statements (path_to_body_in_procedures low ps))
+            ∙ (ap (body_place_of_statements_if (is_in_procedures low high ps statements) (body_at_path_in_block (path_to_body_in_procedures low ps) (forms_block (declares cs ts vs ps) statements))) (closing_later cs ts vs p ps statements (path_to_body_in_procedures low ps) own)
             ∙ among_block cs ts vs ps statements)
         | false ↦ refl
       ]
@@ -145,8 +145,8 @@ module _ (low high own : ℕ) where
 
     -- The place is in this procedure if the range doesn't extend beyond its end (`b`).
     at_end : (q : Procedure) (b : Bool) → nat_le high (out-Procedure q).closing ≡ b
-        → place_reached (out-Procedure q).closing (procedure_of q) ≡ body_place_if (b && is_in_procedure low high (procedure_of q)) (body_at_path_in_procedure (path_to_body_in_procedure low (procedure_of q)) (procedure_of q)) (closing_name_in_procedure (path_to_body_in_procedure low (procedure_of q)) (procedure_of q))
-    at_end q b e = ap (λ b. body_place_if (b && is_in_procedure low high (procedure_of q)) (body_at_path_in_procedure (path_to_body_in_procedure low (procedure_of q)) (procedure_of q)) (closing_name_in_procedure (path_to_body_in_procedure low (procedure_of q)) (procedure_of q))) e
+        → place_reached (out-Procedure q).closing (procedure_of q) ≡ body_place_of_statements_if (b && is_in_procedure low high (procedure_of q)) (body_at_path_in_procedure (path_to_body_in_procedure low (procedure_of q)) (procedure_of q)) (closing_name_in_procedure (path_to_body_in_procedure low (procedure_of q)) (procedure_of q))
+    at_end q b e = ap (λ b. body_place_of_statements_if (b && is_in_procedure low high (procedure_of q)) (body_at_path_in_procedure (path_to_body_in_procedure low (procedure_of q)) (procedure_of q)) (closing_name_in_procedure (path_to_body_in_procedure low (procedure_of q)) (procedure_of q))) e
 
     pub past_end : (xs : List Procedure) (k : ℕ) (q : Procedure) → k < length xs → q ≡ get_or xs k q → low ≤ (out-Procedure q).closing → (out-Procedure q).closing < high → place_from k xs ≡ None
     past_end xs k q less here le far = in_one xs k q less here le ∙ at_end q false (lt-leb high (out-Procedure q).closing far)
@@ -154,13 +154,13 @@ module _ (low high own : ℕ) where
     pub in_procedure : (xs : List Procedure) (k : ℕ) (q : Procedure) → k < length xs → q ≡ get_or xs k q → low ≤ (out-Procedure q).closing → high ≤ (out-Procedure q).closing → place_from k xs ≡ body_place_in_procedure low high (procedure_of q)
     in_procedure xs k q less here le near = in_one xs k q less here le ∙ at_end q true (le-leb high (out-Procedure q).closing near)
 
-    pub in_statements : (xs : List Procedure) (k : ℕ) → length xs ≤ k → place_from k xs ≡ body_place_if (begins_at_or_before low (identifiers role.Declaring statements)) statements own
+    pub in_statements : (xs : List Procedure) (k : ℕ) → length xs ≤ k → place_from k xs ≡ body_place_of_statements_if (begins_at_or_before low (identifiers role.Declaring statements)) statements own
     in_statements xs k all = ap (λ ys. place_among (items_of procedure_of ys) statements) (drop_all k xs all)
 
 -- ---- a range has a place exactly if it is inside a body
 
 module _ (low high : ℕ) where
-  begins_placed : (own : ℕ) (statements : Tree ℕ (maybe body)) → is_some (body_place_if (begins_at_or_before low (identifiers role.Declaring statements)) statements own) ≡ begins_at_or_before low (identifiers role.Declaring statements)
+  begins_placed : (own : ℕ) (statements : Tree ℕ (maybe body)) → is_some (body_place_of_statements_if (begins_at_or_before low (identifiers role.Declaring statements)) statements own) ≡ begins_at_or_before low (identifiers role.Declaring statements)
   begins_placed own statements = one (identifiers role.Declaring statements)
     where
       one : (xs : List (Role × ℕ)) → is_some (place_by low own xs) ≡ begins_at_or_before low xs
@@ -175,7 +175,7 @@ module _ (low high : ℕ) where
         ≡ (if z then is_in_procedures low high ps statements else nat_le high (closing_name p) && is_in_procedure low high p)) [
           | true ↦ among_placed own ps statements
           | false ↦
-              elim (nat_le high (closing_name p)) as (λ z. is_some (body_place_if (z && is_in_procedure low high p) (body_at_path_in_procedure (path_to_body_in_procedure low p) p) (closing_name_in_procedure (path_to_body_in_procedure low p) p))
+              elim (nat_le high (closing_name p)) as (λ z. is_some (body_place_of_statements_if (z && is_in_procedure low high p) (body_at_path_in_procedure (path_to_body_in_procedure low p) p) (closing_name_in_procedure (path_to_body_in_procedure low p) p))
               ≡ (z && is_in_procedure low high p)) [ true ↦ procedure_placed p | false ↦ refl ]
         ]
 
@@ -187,7 +187,7 @@ module _ (low high : ℕ) where
 
   pub body_placed : (t : Tree ℕ module_text) → is_some (body_place_around low high t) ≡ is_in_body low high t
   body_placed (is_module x b closing) =
-      elim (nat_le high closing) as (λ z. is_some (body_place_if (z && is_in_block low high b) (body_at_path_in_block (path_to_body_in_block low b) b) (closing_name_in_block (path_to_body_in_block low b) closing b)) ≡ (z && is_in_block low high b)) [
+      elim (nat_le high closing) as (λ z. is_some (body_place_of_statements_if (z && is_in_block low high b) (body_at_path_in_block (path_to_body_in_block low b) b) (closing_name_in_block (path_to_body_in_block low b) closing b)) ≡ (z && is_in_block low high b)) [
         | true ↦ block_placed closing b
         | false ↦ refl
       ]

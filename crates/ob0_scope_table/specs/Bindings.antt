@@ -10,7 +10,7 @@ resolution_with m b =
     record {
       module_read = m;
       ordinals = b.ordinals.items;
-      declarations = b.declarations.items;
+      declaration_tokens = b.declaration_tokens.items;
       uses = b.occurrences.items;
       faults = b.faults.items;
     }

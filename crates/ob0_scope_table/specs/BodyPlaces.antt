@@ -16,8 +16,8 @@ module_tree_of t = is_module t.name (block_of t.block) t.closing
 
 -- Returns the place of a body with these statements, in a block with this closing name. Returns None
 -- if `condition` is false, or if the statements have no identifier.
-abbrev pub body_place_if : Bool → Tree ℕ (maybe body) → ℕ → Option BodyPlace
-body_place_if condition statements closing =
+abbrev pub body_place_of_statements_if : Bool → Tree ℕ (maybe body) → ℕ → Option BodyPlace
+body_place_of_statements_if condition statements closing =
     if condition
     then option_map (λ first. record { first = first; closing = closing })
     (first_identifier statements)
@@ -28,7 +28,7 @@ body_place_if condition statements closing =
 -- caller checks that `high` is at or before `closing`. Returns None if no body contains the tokens.
 abbrev pub body_place_in_block : ℕ → ℕ → ℕ → Tree ℕ block → Option BodyPlace
 body_place_in_block low high closing b =
-    body_place_if (is_in_block low high b) (body_at_path_in_block (path_to_body_in_block low b) b)
+    body_place_of_statements_if (is_in_block low high b) (body_at_path_in_block (path_to_body_in_block low b) b)
     (closing_name_in_block (path_to_body_in_block low b) closing b)
 
 -- Returns the place of the body, in this procedure or one inside it, that contains the tokens from
@@ -36,11 +36,11 @@ body_place_in_block low high closing b =
 -- procedure's closing name. Returns None if no body contains the tokens.
 abbrev pub body_place_in_procedure : ℕ → ℕ → Tree ℕ (item procedure) → Option BodyPlace
 body_place_in_procedure low high p =
-    body_place_if (is_in_procedure low high p) (body_at_path_in_procedure (path_to_body_in_procedure low p) p)
+    body_place_of_statements_if (is_in_procedure low high p) (body_at_path_in_procedure (path_to_body_in_procedure low p) p)
     (closing_name_in_procedure (path_to_body_in_procedure low p) p)
 
 -- Returns the place of the body, in this module, that contains the tokens from `low` up to, but not
 -- including, `high`. Returns None if no body contains them.
 abbrev pub body_place_around : ℕ → ℕ → Tree ℕ module_text → Option BodyPlace
 body_place_around low high t =
-    body_place_if (is_in_body low high t) (body_at_path (path_to_body_in_module low t) t) (closing_name_in_module (path_to_body_in_module low t) t)
+    body_place_of_statements_if (is_in_body low high t) (body_at_path (path_to_body_in_module low t) t) (closing_name_in_module (path_to_body_in_module low t) t)

@@ -146,8 +146,8 @@ pub record IsBodyReplaced (old new : ParsedModule) (path : PathToBody) (s : Same
   pub old_in_body : is_in_body s.prefix s.old_suffix (tree_of old) ≡ true
   pub new_in_body : is_in_body s.prefix s.new_suffix (tree_of new) ≡ true
   pub first : ℕ
-  pub old_first : first_identifier (body_at_path path (tree_of old)) ≡ Some first
-  pub new_first : first_identifier (body_at_path path (tree_of new)) ≡ Some first
+  pub first_identifier_of_old_body : first_identifier (body_at_path path (tree_of old)) ≡ Some first
+  pub first_identifier_of_new_body : first_identifier (body_at_path path (tree_of new)) ≡ Some first
   pub front : first < s.prefix
   pub back : s.old_suffix < closing_name_in_module path (tree_of old)
   pub closing : closing_name_in_module path (tree_of new) ≡ moved_token_index s (closing_name_in_module path (tree_of old))

@@ -2,7 +2,7 @@ pub mod Bindings
 pub mod Entries
 pub mod Resolution
 pub mod Spans
-pub mod DeclaredTwice
+pub mod DuplicatesAndEndNames
 pub mod LabelledTrees
 pub mod FaultTokens
 pub mod TokenProperty

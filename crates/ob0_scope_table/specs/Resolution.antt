@@ -17,7 +17,7 @@ use Rattle.ob0_language_names.specs.Names.{Label, Name, naming_by_spelling, as_w
 use Rattle.ob0_language_names.specs.Scopes.{Labelling, label_from_ordinal, numbered, predeclared_count, relabel_module}
 use Rattle.ob0_language_names.specs.Occurrences.{bindings}
 use Rattle.ob0_language_names.specs.ConsistentNames.{has_consistent_names}
-use Rattle.ob0_scope_table.specs.DeclaredTwice.{declaration_faults}
+use Rattle.ob0_scope_table.specs.DuplicatesAndEndNames.{declaration_faults}
 use Rattle.ob0_scope_table.specs.Spans as spans
 
 -- Returns the ordinal that the table `ordinals` has for the token with the index `token`. Returns
@@ -44,10 +44,10 @@ declaring_names ((role.ModuleName, n) ∷ xs) = declaring_names xs
 -- declaring names in text order. Returns None for a predeclared name, and if no declaration has this
 -- ordinal.
 abbrev pub declaration_token : List ℕ → ℕ → Option ℕ
-declaration_token declarations ordinal =
+declaration_token declaration_tokens ordinal =
     if nat_lt ordinal predeclared_count
     then None
-    else slice_get declarations (ordinal - predeclared_count)
+    else slice_get declaration_tokens (ordinal - predeclared_count)
 
 -- returns whether a label is the label of an unbound name: a spelling instead of an ordinal
 abbrev pub is_unbound : Label → Bool
@@ -55,8 +55,8 @@ is_unbound (declared k) = false
 is_unbound (as_written x) = true
 
 -- returns whether this is the fault of a duplicate declaration or of a wrong closing name
-abbrev pub is_declaration_fault : Fault → Bool
-is_declaration_fault fault =
+abbrev pub is_duplicate_or_end_name : Fault → Bool
+is_duplicate_or_end_name fault =
     elim (fault.code) [ code.Duplicate ↦ true | code.EndName ↦ true | _ ↦ false ]
 
 -- returns whether this is the fault of an undeclared name
@@ -78,13 +78,13 @@ undeclared_faults_by_table source ordinals (token ∷ tokens) =
     ∷ undeclared_faults_by_table source ordinals tokens
 
 -- A module with its resolved names. `ordinals` has an entry for each token: the ordinal (the number)
--- of the identifier's declaration, or None. `declarations` has the tokens of the declaring names in
+-- of the identifier's declaration, or None. `declaration_tokens` has the tokens of the declaring names in
 -- text order. The first of these names has the ordinal `predeclared_count`. `uses` has the tokens of
 -- the looked-up names in text order, and `faults` the faults of names.
 pub record Resolution : Type 0 where
   pub module_read : ParsedModule
   pub ordinals : List (Option ℕ)
-  pub declarations : List ℕ
+  pub declaration_tokens : List ℕ
   pub uses : List ℕ
   pub faults : List Fault
 
@@ -133,9 +133,9 @@ undeclared_faults m = undeclared_faults_by_labels m.source (occurrences (tree_of
 -- names come first (`declaration_faults`). A fault for each undeclared name follows, in text order.
 -- The list has no fault of the first two kinds exactly if no name is declared twice in a block or
 -- record, and all closing names are right.
-pub record AreFaultsOf (m : ParsedModule) (faults : List Fault) : Type 0 where
+pub record AreNameFaultsOf (m : ParsedModule) (faults : List Fault) : Type 0 where
   pub by_kind : faults ≡ declaration_faults m ++ undeclared_faults m
-  pub declared_twice : list_any is_declaration_fault faults ≡ not (has_consistent_names (named_tree_of m))
+  pub declared_twice : list_any is_duplicate_or_end_name faults ≡ not (has_consistent_names (named_tree_of m))
   pub undeclared : filter is_undeclared_fault faults ≡ undeclared_faults m
 
 -- returns whether this token is an identifier of the module
@@ -154,7 +154,7 @@ pub record IsResolution (r : Resolution) : Type 0 where
   pub numbering : IsNumberingTable r.module_read r.ordinals
   pub binding : IsBindingTable r.module_read r.ordinals
   pub ordinals_only_at_names : OnlyNamesHaveOrdinals r.module_read r.ordinals
-  pub declaring : r.declarations
+  pub declaring : r.declaration_tokens
       ≡ declaring_names (identifiers role.Declaring (tree_of r.module_read))
   pub occurring : r.uses ≡ occurrences (tree_of r.module_read)
-  pub reported : AreFaultsOf r.module_read r.faults
+  pub reported : AreNameFaultsOf r.module_read r.faults

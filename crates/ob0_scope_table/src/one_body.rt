@@ -7,7 +7,7 @@ ghost use Rattle.ob0_tree.specs.ParsedModule.{tree_of};
 ghost use Rattle.ob0_tree.specs.View.{block_of, body_of, procedure_of};
 ghost use Rattle.ob0_tree.specs.Tree.{identifiers};
 ghost use Rattle.ob0_tree.specs.declared.tree.Role.TheVariants as roles;
-ghost use Rattle.ob0_scope_table.specs.BodyPlaces.{body_place_around, body_place_if, body_place_in_block, body_place_in_procedure, module_tree_of};
+ghost use Rattle.ob0_scope_table.specs.BodyPlaces.{body_place_around, body_place_of_statements_if, body_place_in_block, body_place_in_procedure, module_tree_of};
 ghost use Rattle.ob0_scope_table.specs.OneBody.{begins_at_or_before, is_in_body};
 
 use ob0_tree::{Block, Module, ModuleTree, Procedure, Statement, first_identifier};
@@ -89,7 +89,7 @@ fn body_place_of_statements(
     low: usize,
 ) -> Option<BodyPlace>
     ensures { result
-        ≡ body_place_if (begins_at_or_before low (identifiers roles.Declaring (body_of statements.now)))
+        ≡ body_place_of_statements_if (begins_at_or_before low (identifiers roles.Declaring (body_of statements.now)))
         (body_of statements.now) closing }
 {
     let first = first_identifier(statements)?;

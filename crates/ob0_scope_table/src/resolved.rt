@@ -2,7 +2,7 @@
 
 ghost use Rattle.std.specs.Prelude.{◌≡◌, ◌-◌, ◌<◌, slice_get, Some, None};
 ghost use Rattle.ob0_tree.specs.ParsedModule.{named_tree_of};
-ghost use Rattle.ob0_language_names.specs.Occurrences.{binds};
+ghost use Rattle.ob0_language_names.specs.Occurrences.{ordinal_bound_at};
 ghost use Rattle.ob0_scope_table.specs.Resolution.{IsResolution, ordinal_in, declaration_token};
 
 use crate::ordinal_entry::OrdinalEntry;
@@ -15,12 +15,12 @@ use std::marker::Model;
 
 /// The bindings of a module's names, as token indexes and ordinals (the numbers of declarations).
 /// `ordinals` has an entry for each token: the ordinal of the identifier's declaration, or None.
-/// `declarations` has the tokens of the declaring names, and `occurrences` the tokens of the
+/// `declaration_tokens` has the tokens of the declaring names, and `occurrences` the tokens of the
 /// looked-up names. `faults` has the faults of names. Bindings borrow nothing.
 #[derive(Drop)]
 pub struct Bindings {
     pub ordinals: Vec<OrdinalEntry>,
-    pub declarations: Vec<usize>,
+    pub declaration_tokens: Vec<usize>,
     pub occurrences: Vec<usize>,
     pub faults: Vec<Fault>,
 }
@@ -108,7 +108,7 @@ impl<'t> Resolved<'t> {
     /// bound. Looked-up names are counted from 0 in text order. Returns None if the name is unbound
     /// or there is no such name.
     pub fn declaration_of(&self, occurrence: usize) -> Option<usize>
-        ensures { result ≡ binds (named_tree_of self.now.module_read) occurrence }
+        ensures { result ≡ ordinal_bound_at (named_tree_of self.now.module_read) occurrence }
     {
         // The proof needs the invariant of this value.
         let _ = &self.bindings;
@@ -146,22 +146,22 @@ impl<'t> Resolved<'t> {
 
     /// Returns the token indexes of the declaring names, in text order. The first of these names
     /// has the ordinal 7.
-    pub fn declarations(&self) -> &[usize]
-        ensures { result.now ≡ self.now.declarations }
+    pub fn declaration_tokens(&self) -> &[usize]
+        ensures { result.now ≡ self.now.declaration_tokens }
     {
-        self.bindings().declarations.as_slice()
+        self.bindings().declaration_tokens.as_slice()
     }
 
     /// Returns the index of the token at which the name with this ordinal is declared. Returns None
     /// for a predeclared name, and if no declaration has this ordinal.
     pub fn declaring_token(&self, ordinal: usize) -> Option<usize>
-        ensures { result ≡ declaration_token self.now.declarations ordinal }
+        ensures { result ≡ declaration_token self.now.declaration_tokens ordinal }
     {
         if ordinal < PREDECLARED_COUNT {
             return None;
         }
         self.bindings()
-            .declarations
+            .declaration_tokens
             .get(ordinal - PREDECLARED_COUNT)
             .copied()
     }

@@ -87,14 +87,14 @@ title Everywhere = codes "Inline everywhere"
 
 -- Returns the JSON value of the code action that applies these edits, in the form that the client
 -- accepts. The action's title depends on `how`.
-abbrev pub action_of : RequestedActions → Inlining → List Edit → Data
-action_of requested how edits =
+abbrev pub code_action_of : RequestedActions → Inlining → List Edit → Data
+code_action_of requested how edits =
     action_value (workspace_edit requested.client requested.uri requested.version edits) (title how)
 
 -- Returns a list with the JSON value of one code action, which applies these edits. If the edits
 -- are None, the inlining is refused, and the list is empty.
 abbrev pub action_values : RequestedActions → Inlining → Option (Vec Edit Global) → List Data
-action_values requested how (Some edits) = action_of requested how edits.items ∷ []
+action_values requested how (Some edits) = code_action_of requested how edits.items ∷ []
 action_values requested how None = []
 
 -- Returns the JSON array of the offered actions: to inline a constant at one use, then to inline it

@@ -11,7 +11,7 @@ use Rattle.ob0_text.specs.declared.position_types.Unit.{Unit}
 use Rattle.ob0_text.specs.declared.refusals.EditRefusal.TheVariants.{TooLong}
 use Rattle.ob0_analysis.specs.Diagnosed.{IsWellTypedModule}
 use Rattle.ob0_analysis.specs.Texts.{utf8}
-use Rattle.ob0_edits.specs.Layouts.{IsTooLongFormatted, FormatsIn}
+use Rattle.ob0_edits.specs.Layouts.{FormattedTextIsTooLong, FormatsIn}
 use Rattle.ob0_session_json.specs.Shapes.{edits_value, edit_refusal}
 
 -- States that the message answers a request with this id to format the text with this indentation.
@@ -22,7 +22,7 @@ AnswersFormatting unit id indent text message =
     ((edits : List Edit)
     × FormatsIn unit indent text edits
     × (message ≡ result_message id (edits_value edits)))
-    ⊎ ((IsTooLongFormatted indent text × (message ≡ edit_refusal id (refusal_text TooLong)))
+    ⊎ ((FormattedTextIsTooLong indent text × (message ≡ edit_refusal id (refusal_text TooLong)))
     ⊎ (¬ IsWellTypedModule (utf8 text) × (message ≡ edit_refusal id (codes "ill-typed"))))
 
 -- States that the bytes `content` are the text of a message that answers the request for

@@ -10,7 +10,7 @@ use Rattle.ob0_text.specs.Units.{width_of}
 use Rattle.ob0_text.specs.declared.position_types.Unit.{Unit}
 use Rattle.ob0_edits_tokens.specs.Ranges.{range_of}
 use Rattle.ob0_scope_table.specs.Resolution.{Resolution}
-use Rattle.ob0_refs.specs.Shown.{HoverText}
+use Rattle.ob0_refs.specs.NameHovers.{HoverText}
 use Rattle.ob0_refs.specs.Questions.{AreReferencesAt, hover_at_offset, definition_at, renamable_span_at}
 use Rattle.ob0_rpc.specs.Requesting.{DocumentPlace}
 use Rattle.ob0_rpc.specs.Shapes.{range_value, result_message}

@@ -14,7 +14,7 @@ ghost use Rattle.ob0_rpc.specs.Shapes.{result_message};
 ghost use Rattle.ob0_rpc.specs.Writing.{Writes};
 ghost use Rattle.ob0_text.specs.Texts.{offset_of};
 ghost use Rattle.ob0_text.specs.Units.{width_of};
-ghost use Rattle.ob0_session_answers.specs.Actions.{RepliesToActions, action_of, actions_request_view, actions_array, allows_inlining as allows, is_inlining_kind as of_kind, actions_offset as place_in, title, accepts_inlining as wants};
+ghost use Rattle.ob0_session_answers.specs.Actions.{RepliesToActions, code_action_of, actions_request_view, actions_array, allows_inlining as allows, is_inlining_kind as of_kind, actions_offset as place_in, title, accepts_inlining as wants};
 ghost use Rattle.ob0_session_json.specs.JsonViews.{code_action_view};
 
 use ob0_analysis::Analysis;
@@ -126,7 +126,7 @@ impl<'a> ActionsRequest<'a> {
         edits: &[Edit],
     ) -> Result<Vec<u8>, AllocError>
         ensures { IfOk result (λ bytes. Writes (result_message (id_data self.now.id.now)
-            (array (item (action_of (actions_request_view self.now version) how edits.now) no_items)))
+            (array (item (code_action_of (actions_request_view self.now version) how edits.now) no_items)))
             bytes.items) }
     {
         let actions = [self.action(version, how, edits)];
@@ -136,7 +136,7 @@ impl<'a> ActionsRequest<'a> {
     /// Returns the code action that applies these edits to this version of the document. The
     /// action's title depends on `how`.
     fn action<'b>(&'b self, version: i64, how: Inlining, edits: &'b [Edit]) -> CodeAction<'b>
-        ensures { code_action_view result ≡ action_of (actions_request_view self.now version) how edits.now }
+        ensures { code_action_view result ≡ code_action_of (actions_request_view self.now version) how edits.now }
     {
         let edit = WorkspaceEdit {
             client: self.client,

@@ -151,7 +151,7 @@ impl<T: TextStore> AnalysedDocuments<T> {
     {
         match self.documents.get(uri) {
             Some(Held::InStep { version: _, text }) => {
-                let analysis = analysis_after(self.alloc, before, text.as_str())?;
+                let analysis = analyse_or_reanalyse(self.alloc, before, text.as_str())?;
                 self.analyses.put(uri, analysis)
             }
             _ => Ok(()),
@@ -161,7 +161,7 @@ impl<T: TextStore> AnalysedDocuments<T> {
 
 /// Returns the analysis of a text. `before` is the analysis of an earlier text, which is reused, or
 /// None.
-fn analysis_after(
+fn analyse_or_reanalyse(
     alloc: Global,
     before: Option<Analysis>,
     text: &str,

@@ -15,8 +15,8 @@ use Rattle.ob0_session_answers.specs.Diagnostics.{Publishes}
 use Rattle.ob0_session_documents.specs.DocumentRequests.{IsOutcomeOfRequest}
 use Rattle.ob0_session_documents.specs.declared.document_requests.RequestOutcome.{RequestOutcome}
 use Rattle.ob0_session_documents.specs.declared.document_requests.RequestOutcome.TheVariants.{Answered, OutOfStep, Unopened}
-use Rattle.ob0_session_server.specs.ReplyViews.{Reacts, RepliesAboutDocument, RepliesForOutcome, SendsReply, message_of}
-use Rattle.ob0_session_server.specs.Steps.{next_after, HasNotEnded, SessionSteps}
+use Rattle.ob0_session_server.specs.ReplyViews.{Reacts, RepliesAboutDocument, RepliesForOutcome, SendsReply, message_of_outcome}
+use Rattle.ob0_session_server.specs.Steps.{next_in_phase, HasNotEnded, SessionSteps}
 use Rattle.ob0_session_server.specs.declared.session.Phase.{Phase}
 use Rattle.ob0_session_server.specs.declared.session.Phase.TheVariants.{Starting, Running, ShutDown, Ended, Failed}
 use Rattle.ob0_session_server.specs.declared.session.Step.{Step}
@@ -59,7 +59,7 @@ going_on (Ended status) before content sent after h works answers = cc
 going_on Failed before content sent after h works answers = absurd (works refl)
 
 pub ended : (phase : Phase) (status : ℕ) (before : ServerState) (content : List ℕ)
-    → next_after phase ≡ End status → AnswersInPhase phase before content [] before
+    → next_in_phase phase ≡ End status → AnswersInPhase phase before content [] before
 ended Starting status before content h = cc
 ended Running status before content h = cc
 ended ShutDown status before content h = cc
@@ -67,7 +67,7 @@ ended (Ended other) status before content h = (refl, refl)
 ended Failed status before content h = cc
 
 pub ended_step : (s : ServerState) (content : List ℕ) (step : Step) (status : ℕ)
-    → step.send.items ≡ [] → step.next ≡ End status → End status ≡ next_after s.phase → SessionSteps s content step s
+    → step.send.items ≡ [] → step.next ≡ End status → End status ≡ next_in_phase s.phase → SessionSteps s content step s
 ended_step s content step status none next end =
     let P : List (List ℕ) → Type 0 = λ sent. Answers s content sent s in
     let empty : map (λ (v : Vec ℕ Global). v.items) step.send.items ≡ [] = ap (map (λ (v : Vec ℕ Global). v.items)) none in
@@ -115,7 +115,7 @@ reacts_about s new id uri say answers sent says (same, (outcome, comes, replies)
 
 -- The message of a publication request's outcome is the publication of the document.
 pub published_with : (held : OpenDocuments) (uri : List ℕ) (outcome : RequestOutcome) (sent : Option (Vec ℕ Global))
-    → IsOutcomeOfRequest (λ version unit text message. Publishes unit uri version text message) held uri outcome → sent ≡ message_of outcome
+    → IsOutcomeOfRequest (λ version unit text message. Publishes unit uri version text message) held uri outcome → sent ≡ message_of_outcome outcome
     → SendsReply (publication_reply held.unit uri (document_at held uri)) sent
 published_with held uri (Answered message) sent comes is =
     let P : Option Document → Type 0 = λ d. SendsReply (publication_reply held.unit uri d) sent in

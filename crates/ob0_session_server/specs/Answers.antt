@@ -39,8 +39,8 @@ pub record ServerState : Type 0 where
   pub held : OpenDocuments
 
 -- The capabilities of a client before `initialize`: none.
-abbrev pub no_features : ClientFeatures
-no_features =
+abbrev pub no_client_features : ClientFeatures
+no_client_features =
     record {
       offers_utf8 = false;
       prepares_renames = false;
@@ -51,7 +51,7 @@ no_features =
 -- The state of a session before `initialize`: no document is open, and positions are counted in
 -- UTF-16 units.
 abbrev pub start : ServerState
-start = record { phase = Starting; client = no_features; held = no_open_documents Utf16 }
+start = record { phase = Starting; client = no_client_features; held = no_open_documents Utf16 }
 
 -- ---- the reply to one message
 
@@ -202,13 +202,13 @@ react_to_request phase s id method params = reaction_without_change s nothing
 
 -- Returns the exit status of a session that receives `exit` in this phase: 0 after `shutdown`,
 -- otherwise 1.
-abbrev pub end_status : Phase → ℕ
-end_status ShutDown = 0
-end_status phase = 1
+abbrev pub exit_status_in_phase : Phase → ℕ
+exit_status_in_phase ShutDown = 0
+exit_status_in_phase phase = 1
 
 -- Returns the reaction to `exit`, which ends the session with the status for its phase.
 abbrev pub react_to_exit : ServerState → Reaction
-react_to_exit s = reaction_with_phase (Ended (end_status s.phase)) s nothing
+react_to_exit s = reaction_with_phase (Ended (exit_status_in_phase s.phase)) s nothing
 
 -- Returns the reply that publishes the diagnostics of the document with this uri. Returns `nothing`
 -- if the document isn't open or is out of step.

@@ -30,10 +30,10 @@ RepliesForOutcome id OutOfStep sent = SendsReply (says (edit_refusal id (codes "
 RepliesForOutcome id Unopened sent = SendsReply (says (edit_refusal id (codes "unopened"))) sent
 
 -- Returns the message of an outcome. Returns None if the document is out of step or isn't open.
-abbrev pub message_of : RequestOutcome → Option (Vec ℕ Global)
-message_of (Answered message) = Some message
-message_of OutOfStep = None
-message_of Unopened = None
+abbrev pub message_of_outcome : RequestOutcome → Option (Vec ℕ Global)
+message_of_outcome (Answered message) = Some message
+message_of_outcome OutOfStep = None
+message_of_outcome Unopened = None
 
 -- States that this message answers or refuses the request about the document with this uri, and
 -- that the state is unchanged. `answers` states which bytes answer the request.

@@ -11,20 +11,20 @@ use Rattle.ob0_session_server.specs.declared.session.SessionFault.TheVariants.{M
 use Rattle.ob0_session_server.specs.declared.session.Step.{Step}
 
 -- Returns `End` with the exit status if the session has ended in this phase, otherwise `Continue`.
-abbrev pub next_after : Phase → Next
-next_after (phases.Ended status) = End status
-next_after phase = Continue
+abbrev pub next_in_phase : Phase → Next
+next_in_phase (phases.Ended status) = End status
+next_in_phase phase = Continue
 
 -- States that a session in this phase hasn't ended.
 abbrev pub HasNotEnded : Phase → Type 0
-HasNotEnded phase = next_after phase ≡ Continue
+HasNotEnded phase = next_in_phase phase ≡ Continue
 
 -- States that a step succeeds: the session replies to the content, and reports whether it
 -- continues.
 pub record SessionSteps (before : ServerState) (content : List ℕ) (step : Step)
     (after : ServerState) : Type 0 where
   pub answers : Answers before content (map (λ v. v.items) step.send.items) after
-  pub next : step.next ≡ next_after after.phase
+  pub next : step.next ≡ next_in_phase after.phase
 
 -- States that a step may fail with this fault. With `Memory`, the session hasn't ended or failed
 -- before the step, and has failed after it. With `Failed`, the session has failed before the step,

@@ -3,7 +3,7 @@
 ghost use Rattle.std.specs.Prelude.{◌≡◌, ◌≢◌, Ok, IfOk, IfErr, map, option_map, string_bytes};
 ghost use Rattle.ob0_rpc.specs.MessageViews.{id_data};
 ghost use Rattle.ob0_text.specs.OpenDocuments.{no_open_documents};
-ghost use Rattle.ob0_session_server.specs.ReplyViews.{RepliesForOutcome, message_of as spec_message_of};
+ghost use Rattle.ob0_session_server.specs.ReplyViews.{RepliesForOutcome, message_of_outcome as spec_message_of};
 ghost use Rattle.ob0_session_server.specs.Units.{unit_for};
 
 use ob0_rpc::{
@@ -89,7 +89,7 @@ impl<T: TextStore> Session<T> {
     ghost use Rattle.ob0_rpc.specs.MessageViews.{document_place_view, id_or_null, kinds_view, request_view, notification_view};
     ghost use Rattle.ob0_session_answers.specs.Questions.{references_question};
     ghost use Rattle.ob0_session_server.specs.ReplyViews.{Reacts, RepliesAboutDocument};
-    ghost use Rattle.ob0_session_server.specs.Steps.{SessionSteps, SessionFails, next_after};
+    ghost use Rattle.ob0_session_server.specs.Steps.{SessionSteps, SessionFails, next_in_phase};
     ghost use Rattle.std.specs.Str.{chars};
     ghost use Rattle.ob0_text.specs.OpenDocuments.{text_change_of, document_at};
 
@@ -154,7 +154,7 @@ impl<T: TextStore> Session<T> {
     /// Returns `Continue` if the session continues. If it has ended, returns `End` with its exit
     /// status.
     fn next(&self) -> Next
-        ensures { result ≡ next_after self.now.phase }
+        ensures { result ≡ next_in_phase self.now.phase }
     {
         match self.phase {
             Phase::Ended(status) => Next::End(status),
@@ -538,7 +538,7 @@ impl<T: TextStore> Session<T> {
             (option_to_list (option_map (λ v. v.items) sent))) }
     {
         let outcome = self.documents.answer_request(uri, &PublishRequest { uri })?;
-        Ok(message_of(outcome))
+        Ok(message_of_outcome(outcome))
     }
 }
 
@@ -559,7 +559,7 @@ fn reply_for_outcome(
 }
 
 /// Returns the message of an outcome. Returns None if the document is out of step or isn't open.
-fn message_of(outcome: RequestOutcome) -> Option<Vec<u8>>
+fn message_of_outcome(outcome: RequestOutcome) -> Option<Vec<u8>>
     ensures { result ≡ spec_message_of outcome }
 {
     match outcome {

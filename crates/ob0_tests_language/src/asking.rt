@@ -6,7 +6,7 @@ ghost use Rattle.std.specs.Prelude.{⊤};
 use crate::code::push_code;
 use crate::declarations::{push_bound, push_capture, push_type};
 use crate::edits::{push_edited, rename_or_faults};
-use crate::names::{push_all_shown, push_name};
+use crate::names::{push_all_hovers, push_name};
 use crate::runs::push_run;
 use ob0_analysis::{Analysis, Diagnosis, Question, ask};
 use ob0_scan::Span;
@@ -108,7 +108,7 @@ fn push_answer(
         TestQuestion::Free(declaration, new) => push_capture(alloc, out, module, declaration, new),
         TestQuestion::Bound(declaration, new) => push_bound(alloc, out, module, declaration, new),
         TestQuestion::NameAt(offset) => push_name(alloc, out, module, offset),
-        TestQuestion::Shown => push_all_shown(alloc, out, module),
+        TestQuestion::Shown => push_all_hovers(alloc, out, module),
         TestQuestion::Code => push_code(alloc, out, module),
         TestQuestion::Run(input, calls, turns) => push_run(alloc, out, module, input, calls, turns),
         edit => push_edited(alloc, out, module, edit),

@@ -157,7 +157,7 @@ fn faults_from_scratch(alloc: Global, text: &str) -> Result<String, AllocError> 
 
 /// Returns whether the text `new` has the faults that an analysis from scratch finds, if its
 /// analysis reuses the analysis of the text `old`.
-fn is_as_new(alloc: Global, old: &str, new: &str) -> Result<bool, AllocError> {
+fn has_faults_from_scratch(alloc: Global, old: &str, new: &str) -> Result<bool, AllocError> {
     let found = faults_after_change(alloc, old, new)?;
     let wanted = faults_from_scratch(alloc, new)?;
     Ok(found.as_str() == wanted.as_str())
@@ -165,19 +165,25 @@ fn is_as_new(alloc: Global, old: &str, new: &str) -> Result<bool, AllocError> {
 
 /// Changes a text, and then changes it back. Returns whether each result has the faults that an
 /// analysis from scratch finds.
-fn are_as_new(alloc: Global, row: &(&str, u64, u64, &str)) -> Result<bool, AllocError> {
+fn changes_have_faults_from_scratch(
+    alloc: Global,
+    row: &(&str, u64, u64, &str),
+) -> Result<bool, AllocError> {
     let (text, start, end, new) = *row;
     let mut store = Whole::from_str(alloc, text)?;
     let (start, end) = (at(0, start), at(0, end));
     store.replace(Range { start, end }, new)?;
-    Ok(is_as_new(alloc, text, store.as_str())? && is_as_new(alloc, store.as_str(), text)?)
+    Ok(
+        has_faults_from_scratch(alloc, text, store.as_str())?
+            && has_faults_from_scratch(alloc, store.as_str(), text)?,
+    )
 }
 
 /// Returns the index, from 0, of the first change after which a text has other faults than an
 /// analysis from scratch finds. Returns None if there is no such change.
 fn first_wrong_change(alloc: Global, changes: &[(&str, u64, u64, &str)]) -> Option<usize> {
     for i in 0..changes.len() {
-        if are_as_new(alloc, &changes[i]) != Ok(true) {
+        if changes_have_faults_from_scratch(alloc, &changes[i]) != Ok(true) {
             return Some(i);
         }
     }

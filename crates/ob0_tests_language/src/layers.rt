@@ -25,7 +25,7 @@ static EXPECTED_ORDINALS: &[usize] = &[0, 8, 7, 8, 7, 5, 8];
 
 /// Returns whether the names of the module are bound to their declarations and no fault is
 /// reported.
-fn is_bound(names: &Resolved<'_>) -> bool {
+fn has_expected_bindings(names: &Resolved<'_>) -> bool {
     for occurrence in 0..EXPECTED_ORDINALS.len() {
         if names.declaration_of(occurrence) != Some(EXPECTED_ORDINALS[occurrence]) {
             return false;
@@ -68,7 +68,7 @@ fn is_well_typed(alloc: Global, names: &Resolved<'_>) -> bool {
 /// Returns whether the names are bound as expected and the module is well-typed.
 fn is_resolved(alloc: Global, module: &Module<'_>) -> bool {
     match resolve(alloc, module) {
-        Ok(names) => is_bound(&names) && is_well_typed(alloc, &names),
+        Ok(names) => has_expected_bindings(&names) && is_well_typed(alloc, &names),
         Err(_refused) => false,
     }
 }
@@ -91,7 +91,7 @@ fn is_parsable(alloc: Global, tokens: &Tokens) -> bool {
 }
 
 /// Returns whether the text passes through all layers with the expected results.
-fn goes_through(alloc: Global) -> bool {
+fn passes_all_layers(alloc: Global) -> bool {
     match scan(alloc, TEXT) {
         Ok(tokens) => is_parsable(alloc, &tokens),
         Err(_refusal) => false,
@@ -100,7 +100,7 @@ fn goes_through(alloc: Global) -> bool {
 
 #[test]
 fn a_module_goes_through_the_layers(rt: HostRuntime) {
-    assert!(rt; goes_through(rt.alloc()));
+    assert!(rt; passes_all_layers(rt.alloc()));
 }
 
 #[test]

@@ -22,17 +22,17 @@ pub fn push_name(
     let Some(At { span, of }) = at(module, offset) else {
         return Ok(());
     };
-    push_of(out, of)?;
+    push_referent(out, of)?;
     if let Some(declared) = definition(module, offset) {
         push_span(out, " from ", declared)?;
     }
-    push_named(alloc, out, module, offset)?;
-    push_shown(alloc, out, module, offset, span)
+    push_uses(alloc, out, module, offset)?;
+    push_hover_at(alloc, out, module, offset, span)
 }
 
 /// Appends the thing that a name refers to: a declaration's ordinal, `predeclared`, or a field's
 /// record and index.
-fn push_of(out: &mut String, of: Of) -> Result<(), AllocError> {
+fn push_referent(out: &mut String, of: Of) -> Result<(), AllocError> {
     match of {
         Of::Declared(ordinal) => push_number(out, "", ordinal),
         Of::Predeclared => out.push_str("predeclared"),
@@ -41,7 +41,7 @@ fn push_of(out: &mut String, of: Of) -> Result<(), AllocError> {
 }
 
 /// Appends the byte ranges of the uses of the name at a byte offset.
-fn push_named(
+fn push_uses(
     alloc: Global,
     out: &mut String,
     module: &WellTyped<'_>,
@@ -63,7 +63,7 @@ fn push_spans(out: &mut String, spans: &[Span]) -> Result<(), AllocError> {
 /// Appends the hover text at a byte offset, and the byte range for which it is shown. Appends a
 /// remark if this range isn't `name`, the range of the name. Appends nothing if there is no hover
 /// text.
-fn push_shown(
+fn push_hover_at(
     alloc: Global,
     out: &mut String,
     module: &WellTyped<'_>,
@@ -111,7 +111,7 @@ fn names_and_fields_are_found(rt: HostRuntime) {
 }
 
 /// Appends the hover text of each identifier that has a hover text, followed by a bar.
-pub fn push_all_shown(
+pub fn push_all_hovers(
     alloc: Global,
     out: &mut String,
     module: &WellTyped<'_>,

@@ -96,7 +96,7 @@ fn has_state<T: TextStore>(documents: &Documents<T>, uri: &str, wanted: Expected
 }
 
 /// Returns whether the replaced bytes (`found`) are the expected ones (`wanted`).
-fn are_bytes(found: Option<ReplacedBytes>, wanted: Option<(usize, usize, usize)>) -> bool {
+fn are_expected_bytes(found: Option<ReplacedBytes>, wanted: Option<(usize, usize, usize)>) -> bool {
     match (found, wanted) {
         (Some(bytes), Some(wanted)) => (bytes.from, bytes.removed, bytes.added) == wanted,
         (None, None) => true,
@@ -117,7 +117,7 @@ fn perform_act<T: TextStore>(
         Note(version, rows, bytes) => {
             let changes = changes_of(alloc, rows)?;
             let found = documents.did_change("u", *version, changes.as_slice())?;
-            return Ok(are_bytes(found, *bytes));
+            return Ok(are_expected_bytes(found, *bytes));
         }
         Lose => documents.lose("u"),
         Close(was_open) => return Ok(documents.did_close("u") == *was_open),
@@ -201,7 +201,7 @@ fn change_one_of_two(alloc: Global) -> Result<bool, AllocError> {
 
 /// Replaces a range of a text. Returns whether the text is the expected one, or is unchanged if an
 /// allocation failed.
-fn is_text_left(alloc: Global) -> Result<bool, AllocError> {
+fn replaces_or_leaves_text(alloc: Global) -> Result<bool, AllocError> {
     let mut store = Lines::from_str(alloc, OPENED)?;
     match store.replace(range_of((1, 0), (1, 0)), "\nmore than there was room for") {
         Ok(()) => Ok(store.as_str() == "a\r\nmore than there was room forb"),
@@ -220,6 +220,8 @@ fn a_refused_note_leaves_its_document_alone_out_of_step(rt: HostRuntime) {
 // `make test` runs this test once for each allocation, and lets that allocation fail.
 #[test]
 fn a_refused_replacement_leaves_the_text(rt: HostRuntime) {
-    let left = is_text_left(rt.alloc());
-    assert!(rt; left == Ok(true) || left.is_err() && is_text_left(rt.alloc()) == Ok(true));
+    let left = replaces_or_leaves_text(rt.alloc());
+    assert!(rt;
+        left == Ok(true) || left.is_err() && replaces_or_leaves_text(rt.alloc()) == Ok(true)
+    );
 }

@@ -183,7 +183,7 @@ static COLUMNS: &[&[u64]] = &[
 
 /// Returns whether the stores of a text agree far to the right in its lines, and also after the
 /// lines are changed at each list of columns (`COLUMNS`).
-fn are_alike_far_in(alloc: Global, text: &str, unit: Unit) -> Result<bool, AllocError> {
+fn agree_in_long_lines(alloc: Global, text: &str, unit: Unit) -> Result<bool, AllocError> {
     if !stores_of(alloc, text, unit)?.have_same_places(4, 160) {
         return Ok(false);
     }
@@ -210,8 +210,8 @@ impl Case for LinesCase {
         match self {
             Changed(text) => agree_after_each_new_text(alloc, text),
             Long(text) => Ok(
-                are_alike_far_in(alloc, text, Unit::Utf16)?
-                    && are_alike_far_in(alloc, text, Unit::Utf8)?,
+                agree_in_long_lines(alloc, text, Unit::Utf16)?
+                    && agree_in_long_lines(alloc, text, Unit::Utf8)?,
             ),
             Cut(text, wanted) => Ok(has_lines(&Lines::from_str(alloc, text)?, wanted)),
         }

@@ -242,7 +242,7 @@ fn notice_in_words(alloc: Global, method: &str, params: Value) -> &'static str {
 }
 
 /// Returns whether the notification with this method and these params has the expected meaning.
-fn is_noticed(alloc: Global, method: &str, params: &str, wanted: &str) -> bool {
+fn has_notification_meaning(alloc: Global, method: &str, params: &str, wanted: &str) -> bool {
     match Value::from_str(alloc, params) {
         Ok(params) => notice_in_words(alloc, method, params) == wanted,
         Err(_fault) => false,
@@ -250,7 +250,7 @@ fn is_noticed(alloc: Global, method: &str, params: &str, wanted: &str) -> bool {
 }
 
 /// Returns whether the request with this method and these params has the expected meaning.
-fn is_requested(alloc: Global, method: &str, params: &str, wanted: &str) -> bool {
+fn has_request_meaning(alloc: Global, method: &str, params: &str, wanted: &str) -> bool {
     match Value::from_str(alloc, params) {
         Ok(params) => request_in_words(alloc, method, &params) == wanted,
         Err(_fault) => false,
@@ -263,31 +263,35 @@ fn value_of_each_kind(alloc: Global) -> Result<Value, AllocError> {
 }
 
 /// Returns the content of an answer whose result is this range.
-fn range_written(alloc: Global, start: (u64, u64), end: (u64, u64)) -> Result<Vec<u8>, AllocError> {
+fn answer_with_range(
+    alloc: Global,
+    start: (u64, u64),
+    end: (u64, u64),
+) -> Result<Vec<u8>, AllocError> {
     let (start, end) = (at(start.0, start.1), at(end.0, end.1));
     answer_text(alloc, &Id::Signed(1), &Range { start, end })
 }
 
 /// Returns the content of an answer whose result is an object with one member.
-fn member_written(alloc: Global) -> Result<Vec<u8>, AllocError> {
+fn answer_with_member(alloc: Global) -> Result<Vec<u8>, AllocError> {
     let (key, value) = ("a b", Some(at(1, 2)));
     answer_text(alloc, &Id::Signed(0), &OneMemberObject { key, value })
 }
 
 /// Returns the content of a message that is sent.
-fn written(alloc: Global, message: Message) -> Result<Vec<u8>, AllocError> {
+fn written_content(alloc: Global, message: Message) -> Result<Vec<u8>, AllocError> {
     const MOST: (u64, u64) = (u64::MAX, u64::MAX);
     match message {
         Nothing => answer_text(alloc, &Id::Signed(-7), &()),
         Refusal(fault) => error(alloc, None, fault.code(), fault.text()),
         NoteOfNothing => notification_of(alloc, "m", &()),
-        LargestRange => range_written(alloc, MOST, MOST),
-        OneRange => range_written(alloc, (0, 9), (10, 12345)),
+        LargestRange => answer_with_range(alloc, MOST, MOST),
+        OneRange => answer_with_range(alloc, (0, 9), (10, 12345)),
         LargestNumber => answer_text(alloc, &Id::Unsigned(0), &u64::MAX),
         LeastNumber => answer_text(alloc, &Id::Unsigned(u64::MAX), &i64::MIN),
         Text => answer_text(alloc, &Id::Signed(-7), &"a\"\n\u{1}"),
         Truths => answer_text(alloc, &Id::Signed(0), &[true, false].as_slice()),
-        Member => member_written(alloc),
+        Member => answer_with_member(alloc),
         EachKind => result(alloc, &Id::Unsigned(5), value_of_each_kind(alloc)?),
         NoteOfEachKind => notification(alloc, "m", value_of_each_kind(alloc)?),
     }
@@ -297,9 +301,11 @@ impl Case for MessageCase {
     fn holds(&self, alloc: Global) -> Result<bool, AllocError> {
         match self.0 {
             Content(content) => Ok(kind_of(alloc, content) == self.1),
-            Request(method, params) => Ok(is_requested(alloc, method, params, self.1)),
-            Notification(method, params) => Ok(is_noticed(alloc, method, params, self.1)),
-            Sent(message) => Ok(written(alloc, message)?.as_slice() == self.1.as_bytes()),
+            Request(method, params) => Ok(has_request_meaning(alloc, method, params, self.1)),
+            Notification(method, params) => Ok(has_notification_meaning(
+                alloc, method, params, self.1,
+            )),
+            Sent(message) => Ok(written_content(alloc, message)?.as_slice() == self.1.as_bytes()),
         }
     }
 }

@@ -12,7 +12,7 @@ const COUNTS: &str = "MODULE M;\nVAR n: INTEGER;\nPROCEDURE P; BEGIN Write(n) EN
 const RENAMED: &str = "MODULE M;\nVAR k: INTEGER;\nPROCEDURE P; BEGIN Write(k) END P;\n\
     BEGIN Read(k); WHILE k > 0 DO k := k - 1; WriteLn END; P END M.\n";
 
-const LAID_OUT: &str =
+const COUNTS_FORMATTED: &str =
     "MODULE M;\nVAR\n  n: INTEGER;\n  PROCEDURE P;\n  BEGIN\n    Write(n)\n  END P;\n\
     BEGIN\n  Read(n);\n  WHILE n > 0 DO\n    n := n - 1;\n    WriteLn\n  END;\n  P\nEND M.\n";
 
@@ -20,7 +20,7 @@ const LAID_OUT: &str =
 const CROWDED: &str =
     "MODULE M;VAR x:INTEGER;BEGIN x:=-1;IF x<0 THEN Write(x)(* a (* b *) c *)END;WriteLn END M.(* end *)";
 
-const CROWDED_LAID_OUT: &str =
+const CROWDED_FORMATTED: &str =
     "MODULE M;\nVAR\n  x: INTEGER;\nBEGIN\n  x := -1;\n  IF x < 0 THEN\n    \
     Write(x) (* a (* b *) c *)\n  END;\n  WriteLn\nEND M. (* end *)\n";
 
@@ -90,12 +90,12 @@ static STORIES: &[Story] = stories![
     "a layout is applied", Utf16,
         moments![Open(COUNTS) => Sent, Format => Sent, Serve => Served(1), Serve => Served(1),
             Take => Published(true), Take => Answered(1, true), Apply(1) => Applied(1)],
-        [COUNTS => LAID_OUT], [1, COUNTS => true];
+        [COUNTS => COUNTS_FORMATTED], [1, COUNTS => true];
     "a layout is applied, and another has nothing to change", Utf16,
         moments![Open(CROWDED) => Sent, Format => Sent, Serve => Served(1), Serve => Served(1),
             Take => Published(true), Take => Answered(1, true), Apply(1) => Applied(1), Format => Sent,
             Serve => Served(1), Serve => Served(1), Take => Published(true), Take => Answered(2, false)],
-        [CROWDED => CROWDED_LAID_OUT], [1, CROWDED => true; 2, CROWDED_LAID_OUT => true];
+        [CROWDED => CROWDED_FORMATTED], [1, CROWDED => true; 2, CROWDED_FORMATTED => true];
     "an answer about an earlier opening is dropped", Utf16, REOPENED,
         [], [1, COUNTS => true; 1, FAULTY_TEXT => false];
     "a change with no changes raises the version, and the answer is dropped", Utf16,

@@ -18,7 +18,7 @@ shorter_front n m xs ys less hx hy e =
     ∙ ap (take n) (take-append-drop m ys)
 
 pub rests : (a b : List ℕ) (r : ReplacedBytes) → IsChangedAt a b r → byte_len a - (r.from + r.removed) ≡ byte_len b - (r.from + r.added)
-rests a b r p = sym (length-drop (r.from + r.removed) (encode_utf8_all a)) ∙ ap length p.behind ∙ length-drop (r.from + r.added) (encode_utf8_all b)
+rests a b r p = sym (length-drop (r.from + r.removed) (encode_utf8_all a)) ∙ ap length p.same_behind ∙ length-drop (r.from + r.added) (encode_utf8_all b)
 
 -- If h reaches from before both changes to `end`, a place of the middle text after both of them, h
 -- contains both changes.
@@ -41,23 +41,23 @@ around_both a b c r s h end p q before_r before_s left gone inside old_end new_e
       inside_new = omega (arith, new_end, new_rest, q.inside_old, q.inside_new, gone, inside);
       short_old = p.short_old;
       short_new = q.short_new;
-      front =
-          shorter_front h.from r.from A B before_r (omega (arith, p.inside_old)) (omega (arith, p.inside_new)) p.front
-          ∙ shorter_front h.from s.from B C before_s (omega (arith, q.inside_old)) (omega (arith, q.inside_new)) q.front;
-      behind =
-          ap (λ n. drop n A) old_end ∙ sym (drop-drop k (r.from + r.removed) A) ∙ ap (drop k) p.behind ∙ drop-drop k (r.from + r.added) B
+      same_in_front =
+          shorter_front h.from r.from A B before_r (omega (arith, p.inside_old)) (omega (arith, p.inside_new)) p.same_in_front
+          ∙ shorter_front h.from s.from B C before_s (omega (arith, q.inside_old)) (omega (arith, q.inside_new)) q.same_in_front;
+      same_behind =
+          ap (λ n. drop n A) old_end ∙ sym (drop-drop k (r.from + r.removed) A) ∙ ap (drop k) p.same_behind ∙ drop-drop k (r.from + r.added) B
           ∙ ap (λ n. drop n B) same
-          ∙ sym (drop-drop m (s.from + s.removed) B) ∙ ap (drop m) q.behind ∙ drop-drop m (s.from + s.added) C ∙ ap (λ n. drop n C) (sym new_end);
+          ∙ sym (drop-drop m (s.from + s.removed) B) ∙ ap (drop m) q.same_behind ∙ drop-drop m (s.from + s.added) C ∙ ap (λ n. drop n C) (sym new_end);
     }
 
 -- The bytes before and after a replacement are unchanged.
 pub put_there : (bytes new : List ℕ) (from to : ℕ) → from ≤ to → to ≤ length bytes
     → (take from bytes ≡ take from ((take from bytes ++ new) ++ drop to bytes)) × (drop to bytes ≡ drop (from + length new) ((take from bytes ++ new) ++ drop to bytes))
 put_there bytes new from to order inside =
-    let front = length-take-le from bytes (omega (arith, order, inside)) in
+    let same_in_front = length-take-le from bytes (omega (arith, order, inside)) in
     let all = append_assoc (take from bytes) new (drop to bytes) in (
-      sym (ap (take from) all ∙ take_at (take from bytes) (new ++ drop to bytes) from front),
-      sym (drop_at (take from bytes ++ new) (drop to bytes) (from + length new) (omega (arith, front, length-append (take from bytes) new))),
+      sym (ap (take from) all ∙ take_at (take from bytes) (new ++ drop to bytes) from same_in_front),
+      sym (drop_at (take from bytes ++ new) (drop to bytes) (from + length new) (omega (arith, same_in_front, length-append (take from bytes) new))),
     )
 
 -- If a text's bytes are the old bytes with a part replaced, the text differs from the old one only
@@ -69,16 +69,16 @@ pub changed_there : (old new bytes put : List ℕ) (r : ReplacedBytes) (to : ℕ
     → IsChangedAt old new r
 changed_there old new bytes put r to is_old is_new order inside removed added short_old short_new =
     let parts = put_there bytes put r.from to order inside in
-    let front = length-take-le r.from bytes (omega (arith, order, inside)) in
+    let same_in_front = length-take-le r.from bytes (omega (arith, order, inside)) in
     let back = length-drop to bytes in
-    let whole : byte_len new ≡ r.from + length put + (length bytes - to) = omega (arith, ap length is_new, length-append (take r.from bytes ++ put) (drop to bytes), length-append (take r.from bytes) put, front, back) in
+    let whole : byte_len new ≡ r.from + length put + (length bytes - to) = omega (arith, ap length is_new, length-append (take r.from bytes ++ put) (drop to bytes), length-append (take r.from bytes) put, same_in_front, back) in
     record {
       inside_old = omega (arith, ap length is_old, removed, order, inside);
       inside_new = omega (arith, whole, added);
       short_old = omega (arith, ap length is_old, short_old);
       short_new = short_new;
-      front = ap (take r.from) is_old ∙ parts.0 ∙ ap (take r.from) (sym is_new);
-      behind =
+      same_in_front = ap (take r.from) is_old ∙ parts.0 ∙ ap (take r.from) (sym is_new);
+      same_behind =
           ap (λ n. drop n (encode_utf8_all old)) (omega (arith, removed, order)) ∙ ap (drop to) is_old ∙ parts.1
           ∙ ap (λ n. drop (r.from + n) ((take r.from bytes ++ put) ++ drop to bytes)) (sym added) ∙ ap (drop (r.from + r.added)) (sym is_new);
     }
@@ -91,8 +91,8 @@ all_changed old new r from removed added short_old short_new =
       inside_new = omega (arith, from, added);
       short_old = short_old;
       short_new = short_new;
-      front = ap (λ n. take n (encode_utf8_all old)) from ∙ ap (λ n. take n (encode_utf8_all new)) (sym from);
-      behind = drop_all (r.from + r.removed) (encode_utf8_all old) (omega (arith, from, removed)) ∙ sym (drop_all (r.from + r.added) (encode_utf8_all new) (omega (arith, from, added)));
+      same_in_front = ap (λ n. take n (encode_utf8_all old)) from ∙ ap (λ n. take n (encode_utf8_all new)) (sym from);
+      same_behind = drop_all (r.from + r.removed) (encode_utf8_all old) (omega (arith, from, removed)) ∙ sym (drop_all (r.from + r.added) (encode_utf8_all new) (omega (arith, from, added)));
     }
 
 -- Without any change, None covers the changes.

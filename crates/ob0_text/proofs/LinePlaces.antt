@@ -12,7 +12,7 @@ use Rattle.ob0_text.specs.Texts.{LF, CR, ends_line}
 use Rattle.ob0_text.specs.declared.passes.PlaceInText.{PlaceInText}
 use Rattle.ob0_text.specs.declared.position_types.Position.{Position}
 use Rattle.ob0_text.specs.Places.{CanCountPositions, CanFindOffsets, CanCountFrom, CanSeekFrom}
-use Rattle.ob0_text.specs.LineStarts.{line_starts, starts_after, AreAllBelow, AreAllAtLeast}
+use Rattle.ob0_text.specs.LineStarts.{line_starts, line_starts_after_bytes, AreAllBelow, AreAllAtLeast}
 use Rattle.ob0_text.proofs.Prefixes.{halves}
 use Rattle.ob0_text.proofs.PositionSteps.{counted_at_start, counted_here_dropped, counted_past_end, counted_past_cr, counted_past_char}
 use Rattle.ob0_text.proofs.PlaceSteps.{sought_at_start, sought_dropped, sought_past_end, sought_on}
@@ -125,8 +125,8 @@ counts width narrow text starts l place u is here line none =
 pub searched : (text starts : List ℕ) (m n count : ℕ) → IsUtf8 text → starts ≡ line_starts (chars text) → m ≤ length text → n ≡ suc m → ((front back : List ℕ) → starts ≡ front ++ back → AreAllBelow n front → AreAllAtLeast n back → count ≡ length front) → (1 ≤ count) × (count ≤ length starts) × (get_or starts (count - 1) 0 ≤ m)
 searched text starts m n count u is within next count_is =
     let split = table-split (LF ∷ text) (suc m) (omega arith) in
-    let front : List ℕ = starts_after 0 (take (suc m) (LF ∷ text)) (drop (suc m) (LF ∷ text)) in
-    let back : List ℕ = starts_after (suc m) (drop (suc m) (LF ∷ text)) [] in
+    let front : List ℕ = line_starts_after_bytes 0 (take (suc m) (LF ∷ text)) (drop (suc m) (LF ∷ text)) in
+    let back : List ℕ = line_starts_after_bytes (suc m) (drop (suc m) (LF ∷ text)) [] in
     let whole : starts ≡ front ++ back = is ∙ table text u ∙ split.whole in
     let here : count ≡ length front = count_is front back whole (subst (λ k. AreAllBelow k front) (sym next) split.under) (subst (λ k. AreAllAtLeast k back) (sym next) split.from) in
     let some : 0 < length front = start_before text (drop (suc m) (LF ∷ text)) m in
@@ -135,24 +135,24 @@ searched text starts m n count u is within next count_is =
     (omega (arith, here, some), omega (arith, here, long), omega (arith, low))
 
 -- The starts of the table after `to` are the starts found in the bytes after `to`.
-pub moved_starts : (bs starts : List ℕ) (to moved : ℕ) → IsUtf8 bs → starts ≡ line_starts (chars bs) → to ≤ length bs → ((front back : List ℕ) → starts ≡ front ++ back → AreAllBelow (to + 1) front → AreAllAtLeast (to + 1) back → moved ≡ length front) → drop moved starts ≡ starts_after (suc to) (drop to bs) []
+pub moved_starts : (bs starts : List ℕ) (to moved : ℕ) → IsUtf8 bs → starts ≡ line_starts (chars bs) → to ≤ length bs → ((front back : List ℕ) → starts ≡ front ++ back → AreAllBelow (to + 1) front → AreAllAtLeast (to + 1) back → moved ≡ length front) → drop moved starts ≡ line_starts_after_bytes (suc to) (drop to bs) []
 moved_starts bs starts to moved u is within moved_is =
-    let old : starts ≡ starts_after 0 (LF ∷ bs) [] = is ∙ table bs u in
+    let old : starts ≡ line_starts_after_bytes 0 (LF ∷ bs) [] = is ∙ table bs u in
     let far = table-split (LF ∷ bs) (suc to) (omega arith) in
-    let far_front : List ℕ = starts_after 0 (take (suc to) (LF ∷ bs)) (drop (suc to) (LF ∷ bs)) in
+    let far_front : List ℕ = line_starts_after_bytes 0 (take (suc to) (LF ∷ bs)) (drop (suc to) (LF ∷ bs)) in
     let next : suc to ≡ to + 1 = omega arith in
-    let moved_here : moved ≡ length far_front = moved_is far_front _ (old ∙ far.whole) (subst (λ k. AreAllBelow k far_front) next far.under) (subst (λ k. AreAllAtLeast k (starts_after (suc to) (drop to bs) [])) next far.from) in
+    let moved_here : moved ≡ length far_front = moved_is far_front _ (old ∙ far.whole) (subst (λ k. AreAllBelow k far_front) next far.under) (subst (λ k. AreAllAtLeast k (line_starts_after_bytes (suc to) (drop to bs) [])) next far.from) in
     (λ i. drop (moved_here i) ((old ∙ far.whole) i)) ∙ drop-append_seam far_front _
 
 -- The table of a text with a replaced part consists of the starts before the part, the starts in
 -- the new bytes, and the later starts, moved.
-pub mended_starts : (bs new starts later : List ℕ) (from to kept moved : ℕ) → IsUtf8 bs → starts ≡ line_starts (chars bs) → from ≤ to → to ≤ length bs → ((front back : List ℕ) → starts ≡ front ++ back → AreAllBelow from front → AreAllAtLeast from back → kept ≡ length front) → ((front back : List ℕ) → starts ≡ front ++ back → AreAllBelow (to + 1) front → AreAllAtLeast (to + 1) back → moved ≡ length front) → later ≡ starts_after from (get_or (LF ∷ bs) from 0 ∷ new) (drop to bs) ++ map (λ s. s - to + (from + length new)) (drop moved starts) → IsUtf8 ((take from bs ++ new) ++ drop to bs) → take kept starts ++ later ≡ line_starts (chars ((take from bs ++ new) ++ drop to bs))
+pub mended_starts : (bs new starts later : List ℕ) (from to kept moved : ℕ) → IsUtf8 bs → starts ≡ line_starts (chars bs) → from ≤ to → to ≤ length bs → ((front back : List ℕ) → starts ≡ front ++ back → AreAllBelow from front → AreAllAtLeast from back → kept ≡ length front) → ((front back : List ℕ) → starts ≡ front ++ back → AreAllBelow (to + 1) front → AreAllAtLeast (to + 1) back → moved ≡ length front) → later ≡ line_starts_after_bytes from (get_or (LF ∷ bs) from 0 ∷ new) (drop to bs) ++ map (λ s. s - to + (from + length new)) (drop moved starts) → IsUtf8 ((take from bs ++ new) ++ drop to bs) → take kept starts ++ later ≡ line_starts (chars ((take from bs ++ new) ++ drop to bs))
 mended_starts bs new starts later from to kept moved u is order within kept_is moved_is later_is v =
-    let old : starts ≡ starts_after 0 (LF ∷ bs) [] = is ∙ table bs u in
+    let old : starts ≡ line_starts_after_bytes 0 (LF ∷ bs) [] = is ∙ table bs u in
     let near = table-split (LF ∷ bs) from (omega arith) in
-    let near_front : List ℕ = starts_after 0 (take from (LF ∷ bs)) (drop from (LF ∷ bs)) in
+    let near_front : List ℕ = line_starts_after_bytes 0 (take from (LF ∷ bs)) (drop from (LF ∷ bs)) in
     let kept_here : kept ≡ length near_front = kept_is near_front _ (old ∙ near.whole) near.under near.from in
     let stays : take kept starts ≡ near_front = (λ i. take (kept_here i) ((old ∙ near.whole) i)) ∙ take-append_seam near_front _ in
-    let moves : drop moved starts ≡ starts_after (suc to) (drop to bs) [] = moved_starts bs starts to moved u is within moved_is in
-    (λ i. stays i ++ (later_is ∙ ap (λ t. starts_after from (get_or (LF ∷ bs) from 0 ∷ new) (drop to bs) ++ map (λ s. s - to + (from + length new)) t) moves) i)
+    let moves : drop moved starts ≡ line_starts_after_bytes (suc to) (drop to bs) [] = moved_starts bs starts to moved u is within moved_is in
+    (λ i. stays i ++ (later_is ∙ ap (λ t. line_starts_after_bytes from (get_or (LF ∷ bs) from 0 ∷ new) (drop to bs) ++ map (λ s. s - to + (from + length new)) t) moves) i)
     ∙ sym (table-mended bs new from to (omega arith)) ∙ sym (table ((take from bs ++ new) ++ drop to bs) v)

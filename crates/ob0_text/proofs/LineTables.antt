@@ -4,7 +4,7 @@ use Rattle.std.proofs.Math.Seq.{drop-append_seam, get_or-append_seam, take-appen
 use Rattle.std.specs.Str.{IsUtf8, chars}
 use Rattle.std.proofs.lemmas.List.{drop-drop, drop-map, length-map, length-reverse, length-take-le, reverse-append, take-append-drop}
 use Rattle.ob0_text.specs.Texts.{LF}
-use Rattle.ob0_text.specs.LineStarts.{AreAllAtLeast, AreAllBelow, IsCountBefore, line_starts, starts_after, stored_starts}
+use Rattle.ob0_text.specs.LineStarts.{AreAllAtLeast, AreAllBelow, IsCountBefore, line_starts, line_starts_after_bytes, stored_starts}
 use Rattle.ob0_text.proofs.StartLaws.{following-from, following-under, table, table-split}
 use Rattle.ob0_text.proofs.LinePlaces.{mended_starts, moved_starts}
 use Rattle.ob0_text.proofs.Halving.{more_later}
@@ -66,7 +66,7 @@ with_the_end len after to by (d ∷ ds) is up =
     (λ i. same i ∷ with_the_end len after to by ds is (λ k h. up (suc k) (omega (arith, h))) i)
 
 module _ (bs new starts front back added : List ℕ) (len from to kept moved : ℕ) (u : IsUtf8 bs) (is : starts ≡ line_starts (chars bs)) (long : len ≡ length bs) (order : from ≤ to) (within : to ≤ length bs) (kept_is : IsCountBefore starts from kept) (moved_is : IsCountBefore starts (to + 1) moved) (parts : stored_starts len front back ≡ starts) (here : length front ≡ kept) where
-  old : starts ≡ starts_after 0 (LF ∷ bs) []
+  old : starts ≡ line_starts_after_bytes 0 (LF ∷ bs) []
   old = is ∙ table bs u
 
   up_to_moved : kept ≤ moved
@@ -74,10 +74,10 @@ module _ (bs new starts front back added : List ℕ) (len from to kept moved : �
       let near = table-split (LF ∷ bs) from (omega (arith, order, within)) in
       let far = table-split (LF ∷ bs) (suc to) (omega (arith, within)) in
       let next : suc to ≡ to + 1 = omega arith in
-      let near_front : List ℕ = starts_after 0 (take from (LF ∷ bs)) (drop from (LF ∷ bs)) in
-      let far_front : List ℕ = starts_after 0 (take (suc to) (LF ∷ bs)) (drop (suc to) (LF ∷ bs)) in
+      let near_front : List ℕ = line_starts_after_bytes 0 (take from (LF ∷ bs)) (drop from (LF ∷ bs)) in
+      let far_front : List ℕ = line_starts_after_bytes 0 (take (suc to) (LF ∷ bs)) (drop (suc to) (LF ∷ bs)) in
       let kept_here : kept ≡ length near_front = kept_is near_front _ (old ∙ near.whole) near.under near.from in
-      let moved_here : moved ≡ length far_front = moved_is far_front _ (old ∙ far.whole) (subst (λ k. AreAllBelow k far_front) next far.under) (subst (λ k. AreAllAtLeast k (starts_after (suc to) (drop (suc to) (LF ∷ bs)) [])) next far.from) in
+      let moved_here : moved ≡ length far_front = moved_is far_front _ (old ∙ far.whole) (subst (λ k. AreAllBelow k far_front) next far.under) (subst (λ k. AreAllAtLeast k (line_starts_after_bytes (suc to) (drop (suc to) (LF ∷ bs)) [])) next far.from) in
       let fewer : length near_front ≤ length far_front = more_later starts near_front _ far_front _ from (suc to) (old ∙ near.whole) near.under near.from (old ∙ far.whole) far.under far.from (omega (arith, order)) in
       omega (arith, kept_here, moved_here, fewer)
 
@@ -95,7 +95,7 @@ module _ (bs new starts front back added : List ℕ) (len from to kept moved : �
       ∙ drop-map (from_end len) (moved - kept) (reverse back)
       ∙ ap (map (from_end len)) (dropped_back back (moved - kept) (omega (arith, few, both, here, up_to_moved)))
 
-  pub table_replaced : moved ≤ length starts → added ≡ starts_after from (get_or (LF ∷ bs) from 0 ∷ new) (drop to bs) → (after : ℕ) → after ≡ length ((take from bs ++ new) ++ drop to bs) → IsUtf8 ((take from bs ++ new) ++ drop to bs) → stored_starts after (front ++ added) rest ≡ line_starts (chars ((take from bs ++ new) ++ drop to bs))
+  pub table_replaced : moved ≤ length starts → added ≡ line_starts_after_bytes from (get_or (LF ∷ bs) from 0 ∷ new) (drop to bs) → (after : ℕ) → after ≡ length ((take from bs ++ new) ++ drop to bs) → IsUtf8 ((take from bs ++ new) ++ drop to bs) → stored_starts after (front ++ added) rest ≡ line_starts (chars ((take from bs ++ new) ++ drop to bs))
   table_replaced few added_is after after_is v =
       let stays : take kept starts ≡ front = (λ i. take (sym here i) (sym parts i)) ∙ take-append_seam front (map (from_end len) (reverse back)) in
       let later = later_starts few in

@@ -6,7 +6,7 @@ use Rattle.std.specs.Char.{len_utf8}
 use Rattle.std.specs.Str.{IsUtf8, IsCharBoundary, chars}
 use Rattle.std.proofs.lemmas.Str.{encodes-append, encodes-chars, IsCharBoundary-end}
 use Rattle.ob0_text.specs.Texts.{Line, lines, text_of_lines, byte_len}
-use Rattle.ob0_text.specs.LineStarts.{line_with_ending, starts_from, line_starts}
+use Rattle.ob0_text.specs.LineStarts.{line_with_ending, line_starts_from, line_starts}
 use Rattle.ob0_text.proofs.LawsOfLines.{lines_joined}
 use Rattle.ob0_text.proofs.PositionSteps.{rest_border}
 use Rattle.ob0_text.proofs.StartLaws.{byte_len-append}
@@ -32,13 +32,13 @@ first_split l ls = ap encode_utf8_all (joined-cons l ls) ∙ encodes-append (lin
 first_len : (l : Line) (ls : List Line) → byte_len (text_of_lines (l ∷ ls)) ≡ byte_len (line_with_ending l) + byte_len (text_of_lines ls)
 first_len l ls = ap byte_len (joined-cons l ls) ∙ byte_len-append (line_with_ending l) (text_of_lines ls)
 
-first_end : (l : Line) (ls : List Line) (at end : ℕ) → (1 < length (l ∷ ls) → end ≡ get_or (starts_from at (l ∷ ls)) 1 0) → (length (l ∷ ls) ≤ 1 → end ≡ at + byte_len (text_of_lines (l ∷ ls))) → at + byte_len (line_with_ending l) ≡ end
-unfolding starts_from text_of_lines
+first_end : (l : Line) (ls : List Line) (at end : ℕ) → (1 < length (l ∷ ls) → end ≡ get_or (line_starts_from at (l ∷ ls)) 1 0) → (length (l ∷ ls) ≤ 1 → end ≡ at + byte_len (text_of_lines (l ∷ ls))) → at + byte_len (line_with_ending l) ≡ end
+unfolding line_starts_from text_of_lines
 first_end l [] at end next last = let all : end ≡ at + byte_len (text_of_lines (l ∷ [])) = last (omega arith) in omega (arith, all, first_len l [])
 first_end l (m ∷ ms) at end next last = sym (next (omega arith))
 
-line_at : (ls : List Line) (at k end : ℕ) → k < length ls → (suc k < length ls → end ≡ get_or (starts_from at ls) (suc k) 0) → (length ls ≤ suc k → end ≡ at + byte_len (text_of_lines ls)) → IsFound (encode_utf8_all (text_of_lines ls)) ls at k (get_or (starts_from at ls) k 0) end
-unfolding starts_from
+line_at : (ls : List Line) (at k end : ℕ) → k < length ls → (suc k < length ls → end ≡ get_or (line_starts_from at ls) (suc k) 0) → (length ls ≤ suc k → end ≡ at + byte_len (text_of_lines ls)) → IsFound (encode_utf8_all (text_of_lines ls)) ls at k (get_or (line_starts_from at ls) k 0) end
+unfolding line_starts_from
 line_at [] at k end inside next last = absurd (omega arith)
 line_at (l ∷ ls) at zero end inside next last = record {
   line = l;
@@ -61,8 +61,8 @@ line_at (l ∷ ls) at (suc k) end inside next last =
       there = more.there;
     }
 
-length-starts : (at : ℕ) (ls : List Line) → length (starts_from at ls) ≡ length ls
-unfolding starts_from
+length-starts : (at : ℕ) (ls : List Line) → length (line_starts_from at ls) ≡ length ls
+unfolding line_starts_from
 length-starts at [] = refl
 length-starts at (l ∷ ls) = ap suc (length-starts (at + byte_len (line_with_ending l)) ls)
 

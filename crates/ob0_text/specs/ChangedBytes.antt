@@ -13,8 +13,8 @@ pub record IsChangedAt (old new : List ℕ) (r : ReplacedBytes) : Type 0 where
   pub inside_new : r.from + r.added ≤ byte_len new
   pub short_old : byte_len old < 2 ^ 64
   pub short_new : byte_len new < 2 ^ 64
-  pub front : take r.from (encode_utf8_all old) ≡ take r.from (encode_utf8_all new)
-  pub behind : drop (r.from + r.removed) (encode_utf8_all old)
+  pub same_in_front : take r.from (encode_utf8_all old) ≡ take r.from (encode_utf8_all new)
+  pub same_behind : drop (r.from + r.removed) (encode_utf8_all old)
       ≡ drop (r.from + r.added) (encode_utf8_all new)
 
 -- States that the replaced bytes (third argument) contain every change from the old text (first
@@ -28,5 +28,5 @@ CoversAllChanges (Some old) new (Some r) =
 
 -- Returns the text of the document with this uri, or None if the document isn't open or is out of
 -- step.
-abbrev pub text_at : OpenDocuments → List ℕ → Option (List ℕ)
-text_at m uri = option_and_then text_if_in_step (document_at m uri)
+abbrev pub document_text_at : OpenDocuments → List ℕ → Option (List ℕ)
+document_text_at m uri = option_and_then text_if_in_step (document_at m uri)

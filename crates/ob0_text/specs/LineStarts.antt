@@ -1,6 +1,6 @@
 -- Defines the byte offsets at which the lines of a text start. A line starts after an LF, and after
 -- a CR that no LF follows. So the two bytes next to an offset decide whether a line starts there.
--- The text's start counts as an offset after an LF. So the whole text's starts are `starts_after 0
+-- The text's start counts as an offset after an LF. So the whole text's starts are `line_starts_after_bytes 0
 -- (LF ∷ bytes) []` (`table`), which is proved character by character (`following_ends`). If a run
 -- of bytes has two parts, the starts in the first part come first, then the starts in the second
 -- part (`following-append`). Whether a line starts at the end of a run depends on the first byte
@@ -22,22 +22,22 @@ abbrev pub line_with_ending : Line → List ℕ
 line_with_ending l = l.body ++ l.ending
 
 -- Returns the byte offsets at which consecutive lines start, if the first of them starts at `at`.
-unfoldable pub starts_from : ℕ → List Line → List ℕ
-starts_from at [] = []
-starts_from at (l ∷ ls) = at ∷ starts_from (at + byte_len (line_with_ending l)) ls
+unfoldable pub line_starts_from : ℕ → List Line → List ℕ
+line_starts_from at [] = []
+line_starts_from at (l ∷ ls) = at ∷ line_starts_from (at + byte_len (line_with_ending l)) ls
 
 -- Returns the byte offsets at which the lines of a text start.
 abbrev pub line_starts : List ℕ → List ℕ
-line_starts text = starts_from 0 (lines text)
+line_starts text = line_starts_from 0 (lines text)
 
 -- Returns the byte offsets at which a line starts directly after one of these bytes. `at` is the
 -- offset after the first byte of the list. The bytes `next` follow the last byte of the list.
-unfoldable pub starts_after : ℕ → List ℕ → List ℕ → List ℕ
-starts_after at [] next = []
-starts_after at (b ∷ bs) next =
+unfoldable pub line_starts_after_bytes : ℕ → List ℕ → List ℕ → List ℕ
+line_starts_after_bytes at [] next = []
+line_starts_after_bytes at (b ∷ bs) next =
     if ends_line b (bs ++ next)
-    then at ∷ starts_after (suc at) bs next
-    else starts_after (suc at) bs next
+    then at ∷ line_starts_after_bytes (suc at) bs next
+    else line_starts_after_bytes (suc at) bs next
 
 -- States that each number in the list is less than the bound.
 abbrev pub AreAllBelow : ℕ → List ℕ → Type 0
@@ -80,6 +80,6 @@ pub record LineStartTable : Type 0 where
 
 -- States that the table `t` has the line starts of this text, as byte offsets, and the length of
 -- this text in bytes.
-pub record HasLines (text : List ℕ) (t : LineStartTable) : Type 0 where
+pub record IsLineTableOf (text : List ℕ) (t : LineStartTable) : Type 0 where
   pub starts : t.starts ≡ line_starts (chars text)
   pub len : t.len ≡ length text

@@ -41,7 +41,7 @@ pub fn empty_counted_piece() -> CountedPiece
 
 impl CountedPiece {
     /// Returns this piece if it ends at or before the byte offset `offset`, otherwise an empty
-    /// piece. So the result stays correct when the text behind `offset` changes: if this piece is a
+    /// piece. So the result is also correct after a change of the text behind `offset`: if this piece is a
     /// piece of a line of some text, the result is a piece of a line of every text with the same
     /// first `offset` bytes.
     pub fn kept_if_before(self, offset: usize) -> CountedPiece

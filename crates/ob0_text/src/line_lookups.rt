@@ -23,13 +23,14 @@ ghost use Rattle.ob0_text.specs.Texts.{lines, offset_of, position_of};
 ghost use Rattle.ob0_text.specs.Units.{width_of};
 ghost use Rattle.ob0_text.specs.Places.{CanCountFrom, CanSeekFrom};
 ghost use Rattle.ob0_text.specs.declared.position_types.Unit.{Unit};
-ghost use Rattle.ob0_text.specs.LineStarts.{HasLines, line_with_ending};
+ghost use Rattle.ob0_text.specs.LineStarts.{IsLineTableOf, line_with_ending};
 ghost use Rattle.ob0_text.specs.Stretches.{IsPieceOfLine};
 
 use crate::counted_pieces::{CountedPiece, count_up_to};
 use crate::line_table::LineTable;
 use crate::passes::{
-    PlaceInText, START, advance_to_offset, advance_to_position, is_at_or_after, position_at,
+    PlaceInText, TEXT_START, advance_to_offset, advance_to_position, is_at_or_after,
+    position_of_place,
 };
 use crate::position_types::{Position, Range, Unit};
 use std::alloc::{AllocError, Global};
@@ -40,7 +41,7 @@ const NEAR_BYTES: usize = 32;
 
 /// Returns the byte offset of a position in the text whose line table is `table`.
 pub fn offset_in(text: &str, table: &LineTable, unit: Unit, position: Position) -> usize
-    requires { HasLines text.now table.now }
+    requires { IsLineTableOf text.now table.now }
     ensures { result ≡ offset_of (width_of unit) (chars text.now) position }
 {
     place_of_position(text, table, unit, position).offset
@@ -65,7 +66,7 @@ pub fn range_offsets(
     last: CountedPiece,
     range: Range,
 ) -> RangeOffsets
-    requires lines { HasLines text.now table.now }
+    requires lines { IsLineTableOf text.now table.now }
     requires last { IsPieceOfLine (width_of unit) text.now last.start last.end_and_units }
     ensures start { result.start ≡ offset_of (width_of unit) (chars text.now) range.start }
     ensures end { result.end ≡ offset_of (width_of unit) (chars text.now) range.end }
@@ -95,7 +96,7 @@ fn counted_piece_before(
     last: CountedPiece,
     position: Position,
 ) -> CountedPiece
-    requires lines { HasLines text.now table.now }
+    requires lines { IsLineTableOf text.now table.now }
     requires last { IsPieceOfLine (width_of unit) text.now last.start last.end_and_units }
     ensures { IsPieceOfLine (width_of unit) text.now result.start result.end_and_units }
 {
@@ -119,7 +120,7 @@ fn place_after_counted(
     counted: CountedPiece,
     position: Position,
 ) -> PlaceInText
-    requires lines { HasLines text.now table.now }
+    requires lines { IsLineTableOf text.now table.now }
     requires counted { IsPieceOfLine (width_of unit) text.now counted.start counted.end_and_units }
     ensures place { CanSeekFrom (width_of unit) text.now position result }
     ensures offset { result.offset ≡ offset_of (width_of unit) (chars text.now) position }
@@ -142,7 +143,7 @@ fn place_after_counted(
 /// Returns the place of a position. The start of the position's line is looked up in the table, and
 /// the characters from there are counted.
 fn place_of_position(text: &str, table: &LineTable, unit: Unit, position: Position) -> PlaceInText
-    requires { HasLines text.now table.now }
+    requires { IsLineTableOf text.now table.now }
     ensures place { CanSeekFrom (width_of unit) text.now position result }
     ensures offset { result.offset ≡ offset_of (width_of unit) (chars text.now) position }
 {
@@ -152,11 +153,11 @@ fn place_of_position(text: &str, table: &LineTable, unit: Unit, position: Positi
 
 /// Returns the position of a byte offset. The offset's line is found by binary search.
 pub fn position_in(text: &str, table: &LineTable, unit: Unit, offset: usize) -> Position
-    requires { HasLines text.now table.now }
+    requires { IsLineTableOf text.now table.now }
     ensures { result ≡ position_of (width_of unit) (chars text.now) offset }
 {
     let place = line_start_before(text, table, offset);
-    position_at(advance_to_offset(text, unit, place, offset))
+    position_of_place(advance_to_offset(text, unit, place, offset))
 }
 
 /// Returns the position of each byte offset, in the order of the list. Each position is counted
@@ -168,16 +169,16 @@ pub fn positions_in(
     unit: Unit,
     offsets: &[usize],
 ) -> Result<Vec<Position>, AllocError>
-    requires { HasLines text.now table.now }
+    requires { IsLineTableOf text.now table.now }
     ensures { IfOk result (λ positions. positions.items
         ≡ map (position_of (width_of unit) (chars text.now)) offsets.now) }
 {
     let mut positions = Vec::with_capacity(alloc, offsets.len())?;
-    let mut place = START;
+    let mut place = TEXT_START;
     for offset in offsets {
         let from = nearest_place_before(text, table, place, *offset);
         place = advance_to_offset(text, unit, from, *offset);
-        positions.push(position_at(place))?;
+        positions.push(position_of_place(place))?;
     }
     Ok(positions)
 }
@@ -192,13 +193,13 @@ pub fn offsets_in(
     unit: Unit,
     positions: &[Position],
 ) -> Result<Vec<usize>, AllocError>
-    requires { HasLines text.now table.now }
+    requires { IsLineTableOf text.now table.now }
     ensures { IfOk result (λ offsets. offsets.items
         ≡ map (offset_of (width_of unit) (chars text.now)) positions.now) }
 {
     let mut offsets = Vec::new(alloc);
-    let mut place = START;
-    let mut last = position_at(START);
+    let mut place = TEXT_START;
+    let mut last = position_of_place(TEXT_START);
     for position in positions {
         place = place_from_last(text, table, unit, last, place, *position);
         last = *position;
@@ -217,7 +218,7 @@ fn place_from_last(
     place: PlaceInText,
     position: Position,
 ) -> PlaceInText
-    requires lines { HasLines text.now table.now }
+    requires lines { IsLineTableOf text.now table.now }
     requires last { CanSeekFrom (width_of unit) text.now last place }
     ensures place { CanSeekFrom (width_of unit) text.now position result }
     ensures offset { result.offset ≡ offset_of (width_of unit) (chars text.now) position }
@@ -238,7 +239,7 @@ fn nearest_place_before(
     place: PlaceInText,
     offset: usize,
 ) -> PlaceInText
-    requires { HasLines text.now table.now }
+    requires { IsLineTableOf text.now table.now }
     ensures place { (unit : Unit) → CanCountFrom (width_of unit) text.now place
         → CanCountFrom (width_of unit) text.now result }
     ensures following { result.offset ≤ offset }
@@ -255,7 +256,7 @@ fn nearest_place_before(
 
 /// Returns the place at which the line of a byte offset starts. The line is found by binary search.
 fn line_start_before(text: &str, table: &LineTable, offset: usize) -> PlaceInText
-    requires { HasLines text.now table.now }
+    requires { IsLineTableOf text.now table.now }
     ensures place { (unit : Unit) → CanCountFrom (width_of unit) text.now result }
     ensures following { result.offset ≤ offset }
 {
@@ -265,7 +266,7 @@ fn line_start_before(text: &str, table: &LineTable, offset: usize) -> PlaceInTex
 
 /// Returns line `k`, counted from 0, with its ending. Returns None if the text has no such line.
 pub fn line_in<'a>(text: &'a str, table: &LineTable, k: usize) -> Option<&'a str>
-    requires { HasLines text.now table.now }
+    requires { IsLineTableOf text.now table.now }
     ensures { option_map (λ line. chars line.now) result
         ≡ option_map line_with_ending (slice_get (lines (chars text.now)) k) }
 {

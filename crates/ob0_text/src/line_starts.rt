@@ -3,7 +3,7 @@
 ghost use Rattle.std.specs.Prelude.{◌≡◌, ◌+◌, ◌^◌, ◌<◌, ◌≤◌, ◌∷◌, ◌++◌, IfOk, OnOk, drop, length, option_to_list, slice_index};
 ghost use Rattle.std.specs.Str.{chars};
 ghost use Rattle.ob0_text.specs.Texts.{LF, ends_line};
-ghost use Rattle.ob0_text.specs.LineStarts.{line_starts, starts_after};
+ghost use Rattle.ob0_text.specs.LineStarts.{line_starts, line_starts_after_bytes};
 
 use std::alloc::{AllocError, Global};
 
@@ -19,7 +19,7 @@ pub fn line_starts_of(alloc: Global, text: &str) -> Result<Vec<usize>, AllocErro
 /// Returns the line starts that a change adds. The change replaces the bytes `from..to` of `text`
 /// by `new`. The result has the byte offsets in the changed text at which a line starts, from the
 /// start of `new` to its end, both included. These starts also depend on the byte before `from` and
-/// on the bytes from `to` on, which are unchanged.
+/// on the unchanged bytes behind `to`.
 pub fn line_starts_in_change(
     alloc: Global,
     text: &str,
@@ -30,7 +30,7 @@ pub fn line_starts_in_change(
     requires from { from ≤ length text.now }
     requires to { to ≤ length text.now }
     ensures { IfOk result (λ starts. starts.items
-        ≡ starts_after from (slice_index (LF ∷ text.now) from ∷ new.now) (drop to text.now)) }
+        ≡ line_starts_after_bytes from (slice_index (LF ∷ text.now) from ∷ new.now) (drop to text.now)) }
 {
     let bytes = text.as_bytes();
     let mut starts = Vec::new(alloc);
@@ -70,7 +70,7 @@ fn add_line_starts(
     requires { from + length bytes.now < 2 ^ 64 }
     ensures { OnOk result
         (starts.new.items ≡ starts.old.items
-        ++ starts_after from (before ∷ bytes.now) following.now) }
+        ++ line_starts_after_bytes from (before ∷ bytes.now) following.now) }
 {
     let mut last = before;
     let mut at = from;

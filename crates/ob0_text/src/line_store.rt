@@ -2,7 +2,7 @@
 //! lines start.
 //!
 //! The model is the text and the unit. The invariant says that the table belongs to the text
-//! (`HasLines`). Functions over a text and its table implement all of `TextStore`
+//! (`IsLineTableOf`). Functions over a text and its table implement all of `TextStore`
 //! (`line_lookups.rt`, `line_table.rt`). The session, `serve` and the commands use this store.
 //! Tests compare it with the plain store `Whole`.
 
@@ -38,7 +38,7 @@ pub struct Lines {
 impl Model for Lines {
     ghost use Rattle.std.specs.Prelude.{string_bytes};
     ghost use Rattle.std.specs.Str.{chars};
-    ghost use Rattle.ob0_text.specs.CountedLines.{AreLinesOf};
+    ghost use Rattle.ob0_text.specs.CountedLines.{TableAndPieceMatchText};
     ghost use Rattle.ob0_text.specs.LineStarts.{TextInUnit, coded_text_in_unit};
 
     ghost Value = { TextInUnit };
@@ -47,7 +47,7 @@ impl Model for Lines {
 
     ghost view = { λ lines. record { text = chars (string_bytes lines.text); unit = lines.unit } };
 
-    ghost invariant = { λ lines. AreLinesOf (string_bytes lines.text) lines.unit lines.table
+    ghost invariant = { λ lines. TableAndPieceMatchText (string_bytes lines.text) lines.unit lines.table
         lines.counted_piece };
 }
 

@@ -1,6 +1,6 @@
 //! Keeps the table of a text's lines, in two parts.
 //!
-//! The table lists where each line starts. The starts up to the end of the last change are kept as
+//! The table has the start of each line. The starts up to the end of the last change are kept as
 //! byte offsets. The starts behind that place are kept as distances in bytes from the text's end,
 //! last line first. So a change doesn't alter the stored distances of the lines behind it (proved
 //! as `with_the_end` in `LineTables`). A change takes time for the starts that it adds or removes,
@@ -17,7 +17,7 @@
 
 ghost use Rattle.std.specs.Prelude.{◌≡◌, ◌+◌, ◌<◌, ◌≤◌, ◌++◌, IfOk, OnOk, OnErr, drop, length, min, slice_index, string_bytes, take};
 ghost use Rattle.std.specs.Str.{IsCharBoundary};
-ghost use Rattle.ob0_text.specs.LineStarts.{AreAllBelow, HasLines, IsCountBefore, stored_starts};
+ghost use Rattle.ob0_text.specs.LineStarts.{AreAllBelow, IsLineTableOf, IsCountBefore, stored_starts};
 
 use crate::line_starts::{line_starts_in_change, line_starts_of};
 use crate::spare_room::{trim_list, trim_text};
@@ -50,7 +50,7 @@ impl Model for LineTable {
 impl LineTable {
     /// Returns the table of a text: the starts of its lines, and its length in bytes.
     pub fn of(alloc: Global, text: &str) -> Result<LineTable, AllocError>
-        ensures { IfOk result (HasLines text.now) }
+        ensures { IfOk result (IsLineTableOf text.now) }
     {
         let front = line_starts_of(alloc, text)?;
         Ok(LineTable {
@@ -109,11 +109,11 @@ impl LineTable {
         to: usize,
         new: &str,
     ) -> Result<(), AllocError>
-        requires table { HasLines (string_bytes text.old) self.old }
+        requires table { IsLineTableOf (string_bytes text.old) self.old }
         requires order { from ≤ to }
         requires start { IsCharBoundary (string_bytes text.old) from }
         requires end { IsCharBoundary (string_bytes text.old) to }
-        ensures table { HasLines (string_bytes text.new) self.new }
+        ensures table { IsLineTableOf (string_bytes text.new) self.new }
         ensures ok { OnOk result (string_bytes text.new
             ≡ (take from (string_bytes text.old) ++ new.now) ++ drop to (string_bytes text.old)) }
         ensures err { OnErr result (string_bytes text.new ≡ string_bytes text.old) }
@@ -142,11 +142,11 @@ impl LineTable {
         to: usize,
         new: &str,
     ) -> Result<(), AllocError>
-        requires table { HasLines (string_bytes text.old) self.old }
+        requires table { IsLineTableOf (string_bytes text.old) self.old }
         requires order { from ≤ to }
         requires start { IsCharBoundary (string_bytes text.old) from }
         requires end { IsCharBoundary (string_bytes text.old) to }
-        ensures table { HasLines (string_bytes text.new) self.new }
+        ensures table { IsLineTableOf (string_bytes text.new) self.new }
         ensures ok { OnOk result (string_bytes text.new
             ≡ (take from (string_bytes text.old) ++ new.now) ++ drop to (string_bytes text.old)) }
         ensures err { OnErr result (string_bytes text.new ≡ string_bytes text.old) }

@@ -31,7 +31,7 @@ pub struct PlaceInText {
 }
 
 /// The place at the start of a text.
-pub const START: PlaceInText = PlaceInText {
+pub const TEXT_START: PlaceInText = PlaceInText {
     offset: 0,
     line: 0,
     character: 0,
@@ -49,13 +49,13 @@ pub fn positions_of(
         ≡ map (position_of (width_of unit) (chars text.now)) offsets.now) }
 {
     let mut positions = Vec::new(alloc);
-    let mut place = START;
+    let mut place = TEXT_START;
     for offset in offsets {
         if *offset < place.offset {
-            place = START;
+            place = TEXT_START;
         }
         place = advance_to_offset(text, unit, place, *offset);
-        positions.push(position_at(place))?;
+        positions.push(position_of_place(place))?;
     }
     Ok(positions)
 }
@@ -72,11 +72,11 @@ pub fn offsets_of(
         ≡ map (offset_of (width_of unit) (chars text.now)) positions.now) }
 {
     let mut offsets = Vec::new(alloc);
-    let mut place = START;
-    let mut last = position_at(START);
+    let mut place = TEXT_START;
+    let mut last = position_of_place(TEXT_START);
     for position in positions {
         if !is_at_or_after(last, *position) {
-            place = START;
+            place = TEXT_START;
         }
         place = advance_to_position(text, unit, place, *position);
         last = *position;
@@ -89,18 +89,18 @@ pub fn offsets_of(
 pub fn position_of(text: &str, unit: Unit, offset: usize) -> Position
     ensures { result ≡ position_of (width_of unit) (chars text.now) offset }
 {
-    position_at(advance_to_offset(text, unit, START, offset))
+    position_of_place(advance_to_offset(text, unit, TEXT_START, offset))
 }
 
 /// Returns the byte offset of a position. The position's `character` is counted in `unit`.
 pub fn offset_of(text: &str, unit: Unit, position: Position) -> usize
     ensures { result ≡ offset_of (width_of unit) (chars text.now) position }
 {
-    advance_to_position(text, unit, START, position).offset
+    advance_to_position(text, unit, TEXT_START, position).offset
 }
 
 /// Returns the position of the place that a pass has reached.
-pub fn position_at(place: PlaceInText) -> Position
+pub fn position_of_place(place: PlaceInText) -> Position
     ensures { result ≡ at place.line place.character }
 {
     Position {

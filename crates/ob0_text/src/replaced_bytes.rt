@@ -54,7 +54,7 @@ impl ReplacedBytes {
 /// Returns one change that covers the changes so far (`covering_change`) and the change `next`.
 /// Returns None if the text before all changes wasn't known (`known` is false), or if both
 /// `covering_change` and `next` are None.
-pub(crate) fn extend_hull(
+pub(crate) fn extend_covering_change(
     known: bool,
     covering_change: Option<ReplacedBytes>,
     next: Option<ReplacedBytes>,

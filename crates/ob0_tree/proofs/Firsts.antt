@@ -4,15 +4,15 @@ use Rattle.std.proofs.Common.{◌≡◌, ℕ, ◌+◌, ◌<◌, ◌≤◌, List,
 use Rattle.std.proofs.lemmas.List.{drop_all, drop_more}
 use Rattle.ob0_tree.specs.declared.tree.Role.{Role}
 use Rattle.ob0_tree.specs.declared.tree.Role.TheVariants as role
-use Rattle.ob0_tree.specs.FirstIdentifier.{first_identifier, first_token_of}
+use Rattle.ob0_tree.specs.FirstIdentifier.{first_identifier, token_of_first_identifier}
 use Rattle.ob0_tree.specs.Tree.{Tree, Item, item, identifiers}
 use Rattle.ob0_tree.specs.View.{items_of}
 
-pub found_first : (xs ys : List (Role × ℕ)) {found : Option ℕ} → found ≡ first_token_of xs → is_some found ≡ true → found ≡ first_token_of (xs ++ ys)
+pub found_first : (xs ys : List (Role × ℕ)) {found : Option ℕ} → found ≡ token_of_first_identifier xs → is_some found ≡ true → found ≡ token_of_first_identifier (xs ++ ys)
 found_first [] ys e some = absurd (cc)
 found_first (x ∷ xs) ys e some = e
 
-pub found_later : (xs ys : List (Role × ℕ)) {found : Option ℕ} → found ≡ first_token_of xs → is_some found ≡ false → first_token_of ys ≡ first_token_of (xs ++ ys)
+pub found_later : (xs ys : List (Role × ℕ)) {found : Option ℕ} → found ≡ token_of_first_identifier xs → is_some found ≡ false → token_of_first_identifier ys ≡ token_of_first_identifier (xs ++ ys)
 found_later [] ys e none = refl
 found_later (x ∷ xs) ys e none = absurd (cc)
 

@@ -121,12 +121,12 @@ fn first_in_expression(e: &Expression) -> Option<usize>
 fn first_in_compound(c: &CompoundExpression) -> Option<usize>
     ensures { result ≡ first_identifier (compound_of c.now) }
 {
-    let found = first_in_simple(&c.left);
+    let found = first_in_simple_expression(&c.left);
     if found.is_some() {
         return found;
     }
     match &c.compared {
-        Some(compared) => first_in_simple(&compared.right),
+        Some(compared) => first_in_simple_expression(&compared.right),
         None => None,
     }
 }
@@ -134,7 +134,7 @@ fn first_in_compound(c: &CompoundExpression) -> Option<usize>
 /// Returns the token index of the first identifier in a simple expression, or None if there is
 /// none.
 #[cycle(expressions)]
-fn first_in_simple(s: &SimpleExpression) -> Option<usize>
+fn first_in_simple_expression(s: &SimpleExpression) -> Option<usize>
     ensures { result ≡ first_identifier (simple_of s.now) }
 {
     let found = first_in_term(&s.first);

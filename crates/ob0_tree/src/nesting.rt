@@ -57,16 +57,16 @@ fn expression_nesting(e: &Expression) -> u32
 fn compound_nesting(c: &CompoundExpression) -> u32
     ensures { result ≡ capped_to_u32 (nesting (compound_of c.now)) }
 {
-    let left = simple_nesting(&c.left);
+    let left = simple_expression_nesting(&c.left);
     match &c.compared {
-        Some(compared) => left.max(simple_nesting(&compared.right)),
+        Some(compared) => left.max(simple_expression_nesting(&compared.right)),
         None => left,
     }
 }
 
 /// Returns the nesting depth of a simple expression, capped at 2^32 - 1.
 #[cycle(expressions)]
-fn simple_nesting(s: &SimpleExpression) -> u32
+fn simple_expression_nesting(s: &SimpleExpression) -> u32
     ensures { result ≡ capped_to_u32 (nesting (simple_of s.now)) }
 {
     let mut deepest = term_nesting(&s.first);

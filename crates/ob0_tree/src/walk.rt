@@ -66,16 +66,19 @@ pub fn walk_expression<V: Visitor>(visitor: &mut V, e: &Expression) -> Result<()
 fn walk_compound<V: Visitor>(visitor: &mut V, c: &CompoundExpression) -> Result<(), AllocError>
     ensures { OnOk result (visitor.new ≡ state_after_visit V.seen (compound_of c.now) visitor.old) }
 {
-    walk_simple(visitor, &c.left)?;
+    walk_simple_expression(visitor, &c.left)?;
     if let Some(compared) = &c.compared {
-        walk_simple(visitor, &compared.right)?;
+        walk_simple_expression(visitor, &compared.right)?;
     }
     Ok(())
 }
 
 /// Visits the identifiers of a simple expression.
 #[cycle(expressions)]
-fn walk_simple<V: Visitor>(visitor: &mut V, s: &SimpleExpression) -> Result<(), AllocError>
+fn walk_simple_expression<V: Visitor>(
+    visitor: &mut V,
+    s: &SimpleExpression,
+) -> Result<(), AllocError>
     ensures { OnOk result (visitor.new ≡ state_after_visit V.seen (simple_of s.now) visitor.old) }
 {
     walk_term(visitor, &s.first)?;

@@ -5,7 +5,7 @@ use Rattle.std.specs.List.{filter, list_any}
 use Rattle.ob0_scan.specs.declared.fault.Fault.{Fault}
 use Rattle.ob0_language_names.specs.Names.{naming_by_spelling}
 use Rattle.ob0_language_names.specs.ConsistentNames.{has_consistent_names}
-use Rattle.ob0_scope_table.specs.Resolution.{IsResolution, Resolution, is_declaration_fault}
+use Rattle.ob0_scope_table.specs.Resolution.{IsResolution, Resolution, is_duplicate_or_end_name}
 use Rattle.ob0_tree.specs.ParsedModule.{named_tree_of}
 use Rattle.ob0_types_check.specs.DeclarationFaults.{module_faults}
 use Rattle.ob0_types_check.specs.ModuleLaws.{HasDeclarations, ModulesWithoutFaultPassTypeCheck}
@@ -28,16 +28,16 @@ length-nil xs e = ap length e
 pub empty_alike : (xs ys : List Fault) → (length xs ≡ 0 → length ys ≡ 0) → (length ys ≡ 0 → length xs ≡ 0) → (xs ≡ []) ↔ (ys ≡ [])
 empty_alike xs ys there back = ((λ e. nil_from_length ys (there (length-nil xs e))), (λ e. nil_from_length xs (back (length-nil ys e))))
 
-none_kept : (scopes : List Fault) → list_any is_declaration_fault scopes ≡ false → length (filter is_declaration_fault scopes) ≡ 0
+none_kept : (scopes : List Fault) → list_any is_duplicate_or_end_name scopes ≡ false → length (filter is_duplicate_or_end_name scopes) ≡ 0
 none_kept [] none = refl
 none_kept (fault ∷ faults) none =
-    (elim (is_declaration_fault fault) as (λ b. (b || list_any is_declaration_fault faults) ≡ false → length (if b then fault ∷ filter is_declaration_fault faults else filter is_declaration_fault faults) ≡ 0)
+    (elim (is_duplicate_or_end_name fault) as (λ b. (b || list_any is_duplicate_or_end_name faults) ≡ false → length (if b then fault ∷ filter is_duplicate_or_end_name faults else filter is_duplicate_or_end_name faults) ≡ 0)
     [ true ↦ λ e. absurd (true≢false e) | false ↦ λ e. none_kept faults e ]) none
 
-kept_none : (scopes : List Fault) → length (filter is_declaration_fault scopes) ≡ 0 → list_any is_declaration_fault scopes ≡ false
+kept_none : (scopes : List Fault) → length (filter is_duplicate_or_end_name scopes) ≡ 0 → list_any is_duplicate_or_end_name scopes ≡ false
 kept_none [] none = refl
 kept_none (fault ∷ faults) none =
-    (elim (is_declaration_fault fault) as (λ b. length (if b then fault ∷ filter is_declaration_fault faults else filter is_declaration_fault faults) ≡ 0 → (b || list_any is_declaration_fault faults) ≡ false)
+    (elim (is_duplicate_or_end_name fault) as (λ b. length (if b then fault ∷ filter is_duplicate_or_end_name faults else filter is_duplicate_or_end_name faults) ≡ 0 → (b || list_any is_duplicate_or_end_name faults) ≡ false)
     [ true ↦ λ e. absurd (omega (arith, e)) | false ↦ λ e. kept_none faults e ]) none
 
 both_right : (a b : Bool) → a ≡ true → b ≡ false → (a && not b) ≡ true
@@ -54,17 +54,17 @@ second_right false b e = absurd (true≢false (sym e))
 
 -- If a list of faults is empty exactly if a test is true, consider the list with the faults of declarations appended.
 -- It is empty exactly if the test is true and there are no such faults.
-reported_with : (right : Bool) (first scopes : List Fault) → IsReported right first → IsReported (right && not (list_any is_declaration_fault scopes)) (first ++ filter is_declaration_fault scopes)
+reported_with : (right : Bool) (first scopes : List Fault) → IsReported right first → IsReported (right && not (list_any is_duplicate_or_end_name scopes)) (first ++ filter is_duplicate_or_end_name scopes)
 reported_with right first scopes reported = (
   (λ e.
-      let all : length first + length (filter is_declaration_fault scopes) ≡ 0 = sym (length-append first (filter is_declaration_fault scopes)) ∙ length-nil (first ++ filter is_declaration_fault scopes) e in
+      let all : length first + length (filter is_duplicate_or_end_name scopes) ≡ 0 = sym (length-append first (filter is_duplicate_or_end_name scopes)) ∙ length-nil (first ++ filter is_duplicate_or_end_name scopes) e in
       let none : length first ≡ 0 = omega (arith, all) in
-      let others : length (filter is_declaration_fault scopes) ≡ 0 = omega (arith, all) in
-      both_right right (list_any is_declaration_fault scopes) (reported.0 (nil_from_length first none)) (kept_none scopes others)),
+      let others : length (filter is_duplicate_or_end_name scopes) ≡ 0 = omega (arith, all) in
+      both_right right (list_any is_duplicate_or_end_name scopes) (reported.0 (nil_from_length first none)) (kept_none scopes others)),
   (λ r.
-      let none : length first ≡ 0 = length-nil first (reported.1 (first_right right (list_any is_declaration_fault scopes) r)) in
-      let others : length (filter is_declaration_fault scopes) ≡ 0 = none_kept scopes (second_right right (list_any is_declaration_fault scopes) r) in
-      nil_from_length (first ++ filter is_declaration_fault scopes) (length-append first (filter is_declaration_fault scopes) ∙ omega (arith, none, others))),
+      let none : length first ≡ 0 = length-nil first (reported.1 (first_right right (list_any is_duplicate_or_end_name scopes) r)) in
+      let others : length (filter is_duplicate_or_end_name scopes) ≡ 0 = none_kept scopes (second_right right (list_any is_duplicate_or_end_name scopes) r) in
+      nil_from_length (first ++ filter is_duplicate_or_end_name scopes) (length-append first (filter is_duplicate_or_end_name scopes) ∙ omega (arith, none, others))),
 )
 
 once_from : (b : Bool) (any : Bool) → any ≡ not b → any ≡ false → b ≡ true
@@ -105,7 +105,7 @@ unfolding WellTyped
 checked_reported r faults reported_law none_law h alike known knows few first =
     let m = named_tree_of r.module_read in
     let fits : Bool = passes_type_check naming_by_spelling m in
-    let any = list_any is_declaration_fault r.faults in
+    let any = list_any is_duplicate_or_end_name r.faults in
     let of_types : IsReported fits (module_faults r) = (reported_law r h, none_law r h) in
     let whole : IsReported (fits && not any) (faults_in r) = reported_with fits (module_faults r) r.faults of_types in
     let reported : IsReported (fits && not any) faults = ((λ none. whole.0 (alike.0 none)), (λ right. alike.1 (whole.1 right))) in

@@ -8,7 +8,7 @@ use Rattle.ob0_tree.specs.declared.tree.Role.TheVariants as role
 use Rattle.ob0_language_types.specs.Bindings.{declared_object}
 use Rattle.ob0_language_types.specs.WellTyped.{WellTyped}
 use Rattle.ob0_scope_table.specs.BodyPlaces.{body_place_around}
-use Rattle.ob0_tree.specs.FirstIdentifier.{first_token_of}
+use Rattle.ob0_tree.specs.FirstIdentifier.{token_of_first_identifier}
 use Rattle.ob0_scope_table.specs.BodyReplaced.{IsBodyReplaced, PathToBody, body_at_path, closing_name_in_module, path_to_body_in_module}
 use Rattle.ob0_scope_table.specs.Resolution.{IsResolution, Resolution}
 use Rattle.ob0_scope_table.specs.declared.one_body.BodyPlace.{BodyPlace}
@@ -32,6 +32,6 @@ module _ (old r : Resolution) (types : ModuleTypes) (path : PathToBody) (s : Sam
   fields_with_new_body f t holds statements here place found declared all =
       let at = body_place_read s.prefix s.new_suffix (tree_of r.module_read) place found in
       let led : path_to_body_in_module s.prefix (tree_of r.module_read) ≡ path = is.new_path in
-      let first = (λ i. first_token_of (identifiers role.Declaring (body_at_path (sym led i) (tree_of r.module_read)))) ∙ at.first in
+      let first = (λ i. token_of_first_identifier (identifiers role.Declaring (body_at_path (sym led i) (tree_of r.module_read)))) ∙ at.first in
       let closing = sym at.closes ∙ ap (λ w. closing_name_in_module w (tree_of r.module_read)) led in
       fields_elsewhere old r path s is were.checked.resolved named (were.checked.reported.0 none) typed types.fields f t (were.fields none) holds statements here place.first place.closing first closing declared all

@@ -17,7 +17,7 @@ use Rattle.ob0_language_types.specs.Bindings.{declared_object}
 use Rattle.ob0_language_types.specs.WellTyped.{WellTyped}
 use Rattle.ob0_scope_table.specs.Bindings.{resolution_with}
 use Rattle.ob0_scope_table.specs.FaultTokens.{AreAtSameTokens, AreWrittenAlike, fault_at, moved_faults}
-use Rattle.ob0_scope_table.specs.Resolution.{IsResolution, Resolution, is_declaration_fault, ordinal_in}
+use Rattle.ob0_scope_table.specs.Resolution.{IsResolution, Resolution, is_duplicate_or_end_name, ordinal_in}
 use Rattle.ob0_scope_table.specs.declared.fault_tokens.FaultByTokens.{FaultByTokens}
 use Rattle.ob0_scope_table.specs.declared.resolved.Bindings.{Bindings}
 use Rattle.ob0_scope_table.proofs.FaultTokens.{both_same, filter_same, names_same, texts_stay, tree_named, values_stay}
@@ -122,11 +122,11 @@ module _ (old new : TextWithTokens) (tree : ModuleTree) (b c : Bindings) (w : Ar
       let n = names_same old new w tree in
       record { tokens = n.tokens; in_old = r.reported.by_kind ∙ n.in_old; in_new = s.reported.by_kind ∙ n.in_new }
 
-  same_names : record { module_read = parsed_module new tree; ordinals = b.ordinals.items; declarations = b.declarations.items; uses = b.occurrences.items; faults = c.faults.items } ≡ after
+  same_names : record { module_read = parsed_module new tree; ordinals = b.ordinals.items; declaration_tokens = b.declaration_tokens.items; uses = b.occurrences.items; faults = c.faults.items } ≡ after
   same_names = λ i. record {
     module_read = parsed_module new tree;
     ordinals = sym ordinals i;
-    declarations = (r.declaring ∙ sym s.declaring) i;
+    declaration_tokens = (r.declaring ∙ sym s.declaring) i;
     uses = (r.occurring ∙ sym s.occurring) i;
     faults = c.faults.items;
   }
@@ -135,8 +135,8 @@ module _ (old new : TextWithTokens) (tree : ModuleTree) (b c : Bindings) (w : Ar
   found_at =
       both_same old new
       (subst (λ (x : Resolution). AreAtSameTokens old new (module_faults before) (module_faults x)) same_names
-      (module_same old new w tree b.ordinals.items b.declarations.items b.occurrences.items b.faults.items c.faults.items names_at))
-      (filter_same old new is_declaration_fault (λ f. refl) names_at)
+      (module_same old new w tree b.ordinals.items b.declaration_tokens.items b.occurrences.items b.faults.items c.faults.items names_at))
+      (filter_same old new is_duplicate_or_end_name (λ f. refl) names_at)
 
   fields_stay : field_identifiers after ≡ field_identifiers before
   fields_stay = λ i. fields_with_owners (owners_in_module (record { object_for = λ token. option_and_then (declared_object (named i)) (ordinal_in (ordinals i) token); written = λ token. texts_stay old new w i token }) (tree_of (parsed_module old tree)))

@@ -9,7 +9,7 @@ use Rattle.ob0_scan.specs.TextWithTokens.{max_faults}
 use Rattle.ob0_scan.specs.declared.fault.FaultCode.{FaultCode}
 use Rattle.ob0_scan.specs.declared.fault.FaultCode.TheVariants as code
 use Rattle.ob0_scan.specs.declared.fault.Fault.{Fault}
-use Rattle.ob0_scope_table.specs.Resolution.{Resolution, is_declaration_fault}
+use Rattle.ob0_scope_table.specs.Resolution.{Resolution, is_duplicate_or_end_name}
 use Rattle.ob0_types_check.specs.DeclarationFaults.{module_faults}
 
 -- returns the number of a fault's code; the numbers order the codes: first lexical codes, then codes of scopes, then
@@ -54,7 +54,7 @@ pub record AreFirstOf (found faults : List Fault) : Type 0 where
 -- faults of types come first, then the duplicate declarations and wrong closing names. Only the first 100 faults in the
 -- order of `fault_cmp` are reported.
 abbrev pub faults_in : Resolution → List Fault
-faults_in r = module_faults r ++ filter is_declaration_fault r.faults
+faults_in r = module_faults r ++ filter is_duplicate_or_end_name r.faults
 
 -- states that the list `faults` has the first 100 faults of the module, in the order of `fault_cmp`
 abbrev pub AreFirstFaults : Resolution → List Fault → Type 0

@@ -12,7 +12,7 @@
 //! have the module's fields if the module has no fault. So the value of a `Checked` in contracts
 //! doesn't contain the lists.
 
-ghost use Rattle.ob0_scope_table.specs.Resolution.{is_declaration_fault};
+ghost use Rattle.ob0_scope_table.specs.Resolution.{is_duplicate_or_end_name};
 ghost use Rattle.ob0_types.specs.CheckedModules.{AreFieldsIfTyped, AreTypesOf, IsChecked, IsTableIfTyped, checked_module};
 ghost use Rattle.ob0_types.specs.FaultOrder.{AreFirstOf};
 ghost use Rattle.ob0_types.specs.NewBody.{WereTypesBeforeNewBody};
@@ -316,25 +316,25 @@ fn first_faults<'t>(
     of_types: Vec<Fault>,
 ) -> Result<Vec<Fault>, AllocError>
     ensures none { IfOk result (λ faults. (faults.items ≡ [])
-        ↔ (of_types.items ++ filter is_declaration_fault resolved.now.faults ≡ [])) }
+        ↔ (of_types.items ++ filter is_duplicate_or_end_name resolved.now.faults ≡ [])) }
     ensures few { IfOk result (λ faults. length faults.items ≤ max_faults) }
     ensures first { IfOk result (λ faults. AreFirstOf
-        (of_types.items ++ filter is_declaration_fault resolved.now.faults) faults.items) }
+        (of_types.items ++ filter is_duplicate_or_end_name resolved.now.faults) faults.items) }
 {
     let mut faults = of_types;
-    add_declaration_faults(&mut faults, resolved.faults())?;
+    add_duplicates_and_end_names(&mut faults, resolved.faults())?;
     faults.sort_by_key(|fault| (fault.span.start, fault.span.end, fault.code))?;
     faults.truncate(MAX_FAULTS);
     Ok(faults)
 }
 
 /// Appends the duplicate declarations and wrong closing names among the faults of scopes.
-fn add_declaration_faults(faults: &mut Vec<Fault>, scopes: &[Fault]) -> Result<(), AllocError>
+fn add_duplicates_and_end_names(faults: &mut Vec<Fault>, scopes: &[Fault]) -> Result<(), AllocError>
     ensures { OnOk result
-        (faults.new.items ≡ faults.old.items ++ filter is_declaration_fault scopes.now) }
+        (faults.new.items ≡ faults.old.items ++ filter is_duplicate_or_end_name scopes.now) }
 {
     for fault in scopes {
-        if is_declaration_fault(fault) {
+        if is_duplicate_or_end_name(fault) {
             faults.push(*fault)?;
         }
     }
@@ -342,8 +342,8 @@ fn add_declaration_faults(faults: &mut Vec<Fault>, scopes: &[Fault]) -> Result<(
 }
 
 /// Returns whether the fault is a duplicate declaration or a wrong closing name.
-fn is_declaration_fault(fault: &Fault) -> bool
-    ensures { result ≡ is_declaration_fault fault.now }
+fn is_duplicate_or_end_name(fault: &Fault) -> bool
+    ensures { result ≡ is_duplicate_or_end_name fault.now }
 {
     fault.code == FaultCode::Duplicate || fault.code == FaultCode::EndName
 }

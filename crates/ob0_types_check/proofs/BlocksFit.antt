@@ -274,7 +274,7 @@ pub first_holds : (r : Resolution) → IsKnownAt (numbering_of r) (state_at_star
 first_holds r = record {
   source = refl;
   ordinals = refl;
-  room = room_first r.declarations;
+  room = room_first r.declaration_tokens;
   table = tt;
   names = (
     lit< tt,

@@ -116,12 +116,12 @@ walk_without_fault_finds_meanings-holds r is h =
     bindings_both f.after q.declared 0 7 last (block_bindings naming_by_spelling (outermost_environment naming_by_spelling) 0 (module_block (named_tree_of m))) (outermost_environment naming_by_spelling) f.bound first in
     let all : Ordered 0 last (module_bindings naming_by_spelling (named_tree_of m)) (module_bindings naming_by_label (numbered (named_tree_of m))) =
     subst (λ z. Ordered 0 z (module_bindings naming_by_spelling (named_tree_of m)) (module_bindings naming_by_label (numbered (named_tree_of m)))) (ordinal_after_block-mapped_tree (token_text_at m.source) (token_value_at m.source) 7 7 refl b) (module-ordered (named_tree_of m) f.right) in
-    let room : length q.declared ≡ last = f.later.room ∙ (room_first r.declarations ∙ sym (module_counted r is)) in
+    let room : length q.declared ≡ last = f.later.room ∙ (room_first r.declaration_tokens ∙ sym (module_counted r is)) in
     record {
       shapes = f.after;
       table = f.later.table;
       declared = every_agrees f.after q.declared last (module_bindings naming_by_spelling (named_tree_of m)) (module_bindings naming_by_label (numbered (named_tree_of m))) all bound room;
       standards = every_own f.after q.declared last (module_bindings naming_by_spelling (named_tree_of m)) (module_bindings naming_by_label (numbered (named_tree_of m))) all bound room;
       predeclared = predeclared_bound (named_tree_of m) f.right;
-      room = omega (arith, f.later.room, room_first r.declarations);
+      room = omega (arith, f.later.room, room_first r.declaration_tokens);
     }

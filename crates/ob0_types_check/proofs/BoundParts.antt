@@ -6,7 +6,7 @@ use Rattle.ob0_language_names.specs.Parts.{names_in_list}
 use Rattle.ob0_tree.specs.Tree.{Tree, addend, adds, arguments, array_type, assigns, branches, calls, compares, designator, else_branch, else_part, elsif_branch, elsif_part, empty, end, expression, factor, field, fields, further_argument, further_fields, further_statement, index, integer, items, maybe, more, multiplier, multiplies, named_type, negation, no_arguments, no_fields, none, occurrences, one, parenthesised, product, record_type, relates, repeat_loop, runs, selector, sequence, simple, some_arguments, some_fields, statement, sum, term, then_argument, then_fields, then_statement, while_loop, written_type}
 use Rattle.ob0_language_types.specs.Arguments.{arguments_listed, further_arguments}
 use Rattle.ob0_language_types.specs.Expressions.{Meanings, Object, a_constant, a_procedure, a_standard, a_type, a_variable, evaluate}
-use Rattle.ob0_language_types.specs.Typing.{addition_type, array_length, negation_type, constant_of, constant_value, constant_meanings, denoted_type, denoted_group_fields, denoted_further_fields, lone_designator, element_type, field_type, outcome_value, group_constructor_count, multiplication_type, object_type, relation_type, sign_type, type_after_selectors, type_of, type_of_addends, type_of_factor, type_of_multipliers, type_of_name, type_of_simple, type_of_term, prepend_fields, check_limits}
+use Rattle.ob0_language_types.specs.Typing.{addition_type, array_length, negation_type, constant_of, constant_value, constant_meanings, denoted_type, denoted_group_fields, denoted_further_fields, lone_designator, element_type, field_type, outcome_value, group_constructor_count, multiplication_type, type_of_variable_or_constant, relation_type, sign_type, type_after_selectors, type_of, type_of_addends, type_of_factor, type_of_multipliers, type_of_name, type_of_simple, type_of_term, prepend_fields, type_within_limits}
 use Rattle.ob0_language_types.specs.WellTyped.{FormalParameter, Mode, Signature, TypeMeanings, same_known_shape, argument_matches, arguments_match, by_place, by_value, call_is_well_typed, condition_is_boolean, else_is_well_typed, elsifs_are_well_typed, sequence_is_well_typed, signature_of, statement_is_well_typed, further_statements_are_well_typed, variable_type}
 use Rattle.ob0_language_types.proofs.Conditions.{same_known_shape-true}
 use Rattle.ob0_language_values.specs.Values.{FieldShapes, Shape, Value, array_shape, boolean_shape, record_shape}
@@ -61,8 +61,8 @@ module _ {N Q : Type 0} (P : N → Type 0) (meaning : Meanings N Shape Q) (bound
 
     factor-bound : (f : Tree N factor) (s : Shape) → type_of_factor meaning f ≡ Some s → Each P (occurrences f)
     factor-bound (designator x path) s h =
-        let (u, hu, last) = and-then (λ s. type_after_selectors meaning s path) (object_type (meaning.object_for x)) s h in
-        let (o, ho) = name-of object_type refl (meaning.object_for x) u hu in
+        let (u, hu, last) = and-then (λ s. type_after_selectors meaning s path) (type_of_variable_or_constant (meaning.object_for x)) s h in
+        let (o, ho) = name-of type_of_variable_or_constant refl (meaning.object_for x) u hu in
         (bound x o ho, selectors-bound u path s last)
     factor-bound (integer n) s h = tt
     factor-bound (parenthesised e) s h = expression-bound e s h
@@ -95,13 +95,13 @@ module _ {N V Q : Type 0} (P : N → Type 0) (meaning : Meanings N V Q) (bound :
     pub type-bound : (k : ℕ) (t : Tree N written_type) (s : Shape) → denoted_type meaning k t ≡ Some s → Each P (occurrences t)
     type-bound k (named_type x) s h = let (o, ho) = name-of type_of_name refl (meaning.object_for x) s h in (bound x o ho, tt)
     type-bound k (array_type e t) s h =
-        let (v, hv, later) = and-then (λ v. option_and_then (λ n. option_and_then (λ s. check_limits (array_shape k n s)) (denoted_type meaning (suc k) t)) (array_length v)) (constant_value meaning e) s h in
-        let (n, hn, last) = and-then (λ n. option_and_then (λ s. check_limits (array_shape k n s)) (denoted_type meaning (suc k) t)) (array_length v) s later in
-        let (u, hu, limits) = and-then (λ s. check_limits (array_shape k n s)) (denoted_type meaning (suc k) t) s last in
+        let (v, hv, later) = and-then (λ v. option_and_then (λ n. option_and_then (λ s. type_within_limits (array_shape k n s)) (denoted_type meaning (suc k) t)) (array_length v)) (constant_value meaning e) s h in
+        let (n, hn, last) = and-then (λ n. option_and_then (λ s. type_within_limits (array_shape k n s)) (denoted_type meaning (suc k) t)) (array_length v) s later in
+        let (u, hu, limits) = and-then (λ s. type_within_limits (array_shape k n s)) (denoted_type meaning (suc k) t) s last in
         each-of-both P (occurrences e) (occurrences t) (value-bound e v hv) (type-bound (suc k) t u hu)
     type-bound k (record_type g rest) s h =
-        let (later, hl, last) = and-then (λ later. option_and_then (λ fs. check_limits (record_shape k fs)) (denoted_group_fields meaning (suc k) later g)) (denoted_further_fields meaning (suc k + group_constructor_count g) rest) s h in
-        let (fs, hf, limits) = and-then (λ fs. check_limits (record_shape k fs)) (denoted_group_fields meaning (suc k) later g) s last in
+        let (later, hl, last) = and-then (λ later. option_and_then (λ fs. type_within_limits (record_shape k fs)) (denoted_group_fields meaning (suc k) later g)) (denoted_further_fields meaning (suc k + group_constructor_count g) rest) s h in
+        let (fs, hf, limits) = and-then (λ fs. type_within_limits (record_shape k fs)) (denoted_group_fields meaning (suc k) later g) s last in
         each-of-both P (occurrences g) (occurrences rest) (group-bound (suc k) later g fs hf) (groups-bound (suc k + group_constructor_count g) rest later hl)
 
     group-bound : (k : ℕ) (later : FieldShapes) (g : Tree N fields) (fs : FieldShapes) → denoted_group_fields meaning k later g ≡ Some fs → Each P (occurrences g)

@@ -114,10 +114,10 @@ all_bound n (x ∷ xs) e =
 
 -- returns the numbering of a resolved module's names
 abbrev pub numbering_of : Resolution → Numbering
-numbering_of r = record { source = r.module_read.source; ordinals = r.ordinals; room = 7 + length r.declarations }
+numbering_of r = record { source = r.module_read.source; ordinals = r.ordinals; room = 7 + length r.declaration_tokens }
 
 -- The number of ordinals of a module is 7 plus the number of its declaring names.
-pub module_counted : (r : Resolution) → IsResolution r → ordinal_after_block 7 (module_block (tree_of r.module_read)) ≡ 7 + length r.declarations
+pub module_counted : (r : Resolution) → IsResolution r → ordinal_after_block 7 (module_block (tree_of r.module_read)) ≡ 7 + length r.declaration_tokens
 module_counted r is =
     let b : Tree ℕ block = module_block (tree_of r.module_read) in
     let ids = identifiers role.Declaring b in

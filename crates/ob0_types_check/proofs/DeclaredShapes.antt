@@ -7,7 +7,7 @@ use Rattle.ob0_tree.specs.Places.{token_text_at}
 use Rattle.ob0_language_names.specs.Names.{Name}
 use Rattle.ob0_types_table.specs.declared.types.TypeId.{TypeId}
 use Rattle.ob0_types_table.specs.declared.types.TypeId.TheVariants as type
-use Rattle.ob0_language_types.specs.Typing.{depth, field_depth, field_scalars, scalars, prepend_fields, check_limits}
+use Rattle.ob0_language_types.specs.Typing.{depth, field_depth, field_scalars, scalars, prepend_fields, type_within_limits}
 use Rattle.ob0_language_values.specs.Values.{FieldShapes, Shape, array_shape, boolean_shape, integer_shape, next_field_shape, no_field_shape, record_shape}
 use Rattle.ob0_types_check.specs.KnownDeclarations.{CompositeType, PartTypes, Size, KnownField, is_within_limits, of_elements, of_fields, scalar_size, size_at, composite_size}
 use Rattle.ob0_types_check.specs.WrittenTypeFaults.{KnownFields, array_size, record_size, with_known_field, with_known_fields}
@@ -123,7 +123,7 @@ size_agrees ms shapes (type.Array i) s h e = sized s (entered [] as_array array_
 size_agrees ms shapes (type.Record i) s h e = sized s (entered [] as_record record_is ms shapes i s h e)
 size_agrees ms shapes type.Unknown s h e = absurd (cc)
 
-pub is_limited : (z : Size) (s : Shape) → SizeAgrees z s → is_within_limits z ≡ true → check_limits s ≡ Some s
+pub is_limited : (z : Size) (s : Shape) → SizeAgrees z s → is_within_limits z ≡ true → type_within_limits s ≡ Some s
 is_limited z s h e = (λ i. if nat_le (sym h.scalars_are i) 65536 && nat_le (sym h.depth_is i) 100 then Some s else None) ∙ ap (λ b. if b then Some s else None) e
 
 pub array_sized : (z : Size) (k n : ℕ) (s : Shape) → SizeAgrees z s → SizeAgrees (array_size n z) (array_shape k n s)

@@ -14,7 +14,7 @@ use Rattle.ob0_tree.specs.Places.{token_text_at, token_value_at}
 use Rattle.ob0_tree.specs.Tree.{Sort, Tree, addend, adds, compares, designator, end, expression, factor, field, identifiers, index, integer, item, items, mapped_tree, more, multiplier, multiplies, negation, none, one, parenthesised, product, relates, selector, simple, sum, term}
 use Rattle.ob0_language_types.specs.Expressions.{Meanings, a_variable, evaluate, evaluate_addends, evaluate_factor, evaluate_multipliers, evaluate_simple, evaluate_term}
 use Rattle.ob0_language_types.specs.Selected.{apply_to_both}
-use Rattle.ob0_language_types.specs.Typing.{addition_type, negation_type, constant_of, constant_meanings, element_type, field_type, outcome_value, multiplication_type, object_type, relation_type, sign_type, type_after_selectors, type_of, type_of_addends, type_of_factor, type_of_multipliers, type_of_simple, type_of_term}
+use Rattle.ob0_language_types.specs.Typing.{addition_type, negation_type, constant_of, constant_meanings, element_type, field_type, outcome_value, multiplication_type, type_of_variable_or_constant, relation_type, sign_type, type_after_selectors, type_of, type_of_addends, type_of_factor, type_of_multipliers, type_of_simple, type_of_term}
 use Rattle.ob0_types_table.specs.Operators.{product_value, sum_value}
 use Rattle.ob0_language_values.specs.Values.{Place, Shape, Value, boolean_shape, integer_shape, negate, number, apply_relation}
 use Rattle.ob0_language_values.specs.Values.{apply_sign as with_sign}
@@ -37,7 +37,7 @@ pub record Fits {T : Type 0} (shape : T → Option Shape) (o : Operand T) (type 
 -- holds if the operand of a name has the type and the value of its object; an operand that may be a place is a
 -- variable's
 pub record NameFits {T N P : Type 0} (facts : Facts T) (shape : T → Option Shape) (label : ℕ → N) (meaning : Meanings N Shape P) (x : ℕ) : Type 0 where
-  pub fits : Fits shape (name_operand facts x).known (object_type (meaning.object_for (label x))) (constant_of (meaning.object_for (label x)))
+  pub fits : Fits shape (name_operand facts x).known (type_of_variable_or_constant (meaning.object_for (label x))) (constant_of (meaning.object_for (label x)))
   pub placed : (name_operand facts x).known.may_be_variable ≡ true → meaning.object_for (label x) ≡ Some (a_variable fits.of)
 
 abbrev pub TokenFits : {T N P : Type 0} → Facts T → (T → Option Shape) → (ℕ → N) → Meanings N Shape P → Role → ℕ → Type 0
@@ -214,7 +214,7 @@ module _ {T N P : Type 0} (facts : Facts T) (shape : T → Option Shape) (types 
   designator-whole x path name fs = record {
     of = fs.of;
     known = fs.known;
-    typed = goes-on (λ s. type_after_selectors meaning s (tree path)) (object_type (meaning.object_for (label x))) name.fits.of (Some fs.of) name.fits.typed fs.typed;
+    typed = goes-on (λ s. type_after_selectors meaning s (tree path)) (type_of_variable_or_constant (meaning.object_for (label x))) name.fits.of (Some fs.of) name.fits.typed fs.typed;
     value_agrees = designator-value_agrees x path name;
     scalar = designator-scalar x path name fs;
   }

@@ -6,7 +6,7 @@ use Rattle.ob0_tree.specs.declared.tree.Role.{Role}
 use Rattle.ob0_tree.specs.declared.tree.Role.TheVariants as role
 use Rattle.ob0_language_types.specs.Expressions as meant
 use Rattle.ob0_language_types.specs.Expressions.{Object}
-use Rattle.ob0_language_types.specs.Typing.{constant_of, constant_meanings, object_type, value_type}
+use Rattle.ob0_language_types.specs.Typing.{constant_of, constant_meanings, type_of_variable_or_constant, value_type}
 use Rattle.ob0_language_types.specs.WellTyped.{Signature, TypeMeanings}
 use Rattle.ob0_language_values.specs.Values.{Shape, Value, boolean_shape, elements, integer_shape, members, number, truth}
 use Rattle.ob0_types_check.specs.Known.{Facts, Meaning, Operand, a_constant, a_procedure, a_type, a_variable}
@@ -18,7 +18,7 @@ use Rattle.ob0_scan.specs.declared.fault.FaultCode.TheVariants as code
 
 -- holds if the operand of a name has the type and the value of the name's object
 pub record RunObjectAgrees {T P : Type 0} (shape : T → Option Shape) (k : Operand T) (o : Option (Object Shape P)) : Type 0 where
-  pub fits : Fits shape k (object_type o) (constant_of o)
+  pub fits : Fits shape k (type_of_variable_or_constant o) (constant_of o)
   pub placed : k.may_be_variable ≡ true → o ≡ Some (meant.a_variable fits.of)
 
 module _ {T : Type 0} (facts : Facts T) (shape : T → Option Shape) (types : TypesAgree facts.types shape) where

@@ -11,7 +11,7 @@ use Rattle.ob0_types_check.specs.Known.{Reported}
 use Rattle.ob0_types_check.specs.Operations.{ReturnsAndReports}
 use Rattle.ob0_types_check.specs.KnownDeclarations.{KnownDeclarations}
 use Rattle.ob0_types_check.specs.SomeBodies.{IsFinishedWalk, WalkProgress, every_body, reported_module_with_bodies, walk_progress_of}
-use Rattle.ob0_types_check.specs.CheckerViews.{declarations_in_state, table_in}
+use Rattle.ob0_types_check.specs.CheckerViews.{declarations_in_state, table_in_state}
 use Rattle.ob0_types_check.specs.declared.reporting.checker_state.CheckerState.{CheckerState}
 use Rattle.ob0_types_check.proofs.Listed.{nothing_left}
 use Rattle.ob0_types_check.proofs.TableKnown.{table_declares, table_in_order}
@@ -32,7 +32,7 @@ walked r before after s bodies_with_faults t first is reported =
     record {
       faults = reported.reported ∙ ((λ i. first i ++ (sym is i).faults) ∙ (ap (λ (x : Reported KnownDeclarations). filter is_undeclared_fault r.faults ++ x.faults) (sym all) ∙ sym (module_reported r)));
       known = ap (λ (w : WalkProgress). w.so_far) (reported.known ∙ ap (λ (x : Reported WalkProgress). x.known) (sym is)) ∙ ap (λ (x : Reported KnownDeclarations). x.known) (sym all);
-      faulty_are = ap (λ (w : WalkProgress). w.bodies_with_faults) (reported.known ∙ ap (λ (x : Reported WalkProgress). x.known) (sym is));
+      faulty_bodies_are = ap (λ (w : WalkProgress). w.bodies_with_faults) (reported.known ∙ ap (λ (x : Reported WalkProgress). x.known) (sym is));
     }
 
 module _ (r : Resolution) (after : List Fault) (s : CheckerState) (bodies_with_faults : List ℕ) (w : IsFinishedWalk r after s bodies_with_faults) (law : WalkWithoutFaultFindsMeanings) (is : IsResolution r) (none : after ≡ []) where
@@ -45,5 +45,5 @@ module _ (r : Resolution) (after : List Fault) (s : CheckerState) (bodies_with_f
   pub in_order : AreEntriesInOrder [] s.composites.items
   in_order = table_in_order s (named_tree_of r.module_read) knows
 
-  pub declares : HasDeclarations (named_tree_of r.module_read) (table_in s)
+  pub declares : HasDeclarations (named_tree_of r.module_read) (table_in_state s)
   declares = table_declares s (named_tree_of r.module_read) knows

@@ -332,12 +332,12 @@ same_count old new w = sym (length-map new.tokens (word_of_token new.text)) ∙ 
 
 -- If all tokens of two texts have the same spellings, the undeclared names and the faults of types are at the same
 -- tokens.
-pub module_same : (old new : TextWithTokens) (w : AreWrittenAlike old new) (tree : ModuleTree) (ordinals : List (Option ℕ)) (declarations uses : List ℕ) (before after : List Fault) → AreAtSameTokens old new before after
-    → AreAtSameTokens old new (module_faults (record { module_read = parsed_module old tree; ordinals = ordinals; declarations = declarations; uses = uses; faults = before }))
-    (module_faults (record { module_read = parsed_module new tree; ordinals = ordinals; declarations = declarations; uses = uses; faults = after }))
+pub module_same : (old new : TextWithTokens) (w : AreWrittenAlike old new) (tree : ModuleTree) (ordinals : List (Option ℕ)) (declaration_tokens uses : List ℕ) (before after : List Fault) → AreAtSameTokens old new before after
+    → AreAtSameTokens old new (module_faults (record { module_read = parsed_module old tree; ordinals = ordinals; declaration_tokens = declaration_tokens; uses = uses; faults = before }))
+    (module_faults (record { module_read = parsed_module new tree; ordinals = ordinals; declaration_tokens = declaration_tokens; uses = uses; faults = after }))
 unfolding module_faults
-module_same old new w tree ordinals declarations uses before after h =
-    let first : KnownDeclarations = state_at_start (record { module_read = parsed_module old tree; ordinals = ordinals; declarations = declarations; uses = uses; faults = before }) in
+module_same old new w tree ordinals declaration_tokens uses before after h =
+    let first : KnownDeclarations = state_at_start (record { module_read = parsed_module old tree; ordinals = ordinals; declaration_tokens = declaration_tokens; uses = uses; faults = before }) in
     let P : ℕ → Type 0 = λ k. Unit {0} in
     let likeness : Alikeness old new ordinals ordinals P = record { count = same_count old new w; written = λ k u. λ j. texts_stay old new w j k; value = λ k u. λ j. values_stay old new w j k; bound = λ k u. refl } in
     let b : Tree ℕ block = module_block (tree_of (parsed_module old tree)) in

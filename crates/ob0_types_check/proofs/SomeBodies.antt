@@ -10,7 +10,7 @@ use Rattle.ob0_language_names.specs.Parts.{formal_sections, module_block, sectio
 use Rattle.ob0_scope_table.specs.TokenProperty.{EachTokenHas}
 use Rattle.ob0_scope_table.specs.FaultTokens.{AreAtSameTokens, fault_at}
 use Rattle.ob0_scope_table.specs.Resolution.{IsResolution, Resolution, declaring_names}
-use Rattle.ob0_types_check.specs.EqualExceptBodies.{BlockHasExceptInBodies, IsSameTokenAt, ProcedureHasExceptInBodies, ProceduresHaveExceptInBodies, Unless}
+use Rattle.ob0_types_check.specs.EqualExceptBodies.{EachTokenOfBlockHasExceptInBodies, IsSameTokenAt, EachTokenOfProcedureHasExceptInBodies, EachTokenOfProceduresHasExceptInBodies, Unless}
 use Rattle.ob0_types_check.specs.DeclarationFaults.{KnownHeading, state_after_heading, reported_body, reported_constants, reported_sections, reported_types, reported_variables}
 use Rattle.ob0_types_check.specs.Known.{Reported}
 use Rattle.ob0_types_check.specs.Operations.{◌>>=◌}
@@ -207,7 +207,7 @@ module _ (old new : TextWithTokens) (os ns : List (Option ℕ)) (P : ℕ → Typ
   mutual
     unfolding reported_block_with_bodies
 
-    block_one : (own : ℕ) (z : Both) (b : Tree ℕ block) → BlockHasExceptInBodies P wanted own b → Were (reported_block_with_bodies every_body own (walked_before z) b).known
+    block_one : (own : ℕ) (z : Both) (b : Tree ℕ block) → EachTokenOfBlockHasExceptInBodies P wanted own b → Were (reported_block_with_bodies every_body own (walked_before z) b).known
         → With (reported_block_with_bodies every_body own (walked_before z) b) (reported_block_with_bodies every_body own (walked_now z) b) (reported_block_with_bodies wanted own (walked_now z) b)
     block_one own z (forms_block (declares cs ts vs ps) a) h =
         one_then nothing_of Were (λ q. reported_types q (section_types ts) >>= (λ r. reported_variables r (section_variables vs) >>= (λ s. reported_procedures_with_bodies every_body (further (walked_before z) s) ps >>= (λ t. report_body_if_wanted true own t a))))
@@ -228,7 +228,7 @@ module _ (old new : TextWithTokens) (os ns : List (Option ℕ)) (P : ℕ → Typ
         (λ t k. faulty_before wanted (reported_body t.so_far a).faults own t.bodies_with_faults k)
         (procedures_one (further_both z s) ps h.3) (λ y. body_with own y a h.4))))
 
-    procedures_one : (z : Both) (ps : Tree ℕ (items procedure)) → ProceduresHaveExceptInBodies P wanted ps → Were (reported_procedures_with_bodies every_body (walked_before z) ps).known
+    procedures_one : (z : Both) (ps : Tree ℕ (items procedure)) → EachTokenOfProceduresHasExceptInBodies P wanted ps → Were (reported_procedures_with_bodies every_body (walked_before z) ps).known
         → With (reported_procedures_with_bodies every_body (walked_before z) ps) (reported_procedures_with_bodies every_body (walked_now z) ps) (reported_procedures_with_bodies wanted (walked_now z) ps)
     procedures_one z end h were = record { value = z; before = refl; after = refl; same = refl }
     procedures_one z (more d rest) h were =
@@ -236,7 +236,7 @@ module _ (old new : TextWithTokens) (os ns : List (Option ℕ)) (P : ℕ → Typ
         (λ v k. before_procedures wanted v rest k)
         (procedure_one z d h.0) (λ y. procedures_one y rest h.1) were
 
-    procedure_one : (z : Both) (d : Tree ℕ (item procedure)) → ProcedureHasExceptInBodies P wanted d → Were (reported_procedure_with_bodies every_body (walked_before z) d).known
+    procedure_one : (z : Both) (d : Tree ℕ (item procedure)) → EachTokenOfProcedureHasExceptInBodies P wanted d → Were (reported_procedure_with_bodies every_body (walked_before z) d).known
         → With (reported_procedure_with_bodies every_body (walked_before z) d) (reported_procedure_with_bodies every_body (walked_now z) d) (reported_procedure_with_bodies wanted (walked_now z) d)
     procedure_one z (declares_procedure x fs b closing) h =
         one_then nothing_of Were (λ g. reported_block_with_bodies every_body closing (further (walked_before z) (state_after_heading x g)) b) (λ g. reported_block_with_bodies every_body closing (further (walked_now z) (state_after_heading x g)) b)
@@ -278,7 +278,7 @@ module _ (wanted : ℕ → Bool) (r : Resolution) (is : IsResolution r) (w : Inc
   as_read : (test : ℕ → Bool) → reported_module_with_bodies test r ≡ reported_block_with_bodies test old.module_read.closing at_start old_block
   as_read test =
       let tree = w.alike.tree in
-      let declared : r.declarations ≡ old.declarations = is.declaring ∙ (ap (λ t. declaring_names (identifiers role.Declaring t)) tree ∙ sym w.resolved.declaring) in
+      let declared : r.declaration_tokens ≡ old.declaration_tokens = is.declaring ∙ (ap (λ t. declaring_names (identifiers role.Declaring t)) tree ∙ sym w.resolved.declaring) in
       let first : state_at_start r ≡ so_over r.module_read.source r.ordinals (state_at_start old) = ap (λ (ds : List ℕ). record { source = r.module_read.source; ordinals = r.ordinals; declared = predeclared_meanings ++ map (λ token. None) ds; made = [] }) declared in
       let own : r.module_read.closing ≡ old.module_read.closing = ap closing_of tree in
       λ i. reported_block_with_bodies test (own i) (record { so_far = first i; bodies_with_faults = [] }) (module_block (tree i))

@@ -25,7 +25,7 @@ use Rattle.ob0_types_table.specs.declared.types.TypeId.TheVariants as type
 use Rattle.ob0_language_values.specs.Values.{FieldShapes, Shape, array_shape, boolean_shape, integer_shape, next_field_shape, no_field_shape, record_shape}
 use Rattle.ob0_types_check.specs.Agreement.{DeclarationAgrees, EntriesAgree, FieldsAgree, FormalsAgree, CompositeAgrees, MeaningAgrees, as_array, as_record, is_standard_procedure, shape_in}
 use Rattle.ob0_types_check.specs.ModuleLaws.{KnowsDeclarations}
-use Rattle.ob0_types_check.specs.CheckerViews.{fields_in, formal_of, composite_type_of, meaning_view, table_object, declarations_in_state, table_in, with_standard_procedures}
+use Rattle.ob0_types_check.specs.CheckerViews.{fields_in, formal_of, composite_type_of, meaning_view, table_object, declarations_in_state, table_in_state, with_standard_procedures}
 use Rattle.ob0_types_check.specs.declared.reporting.checker_state.Meaning.{Meaning}
 use Rattle.ob0_types_check.specs.declared.reporting.checker_state.Meaning.TheVariants as declared
 use Rattle.ob0_types_check.specs.declared.reporting.checker_state.CheckerState.{CheckerState}
@@ -142,7 +142,7 @@ module _ (s : CheckerState) (m : Tree Name module_text) (h : KnowsDeclarations (
   in_order : AreEntriesInOrder [] s.composites.items
   in_order = (entries_there [] s.composites.items h.shapes h.table).0
 
-  shapes_are : shapes_of (table_in s) ≡ h.shapes
+  shapes_are : shapes_of (table_in_state s) ≡ h.shapes
   shapes_are = (entries_there [] s.composites.items h.shapes h.table).1
 
   -- An ordinal that isn't a standard procedure's keeps its object.
@@ -185,5 +185,5 @@ module _ (s : CheckerState) (m : Tree Name module_text) (h : KnowsDeclarations (
   pub table_in_order : AreEntriesInOrder [] s.composites.items
   table_in_order = in_order
 
-  pub table_declares : (k : ℕ) → declared_object_in (table_in s) k ≡ declared_object m k
+  pub table_declares : (k : ℕ) → declared_object_in (table_in_state s) k ≡ declared_object m k
   table_declares k = ap (λ z. option_and_then (object_view z) (slice_index_or (with_standard_procedures objects) k None)) shapes_are ∙ each_there k

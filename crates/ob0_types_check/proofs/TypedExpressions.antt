@@ -7,7 +7,7 @@ use Rattle.ob0_tree.specs.declared.tree.Role.TheVariants as role
 use Rattle.ob0_tree.specs.Places.{token_text_at, token_value_at}
 use Rattle.ob0_tree.specs.Tree.{Sort, Tree, addend, adds, compares, designator, end, expression, factor, field, identifiers, index, integer, items, mapped_tree, more, multiplier, multiplies, negation, none, one, parenthesised, product, relates, selector, simple, sum, term}
 use Rattle.ob0_language_types.specs.Expressions.{Meanings}
-use Rattle.ob0_language_types.specs.Typing.{addition_type, negation_type, element_type, field_type, multiplication_type, object_type, relation_type, sign_type, type_after_selectors, type_of, type_of_addends, type_of_factor, type_of_multipliers, type_of_simple, type_of_term}
+use Rattle.ob0_language_types.specs.Typing.{addition_type, negation_type, element_type, field_type, multiplication_type, type_of_variable_or_constant, relation_type, sign_type, type_after_selectors, type_of, type_of_addends, type_of_factor, type_of_multipliers, type_of_simple, type_of_term}
 use Rattle.ob0_language_values.specs.Values.{Shape, Value}
 use Rattle.ob0_types_check.specs.ExpressionFaults.{reported_addends, reported_expression, reported_factor, reported_multipliers, reported_selectors, reported_simple, reported_term}
 use Rattle.ob0_types_check.specs.Known.{Facts, Operand}
@@ -23,7 +23,7 @@ known-as s f e = f.known ∙ (sym f.typed ∙ e)
 
 -- holds if no fault is reported for a name that has a type
 abbrev pub NameTyped : {T N P : Type 0} → Facts T → (ℕ → N) → Meanings N Shape P → Role → ℕ → Type 0
-NameTyped facts label meaning role.LookedUp x = (s : Shape) → object_type (meaning.object_for (label x)) ≡ Some s → (name_operand facts x).faults ≡ []
+NameTyped facts label meaning role.LookedUp x = (s : Shape) → type_of_variable_or_constant (meaning.object_for (label x)) ≡ Some s → (name_operand facts x).faults ≡ []
 NameTyped facts label meaning role.FieldName x = Unit {0}
 NameTyped facts label meaning role.Declaring x = Unit {0}
 NameTyped facts label meaning role.ClosingName x = Unit {0}
@@ -123,7 +123,7 @@ module _ {T N P : Type 0} (facts : Facts T) (shape : T → Option Shape) (types 
 
     factor-right : (f : Tree ℕ factor) → AllTyped f → (s : Shape) → type_of_factor meaning (tree f) ≡ Some s → (reported_factor facts f).faults ≡ []
     factor-right (designator x path) (k, n) s h =
-        let (u, hu, last) = and-then (λ s. type_after_selectors meaning s (tree path)) (object_type (meaning.object_for (label x))) s h in
+        let (u, hu, last) = and-then (λ s. type_after_selectors meaning s (tree path)) (type_of_variable_or_constant (meaning.object_for (label x))) s h in
         let left = n.0 u hu in
         let name : NameFits facts shape label meaning x = k.0 left in
         none-of-both (name_operand facts x).faults _ left (selectors-right (name_operand facts x).known u path (known-as u name.fits hu) (k.1, n.1) s last)

@@ -5,7 +5,7 @@ use Rattle.ob0_tree.specs.declared.tree.Role.{Role}
 use Rattle.ob0_tree.specs.declared.tree.Role.TheVariants as role
 use Rattle.ob0_language_types.specs.Expressions as meant
 use Rattle.ob0_language_types.specs.Expressions.{Object}
-use Rattle.ob0_language_types.specs.Typing.{constant_of, constant_meanings, object_type}
+use Rattle.ob0_language_types.specs.Typing.{constant_of, constant_meanings, type_of_variable_or_constant}
 use Rattle.ob0_language_types.specs.WellTyped.{Signature, TypeMeanings, signature_of}
 use Rattle.ob0_types_table.specs.declared.types.TypeId.{TypeId}
 use Rattle.ob0_types_table.specs.declared.types.TypeId.TheVariants as type
@@ -65,7 +65,7 @@ types-apart made shapes = record { integer = integer-alone made shapes; boolean 
 -- No fault is reported for a name that has a type.
 
 module _ {T : Type 0} (facts : Facts T) (shape : T → Option Shape) where
-  no-procedure : (o : Option (Object Shape Signature)) (signature : Signature) (s : Shape) → signature_of o ≡ Some signature → object_type o ≡ Some s → ⊥
+  no-procedure : (o : Option (Object Shape Signature)) (signature : Signature) (s : Shape) → signature_of o ≡ Some signature → type_of_variable_or_constant o ≡ Some s → ⊥
   no-procedure None signature s e h = some-none s (sym h)
   no-procedure (Some (meant.a_type t)) signature s e h = some-none s (sym h)
   no-procedure (Some (meant.a_constant v)) signature s e h = some-none signature (sym e)
@@ -77,9 +77,9 @@ module _ {T : Type 0} (facts : Facts T) (shape : T → Option Shape) where
   variable-named x t true e = absurd (true≢false e)
   variable-named x t false e = refl
 
-  holds-right : (x : ℕ) (m : Option (Meaning T)) (o : Option (Object Shape Signature)) → facts.only_constants ≡ false → KnownMeaningAgrees shape m o → (s : Shape) → object_type o ≡ Some s → (operand_by_meaning facts x m).faults ≡ []
+  holds-right : (x : ℕ) (m : Option (Meaning T)) (o : Option (Object Shape Signature)) → facts.only_constants ≡ false → KnownMeaningAgrees shape m o → (s : Shape) → type_of_variable_or_constant o ≡ Some s → (operand_by_meaning facts x m).faults ≡ []
   holds-right x None o only a s h = absurd a
-  holds-right x (Some (a_type t)) o only (u, known, holds) s h = absurd (some-none s (sym h ∙ ap object_type holds))
+  holds-right x (Some (a_type t)) o only (u, known, holds) s h = absurd (some-none s (sym h ∙ ap type_of_variable_or_constant holds))
   holds-right x (Some (a_procedure fs)) o only (signature, holds, formals) s h = absurd (no-procedure o signature s holds h)
   holds-right x (Some (a_constant c)) o only a s h = refl
   holds-right x (Some (a_variable t)) o only a s h = variable-named x t facts.only_constants only
@@ -89,12 +89,12 @@ module _ {T : Type 0} (facts : Facts T) (shape : T → Option Shape) where
   abbrev only : Option (Object Shape Signature) → Option (Object Shape (Unit {0}))
   only o = option_map meant.a_constant (constant_of o)
 
-  only-right : (Q : Type 0) (x : ℕ) (m : Option (Meaning T)) (o : Option (Object Shape Signature)) → KnownMeaningAgrees shape m o → (s : Shape) → object_type (option_map {U = Object Shape Q} meant.a_constant (constant_of o)) ≡ Some s → (operand_by_meaning facts x m).faults ≡ []
+  only-right : (Q : Type 0) (x : ℕ) (m : Option (Meaning T)) (o : Option (Object Shape Signature)) → KnownMeaningAgrees shape m o → (s : Shape) → type_of_variable_or_constant (option_map {U = Object Shape Q} meant.a_constant (constant_of o)) ≡ Some s → (operand_by_meaning facts x m).faults ≡ []
   only-right Q x None o a s h = absurd a
-  only-right Q x (Some (a_type t)) o (u, known, holds) s h = absurd (some-none s (sym h ∙ ap (λ z. object_type (option_map {U = Object Shape Q} meant.a_constant (constant_of z))) holds))
+  only-right Q x (Some (a_type t)) o (u, known, holds) s h = absurd (some-none s (sym h ∙ ap (λ z. type_of_variable_or_constant (option_map {U = Object Shape Q} meant.a_constant (constant_of z))) holds))
   only-right Q x (Some (a_procedure fs)) o (signature, holds, formals) s h = absurd (no-constant o signature s holds h)
     where
-      no-constant : (o : Option (Object Shape Signature)) (signature : Signature) (s : Shape) → signature_of o ≡ Some signature → object_type (option_map {U = Object Shape Q} meant.a_constant (constant_of o)) ≡ Some s → ⊥
+      no-constant : (o : Option (Object Shape Signature)) (signature : Signature) (s : Shape) → signature_of o ≡ Some signature → type_of_variable_or_constant (option_map {U = Object Shape Q} meant.a_constant (constant_of o)) ≡ Some s → ⊥
       no-constant None signature s e h = some-none s (sym h)
       no-constant (Some (meant.a_type t)) signature s e h = some-none s (sym h)
       no-constant (Some (meant.a_constant v)) signature s e h = some-none signature (sym e)
@@ -102,7 +102,7 @@ module _ {T : Type 0} (facts : Facts T) (shape : T → Option Shape) where
       no-constant (Some (meant.a_procedure p)) signature s e h = some-none s (sym h)
       no-constant (Some (meant.a_standard p)) signature s e h = some-none s (sym h)
   only-right Q x (Some (a_constant c)) o a s h = refl
-  only-right Q x (Some (a_variable t)) o (u, known, holds) s h = absurd (some-none s (sym h ∙ ap (λ z. object_type (option_map {U = Object Shape Q} meant.a_constant (constant_of z))) holds))
+  only-right Q x (Some (a_variable t)) o (u, known, holds) s h = absurd (some-none s (sym h ∙ ap (λ z. type_of_variable_or_constant (option_map {U = Object Shape Q} meant.a_constant (constant_of z))) holds))
 
 module _ {T N : Type 0} (facts : Facts T) (shape : T → Option Shape) (label : ℕ → N) (meaning : TypeMeanings N) where
   name-typed : facts.only_constants ≡ false → (r : Role) (x : ℕ) → TokenAgrees facts shape label meaning r x → NameTyped facts label meaning r x

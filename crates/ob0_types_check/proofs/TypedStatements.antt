@@ -12,7 +12,7 @@ use Rattle.ob0_tree.specs.Tree.{Sort, Tree, adds, arguments, assigns, branches, 
 use Rattle.ob0_language_types.specs.Arguments.{arguments_listed}
 use Rattle.ob0_language_types.specs.Expressions as meant
 use Rattle.ob0_language_types.specs.Expressions.{Object}
-use Rattle.ob0_language_types.specs.Typing.{lone_designator, object_type, type_after_selectors, type_of, type_of_factor}
+use Rattle.ob0_language_types.specs.Typing.{lone_designator, type_of_variable_or_constant, type_after_selectors, type_of, type_of_factor}
 use Rattle.ob0_language_types.specs.WellTyped.{FormalParameter, Signature, TypeMeanings, same_known_shape, argument_matches, arguments_match, by_place, by_value, call_is_well_typed, condition_is_boolean, else_is_well_typed, elsifs_are_well_typed, sequence_is_well_typed, signature_of, statement_is_well_typed, further_statements_are_well_typed, variable_type}
 use Rattle.ob0_language_types.proofs.Conditions.{same_known_shape-true}
 use Rattle.ob0_language_values.specs.Values.{Shape, array_shape, boolean_shape, integer_shape, record_shape}
@@ -73,7 +73,7 @@ module _ {T N : Type 0} (facts : Facts T) (shape : T → Option Shape) (types : 
 
   named-place : (x : ℕ) (m : Option (Meaning T)) (o : Option (Object Shape Signature)) (v : Shape) → KnownMeaningAgrees shape m o → o ≡ Some (meant.a_variable v) → (operand_by_meaning facts x m).known.may_be_variable ≡ true
   named-place x None o v a e = absurd a
-  named-place x (Some (a_type t)) o v (s, reported, holds) e = absurd (some-none v (sym (ap object_type e) ∙ ap object_type holds))
+  named-place x (Some (a_type t)) o v (s, reported, holds) e = absurd (some-none v (sym (ap type_of_variable_or_constant e) ∙ ap type_of_variable_or_constant holds))
   named-place x (Some (a_constant c)) o v (w, reported, holds, scalar) e = let same : Some (meant.a_constant w) ≡ Some (meant.a_variable v) = sym holds ∙ e in absurd (cc)
   named-place x (Some (a_procedure fs)) o v (signature, holds, formals) e = no-signature facts shape types apart only label meaning o v signature e holds
   named-place x (Some (a_variable t)) o v a e = variable-place x t facts.only_constants
@@ -98,7 +98,7 @@ module _ {T N : Type 0} (facts : Facts T) (shape : T → Option Shape) (types : 
   place-known (compares (sum None (product (designator x path) end) end) (one (relates r b))) k s h = no-designator s h
   place-known (compares (sum None (product (designator x path) end) end) none) k s h =
       let (v, holds, typed) = variable-of (meaning.object_for (label x)) (λ v. type_after_selectors meaning v (here path)) s h in
-      let factor : type_of_factor meaning (here (designator x path)) ≡ Some s = goes-on (λ s. type_after_selectors meaning s (here path)) (object_type (meaning.object_for (label x))) v (Some s) (ap object_type holds) typed in
+      let factor : type_of_factor meaning (here (designator x path)) ≡ Some s = goes-on (λ s. type_after_selectors meaning s (here path)) (type_of_variable_or_constant (meaning.object_for (label x))) v (Some s) (ap type_of_variable_or_constant holds) typed in
       record {
         typed = ap (λ o. option_and_then (λ x. option_and_then (λ y. Some y) (Some x)) (option_and_then (λ x. Some x) o)) factor;
         placed = parts-placed facts (name_operand facts x).known path ∙ named-place x (facts.object_for x) (meaning.object_for (label x)) v k.0 holds;

@@ -7,7 +7,7 @@ use Rattle.ob0_tree.specs.Places.{token_value_at}
 use Rattle.ob0_tree.specs.Tree.{Sort, Tree, designator, expression, identifiers, items, mapped_tree, selector}
 use Rattle.ob0_language_types.specs.Expressions as meant
 use Rattle.ob0_language_types.specs.Expressions.{Object}
-use Rattle.ob0_language_types.specs.Typing.{object_type, type_after_selectors, type_of}
+use Rattle.ob0_language_types.specs.Typing.{type_of_variable_or_constant, type_after_selectors, type_of}
 use Rattle.ob0_language_types.specs.WellTyped.{Signature, TypeMeanings, signature_of, variable_type}
 use Rattle.ob0_language_values.specs.Values.{Shape}
 use Rattle.ob0_types_check.specs.ExpressionFaults.{reported_expression, reported_selectors}
@@ -64,10 +64,10 @@ module _ {T N : Type 0} (facts : Facts T) (shape : T → Option Shape) (types : 
 
   assigned-right : (x : ℕ) (m : Option (Meaning T)) (o : Option (Object Shape Signature)) (v : Shape) → KnownMeaningAgrees shape m o → o ≡ Some (meant.a_variable v) → ((target_type_by_meaning facts x m).faults ≡ []) × (shape (target_type_by_meaning facts x m).known ≡ Some v)
   assigned-right x None o v a e = absurd a
-  assigned-right x (Some (a_type t)) o v (s, reported, holds) e = absurd (some-none v (sym (ap object_type e) ∙ ap object_type holds))
+  assigned-right x (Some (a_type t)) o v (s, reported, holds) e = absurd (some-none v (sym (ap type_of_variable_or_constant e) ∙ ap type_of_variable_or_constant holds))
   assigned-right x (Some (a_constant c)) o v (w, reported, holds, scalar) e = let same : Some (meant.a_constant w) ≡ Some (meant.a_variable v) = sym holds ∙ e in absurd (cc)
   assigned-right x (Some (a_procedure fs)) o v (signature, holds, formals) e = no-signature o v signature e holds
-  assigned-right x (Some (a_variable t)) o v (s, reported, holds) e = (refl, reported ∙ ap object_type (sym holds ∙ e))
+  assigned-right x (Some (a_variable t)) o v (s, reported, holds) e = (refl, reported ∙ ap type_of_variable_or_constant (sym holds ∙ e))
 
   pub record TargetTyped (x : ℕ) (path : Tree ℕ (items selector)) (s : Shape) : Type 0 where
     pub none : (reported_target facts x path).faults ≡ []

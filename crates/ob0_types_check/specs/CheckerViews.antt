@@ -42,12 +42,12 @@ entry_field_type (Some (made.Array a)) x = None
 entry_field_type (Some (made.Record r)) x = first_field_type r.fields x
 
 -- returns the form of a type, given the code's list of array and record types
-abbrev pub form_in : List TypeEntry → TypeId → Form TypeId
-form_in composites type.Integer = a_scalar
-form_in composites type.Boolean = a_scalar
-form_in composites (type.Array i) = an_array (entry_element_type (slice_get composites i))
-form_in composites (type.Record i) = a_record (entry_field_type (slice_get composites i))
-form_in composites type.Unknown = unknown_form
+abbrev pub form_of_type_in : List TypeEntry → TypeId → Form TypeId
+form_of_type_in composites type.Integer = a_scalar
+form_of_type_in composites type.Boolean = a_scalar
+form_of_type_in composites (type.Array i) = an_array (entry_element_type (slice_get composites i))
+form_of_type_in composites (type.Record i) = a_record (entry_field_type (slice_get composites i))
+form_of_type_in composites type.Unknown = unknown_form
 
 -- returns the representation of types (`Types`) by the code's `TypeId`, given the code's list of array and record types
 abbrev pub known_types : List TypeEntry → Types TypeId
@@ -57,7 +57,7 @@ known_types composites =
       boolean = type.Boolean;
       unknown = type.Unknown;
       same = same_type;
-      form = form_in composites;
+      form = form_of_type_in composites;
     }
 
 -- converts a formal parameter of the code to a formal parameter of the definitions
@@ -132,8 +132,8 @@ declarations_in_state s = record {
 
 -- converts the parameters of a heading, and the state after them, from values of the code to values
 -- of the definitions
-abbrev pub heading_in : CheckerState → List formal.FormalParameter → KnownHeading
-heading_in s formals = record { formals = map formal_of formals; following = declarations_in_state s }
+abbrev pub heading_in_state : CheckerState → List formal.FormalParameter → KnownHeading
+heading_in_state s formals = record { formals = map formal_of formals; following = declarations_in_state s }
 
 -- caps both numbers of a size at 2^64 - 1, because the code's arithmetic stops there
 abbrev pub capped_size : Size → Size
@@ -172,8 +172,8 @@ with_standard_procedures objects =
     6 (Some (kind.StandardProcedure standards.WriteLn))
 
 -- returns the table that the code makes from its state
-abbrev pub table_in : CheckerState → Tables
-table_in s =
+abbrev pub table_in_state : CheckerState → Tables
+table_in_state s =
     record {
       shapes = s.composites.items;
       objects = with_standard_procedures (map (option_map table_object) s.meanings.items);

@@ -18,31 +18,31 @@ Unless false A = A
 abbrev mutual
   -- states that each token of a block has the property `P`, except in statements of blocks whose closing names pass
   -- `left_out`
-  pub BlockHasExceptInBodies : (ℕ → Type 0) → (ℕ → Bool) → ℕ → Tree ℕ block → Type 0
-  BlockHasExceptInBodies P left_out own (forms_block (declares cs ts vs ps) statements) =
+  pub EachTokenOfBlockHasExceptInBodies : (ℕ → Type 0) → (ℕ → Bool) → ℕ → Tree ℕ block → Type 0
+  EachTokenOfBlockHasExceptInBodies P left_out own (forms_block (declares cs ts vs ps) statements) =
       EachTokenHas P cs
       × EachTokenHas P ts
       × EachTokenHas P vs
-      × ProceduresHaveExceptInBodies P left_out ps
+      × EachTokenOfProceduresHasExceptInBodies P left_out ps
       × Unless (left_out own) (EachTokenHas P statements)
 
   -- states that each token of these procedures has the property `P`, except in statements of blocks whose closing names
   -- pass `left_out`
-  pub ProceduresHaveExceptInBodies : (ℕ → Type 0) → (ℕ → Bool) → Tree ℕ (items procedure) → Type 0
-  ProceduresHaveExceptInBodies P left_out end = Unit {0}
-  ProceduresHaveExceptInBodies P left_out (more p rest) =
-      ProcedureHasExceptInBodies P left_out p × ProceduresHaveExceptInBodies P left_out rest
+  pub EachTokenOfProceduresHasExceptInBodies : (ℕ → Type 0) → (ℕ → Bool) → Tree ℕ (items procedure) → Type 0
+  EachTokenOfProceduresHasExceptInBodies P left_out end = Unit {0}
+  EachTokenOfProceduresHasExceptInBodies P left_out (more p rest) =
+      EachTokenOfProcedureHasExceptInBodies P left_out p × EachTokenOfProceduresHasExceptInBodies P left_out rest
 
   -- states that each token of a procedure has the property `P`, except in statements of blocks whose closing names pass
   -- `left_out`
-  pub ProcedureHasExceptInBodies : (ℕ → Type 0) → (ℕ → Bool) → Tree ℕ (item procedure) → Type 0
-  ProcedureHasExceptInBodies P left_out (declares_procedure x fs b closing) =
-      P x × EachTokenHas P fs × BlockHasExceptInBodies P left_out closing b × P closing
+  pub EachTokenOfProcedureHasExceptInBodies : (ℕ → Type 0) → (ℕ → Bool) → Tree ℕ (item procedure) → Type 0
+  EachTokenOfProcedureHasExceptInBodies P left_out (declares_procedure x fs b closing) =
+      P x × EachTokenHas P fs × EachTokenOfBlockHasExceptInBodies P left_out closing b × P closing
 
 -- states that each token of a module has the property `P`, except in statements of blocks whose closing names pass
 -- `left_out`
-abbrev pub ModuleHasExceptInBodies : (ℕ → Type 0) → (ℕ → Bool) → Tree ℕ module_text → Type 0
-ModuleHasExceptInBodies P left_out (is_module x b closing) = P x × BlockHasExceptInBodies P left_out closing b × P closing
+abbrev pub EachTokenOfModuleHasExceptInBodies : (ℕ → Type 0) → (ℕ → Bool) → Tree ℕ module_text → Type 0
+EachTokenOfModuleHasExceptInBodies P left_out (is_module x b closing) = P x × EachTokenOfBlockHasExceptInBodies P left_out closing b × P closing
 
 -- states that a token has the same spelling and value in both modules, and is bound to the same declaration in both
 pub record IsSameTokenAt (old new : Resolution) (token : ℕ) : Type 0 where
@@ -55,4 +55,4 @@ pub record IsSameTokenAt (old new : Resolution) (token : ℕ) : Type 0 where
 pub record AreEqualExceptBodies (left_out : ℕ → Bool) (old new : Resolution) : Type 0 where
   pub tree : tree_of new.module_read ≡ tree_of old.module_read
   pub count : length new.module_read.source.tokens ≡ length old.module_read.source.tokens
-  pub alike : ModuleHasExceptInBodies (IsSameTokenAt old new) left_out (tree_of old.module_read)
+  pub alike : EachTokenOfModuleHasExceptInBodies (IsSameTokenAt old new) left_out (tree_of old.module_read)

@@ -217,6 +217,6 @@ state_at_start r =
     record {
       source = r.module_read.source;
       ordinals = r.ordinals;
-      declared = predeclared_meanings ++ map (λ token. None) r.declarations;
+      declared = predeclared_meanings ++ map (λ token. None) r.declaration_tokens;
       made = [];
     }

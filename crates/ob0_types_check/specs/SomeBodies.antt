@@ -138,4 +138,4 @@ pub record IsFinishedWalk
     (r : Resolution) (found : List Fault) (s : CheckerState) (bodies_with_faults : List ℕ) : Type 0 where
   pub faults : found ≡ module_faults r
   pub known : declarations_in_state s ≡ (reported_block (state_at_start r) (module_block (tree_of r.module_read))).known
-  pub faulty_are : bodies_with_faults ≡ faulty_bodies r
+  pub faulty_bodies_are : bodies_with_faults ≡ faulty_bodies r

@@ -22,8 +22,8 @@
 //!
 //! The definitions work over any representation of types that has an unknown type (`Types`). One
 //! such representation is the code's `TypeId`, which refers to array and record types by their
-//! indexes in a list (`known_types`). Another is `Option Shape`, which needs no list. In this
-//! representation None is the unknown type.
+//! indexes in a list (`known_types`). Another is `Option Shape`, which needs no list and has
+//! None for the unknown type.
 //!
 //! The faults of written types, declarations and blocks depend on a state, `KnownDeclarations`.
 //! This state has the meanings of the declarations, by ordinal, and a list of the array and record
@@ -73,7 +73,7 @@ ghost use Rattle.ob0_types_table.specs.Tables.{AreEntriesInOrder};
 ghost use Rattle.ob0_types_check.specs.NewBody.{PassesTypeCheckWithoutBody};
 ghost use Rattle.ob0_types_check.specs.KnownDeclarations.{state_at_start};
 ghost use Rattle.ob0_types_check.specs.SomeBodies.{IsFinishedWalk, IsReportOf, IncludesFaultyBodies, every_body, is_among, reported_module_with_bodies, includes_body};
-ghost use Rattle.ob0_types_check.specs.CheckerViews.{meaning_view, declarations_in_state, table_in};
+ghost use Rattle.ob0_types_check.specs.CheckerViews.{meaning_view, declarations_in_state, table_in_state};
 
 use crate::laws::{some_bodies_suffice, walk_without_fault_finds_meanings};
 use crate::reporting::checker_state::{CheckerState, Meaning, predeclared_meanings};
@@ -198,7 +198,7 @@ fn make_declaration_table<'t>(
     checker_state: CheckerState<'t>,
 ) -> Result<DeclarationTable, AllocError>
     requires { AreEntriesInOrder [] checker_state.composites.items }
-    ensures { IfOk result (λ t. t ≡ table_in checker_state.entry) }
+    ensures { IfOk result (λ t. t ≡ table_in_state checker_state.entry) }
 {
     let CheckerState {
         resolved: _,
@@ -227,7 +227,7 @@ impl<'t> Reporter<'t> {
             (λ t. t.faults.items ≡ filter is_undeclared_fault resolved.now.faults) }
     {
         let mut meanings = predeclared_meanings(alloc)?;
-        add_unknown_meanings(&mut meanings, resolved.declarations())?;
+        add_unknown_meanings(&mut meanings, resolved.declaration_tokens())?;
         let checker_state = CheckerState {
             resolved,
             meanings,

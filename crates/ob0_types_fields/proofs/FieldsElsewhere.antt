@@ -20,7 +20,7 @@ use Rattle.ob0_language_types.specs.Expressions.{Meanings}
 use Rattle.ob0_language_types.specs.WellTyped.{Signature, WellTyped}
 use Rattle.ob0_language_fields.specs.Fields.{rename_fields_in_module}
 use Rattle.ob0_language_values.specs.Values.{Shape}
-use Rattle.ob0_tree.specs.FirstIdentifier.{first_token_of}
+use Rattle.ob0_tree.specs.FirstIdentifier.{token_of_first_identifier}
 use Rattle.ob0_tree.proofs.MappedIdentifiers.{leaves_mapped}
 use Rattle.ob0_scope_table.specs.BodyReplaced.{IsBodyReplaced, PathToBody, body_at_path, closing_name_in_module, moved_token_index, module_without_body}
 use Rattle.ob0_scope_table.specs.Resolution.{IsResolution, Resolution, ordinal_in}
@@ -178,13 +178,13 @@ module _ (old r : Resolution) (path : PathToBody) (s : SameParts) (is : IsBodyRe
   between_before =
       between around_before.before inner_before around_before.after is.first (closing_name_in_module path before) (length old.module_read.source.tokens) (identifiers role.Declaring (body_at_path path before))
       (subst (λ xs. AreAscending 0 xs (length old.module_read.source.tokens)) (sym (module-tokens meant_before before) ∙ ap tokens around_before.whole) (leaves_ascend old.module_read is.old_parsed))
-      (owners_in_tree-tokens meant_before None (body_at_path path before)) is.old_first
+      (owners_in_tree-tokens meant_before None (body_at_path path before)) is.first_identifier_of_old_body
 
   between_now : AreBetween around_now.before inner_now around_now.after is.first (closing_name_in_module path now) (length r.module_read.source.tokens)
   between_now =
       between around_now.before inner_now around_now.after is.first (closing_name_in_module path now) (length r.module_read.source.tokens) (identifiers role.Declaring (body_at_path path now))
       (subst (λ xs. AreAscending 0 xs (length r.module_read.source.tokens)) (sym (module-tokens meant_now now) ∙ ap tokens around_now.whole) (leaves_ascend r.module_read is.new_parsed))
-      (owners_in_tree-tokens meant_now None (body_at_path path now)) is.new_first
+      (owners_in_tree-tokens meant_now None (body_at_path path now)) is.first_identifier_of_new_body
 
   -- ---- the identifiers before the body and after it
 
@@ -293,12 +293,12 @@ module _ (old r : Resolution) (path : PathToBody) (s : SameParts) (is : IsBodyRe
 
   -- The lists that are made from the old fields are the module's fields.
   pub fields_elsewhere : (fields f : FieldLists) (t : Tables) → AreFieldListsOf old fields → ((k : ℕ) → declared_object_in t k ≡ declared_object (named_tree_of r.module_read) k)
-      → (statements : Tree ℕ (maybe body)) → statements ≡ body_at_path path now → (first closing : ℕ) → first_token_of (identifiers role.Declaring (body_at_path path now)) ≡ Some first → closing ≡ closing_name_in_module path now
+      → (statements : Tree ℕ (maybe body)) → statements ≡ body_at_path path now → (first closing : ℕ) → token_of_first_identifier (identifiers role.Declaring (body_at_path path now)) ≡ Some first → closing ≡ closing_name_in_module path now
       → f.declared ≡ map (moved_field s) fields.declared
       → f.all ≡ fields_before first fields.all ++ (fields_in_tree (meanings_by_token (declared_object_in t) r) statements ++ map (moved_field s) (fields_from (old_token_index s closing) fields.all))
       → AreFieldListsOf r f
   fields_elsewhere fields f t were holds statements here first closing begins closes of_declared of_all =
-      let same : first ≡ is.first = ap (λ o. unwrap_or o first) (sym begins ∙ is.new_first) in
+      let same : first ≡ is.first = ap (λ o. unwrap_or o first) (sym begins ∙ is.first_identifier_of_new_body) in
       let at : old_token_index s closing ≡ closing_name_in_module path before = ap (old_token_index s) closes ∙ closing_before in (
         of_declared ∙ (ap (map (moved_field s)) were.0 ∙ (sym (same_places s (declared_fields old.module_read) declared_few) ∙ sym declared_now)),
         of_all

@@ -17,10 +17,10 @@ use Rattle.ob0_scope_table.specs.Resolution.{ordinal_in}
 use Rattle.ob0_language_types.specs.Declarations.{constructors_before_procedure_block, constructors_before_variables, constructors_before_procedures, declare_constants, declare_constants_and_types, declare_types, procedure_constructor_count}
 use Rattle.ob0_language_types.specs.Environments.{meanings, outermost_environment}
 use Rattle.ob0_language_types.specs.Expressions.{Meanings, Object, a_constant, a_procedure, a_standard, a_type, a_variable, evaluate}
-use Rattle.ob0_language_types.specs.Typing.{addition_type, array_length, negation_type, constant_of, constant_value, constant_meanings, constructor_count, denoted_type, denoted_group_fields, denoted_further_fields, element_type, outcome_value, group_constructor_count, multiplication_type, object_type, relation_type, sign_type, type_after_selectors, type_of, type_of_addends, type_of_factor, type_of_multipliers, type_of_simple, type_of_term, value_type, prepend_fields, check_limits}
+use Rattle.ob0_language_types.specs.Typing.{addition_type, array_length, negation_type, constant_of, constant_value, constant_meanings, constructor_count, denoted_type, denoted_group_fields, denoted_further_fields, element_type, outcome_value, group_constructor_count, multiplication_type, type_of_variable_or_constant, relation_type, sign_type, type_after_selectors, type_of, type_of_addends, type_of_factor, type_of_multipliers, type_of_simple, type_of_term, value_type, prepend_fields, type_within_limits}
 use Rattle.ob0_language_types.specs.WellTyped.{Signature, TypeEnvironment, TypeMeanings, TypedParameter, WellTyped, bind_names, bind_typed_parameters, block_is_well_typed, declare_typed_variables, passes_type_check, bind_procedure, procedure_is_well_typed, procedures_are_well_typed, section_mode, typed_parameters}
 use Rattle.ob0_language_values.specs.Values.{FieldShapes, Shape, Value, array_shape, boolean_shape, elements, integer_shape, members, number, record_shape, truth}
-use Rattle.ob0_language_fields.specs.Fields.{FieldRenaming, select_type, rename_fields, rename_fields_in_block, rename_fields_in_formals, rename_fields_in_group, rename_fields_in_groups, rename_fields_in_procedure, rename_fields_in_procedures, rename_fields_in_section, rename_fields_in_sections, rename_fields_in_type, rename_fields_in_type_section, rename_fields_in_types, rename_fields_in_variable_section, rename_fields_in_variables, rename_fields_in_module}
+use Rattle.ob0_language_fields.specs.Fields.{FieldRenaming, type_including_selector, rename_fields, rename_fields_in_block, rename_fields_in_formals, rename_fields_in_group, rename_fields_in_groups, rename_fields_in_procedure, rename_fields_in_procedures, rename_fields_in_section, rename_fields_in_sections, rename_fields_in_type, rename_fields_in_type_section, rename_fields_in_types, rename_fields_in_variable_section, rename_fields_in_variables, rename_fields_in_module}
 use Rattle.ob0_types_fields.specs.Owners.{field_names_by_record}
 use Rattle.ob0_language_fields.specs.Renaming.{RecordFields, records}
 use Rattle.ob0_language_fields.proofs.AgreeingFields.{NamesAgree, RecordsAgree}
@@ -81,15 +81,15 @@ mutual
   multipliers-marked m (more (multiplies o a) rest) = both mark_at (ids a) (ids rest) (factor-marked m a) (multipliers-marked m rest)
 
   factor-marked : (m : TypeMeanings Name) (a : Tree Name factor) → ids (rename_fields every m None a) ≡ marked (ids a)
-  factor-marked m (designator x path) = ap (λ z. (role.LookedUp, x) ∷ z) (path-marked m (object_type (m.object_for x)) path)
+  factor-marked m (designator x path) = ap (λ z. (role.LookedUp, x) ∷ z) (path-marked m (type_of_variable_or_constant (m.object_for x)) path)
   factor-marked m (integer n) = refl
   factor-marked m (parenthesised e) = expression-marked m e
   factor-marked m (negation a) = factor-marked m a
 
   path-marked : (m : TypeMeanings Name) (s : Option Shape) (path : Tree Name (items selector)) → ids (rename_fields every m s path) ≡ marked (ids path)
   path-marked m s end = refl
-  path-marked m s (more (field x) rest) = ap (λ z. (role.FieldName, again x) ∷ z) (path-marked m (select_type s (field x)) rest)
-  path-marked m s (more (index e) rest) = both mark_at (ids e) (ids rest) (expression-marked m e) (path-marked m (select_type s (index e)) rest)
+  path-marked m s (more (field x) rest) = ap (λ z. (role.FieldName, again x) ∷ z) (path-marked m (type_including_selector s (field x)) rest)
+  path-marked m s (more (index e) rest) = both mark_at (ids e) (ids rest) (expression-marked m e) (path-marked m (type_including_selector s (index e)) rest)
 
 further_arguments-marked : (m : TypeMeanings Name) (es : Tree Name (items further_argument)) → ids (rename_fields every m None es) ≡ marked (ids es)
 further_arguments-marked m end = refl
@@ -103,7 +103,7 @@ arguments-marked m (one (some_arguments e es)) = both mark_at (ids e) (ids es) (
 mutual
   statement-marked : (m : TypeMeanings Name) (a : Tree Name statement) → ids (rename_fields every m None a) ≡ marked (ids a)
   statement-marked m empty = refl
-  statement-marked m (assigns x path e) = ap (λ z. (role.LookedUp, x) ∷ z) (both mark_at (ids path) (ids e) (path-marked m (object_type (m.object_for x)) path) (expression-marked m e))
+  statement-marked m (assigns x path e) = ap (λ z. (role.LookedUp, x) ∷ z) (both mark_at (ids path) (ids e) (path-marked m (type_of_variable_or_constant (m.object_for x)) path) (expression-marked m e))
   statement-marked m (calls x es) = ap (λ z. (role.LookedUp, x) ∷ z) (arguments-marked m es)
   statement-marked m (branches e a rest last) =
       both mark_at (ids e) (ids a ++ (ids rest ++ ids last)) (expression-marked m e)
@@ -144,7 +144,7 @@ value-scalar (truth b) s h = of_some OneScalar h tt
 value-scalar (elements vs) s h = absurd (cc)
 value-scalar (members k ms) s h = absurd (cc)
 
-constant-scalar : (o : Option (Object Shape Signature)) (s : Shape) → object_type {P = Unit {0}} (option_map a_constant (constant_of o)) ≡ Some s → OneScalar s
+constant-scalar : (o : Option (Object Shape Signature)) (s : Shape) → type_of_variable_or_constant {P = Unit {0}} (option_map a_constant (constant_of o)) ≡ Some s → OneScalar s
 constant-scalar (Some (a_constant v)) s h = value-scalar v s h
 constant-scalar None s h = absurd (cc)
 constant-scalar (Some (a_type t)) s h = absurd (cc)
@@ -207,7 +207,7 @@ mutual
 
   factor-plain : (m : TypeMeanings Name) (a : Tree Name factor) (s : Shape) → type_of_factor (alone m) a ≡ Some s → ids a ≡ marked (ids a)
   factor-plain m (designator x path) s h =
-      let (t, et, h₁) = then_some (object_type {P = Unit {0}} (option_map a_constant (constant_of (m.object_for x)))) (λ t. type_after_selectors (alone m) t path) s h in
+      let (t, et, h₁) = then_some (type_of_variable_or_constant {P = Unit {0}} (option_map a_constant (constant_of (m.object_for x)))) (λ t. type_after_selectors (alone m) t path) s h in
       ap (λ z. (role.LookedUp, x) ∷ z) (path-plain m t path s (constant-scalar (m.object_for x) t et) h₁)
   factor-plain m (integer n) s h = refl
   factor-plain m (parenthesised e) s h = expression-plain m e s h
@@ -245,13 +245,13 @@ mutual
   type-marked : (m : TypeMeanings Name) (k : ℕ) (t : Tree Name written_type) (s : Shape) → denoted_type m k t ≡ Some s → ids (rename_fields_in_type every k t) ≡ marked (ids t)
   type-marked m k (named_type x) s h = refl
   type-marked m k (array_type e t) s h =
-      let (v, ev, h₁) = then_some (constant_value m e) (λ v. option_and_then (λ n. option_and_then (λ u. check_limits (array_shape k n u)) (denoted_type m (suc k) t)) (array_length v)) s h in
-      let (n, en, h₂) = then_some (array_length v) (λ n. option_and_then (λ u. check_limits (array_shape k n u)) (denoted_type m (suc k) t)) s h₁ in
-      let (u, eu, h₃) = then_some (denoted_type m (suc k) t) (λ u. check_limits (array_shape k n u)) s h₂ in
+      let (v, ev, h₁) = then_some (constant_value m e) (λ v. option_and_then (λ n. option_and_then (λ u. type_within_limits (array_shape k n u)) (denoted_type m (suc k) t)) (array_length v)) s h in
+      let (n, en, h₂) = then_some (array_length v) (λ n. option_and_then (λ u. type_within_limits (array_shape k n u)) (denoted_type m (suc k) t)) s h₁ in
+      let (u, eu, h₃) = then_some (denoted_type m (suc k) t) (λ u. type_within_limits (array_shape k n u)) s h₂ in
       both mark_at (ids e) (ids t) (constant-plain m e v ev) (type-marked m (suc k) t u eu)
   type-marked m k (record_type g rest) s h =
-      let (later, el, h₁) = then_some (denoted_further_fields m (suc k + group_constructor_count g) rest) (λ later. option_and_then (λ fs. check_limits (record_shape k fs)) (denoted_group_fields m (suc k) later g)) s h in
-      let (fs, ef, h₂) = then_some (denoted_group_fields m (suc k) later g) (λ fs. check_limits (record_shape k fs)) s h₁ in
+      let (later, el, h₁) = then_some (denoted_further_fields m (suc k + group_constructor_count g) rest) (λ later. option_and_then (λ fs. type_within_limits (record_shape k fs)) (denoted_group_fields m (suc k) later g)) s h in
+      let (fs, ef, h₂) = then_some (denoted_group_fields m (suc k) later g) (λ fs. type_within_limits (record_shape k fs)) s h₁ in
       both mark_at (ids g) (ids rest) (group-marked m k (suc k) later g fs ef) (groups-marked m k (suc k + group_constructor_count g) rest later el)
 
   group-marked : (m : TypeMeanings Name) (r k : ℕ) (later : FieldShapes) (g : Tree Name fields) (fs : FieldShapes) → denoted_group_fields m k later g ≡ Some fs → ids (rename_fields_in_group every r k g) ≡ marked (ids g)

@@ -5,7 +5,7 @@ use Rattle.ob0_tree.specs.Tree.{Sort, Tree, adds, array_type, assigns, begins, b
 use Rattle.ob0_language_names.specs.Parts.{formal_sections, section_types, section_variables}
 use Rattle.ob0_language_types.specs.Declarations.{constructors_before_procedure_block, constructors_before_variables, constructors_before_procedures, procedure_constructor_count}
 use Rattle.ob0_language_types.specs.Expressions.{Meanings}
-use Rattle.ob0_language_types.specs.Typing.{element_type, field_type, object_type}
+use Rattle.ob0_language_types.specs.Typing.{element_type, field_type, type_of_variable_or_constant}
 use Rattle.ob0_language_values.specs.Values.{Shape, integer_shape}
 use Rattle.ob0_scope_table.specs.TokenProperty.{EachTokenHas}
 use Rattle.ob0_types_fields.specs.Owned.{fields_in_block, field_if_owned, fields_in_path, fields_in_procedure, fields_in_procedures, fields_in_sections, fields_in_tree, fields_in_types, fields_in_variables, owner}
@@ -34,14 +34,14 @@ module _ {Q : Type 0} (m n : Meanings ℕ Shape Q) where
     tree_same (adds a b) h = tree_same b h
     tree_same (product a b) h = both_same (tree_same a h.0) (tree_same b h.1)
     tree_same (multiplies a b) h = tree_same b h
-    tree_same (designator a b) h = path_same (object_type (m.object_for a)) (object_type (n.object_for a)) (ap object_type h.0.object) b h.1
+    tree_same (designator a b) h = path_same (type_of_variable_or_constant (m.object_for a)) (type_of_variable_or_constant (n.object_for a)) (ap type_of_variable_or_constant h.0.object) b h.1
     tree_same (integer a) h = refl
     tree_same (parenthesised a) h = tree_same a h
     tree_same (negation a) h = tree_same a h
     tree_same (field a) h = refl
     tree_same (index a) h = tree_same a h
     tree_same empty h = refl
-    tree_same (assigns a b c) h = both_same (path_same (object_type (m.object_for a)) (object_type (n.object_for a)) (ap object_type h.0.object) b h.1) (tree_same c h.2)
+    tree_same (assigns a b c) h = both_same (path_same (type_of_variable_or_constant (m.object_for a)) (type_of_variable_or_constant (n.object_for a)) (ap type_of_variable_or_constant h.0.object) b h.1) (tree_same c h.2)
     tree_same (calls a b) h = tree_same b h.1
     tree_same (branches a b c d) h = both_same (tree_same a h.0) (both_same (tree_same b h.1) (both_same (tree_same c h.2) (tree_same d h.3)))
     tree_same (while_loop a b) h = both_same (tree_same a h.0) (tree_same b h.1)

@@ -25,7 +25,7 @@ use Rattle.ob0_language_types.specs.Declaring.{declare_block}
 use Rattle.ob0_language_types.specs.Declarations.{constructors_before_procedure_block, constructors_before_variables, constructors_before_procedures, declare_constants_and_types, formals_constructor_count, procedure_constructor_count, types_constructor_count, variables_constructor_count}
 use Rattle.ob0_language_types.specs.Environments.{environment_from_binding, meanings, newest_object, outermost_environment}
 use Rattle.ob0_language_types.specs.Expressions.{Meanings, Object, a_procedure}
-use Rattle.ob0_language_types.specs.Typing.{object_type}
+use Rattle.ob0_language_types.specs.Typing.{type_of_variable_or_constant}
 use Rattle.ob0_language_types.specs.WellTyped.{Signature, TypeEnvironment, TypeMeanings, TypedParameter, WellTyped, bind_typed_parameters, block_is_well_typed, body_is_well_typed, declare_typed_variables, passes_type_check, bind_procedure, procedures_are_well_typed, typed_parameters}
 use Rattle.ob0_language_values.specs.Values.{Shape}
 use Rattle.ob0_language_types.proofs.Agreeing.{Agree, HoldsOf}
@@ -164,7 +164,7 @@ module _ (l : ℕ → Name → Name) (at : ℕ → Option ℕ) (text : ℕ → N
   alike-listed noted right (x ∷ xs) e =
       let h = heads e in
       let same : ordinal_of naming_by_spelling (typed_scope noted) (text x) ≡ ordinal x = sym (label_back (ordinal_of naming_by_spelling (typed_scope noted) (text x)) (text x)) ∙ (ap label_ordinal h.0 ∙ label_back (ordinal x) (text x)) in
-      (ap object_type (object-right objects noted right (text x) ∙ ap (option_and_then objects) same), alike-listed noted right xs h.1)
+      (ap type_of_variable_or_constant (object-right objects noted right (text x) ∙ ap (option_and_then objects) same), alike-listed noted right xs h.1)
 
   body-alike : (noted : TypeNoted Name) → Right objects (typed_by_ordinal noted) → (st : Tree ℕ (maybe body)) → relabel_uses naming_by_spelling (label_from_ordinal naming_by_spelling) (typed_scope noted) (mapped_tree text value st) ≡ mapped_tree label value st
       → Alike (meanings naming_by_spelling (typed_by_name noted)) by_token (occurrences st)

@@ -6,10 +6,10 @@ use Rattle.ob0_tree.specs.declared.tree.Role.TheVariants as role
 use Rattle.ob0_tree.specs.Tree.{Sort, Tree, Item, item, adds, array_type, assigns, begins, branches, calls, compares, declares, declares_constant, declares_constants, declares_procedure, declares_type, declares_types, declares_variable, declares_variables, designator, else_branch, elsif_branch, empty, end, field, forms_block, identifiers, index, integer, is_module, listed, mapped_tree, more, multiplies, named_type, negation, no_arguments, no_fields, no_formals, none, occurrences, one, parenthesised, product, record_type, relates, repeat_loop, runs, some_arguments, some_fields, some_formals, sum, then_argument, then_fields, then_name, then_section, then_statement, value_section, variable_section, while_loop}
 use Rattle.ob0_language_names.specs.Names.{Name}
 use Rattle.ob0_language_types.specs.Expressions.{Meanings}
-use Rattle.ob0_language_types.specs.Typing.{field_type, object_type}
+use Rattle.ob0_language_types.specs.Typing.{field_type, type_of_variable_or_constant}
 use Rattle.ob0_language_types.specs.WellTyped.{TypeMeanings}
 use Rattle.ob0_language_values.specs.Values.{Shape}
-use Rattle.ob0_language_fields.specs.Fields.{select_type, record_ordinal, rename_fields}
+use Rattle.ob0_language_fields.specs.Fields.{type_including_selector, record_ordinal, rename_fields}
 use Rattle.ob0_types_fields.specs.Owners.{field_names_by_record}
 use Rattle.ob0_types_fields.specs.Owned.{AgreesWithOwnerList, owners_in_tree, owner, type_after_selector, identifiers_without_owners, unowned_identifiers}
 
@@ -141,13 +141,13 @@ identifiers_without_owners-all l at text value t h = identifiers_without_owners-
 -- holds if names have values of the same types by name and by token
 abbrev pub Alike : {P : Type 0} → TypeMeanings Name → Meanings ℕ Shape P → List ℕ → Type 0
 Alike meaning m [] = Unit {0}
-Alike meaning m (x ∷ xs) = (object_type (meaning.object_for (m.written x)) ≡ object_type (m.object_for x)) × Alike meaning m xs
+Alike meaning m (x ∷ xs) = (type_of_variable_or_constant (meaning.object_for (m.written x)) ≡ type_of_variable_or_constant (m.object_for x)) × Alike meaning m xs
 
 alike_split : {P : Type 0} (meaning : TypeMeanings Name) (m : Meanings ℕ Shape P) (xs ys : List ℕ) → Alike meaning m (xs ++ ys) → Alike meaning m xs × Alike meaning m ys
 alike_split meaning m [] ys h = (tt, h)
 alike_split meaning m (x ∷ xs) ys h = let rest = alike_split meaning m xs ys h.1 in ((h.0, rest.0), rest.1)
 
-following-mapped_tree : {P : Type 0} {i : Item} (m : Meanings ℕ Shape P) (value : ℕ → ℕ) (s : Option Shape) (t : Tree ℕ (item i)) → select_type s (mapped_tree m.written value t) ≡ type_after_selector m s t
+following-mapped_tree : {P : Type 0} {i : Item} (m : Meanings ℕ Shape P) (value : ℕ → ℕ) (s : Option Shape) (t : Tree ℕ (item i)) → type_including_selector s (mapped_tree m.written value t) ≡ type_after_selector m s t
 following-mapped_tree m value s (relates a b) = refl
 following-mapped_tree m value s (adds a b) = refl
 following-mapped_tree m value s (multiplies a b) = refl
@@ -185,14 +185,14 @@ recorded m s (sum a b c) = recorded m None b ++ (recorded m None c)
 recorded m s (adds a b) = recorded m None b
 recorded m s (product a b) = recorded m None a ++ (recorded m None b)
 recorded m s (multiplies a b) = recorded m None b
-recorded m s (designator a b) = (a, None) ∷ (recorded m (object_type (m.object_for a)) b)
+recorded m s (designator a b) = (a, None) ∷ (recorded m (type_of_variable_or_constant (m.object_for a)) b)
 recorded m s (integer a) = []
 recorded m s (parenthesised a) = recorded m None a
 recorded m s (negation a) = recorded m None a
 recorded m s (field a) = (a, record_ordinal s) ∷ []
 recorded m s (index a) = recorded m None a
 recorded m s empty = []
-recorded m s (assigns a b c) = (a, None) ∷ (recorded m (object_type (m.object_for a)) b ++ (recorded m None c))
+recorded m s (assigns a b c) = (a, None) ∷ (recorded m (type_of_variable_or_constant (m.object_for a)) b ++ (recorded m None c))
 recorded m s (calls a b) = (a, None) ∷ (recorded m None b)
 recorded m s (branches a b c d) = recorded m None a ++ (recorded m None b ++ (recorded m None c ++ (recorded m None d)))
 recorded m s (while_loop a b) = recorded m None a ++ (recorded m None b)
@@ -233,7 +233,7 @@ recorded-mapped_tree l at meaning m value s (product a b) h e =
     let q0 = alike_split meaning m (occurrences a) (occurrences b) e in
     λ i. product (recorded-mapped_tree l at meaning m value None a p0.0 q0.0 i) (recorded-mapped_tree l at meaning m value None b p0.1 q0.1 i)
 recorded-mapped_tree l at meaning m value s (multiplies a b) h e = λ i. multiplies a (recorded-mapped_tree l at meaning m value None b h e i)
-recorded-mapped_tree l at meaning m value s (designator a b) h e = λ i. designator (field_names_by_record l (sym h.0 i) (m.written a)) ((ap (λ z. rename_fields (field_names_by_record l) meaning z (mapped_tree m.written value b)) e.0 ∙ recorded-mapped_tree l at meaning m value (object_type (m.object_for a)) b h.1 e.1) i)
+recorded-mapped_tree l at meaning m value s (designator a b) h e = λ i. designator (field_names_by_record l (sym h.0 i) (m.written a)) ((ap (λ z. rename_fields (field_names_by_record l) meaning z (mapped_tree m.written value b)) e.0 ∙ recorded-mapped_tree l at meaning m value (type_of_variable_or_constant (m.object_for a)) b h.1 e.1) i)
 recorded-mapped_tree l at meaning m value s (integer a) h e = refl
 recorded-mapped_tree l at meaning m value s (parenthesised a) h e = λ i. parenthesised (recorded-mapped_tree l at meaning m value None a h e i)
 recorded-mapped_tree l at meaning m value s (negation a) h e = λ i. negation (recorded-mapped_tree l at meaning m value None a h e i)
@@ -241,9 +241,9 @@ recorded-mapped_tree l at meaning m value s (field a) h e = λ i. field (field_n
 recorded-mapped_tree l at meaning m value s (index a) h e = λ i. index (recorded-mapped_tree l at meaning m value None a h e i)
 recorded-mapped_tree l at meaning m value s empty h e = refl
 recorded-mapped_tree l at meaning m value s (assigns a b c) h e =
-    let p0 = owners_split at (recorded m (object_type (m.object_for a)) b) (recorded m None c) h.1 in
+    let p0 = owners_split at (recorded m (type_of_variable_or_constant (m.object_for a)) b) (recorded m None c) h.1 in
     let q0 = alike_split meaning m (occurrences b) (occurrences c) e.1 in
-    λ i. assigns (field_names_by_record l (sym h.0 i) (m.written a)) ((ap (λ z. rename_fields (field_names_by_record l) meaning z (mapped_tree m.written value b)) e.0 ∙ recorded-mapped_tree l at meaning m value (object_type (m.object_for a)) b p0.0 q0.0) i) (recorded-mapped_tree l at meaning m value None c p0.1 q0.1 i)
+    λ i. assigns (field_names_by_record l (sym h.0 i) (m.written a)) ((ap (λ z. rename_fields (field_names_by_record l) meaning z (mapped_tree m.written value b)) e.0 ∙ recorded-mapped_tree l at meaning m value (type_of_variable_or_constant (m.object_for a)) b p0.0 q0.0) i) (recorded-mapped_tree l at meaning m value None c p0.1 q0.1 i)
 recorded-mapped_tree l at meaning m value s (calls a b) h e = λ i. calls (field_names_by_record l (sym h.0 i) (m.written a)) (recorded-mapped_tree l at meaning m value None b h.1 e.1 i)
 recorded-mapped_tree l at meaning m value s (branches a b c d) h e =
     let p0 = owners_split at (recorded m None a) (recorded m None b ++ (recorded m None c ++ (recorded m None d))) h in
@@ -305,7 +305,7 @@ recorded-mapped_tree l at meaning m value s (is_module a b c) h e = identifiers_
 -- holds if the values of names have the same types in both meanings
 abbrev pub SameTypes : {P Q : Type 0} → Meanings ℕ Shape P → Meanings ℕ Shape Q → List ℕ → Type 0
 SameTypes m n [] = Unit {0}
-SameTypes m n (x ∷ xs) = (object_type (m.object_for x) ≡ object_type (n.object_for x)) × SameTypes m n xs
+SameTypes m n (x ∷ xs) = (type_of_variable_or_constant (m.object_for x) ≡ type_of_variable_or_constant (n.object_for x)) × SameTypes m n xs
 
 types_split : {P Q : Type 0} (m : Meanings ℕ Shape P) (n : Meanings ℕ Shape Q) (xs ys : List ℕ) → SameTypes m n (xs ++ ys) → SameTypes m n xs × SameTypes m n ys
 types_split m n [] ys h = (tt, h)
@@ -356,7 +356,7 @@ owners_in_tree-alike m n same s (product a b) e =
     let q0 = types_split m n (occurrences a) (occurrences b) e in
     λ i. owners_in_tree-alike m n same None a q0.0 i ++ (owners_in_tree-alike m n same None b q0.1 i)
 owners_in_tree-alike m n same s (multiplies a b) e = λ i. owners_in_tree-alike m n same None b e i
-owners_in_tree-alike m n same s (designator a b) e = λ i. (a, None) ∷ (((ap (λ z. owners_in_tree m z b) e.0 ∙ owners_in_tree-alike m n same (object_type (n.object_for a)) b e.1) i))
+owners_in_tree-alike m n same s (designator a b) e = λ i. (a, None) ∷ (((ap (λ z. owners_in_tree m z b) e.0 ∙ owners_in_tree-alike m n same (type_of_variable_or_constant (n.object_for a)) b e.1) i))
 owners_in_tree-alike m n same s (integer a) e = refl
 owners_in_tree-alike m n same s (parenthesised a) e = λ i. owners_in_tree-alike m n same None a e i
 owners_in_tree-alike m n same s (negation a) e = λ i. owners_in_tree-alike m n same None a e i
@@ -365,7 +365,7 @@ owners_in_tree-alike m n same s (index a) e = λ i. owners_in_tree-alike m n sam
 owners_in_tree-alike m n same s empty e = refl
 owners_in_tree-alike m n same s (assigns a b c) e =
     let q0 = types_split m n (occurrences b) (occurrences c) e.1 in
-    λ i. (a, None) ∷ (((ap (λ z. owners_in_tree m z b) e.0 ∙ owners_in_tree-alike m n same (object_type (n.object_for a)) b q0.0) i) ++ (owners_in_tree-alike m n same None c q0.1 i))
+    λ i. (a, None) ∷ (((ap (λ z. owners_in_tree m z b) e.0 ∙ owners_in_tree-alike m n same (type_of_variable_or_constant (n.object_for a)) b q0.0) i) ++ (owners_in_tree-alike m n same None c q0.1 i))
 owners_in_tree-alike m n same s (calls a b) e = λ i. (a, None) ∷ (owners_in_tree-alike m n same None b e.1 i)
 owners_in_tree-alike m n same s (branches a b c d) e =
     let q0 = types_split m n (occurrences a) (occurrences b ++ (occurrences c ++ (occurrences d))) e in
@@ -435,7 +435,7 @@ recorded-alike m n same s (product a b) e =
     let q0 = types_split m n (occurrences a) (occurrences b) e in
     λ i. recorded-alike m n same None a q0.0 i ++ (recorded-alike m n same None b q0.1 i)
 recorded-alike m n same s (multiplies a b) e = λ i. recorded-alike m n same None b e i
-recorded-alike m n same s (designator a b) e = λ i. (a, None) ∷ (((ap (λ z. recorded m z b) e.0 ∙ recorded-alike m n same (object_type (n.object_for a)) b e.1) i))
+recorded-alike m n same s (designator a b) e = λ i. (a, None) ∷ (((ap (λ z. recorded m z b) e.0 ∙ recorded-alike m n same (type_of_variable_or_constant (n.object_for a)) b e.1) i))
 recorded-alike m n same s (integer a) e = refl
 recorded-alike m n same s (parenthesised a) e = λ i. recorded-alike m n same None a e i
 recorded-alike m n same s (negation a) e = λ i. recorded-alike m n same None a e i
@@ -444,7 +444,7 @@ recorded-alike m n same s (index a) e = λ i. recorded-alike m n same None a e i
 recorded-alike m n same s empty e = refl
 recorded-alike m n same s (assigns a b c) e =
     let q0 = types_split m n (occurrences b) (occurrences c) e.1 in
-    λ i. (a, None) ∷ (((ap (λ z. recorded m z b) e.0 ∙ recorded-alike m n same (object_type (n.object_for a)) b q0.0) i) ++ (recorded-alike m n same None c q0.1 i))
+    λ i. (a, None) ∷ (((ap (λ z. recorded m z b) e.0 ∙ recorded-alike m n same (type_of_variable_or_constant (n.object_for a)) b q0.0) i) ++ (recorded-alike m n same None c q0.1 i))
 recorded-alike m n same s (calls a b) e = λ i. (a, None) ∷ (recorded-alike m n same None b e.1 i)
 recorded-alike m n same s (branches a b c d) e =
     let q0 = types_split m n (occurrences a) (occurrences b ++ (occurrences c ++ (occurrences d))) e in

@@ -13,7 +13,7 @@ use Rattle.ob0_language_names.specs.Parts.{further_names, names_in_list, section
 use Rattle.ob0_scope_table.specs.Resolution.{IsResolution, Resolution, ordinal_in}
 use Rattle.ob0_language_types.specs.Declarations.{constructors_before_procedure_block, constructors_before_variables, constructors_before_procedures, procedure_constructor_count}
 use Rattle.ob0_language_types.specs.Expressions.{Meanings}
-use Rattle.ob0_language_types.specs.Typing.{constructor_count, group_constructor_count, object_type}
+use Rattle.ob0_language_types.specs.Typing.{constructor_count, group_constructor_count, type_of_variable_or_constant}
 use Rattle.ob0_language_values.specs.Values.{Shape}
 use Rattle.ob0_types_fields.specs.Owned.{AgreesWithOwnerList, EnteredFieldsCompleteOwnerTable, fields_with_owners, owners_in_tree, owners_in_block, owners_in_formals, owners_in_group, owners_in_groups, owners_in_module, owners_in_procedure, owners_in_procedures, owners_in_section, owners_in_sections, owners_in_resolution, owners_in_type, owners_in_type_section, owners_in_types, owners_in_variable_section, owners_in_variables, type_after_selector, identifiers_without_owners, unowned_identifiers, table_with_owners}
 use Rattle.ob0_types_fields.proofs.OwnedModules.{agreeing_table_is_owner_table-holds}
@@ -42,14 +42,14 @@ owners_in_tree-tokens m s (sum a b c) = both-tokens (owners_in_tree m None b) (o
 owners_in_tree-tokens m s (adds a b) = owners_in_tree-tokens m None b
 owners_in_tree-tokens m s (product a b) = both-tokens (owners_in_tree m None a) (owners_in_tree m None b) (identifiers role.Declaring a) (identifiers role.Declaring b) (owners_in_tree-tokens m None a) (owners_in_tree-tokens m None b)
 owners_in_tree-tokens m s (multiplies a b) = owners_in_tree-tokens m None b
-owners_in_tree-tokens m s (designator a b) = ap (λ z. a ∷ z) (owners_in_tree-tokens m (object_type (m.object_for a)) b)
+owners_in_tree-tokens m s (designator a b) = ap (λ z. a ∷ z) (owners_in_tree-tokens m (type_of_variable_or_constant (m.object_for a)) b)
 owners_in_tree-tokens m s (integer a) = refl
 owners_in_tree-tokens m s (parenthesised a) = owners_in_tree-tokens m None a
 owners_in_tree-tokens m s (negation a) = owners_in_tree-tokens m None a
 owners_in_tree-tokens m s (field a) = refl
 owners_in_tree-tokens m s (index a) = owners_in_tree-tokens m None a
 owners_in_tree-tokens m s empty = refl
-owners_in_tree-tokens m s (assigns a b c) = ap (λ z. a ∷ z) (both-tokens (owners_in_tree m (object_type (m.object_for a)) b) (owners_in_tree m None c) (identifiers role.Declaring b) (identifiers role.Declaring c) (owners_in_tree-tokens m (object_type (m.object_for a)) b) (owners_in_tree-tokens m None c))
+owners_in_tree-tokens m s (assigns a b c) = ap (λ z. a ∷ z) (both-tokens (owners_in_tree m (type_of_variable_or_constant (m.object_for a)) b) (owners_in_tree m None c) (identifiers role.Declaring b) (identifiers role.Declaring c) (owners_in_tree-tokens m (type_of_variable_or_constant (m.object_for a)) b) (owners_in_tree-tokens m None c))
 owners_in_tree-tokens m s (calls a b) = ap (λ z. a ∷ z) (owners_in_tree-tokens m None b)
 owners_in_tree-tokens m s (branches a b c d) = both-tokens (owners_in_tree m None a) (owners_in_tree m None b ++ (owners_in_tree m None c ++ (owners_in_tree m None d))) (identifiers role.Declaring a) (identifiers role.Declaring b ++ (identifiers role.Declaring c ++ (identifiers role.Declaring d))) (owners_in_tree-tokens m None a) (both-tokens (owners_in_tree m None b) (owners_in_tree m None c ++ (owners_in_tree m None d)) (identifiers role.Declaring b) (identifiers role.Declaring c ++ (identifiers role.Declaring d)) (owners_in_tree-tokens m None b) (both-tokens (owners_in_tree m None c) (owners_in_tree m None d) (identifiers role.Declaring c) (identifiers role.Declaring d) (owners_in_tree-tokens m None c) (owners_in_tree-tokens m None d)))
 owners_in_tree-tokens m s (while_loop a b) = both-tokens (owners_in_tree m None a) (owners_in_tree m None b) (identifiers role.Declaring a) (identifiers role.Declaring b) (owners_in_tree-tokens m None a) (owners_in_tree-tokens m None b)

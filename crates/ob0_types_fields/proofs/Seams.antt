@@ -5,7 +5,7 @@ use Rattle.std.proofs.lemmas.Bool.{le-leb}
 use Rattle.std.specs.List.{AllByRecursion, filter}
 use Rattle.ob0_tree.specs.declared.tree.Role.{Role}
 use Rattle.ob0_tree.specs.Order.{AreAscending, names_without_roles}
-use Rattle.ob0_tree.specs.FirstIdentifier.{first_token_of}
+use Rattle.ob0_tree.specs.FirstIdentifier.{token_of_first_identifier}
 use Rattle.ob0_tree.proofs.Leaves.{ascending_bounds}
 use Rattle.ob0_types_fields.specs.declared.field_name.FieldName.{FieldName}
 use Rattle.ob0_types_fields.specs.FieldLists.{fields_from}
@@ -44,7 +44,7 @@ abbrev BeginsAt : ℕ → List (ℕ × Option ℕ) → Type 0
 BeginsAt first [] = ⊥
 BeginsAt first (x ∷ xs) = x.0 ≡ first
 
-begins_at : (first : ℕ) (xs : List (ℕ × Option ℕ)) (ids : List (Role × ℕ)) → tokens xs ≡ names_without_roles ids → first_token_of ids ≡ Some first → BeginsAt first xs
+begins_at : (first : ℕ) (xs : List (ℕ × Option ℕ)) (ids : List (Role × ℕ)) → tokens xs ≡ names_without_roles ids → token_of_first_identifier ids ≡ Some first → BeginsAt first xs
 begins_at first [] [] e f = absurd (cc)
 begins_at first [] (i ∷ ids) e f = absurd (cc)
 begins_at first (x ∷ xs) [] e f = absurd (cc)
@@ -68,7 +68,7 @@ pub record AreBetween (before inner after : List (ℕ × Option ℕ)) (first clo
   pub closes : closing < top
 
 pub between : (before inner after : List (ℕ × Option ℕ)) (first closing top : ℕ) (ids : List (Role × ℕ))
-    → AreAscending 0 (tokens (before ++ (inner ++ ((closing, None) ∷ after)))) top → tokens inner ≡ names_without_roles ids → first_token_of ids ≡ Some first → AreBetween before inner after first closing top
+    → AreAscending 0 (tokens (before ++ (inner ++ ((closing, None) ∷ after)))) top → tokens inner ≡ names_without_roles ids → token_of_first_identifier ids ≡ Some first → AreBetween before inner after first closing top
 between before inner after first closing top ids h e f =
     let c = cut 0 before (inner ++ ((closing, None) ∷ after)) top h in
     let d = cut c.middle inner ((closing, None) ∷ after) top c.last in

@@ -8,7 +8,7 @@ use Rattle.ob0_language_types.specs.Arguments.{arguments_listed, further_argumen
 use Rattle.ob0_types_table.specs.declared.known.FieldId.{FieldId}
 use Rattle.ob0_language_types.specs.Expressions.{Meanings, Object}
 use Rattle.ob0_types_table.specs.FieldPlaces.{position_of_field}
-use Rattle.ob0_language_types.specs.Typing.{addition_type, negation_type, lone_designator, element_type, field_type, multiplication_type, object_type, relation_type, shape_of_field, sign_type, type_after_selectors, type_of, type_of_addends, type_of_factor, type_of_multipliers, type_of_simple, type_of_term}
+use Rattle.ob0_language_types.specs.Typing.{addition_type, negation_type, lone_designator, element_type, field_type, multiplication_type, type_of_variable_or_constant, relation_type, shape_of_field, sign_type, type_after_selectors, type_of, type_of_addends, type_of_factor, type_of_multipliers, type_of_simple, type_of_term}
 use Rattle.ob0_language_types.specs.WellTyped.{FormalParameter, Mode, Signature, TypeEnvironment, same_known_shape, argument_matches, arguments_match, body_is_well_typed, by_place, by_value, condition_is_boolean, else_is_well_typed, elsifs_are_well_typed, sequence_is_well_typed, signature_of, statement_is_well_typed, further_statements_are_well_typed, variable_type}
 use Rattle.ob0_language_types.proofs.Conditions.{same_known_shape-true, both_true, call-typed, variable-typed}
 use Rattle.ob0_language_types.proofs.TypedElsewhere.{then_some}
@@ -80,7 +80,7 @@ module _ (objects : Name → Option (Object Shape Signature)) (text : ℕ → Na
 
     factor-selects : (a : Tree ℕ factor) (s : Shape) → type_of_factor (named objects) (mapped_tree text value a) ≡ Some s → owners_in_tree here None a ≡ recorded here None a
     factor-selects (designator x path) s h =
-        let (t, et, h₁) = then_some (object_type (objects (text x))) (λ t. type_after_selectors (named objects) t (mapped_tree text value path)) s h in
+        let (t, et, h₁) = then_some (type_of_variable_or_constant (objects (text x))) (λ t. type_after_selectors (named objects) t (mapped_tree text value path)) s h in
         λ i. (x, None) ∷ subst (λ o. owners_in_tree here o path ≡ recorded here o path) (sym et) (path-selects t path s h₁) i
     factor-selects (integer n) s h = refl
     factor-selects (parenthesised e) s h = expression-selects e s h
@@ -134,7 +134,7 @@ module _ (objects : Name → Option (Object Shape Signature)) (text : ℕ → Na
     statement-selects (assigns x path e) h =
         let (s, es, et) = same_known_shape-true (variable_type (named objects) (Some (text x, mapped_tree text value path))) (type_of (named objects) (mapped_tree text value e)) h in
         let (t, ev, h₁) = variable-typed (named objects) (text x) (mapped_tree text value path) s es in
-        λ i. (x, None) ∷ (subst (λ o. owners_in_tree here (object_type o) path ≡ recorded here (object_type o) path) (sym ev) (path-selects t path s h₁) i ++ expression-selects e s et i)
+        λ i. (x, None) ∷ (subst (λ o. owners_in_tree here (type_of_variable_or_constant o) path ≡ recorded here (type_of_variable_or_constant o) path) (sym ev) (path-selects t path s h₁) i ++ expression-selects e s et i)
     statement-selects (calls x es) h =
         let (signature, sig, fit) = call-typed (named objects) (signature_of (objects (text x))) (arguments_listed (mapped_tree text value es)) h in
         λ i. (x, None) ∷ arguments-select signature es fit i

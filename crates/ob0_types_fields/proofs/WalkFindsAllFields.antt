@@ -6,7 +6,7 @@ use Rattle.ob0_tree.specs.Tree.{Sort, Tree, item, adds, array_type, assigns, beg
 use Rattle.ob0_language_names.specs.Parts.{formal_sections, names_in_list, section_type, section_types, section_variables}
 use Rattle.ob0_language_types.specs.Declarations.{constructors_before_procedure_block, constructors_before_variables, constructors_before_procedures, procedure_constructor_count}
 use Rattle.ob0_language_types.specs.Expressions.{Meanings}
-use Rattle.ob0_language_types.specs.Typing.{constructor_count, element_type, field_type, group_constructor_count, object_type}
+use Rattle.ob0_language_types.specs.Typing.{constructor_count, element_type, field_type, group_constructor_count, type_of_variable_or_constant}
 use Rattle.ob0_language_values.specs.Values.{Shape, integer_shape}
 use Rattle.ob0_types_fields.specs.declared.field_name.FieldName.{FieldName}
 use Rattle.ob0_types_fields.specs.Owned.{fields_with_owners, field_if_owned, fields_in_tree, fields_in_block, fields_in_group, fields_in_groups, fields_in_module, fields_at_tokens, fields_in_path, fields_in_procedures, fields_in_sections, fields_in_type, fields_in_types, fields_in_variables, owners_in_tree, owners_in_block, owners_in_formals, owners_in_group, owners_in_groups, owners_in_module, owners_in_procedure, owners_in_procedures, owners_in_section, owners_in_sections, owners_in_type, owners_in_type_section, owners_in_types, owners_in_variable_section, owners_in_variables, owner, type_after_selector, identifiers_without_owners, unowned_identifiers}
@@ -65,14 +65,14 @@ mutual
   fields_in_tree-fields m (adds a b) = fields_in_tree-fields m b
   fields_in_tree-fields m (product a b) = among-both (owners_in_tree m None a) (owners_in_tree m None b) (fields_in_tree-fields m a) (fields_in_tree-fields m b)
   fields_in_tree-fields m (multiplies a b) = fields_in_tree-fields m b
-  fields_in_tree-fields m (designator a b) = path-fields m (object_type (m.object_for a)) b
+  fields_in_tree-fields m (designator a b) = path-fields m (type_of_variable_or_constant (m.object_for a)) b
   fields_in_tree-fields m (integer a) = refl
   fields_in_tree-fields m (parenthesised a) = fields_in_tree-fields m a
   fields_in_tree-fields m (negation a) = fields_in_tree-fields m a
   fields_in_tree-fields m (field a) = refl
   fields_in_tree-fields m (index a) = fields_in_tree-fields m a
   fields_in_tree-fields m empty = refl
-  fields_in_tree-fields m (assigns a b c) = among-both (owners_in_tree m (object_type (m.object_for a)) b) (owners_in_tree m None c) (path-fields m (object_type (m.object_for a)) b) (fields_in_tree-fields m c)
+  fields_in_tree-fields m (assigns a b c) = among-both (owners_in_tree m (type_of_variable_or_constant (m.object_for a)) b) (owners_in_tree m None c) (path-fields m (type_of_variable_or_constant (m.object_for a)) b) (fields_in_tree-fields m c)
   fields_in_tree-fields m (calls a b) = fields_in_tree-fields m b
   fields_in_tree-fields m (branches a b c d) = among-both (owners_in_tree m None a) (owners_in_tree m None b ++ (owners_in_tree m None c ++ (owners_in_tree m None d))) (fields_in_tree-fields m a) (among-both (owners_in_tree m None b) (owners_in_tree m None c ++ (owners_in_tree m None d)) (fields_in_tree-fields m b) (among-both (owners_in_tree m None c) (owners_in_tree m None d) (fields_in_tree-fields m c) (fields_in_tree-fields m d)))
   fields_in_tree-fields m (while_loop a b) = among-both (owners_in_tree m None a) (owners_in_tree m None b) (fields_in_tree-fields m a) (fields_in_tree-fields m b)

@@ -20,8 +20,8 @@ pub record FieldLists : Type 0 where
 
 -- returns the list `all` of a module's field identifiers; returns an empty list if the list
 -- `declared` is empty, because a module that declares no field can't select one
-abbrev pub all_if_declared : List FieldName → List FieldName → List FieldName
-all_if_declared declared all = if length declared == 0 then [] else all
+abbrev pub all_if_any_declared : List FieldName → List FieldName → List FieldName
+all_if_any_declared declared all = if length declared == 0 then [] else all
 
 -- returns the two lists of field identifiers that the code's walks over a module make; `t` is the
 -- table of the module's declarations
@@ -29,7 +29,7 @@ abbrev pub field_lists_of : Tables → Resolution → FieldLists
 field_lists_of t r = record {
   declared = declared_fields r.module_read;
   all =
-      all_if_declared (declared_fields r.module_read)
+      all_if_any_declared (declared_fields r.module_read)
       (fields_in_module (meanings_by_token (declared_object_in t) r) (tree_of r.module_read));
 }
 
@@ -38,8 +38,8 @@ field_lists_of t r = record {
 abbrev pub AreFieldListsOf : Resolution → FieldLists → Type 0
 AreFieldListsOf r f = (f.declared ≡ declared_fields r.module_read) × (f.all ≡ field_identifiers r)
 
--- returns the list `xs` after items of another list are written over its items, from index `k` on;
--- items that would lie after the end of `xs` are ignored
+-- returns the list `xs` after items of another list are written over its items, beginning at index
+-- `k`; items that would lie after the end of `xs` are ignored
 abbrev pub overwritten_fields : List FieldName → ℕ → List FieldName → List FieldName
 overwritten_fields xs k [] = xs
 overwritten_fields xs k (y ∷ ys) = overwritten_fields (set xs k y) (k + 1) ys

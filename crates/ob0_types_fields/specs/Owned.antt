@@ -15,7 +15,7 @@ use Rattle.ob0_language_types.specs.Bindings.{declared_object}
 use Rattle.ob0_language_types.specs.Declarations.{constructors_before_procedure_block, constructors_before_variables, constructors_before_procedures, procedure_constructor_count}
 use Rattle.ob0_language_types.specs.Expressions.{Meanings, Object}
 use Rattle.ob0_types_table.specs.FieldPlaces.{selected_field}
-use Rattle.ob0_language_types.specs.Typing.{constructor_count, element_type, field_type, group_constructor_count, object_type}
+use Rattle.ob0_language_types.specs.Typing.{constructor_count, element_type, field_type, group_constructor_count, type_of_variable_or_constant}
 use Rattle.ob0_language_types.specs.WellTyped.{Signature, WellTyped}
 use Rattle.ob0_language_values.specs.Values.{Shape, integer_shape}
 use Rattle.ob0_types_fields.specs.declared.field_name.FieldName.{FieldName}
@@ -65,7 +65,7 @@ owners_in_tree m s (sum a b c) = owners_in_tree m None b ++ (owners_in_tree m No
 owners_in_tree m s (adds a b) = owners_in_tree m None b
 owners_in_tree m s (product a b) = owners_in_tree m None a ++ (owners_in_tree m None b)
 owners_in_tree m s (multiplies a b) = owners_in_tree m None b
-owners_in_tree m s (designator a b) = (a, None) ∷ (owners_in_tree m (object_type (m.object_for a)) b)
+owners_in_tree m s (designator a b) = (a, None) ∷ (owners_in_tree m (type_of_variable_or_constant (m.object_for a)) b)
 owners_in_tree m s (integer a) = []
 owners_in_tree m s (parenthesised a) = owners_in_tree m None a
 owners_in_tree m s (negation a) = owners_in_tree m None a
@@ -73,7 +73,7 @@ owners_in_tree m s (field a) = (a, owner s (m.written a)) ∷ []
 owners_in_tree m s (index a) = owners_in_tree m None a
 owners_in_tree m s empty = []
 owners_in_tree m s (assigns a b c) =
-    (a, None) ∷ (owners_in_tree m (object_type (m.object_for a)) b ++ (owners_in_tree m None c))
+    (a, None) ∷ (owners_in_tree m (type_of_variable_or_constant (m.object_for a)) b ++ (owners_in_tree m None c))
 owners_in_tree m s (calls a b) = (a, None) ∷ (owners_in_tree m None b)
 owners_in_tree m s (branches a b c d) =
     owners_in_tree m None a ++ (owners_in_tree m None b ++ (owners_in_tree m None c ++ (owners_in_tree m None d)))
@@ -283,14 +283,14 @@ abbrev mutual
   fields_in_tree m (adds a b) = fields_in_tree m b
   fields_in_tree m (product a b) = fields_in_tree m a ++ (fields_in_tree m b)
   fields_in_tree m (multiplies a b) = fields_in_tree m b
-  fields_in_tree m (designator a b) = fields_in_path m (object_type (m.object_for a)) b
+  fields_in_tree m (designator a b) = fields_in_path m (type_of_variable_or_constant (m.object_for a)) b
   fields_in_tree m (integer a) = []
   fields_in_tree m (parenthesised a) = fields_in_tree m a
   fields_in_tree m (negation a) = fields_in_tree m a
   fields_in_tree m (field a) = []
   fields_in_tree m (index a) = fields_in_tree m a
   fields_in_tree m empty = []
-  fields_in_tree m (assigns a b c) = fields_in_path m (object_type (m.object_for a)) b ++ fields_in_tree m c
+  fields_in_tree m (assigns a b c) = fields_in_path m (type_of_variable_or_constant (m.object_for a)) b ++ fields_in_tree m c
   fields_in_tree m (calls a b) = fields_in_tree m b
   fields_in_tree m (branches a b c d) =
       fields_in_tree m a ++ (fields_in_tree m b ++ (fields_in_tree m c ++ fields_in_tree m d))

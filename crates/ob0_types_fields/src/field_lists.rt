@@ -31,7 +31,7 @@ ghost use Rattle.ob0_language_names.specs.Names.{same_name};
 ghost use Rattle.ob0_types_table.specs.KnownTables.{declared_object_in};
 ghost use Rattle.ob0_types_fields.specs.declared.field_name.FieldName.{FieldName};
 ghost use Rattle.ob0_types_fields.specs.Identifiers.{AreInTextOrder, declared_fields, field_at_offset, first_token, field_tokens_of_record, tokens_of_field};
-ghost use Rattle.ob0_types_fields.specs.FieldLists.{HasSameTokensWith, moved_field, fields_before, fields_from, all_if_declared, field_lists_of, old_token_index, new_token_index, overwritten_fields};
+ghost use Rattle.ob0_types_fields.specs.FieldLists.{HasSameTokensWith, moved_field, fields_before, fields_from, all_if_any_declared, field_lists_of, old_token_index, new_token_index, overwritten_fields};
 ghost use Rattle.ob0_types_fields.specs.Owned.{fields_in_module, fields_in_tree, meanings_by_token};
 
 use crate::declaring::add_block_declared_fields;
@@ -112,7 +112,7 @@ impl ModuleFields {
         let walk = FieldWalk { table, resolved };
         let mut found = Vec::new(alloc);
         walk.add_body_fields(&mut found, statements)?;
-        replace_at_tokens(&mut all, &found);
+        replace_fields_at_tokens(&mut all, &found);
         Ok(ModuleFields { declared, all })
     }
 
@@ -204,7 +204,7 @@ impl ModuleFields {
 /// Replaces fields of the list `all` by the fields in `found`. Each field in `found` replaces the
 /// field of `all` that is at the same token. The replaced fields must be consecutive in `all`,
 /// which must be in text order.
-fn replace_at_tokens(all: &mut FieldNameList, found: &[FieldName])
+fn replace_fields_at_tokens(all: &mut FieldNameList, found: &[FieldName])
     ensures { (before after : List FieldName) → HasSameTokensWith all.old.items before found.now after
         → all.new.items ≡ before ++ (found.now ++ after) }
 {
@@ -212,7 +212,7 @@ fn replace_at_tokens(all: &mut FieldNameList, found: &[FieldName])
         None => (),
         Some(first) => {
             let start = count_fields_before(all, first.token);
-            overwrite_from(all, start, found);
+            overwrite_fields_from(all, start, found);
         }
     }
 }
@@ -229,7 +229,7 @@ fn count_fields_before(all: &[FieldName], token: usize) -> usize
 
 /// Overwrites the fields of the list `all` by the fields in `found`, starting at index `start` of
 /// `all`. Fields in `found` that would lie after the end of `all` are ignored.
-fn overwrite_from(all: &mut FieldNameList, start: usize, found: &[FieldName])
+fn overwrite_fields_from(all: &mut FieldNameList, start: usize, found: &[FieldName])
     ensures { all.new.items ≡ overwritten_fields all.old.items start found.now }
 {
     let mut place = start;
@@ -325,7 +325,7 @@ fn all_fields<'a, 't>(
     declared: &[FieldName],
 ) -> Result<FieldNameList, AllocError>
     ensures { IfOk result (λ found. found.items
-        ≡ all_if_declared declared.now
+        ≡ all_if_any_declared declared.now
         (fields_in_module (meanings_by_token (declared_object_in table.now) resolved.now)
         (tree_of resolved.now.module_read))) }
 {

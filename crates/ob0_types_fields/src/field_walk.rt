@@ -15,7 +15,7 @@ ghost use Rattle.ob0_tree.specs.View.{expression_of, compound_of, simple_of, ter
 ghost use Rattle.ob0_language_types.specs.Declarations.{block_constructor_count, procedure_constructor_count};
 ghost use Rattle.ob0_types_table.specs.KnownTables.{shapes_of};
 ghost use Rattle.ob0_types_table.specs.Tables.{type_shape};
-ghost use Rattle.ob0_language_types.specs.Typing.{element_type, field_type, object_type};
+ghost use Rattle.ob0_language_types.specs.Typing.{element_type, field_type, type_of_variable_or_constant};
 ghost use Rattle.ob0_language_values.specs.Values.{integer_shape};
 ghost use Rattle.ob0_types_fields.specs.Owned.{field_if_owned, fields_in_tree, fields_in_block, fields_in_procedure, owner, type_after_selector};
 ghost use Rattle.ob0_types_fields.specs.Walk.{fields_in_selector, field_walk_meanings, record_shape_in};
@@ -43,7 +43,7 @@ impl<'a, 't> FieldWalk<'a, 't> {
     /// bound to anything else.
     fn value_type(&self, token: usize) -> Option<TypeId>
         ensures { option_map (type_shape (shapes_of self.now.table.now)) result
-            ≡ object_type ((field_walk_meanings self.now).object_for token) }
+            ≡ type_of_variable_or_constant ((field_walk_meanings self.now).object_for token) }
     {
         let ordinal = self.resolved.ordinal_at(token)?;
         match self.table.object(ordinal)? {

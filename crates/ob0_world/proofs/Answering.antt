@@ -89,7 +89,7 @@ some_reported text reported (inl lexemes) none = go lexemes.faults lexemes.of_te
     go : (faults : _) → 0 < length faults → map reported_diagnosis_of_fault faults ≡ [] → ⊥
     go [] some none = omega (arith, some)
     go (f ∷ fs) some none = cc
-some_reported text reported (inr (inl parser)) none = let other : parser.complaint ∷ [] ≡ [] = sym parser.alone ∙ none in cc
+some_reported text reported (inr (inl parser)) none = let other : parser.parser_diagnosis ∷ [] ≡ [] = sym parser.only_diagnosis ∙ none in cc
 some_reported text reported (inr (inr types)) none = go types.faults types.some (sym types.all ∙ none)
   where
     go : (faults : _) → 0 < length faults → map reported_diagnosis_of_fault faults ≡ [] → ⊥

@@ -5,7 +5,7 @@ use Rattle.serde_json.specs.Data.{Data, null}
 use Rattle.ob0_rpc.specs.Messages.{meaning_of}
 use Rattle.ob0_rpc.specs.Shapes.{result_message}
 use Rattle.ob0_session_server.specs.declared.session.Phase.TheVariants.{Running, ShutDown, Ended}
-use Rattle.ob0_session_server.specs.Answers.{ServerState, AreContentsOfReply, Sends, Reaction, react, react_to_request, react_to_notification, react_to_method, end_status, react_to_exit, Answers, AnswersInPhase, AnswersBeforeEnd, Conversation}
+use Rattle.ob0_session_server.specs.Answers.{ServerState, AreContentsOfReply, Sends, Reaction, react, react_to_request, react_to_notification, react_to_method, exit_status_in_phase, react_to_exit, Answers, AnswersInPhase, AnswersBeforeEnd, Conversation}
 use Rattle.ob0_world.specs.Exchanges.{IsShutdown, IsExit, EndsSession}
 use Rattle.ob0_world.proofs.Answering.{going_on, reacts_so}
 
@@ -34,7 +34,7 @@ exits before after content sent shut is h =
     let so : react before (meaning_of is.json) ≡ react_to_exit before =
     ap (react before) is.means ∙ ap (λ phase. react_to_notification phase before (codes "exit") is.params) shut in
     let now : after ≡ (react_to_exit before).after = answer.0 ∙ ap (λ (x : Reaction). x.after) so in
-    (subst (λ (x : Reaction). AreContentsOfReply x.reply sent) so answer.1, now ∙ ap (λ status. record before { phase = Ended status }) (ap end_status shut))
+    (subst (λ (x : Reaction). AreContentsOfReply x.reply sent) so answer.1, now ∙ ap (λ status. record before { phase = Ended status }) (ap exit_status_in_phase shut))
 
 pub ends_well : (id : Data) (before : ServerState) (shutdown exit : List ℕ) (sent : List (List ℕ)) (end : ServerState) → before.phase ≡ Running → IsShutdown id shutdown → IsExit exit → Conversation before (shutdown ∷ exit ∷ []) sent end → EndsSession id before sent end
 ends_well id before shutdown exit sent end running is_shutdown is_exit h =

@@ -13,7 +13,7 @@ use Rattle.ob0_text.specs.RefusalTexts.{refusal_text}
 use Rattle.ob0_text.specs.declared.edits.Indent.{Indent}
 use Rattle.ob0_text.specs.declared.refusals.EditRefusal.TheVariants.{TooLong}
 use Rattle.ob0_text.specs.declared.position_types.Unit.{Unit}
-use Rattle.ob0_text.specs.OpenDocuments.{OpenDocuments, Document, InStep, OutOfStep, Opened, Changed, Lost, Closed, after_event, no_open_documents, document_at}
+use Rattle.ob0_text.specs.OpenDocuments.{OpenDocuments, Document, InStep, OutOfStep, Opened, Changed, Lost, Closed, documents_after_event, no_open_documents, document_at}
 use Rattle.ob0_rpc.specs.declared.incoming.RpcFault.{RpcFault}
 use Rattle.ob0_rpc.specs.declared.incoming.RpcFault.TheVariants.{NotAMessage}
 use Rattle.ob0_rpc.specs.Faults.{minus, error_code, error_text}
@@ -342,8 +342,8 @@ publishes_named uri (Some OutOfStep) said made h = ap (λ ms. versions (map Some
 publishes_named uri None said made h = ap (λ ms. versions (map Some ms)) h.0 ∙ sym (ap (map named) h.1)
 
 replies_named : (held : OpenDocuments) (m : MessageToServer) (said : List MessageToEditor) (made : List PublicationWithText) → Replies held m said made → versions (map Some said) ≡ map named made
-replies_named held (notifies (Opened uri version text)) said made h = publishes_named uri (document_at (after_event held (Opened uri version text)) uri) said made h
-replies_named held (notifies (Changed uri version how)) said made h = publishes_named uri (document_at (after_event held (Changed uri version how)) uri) said made h
+replies_named held (notifies (Opened uri version text)) said made h = publishes_named uri (document_at (documents_after_event held (Opened uri version text)) uri) said made h
+replies_named held (notifies (Changed uri version how)) said made h = publishes_named uri (document_at (documents_after_event held (Changed uri version how)) uri) said made h
 replies_named held (notifies (Lost uri)) said made h = ap (λ ms. versions (map Some ms)) h.0 ∙ sym (ap (map named) h.1)
 replies_named held (notifies (Closed uri)) said made h = ap (λ ms. versions (map Some ms)) h.0 ∙ go (is_some (document_at held uri)) ∙ sym (ap (map named) h.1)
   where
@@ -716,7 +716,7 @@ holds_for_every_exchange unit begin now turns b leads =
       unpublished_documents = holds.waiting;
       announced = holds.all;
       right = subst (λ ps. AreCorrectFor ps holds.published) (sym shown.published) (right_of led.made holds.published holds.holds.made holds.are_made_for_documents);
-      still_wait = holds.still_wait ∙ notes_named waiting ∙ ap versions_announced_in (sym notes);
+      unpublished_are_queued = holds.unpublished_are_queued ∙ notes_named waiting ∙ ap versions_announced_in (sym notes);
       latest = λ quiet uri d at.
           subst (λ o. MatchOption o ⊥ (λ p. (p.version ≡ d.version) × IsEmptyIfWellTyped d.text p.no_diagnostics)) (sym (ap (last_publication_of uri) shown.published ∙ last_named uri None led.made))
           (latest_right d (last_publication uri led.made)

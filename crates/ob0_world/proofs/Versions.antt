@@ -15,7 +15,7 @@ use Rattle.ob0_text.specs.declared.position_types.Position.{Position}
 use Rattle.ob0_text.specs.declared.position_types.Unit.{Unit}
 use Rattle.ob0_text.specs.declared.position_types.Unit.TheVariants.{Utf16, Utf8}
 use Rattle.ob0_text.specs.declared.refusals.EditRefusal.TheVariants.{TooLong}
-use Rattle.ob0_text.specs.OpenDocuments.{OpenDocuments, Document, InStep, OutOfStep, DocumentEvent, Opened, Changed, Lost, Closed, document_at, after_event, documents_after_open, documents_after_change}
+use Rattle.ob0_text.specs.OpenDocuments.{OpenDocuments, Document, InStep, OutOfStep, DocumentEvent, Opened, Changed, Lost, Closed, document_at, documents_after_event, documents_after_open, documents_after_change}
 use Rattle.ob0_text.specs.RefusalTexts.{refusal_text}
 use Rattle.ob0_rpc.specs.Faults.{minus}
 use Rattle.ob0_rpc.specs.Messages.{ReadsContent, meaning_of}
@@ -61,18 +61,18 @@ pub record IsHeldAsAsked (requested : List SentAsk) (held : OpenDocuments) (k : 
 -- request was sent
 abbrev pub AsksHeld : List SentAsk → OpenDocuments → List MessageToServer → Type 0
 AsksHeld requested held [] = ⊤
-AsksHeld requested held (notifies note ∷ rest) = AsksHeld requested (after_event held note) rest
+AsksHeld requested held (notifies note ∷ rest) = AsksHeld requested (documents_after_event held note) rest
 AsksHeld requested held (requests k uri ask ∷ rest) = IsHeldAsAsked requested held k uri × AsksHeld requested held rest
 
 asks_more : (requested more : List SentAsk) (held : OpenDocuments) (q : List MessageToServer) → AsksHeld requested held q → AsksHeld (requested ++ more) held q
 asks_more requested more held [] h = tt
-asks_more requested more held (notifies note ∷ rest) h = asks_more requested more (after_event held note) rest h
+asks_more requested more held (notifies note ∷ rest) h = asks_more requested more (documents_after_event held note) rest h
 asks_more requested more held (requests k uri ask ∷ rest) (h, others) =
     (record { sent = h.sent; is = numbered_push requested more k h.sent h.is; text = h.text; holds = h.holds }, asks_more requested more held rest others)
 
 asks_append : (requested : List SentAsk) (held : OpenDocuments) (q more : List MessageToServer) → AsksHeld requested held q → AsksHeld requested (fold after_message held q) more → AsksHeld requested held (q ++ more)
 asks_append requested held [] more h k = k
-asks_append requested held (notifies note ∷ rest) more h k = asks_append requested (after_event held note) rest more h k
+asks_append requested held (notifies note ∷ rest) more h k = asks_append requested (documents_after_event held note) rest more h k
 asks_append requested held (requests n uri ask ∷ rest) more (h, others) k = (h, asks_append requested held rest more others k)
 
 -- If the property holds of a queue, it holds of its first message, and of the rest after that message.

@@ -450,8 +450,8 @@ last_publication_of uri published =
 abbrev pub notifications_in : List (List ℕ) → List MessageToServer
 notifications_in contents = filter_map (message_to_server_in []) contents
 
--- States the guarantees for an exchange of a session and an editor that keeps ob0's rules. `begin`
--- is the exchange at its beginning, and `now` is the exchange after any turns.
+-- States the guarantees for an exchange of a session and an editor that keeps ob0's rules, which
+-- led from `begin` to `now`.
 pub record HoldsOfExchange (begin now : Exchange) : Type 0 where
   -- each edit that the editor applied keeps the run
   pub applied : All KeepsTheRun now.applied
@@ -465,10 +465,9 @@ pub record HoldsOfExchange (begin now : Exchange) : Type 0 where
   pub announced : now.announced ≡ published_documents ++ unpublished_documents
   pub right : AreCorrectFor (publications_in since) published_documents
   -- the contents that still wait for the session announce the other documents, `unpublished_documents`
-  pub still_wait : map versioned_uri unpublished_documents ≡ versions_announced_in (notifications_in now.wire.to_server)
-  -- If no notification about a document waits for the session, each open document has a list of
-  -- diagnostics. Its latest list has the document's present version, and is empty exactly when the
-  -- present text is a well-typed module.
+  pub unpublished_are_queued : map versioned_uri unpublished_documents ≡ versions_announced_in (notifications_in now.wire.to_server)
+  -- If no notification about a document waits for the session, the latest list of diagnostics of
+  -- each open document is for the document's present version and text.
   pub latest : notifications_in now.wire.to_server ≡ [] → (uri : List ℕ) (d : OpenDocument)
       → open_at now.editor uri ≡ Some d
       → MatchOption (last_publication_of uri (publications_in since)) ⊥

@@ -10,7 +10,7 @@ use Rattle.ob0_text.specs.declared.position_types.Unit.{Unit}
 use Rattle.ob0_rpc.specs.Members.{text_member}
 use Rattle.ob0_rpc.specs.Messages.{ReadsContent}
 use Rattle.ob0_world_editor.specs.MessagesToServer.{request_number}
-use Rattle.ob0_world_editor.specs.MessagesToEditor.{titled_action, edits_for}
+use Rattle.ob0_world_editor.specs.MessagesToEditor.{first_action_with_title, edits_for}
 use Rattle.ob0_world_rules.specs.Asks.{Ask, rename, inline_here, inline_all, format}
 use Rattle.ob0_world_rules.specs.Edited.{Replacement, text_after_edits, whole_text_change}
 use Rattle.ob0_world_rules.specs.EditorActs.{ActResult, same_version, rewriting_result, applying_result}
@@ -40,7 +40,7 @@ edited_uri_and_version edit =
 -- there is no such action, or if the action has no edit.
 abbrev pub edit_of_action : List ℕ → Data → Option Data
 edit_of_action title value =
-    option_and_then (get (codes "edit")) (option_and_then (titled_action title) (as_array value))
+    option_and_then (get (codes "edit")) (option_and_then (first_action_with_title title) (as_array value))
 
 -- Returns the WorkspaceEdit in the result of an ask, or None if there is none. The result of a
 -- rename is a WorkspaceEdit. The result of an inlining is a list of actions, each with a

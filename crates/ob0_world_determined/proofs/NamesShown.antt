@@ -25,7 +25,7 @@ use Rattle.ob0_types_fields.specs.Identifiers.{fields_declared_in_block, field_i
 use Rattle.ob0_refs.specs.Declarations.{object_hover}
 use Rattle.ob0_refs.specs.Hovers.{field_text, predeclared_text, type_text}
 use Rattle.ob0_refs.specs.Questions.{definition_of_identifier, definition_at, field_reference_tokens, hover_at_offset, hover_of_identifier, references_of_optional_identifier, references_of_identifier, tokens_without, references_at, renamable_span_at, renamable_span_of_identifier}
-use Rattle.ob0_refs.specs.Shown.{HoverText}
+use Rattle.ob0_refs.specs.NameHovers.{HoverText}
 use Rattle.ob0_rpc.specs.Requesting.{DocumentPlace}
 use Rattle.ob0_analysis.specs.Analysed.{IsResolvedWellTypedModule}
 use Rattle.ob0_analysis.specs.Diagnosed.{IsWellTypedModule}

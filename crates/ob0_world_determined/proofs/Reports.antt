@@ -25,16 +25,16 @@ use Rattle.ob0_tree.specs.Tree.{Tree, module_text, occurrences}
 use Rattle.ob0_parse.specs.IsRightParseRefusal.{NoModuleBegins, IsRightParseRefusal}
 use Rattle.ob0_parse_descent.specs.declared.refusal.ParseRefusal.{ParseRefusal}
 use Rattle.ob0_parse_descent.specs.declared.refusal.ParseRefusal.TheVariants.{Syntax, TooDeep, Memory}
-use Rattle.ob0_scope_table.specs.DeclaredTwice.{tree_declaration_faults}
+use Rattle.ob0_scope_table.specs.DuplicatesAndEndNames.{tree_declaration_faults}
 use Rattle.ob0_language_names.specs.Occurrences.{bindings}
 use Rattle.ob0_language_names.specs.Parts.{module_block}
-use Rattle.ob0_scope_table.specs.Resolution.{Resolution, IsResolution, declaring_names, is_declaration_fault, is_undeclared_fault, undeclared_faults_by_labels}
+use Rattle.ob0_scope_table.specs.Resolution.{Resolution, IsResolution, declaring_names, is_duplicate_or_end_name, is_undeclared_fault, undeclared_faults_by_labels}
 use Rattle.ob0_tree.specs.declared.tree.Role.TheVariants as role
 use Rattle.ob0_tree.specs.Tree.{identifiers}
 use Rattle.ob0_types.specs.FaultOrder.{AreFirstFaults, code_number, fault_cmp, faults_in, place_cmp}
 use Rattle.ob0_types_check.specs.DeclarationFaults.{module_faults, reported_block}
 use Rattle.ob0_types_check.specs.KnownDeclarations.{state_at_start, predeclared_meanings}
-use Rattle.ob0_analysis.specs.Diagnosed.{ReportedDiagnosis, ReportsRefusal, RefusalIsUnique, Reports, ReportsFaults, ReportsLexemes, ReportsParser, ReportsTypes, reported_diagnosis_of_fault}
+use Rattle.ob0_analysis.specs.Diagnosed.{ReportedDiagnosis, ReportsRefusal, RefusalIsUnique, Reports, ReportsFaults, ReportsLexicalFaults, ReportsParserRefusal, ReportsNameAndTypeFaults, reported_diagnosis_of_fault}
 use Rattle.ob0_world_rules.proofs.OneModule.{Same, same_module}
 use Rattle.ob0_world_determined.specs.Determined.{DiagnosesAreDetermined, TableIsDetermined}
 use Rattle.ob0_world_determined.proofs.SameTables.{Like, block_like}
@@ -201,10 +201,10 @@ module _ (r q : Resolution) (h : IsResolution r) (k : IsResolution q) (e : Same 
 
   same_faults : (xs ys : List Fault) → AreFirstFaults r xs → AreFirstFaults q ys → xs ≡ ys
   same_faults xs ys a b =
-      let found : faults_in r ≡ faults_in q = λ i. same_reported i ++ filter is_declaration_fault (same_of_names i) in
+      let found : faults_in r ≡ faults_in q = λ i. same_reported i ++ filter is_duplicate_or_end_name (same_of_names i) in
       a.first ∙ ap (take 100) (sorted_one _ a.all b.all (subst (λ fs. IsPermutation fs a.all) found a.joined) b.joined a.in_order b.in_order) ∙ sym b.first
 
-types_one : (text : List ℕ) (list other : List ReportedDiagnosis) → TableIsDetermined → ReportsTypes text list → ReportsTypes text other → list ≡ other
+types_one : (text : List ℕ) (list other : List ReportedDiagnosis) → TableIsDetermined → ReportsNameAndTypeFaults text list → ReportsNameAndTypeFaults text other → list ≡ other
 types_one text list other tables a b =
     let e : Same a.names.module_read b.names.module_read = same_module text a.names.module_read b.names.module_read a.scan a.resolved.parsed b.scan b.resolved.parsed in
     a.all ∙ ap (map reported_diagnosis_of_fault) (same_faults a.names b.names a.resolved b.resolved e tables a.faults b.faults a.first b.first) ∙ sym b.all
@@ -215,13 +215,13 @@ module _ (scans : OneScan) (reports : OneScanReport) (refusals : RefusalIsUnique
   one_source : (s t : TextWithTokens) → IsScanOf text s → IsScanOf text t → s ≡ t
   one_source s t p q = scans s t p.scan q.scan (p.of ∙ sym q.of)
 
-  lexemes_only : {A : Type 0} (list : List ReportedDiagnosis) (s : TextWithTokens) → ReportsLexemes text list → IsScanOf text s → A
+  lexemes_only : {A : Type 0} (list : List ReportedDiagnosis) (s : TextWithTokens) → ReportsLexicalFaults text list → IsScanOf text s → A
   lexemes_only list s h scan = absurd (h.unscannable (scannable text s scan))
 
-  parser_only : {A : Type 0} (list other : List ReportedDiagnosis) → ReportsParser text list → ReportsTypes text other → A
+  parser_only : {A : Type 0} (list other : List ReportedDiagnosis) → ReportsParserRefusal text list → ReportsNameAndTypeFaults text other → A
   parser_only list other h k =
       let same : k.names.module_read.source ≡ h.scanned = one_source k.names.module_read.source h.scanned k.scan h.scan in
-      absurd (not_refused h.scanned h.refusal h.complaint (named_tree_of k.names.module_read) h.refused h.reports_refusal (subst (λ s. ModuleOf s (named_tree_of k.names.module_read)) same k.resolved.parsed.module_of))
+      absurd (not_refused h.scanned h.refusal h.parser_diagnosis (named_tree_of k.names.module_read) h.refused h.reports_refusal (subst (λ s. ModuleOf s (named_tree_of k.names.module_read)) same k.resolved.parsed.module_of))
 
   faults_one : (list other : List ReportedDiagnosis) → ReportsFaults text list → ReportsFaults text other → list ≡ other
   faults_one list other (inl a) (inl b) = a.all ∙ ap (map reported_diagnosis_of_fault) (reports text a.faults b.faults a.of_text.reported b.of_text.reported) ∙ sym b.all

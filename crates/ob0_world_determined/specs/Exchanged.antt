@@ -25,15 +25,13 @@ pub record ServedExchange (begin now : Exchange) : Type 0 where
       → (put : List ℕ) (result : Result ℕ ServeFault) → IsFullyWritten result
       → MayServe result (flat_map frame now.wire.taken) put
       → put ≡ flat_map frame (now.wire.got ++ now.wire.to_editor)
-  -- If more bytes follow these frames in the input, `serve` writes the frames of the sent contents
-  -- first, under the same conditions.
+  -- If more bytes follow these frames in the input, `serve` writes the same frames first.
   pub written_first : All (λ content. length content ≤ max_content) now.wire.taken
       → (more put : List ℕ) (result : Result ℕ ServeFault) → IsFullyWritten result
       → MayServe result (flat_map frame now.wire.taken ++ more) put
       → (later : List ℕ) × (put ≡ flat_map frame (now.wire.got ++ now.wire.to_editor) ++ later)
-  -- Suppose that the session next takes `shutdown` and `exit`, and that their frames follow in the
-  -- input. Under the same conditions, `serve` also writes the frame of the answer to `shutdown`,
-  -- and returns 0. Any bytes may follow the frame of `exit`.
+  -- If the session next takes `shutdown` and `exit`, `serve` also writes the frame of the answer to
+  -- `shutdown`, and returns 0. Any bytes may follow these frames in the input.
   pub ended : (id : Data) (shutdown exit : List ℕ) → IsShutdown id shutdown → IsExit exit
       → (sent : List (List ℕ)) (end : ServerState)
       → Conversation now.wire.session (shutdown ∷ exit ∷ []) sent end
@@ -43,8 +41,8 @@ pub record ServedExchange (begin now : Exchange) : Type 0 where
       → (put ≡ flat_map frame ((now.wire.got ++ now.wire.to_editor) ++ sent)) × (result ≡ Ok 0)
   -- If `serve` returns `Memory`, it has answered a prefix of the contents (`HasServedPrefix`). If
   -- this prefix is exactly the contents that the session took, `serve` has written the frames of
-  -- the contents that the session sent.
-  pub in_part : (taken put : List ℕ) (part : HasServedPrefix taken put)
+  -- the sent contents.
+  pub written_after_memory_fault : (taken put : List ℕ) (part : HasServedPrefix taken put)
       → part.answered ≡ now.wire.taken
       → put ≡ flat_map frame (now.wire.got ++ now.wire.to_editor)
 

@@ -75,17 +75,17 @@ abbrev pub workspace_edit_items : List ℕ → Data → Option Items
 workspace_edit_items uri edit = document_edit_items uri edit (get (codes "documentChanges") edit)
 
 -- Returns the first action with this title. None if no action has this title.
-abbrev pub titled_action : List ℕ → Items → Option Data
-titled_action title no_items = None
-titled_action title (item d ds) =
-    if is_given_text title (text_member (codes "title") d) then Some d else titled_action title ds
+abbrev pub first_action_with_title : List ℕ → Items → Option Data
+first_action_with_title title no_items = None
+first_action_with_title title (item d ds) =
+    if is_given_text title (text_member (codes "title") d) then Some d else first_action_with_title title ds
 
 -- Returns the list of edits of the document with this uri in the first action with this title. None
 -- if there is no such list.
 abbrev pub action_edit_items : List ℕ → List ℕ → Data → Option Items
 action_edit_items title uri value =
     option_and_then (workspace_edit_items uri)
-    (option_and_then (get (codes "edit")) (option_and_then (titled_action title) (as_array value)))
+    (option_and_then (get (codes "edit")) (option_and_then (first_action_with_title title) (as_array value)))
 
 -- Returns the list of edits in the result of an ask. None if there is no such list. The result of a
 -- rename is a WorkspaceEdit. The result of an inlining is a list of actions, of which the ask

@@ -6,7 +6,7 @@ ghost use Rattle.ob0_rpc.specs.Members.{text_member};
 ghost use Rattle.ob0_world_editor.specs.Code.{message_of, ask_of, sent_ask_of};
 ghost use Rattle.ob0_world_rules.specs.Edited.{replacement_of, replacements};
 ghost use Rattle.ob0_world_editor.specs.MessagesToServer.{request_number};
-ghost use Rattle.ob0_world_editor.specs.MessagesToEditor.{message_to_editor_in, message_to_editor_of, publication_of_params, answer_of_response, has_no_items, edit_in, edits_in, workspace_edit_items, is_given_text, titled_action, action_edit_items, edit_items_for as items_of_answer, edits_for};
+ghost use Rattle.ob0_world_editor.specs.MessagesToEditor.{message_to_editor_in, message_to_editor_of, publication_of_params, answer_of_response, has_no_items, edit_in, edits_in, workspace_edit_items, is_given_text, first_action_with_title, action_edit_items, edit_items_for as items_of_answer, edits_for};
 ghost use Rattle.ob0_world_rules.specs.ClientAndServer.{request_numbered};
 
 use crate::asks::Ask;
@@ -221,7 +221,7 @@ fn action_edit_values<'v>(actions: &'v Value, title: &str, uri: &str) -> Option<
 
 fn action_with_title<'v>(actions: &'v [Value], title: &str) -> Option<&'v Value>
     ensures { option_map (λ v. view v.now) result
-        ≡ titled_action title.now (items_view actions.now) }
+        ≡ first_action_with_title title.now (items_view actions.now) }
 {
     for action in actions {
         if has_text(action, "title", title) {

@@ -5,7 +5,7 @@ use Rattle.std.proofs.Common.{◌≡◌, Bool, true, false, cond, ℕ, List, [],
 use Rattle.std.specs.Prelude.{⊤, All, Option, Some, None, is_some, unwrap_or, option_and_then}
 use Rattle.std.proofs.lemmas.List.Elements.{All-nil, All-push, All-head, All-tail, All-append}
 use Rattle.ob0_text.specs.declared.position_types.Unit.{Unit}
-use Rattle.ob0_text.specs.OpenDocuments.{OpenDocuments, Document, InStep, OutOfStep, DocumentEvent, Opened, Changed, Lost, Closed, document_at, after_event}
+use Rattle.ob0_text.specs.OpenDocuments.{OpenDocuments, Document, InStep, OutOfStep, DocumentEvent, Opened, Changed, Lost, Closed, document_at, documents_after_event}
 use Rattle.ob0_world_rules.specs.Edited.{Replacement, text_after_changes}
 use Rattle.ob0_world_rules.specs.Asks.{Ask}
 use Rattle.ob0_world_rules.specs.Answers.{IsAnswer, IsEmptyIfWellTyped}
@@ -84,8 +84,8 @@ answer_fits unit (Some OutOfStep) ask h none = none [] refl
 answer_fits unit None ask h none = none [] refl
 
 reply_fits : (held : OpenDocuments) (m : MessageToServer) → CanBeReplied m → ((said : List MessageToEditor) (made : List PublicationWithText) → Replies held m said made → ⊥) → ⊥
-reply_fits held (notifies (Opened uri version text)) h none = publish_fits uri (document_at (after_event held (Opened uri version text)) uri) none
-reply_fits held (notifies (Changed uri version how)) h none = publish_fits uri (document_at (after_event held (Changed uri version how)) uri) none
+reply_fits held (notifies (Opened uri version text)) h none = publish_fits uri (document_at (documents_after_event held (Opened uri version text)) uri) none
+reply_fits held (notifies (Changed uri version how)) h none = publish_fits uri (document_at (documents_after_event held (Changed uri version how)) uri) none
 reply_fits held (notifies (Lost uri)) h none = none [] [] (refl, refl)
 reply_fits held (notifies (Closed uri)) h none = none (cond (is_some (document_at held uri)) (publishes uri None true ∷ []) []) [] (refl, refl)
 reply_fits held (requests k uri ask) h none =

@@ -3,7 +3,7 @@
 use Rattle.std.proofs.Common.{◌≡◌, ◌∙◌, ℕ, Bool, true, false, List, [], ◌∷◌, ◌++◌, refl, sym, ap, subst}
 use Rattle.std.specs.Prelude.{◌↔◌, IsTrue, ℤ, Option, Some, None}
 use Rattle.ob0_text.specs.declared.position_types.Unit.{Unit}
-use Rattle.ob0_text.specs.OpenDocuments.{OpenDocuments, Document, InStep, OutOfStep, DocumentEvent, Opened, Changed, Lost, Closed, after_event, document_at}
+use Rattle.ob0_text.specs.OpenDocuments.{OpenDocuments, Document, InStep, OutOfStep, DocumentEvent, Opened, Changed, Lost, Closed, documents_after_event, document_at}
 use Rattle.ob0_world_rules.specs.Language.{WellTypedText}
 use Rattle.ob0_world_rules.specs.Edited.{Replacement}
 use Rattle.ob0_world_rules.specs.Asks.{Ask}
@@ -30,8 +30,8 @@ publishes_one uri (Some OutOfStep) said also made more h k = (h.0 ∙ sym k.0, h
 publishes_one uri None said also made more h k = (h.0 ∙ sym k.0, h.1 ∙ sym k.1)
 
 reports_one : (held : OpenDocuments) (note : DocumentEvent) (said also : List MessageToEditor) (made more : List PublicationWithText) → RepliesToNotification held note said made → RepliesToNotification held note also more → (said ≡ also) × (made ≡ more)
-reports_one held (Opened uri version text) said also made more h k = publishes_one uri (document_at (after_event held (Opened uri version text)) uri) said also made more h k
-reports_one held (Changed uri version how) said also made more h k = publishes_one uri (document_at (after_event held (Changed uri version how)) uri) said also made more h k
+reports_one held (Opened uri version text) said also made more h k = publishes_one uri (document_at (documents_after_event held (Opened uri version text)) uri) said also made more h k
+reports_one held (Changed uri version how) said also made more h k = publishes_one uri (document_at (documents_after_event held (Changed uri version how)) uri) said also made more h k
 reports_one held (Lost uri) said also made more h k = (h.0 ∙ sym k.0, h.1 ∙ sym k.1)
 reports_one held (Closed uri) said also made more h k = (h.0 ∙ sym k.0, h.1 ∙ sym k.1)
 

@@ -277,14 +277,14 @@ module _ (unit : Unit) where
   holds_with : (w : EditorAndServer) → Good w → HoldsWithEditor w
   holds_with w good =
       record {
-        holds = record { applied = good.kept.applied; made = good.kept.made; latest_made = λ nothing_waits. up_to_date unit (model_state_of w) (good.kept, good.latest) (ap notifications_among nothing_waits) };
+        holds = record { applied = good.kept.applied; made = good.kept.made; latest_are_up_to_date = λ nothing_waits. up_to_date unit (model_state_of w) (good.kept, good.latest) (ap notifications_among nothing_waits) };
         latest = up_to_date unit (model_state_of w) (good.kept, good.latest);
         mirrors = good.kept.mirror;
         published = good.published;
         waiting = good.waiting;
         all = good.all;
         are_made_for_documents = good.are_made_for_documents;
-        still_wait = pending_named w.held (modeled_messages w.to_server) good.waiting good.pending;
+        unpublished_are_queued = pending_named w.held (modeled_messages w.to_server) good.waiting good.pending;
       }
 
 pub holds_for_every_editor : HoldsForEveryEditor

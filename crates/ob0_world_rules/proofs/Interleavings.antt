@@ -9,7 +9,7 @@ use Rattle.std.proofs.lemmas.Option.{same_Some, none-some}
 use Rattle.std.proofs.lemmas.List.{append-nil}
 use Rattle.std.proofs.lemmas.List.Elements.{All-nil, All-head, All-tail, All-push, All-append, All-cons}
 use Rattle.ob0_text.specs.declared.position_types.Unit.{Unit}
-use Rattle.ob0_text.specs.OpenDocuments.{OpenDocuments, Document, InStep, OutOfStep, DocumentEvent, Opened, Changed, Lost, Closed, with_updated_document, after_event, changed_document, document_at}
+use Rattle.ob0_text.specs.OpenDocuments.{OpenDocuments, Document, InStep, OutOfStep, DocumentEvent, Opened, Changed, Lost, Closed, with_updated_document, documents_after_event, changed_document, document_at}
 use Rattle.ob0_text.proofs.EntryLaws.{updated-some, updated-none}
 use Rattle.ob0_world_rules.specs.Edited.{Replacement}
 use Rattle.ob0_world_rules.specs.Asks.{Ask}
@@ -187,10 +187,10 @@ module _ (unit : Unit) where
       go (Some d) is = subst (λ m. Others (record { unit = held.unit; by_uri = m }) uri made) (sym (updated-some held.by_uri uri f d is)) (put_others held uri (f d) made now)
 
   -- After a document is lost, the publications for the other documents are still the latest.
-  lost_latest : (held : OpenDocuments) (uri : List ℕ) (made : List PublicationWithText) → AreLatest held made → AreLatest (after_event held (Lost uri)) made
+  lost_latest : (held : OpenDocuments) (uri : List ℕ) (made : List PublicationWithText) → AreLatest held made → AreLatest (documents_after_event held (Lost uri)) made
   lost_latest held uri made now = go (document_at held uri) refl
     where
-      go : (o : Option Document) → document_at held uri ≡ o → AreLatest (after_event held (Lost uri)) made
+      go : (o : Option Document) → document_at held uri ≡ o → AreLatest (documents_after_event held (Lost uri)) made
       go None is = subst (λ m. AreLatest (record { unit = held.unit; by_uri = m }) made) (sym (updated-none held.by_uri uri (λ _. OutOfStep) is)) (λ q version text at. now q version text at)
       go (Some d) is =
           subst (λ m. AreLatest (record { unit = held.unit; by_uri = m }) made) (sym (updated-some held.by_uri uri (λ _. OutOfStep) d is))
@@ -203,22 +203,22 @@ module _ (unit : Unit) where
               get_put held.by_uri uri OutOfStep q ∙ ap (λ b. cond b (Some OutOfStep) (document_at held q)) (subst (λ x. bytes_eq x uri ≡ true) same (uri_itself uri)) in
               let other : OutOfStep ≡ InStep version text = same_Some _ _ (sym put ∙ at) in cc
 
-  remove_latest : (held : OpenDocuments) (uri : List ℕ) (made : List PublicationWithText) → AreLatest held made → AreLatest (after_event held (Closed uri)) made
+  remove_latest : (held : OpenDocuments) (uri : List ℕ) (made : List PublicationWithText) → AreLatest held made → AreLatest (documents_after_event held (Closed uri)) made
   remove_latest held uri made now q version text at = go (bytes_eq q uri) (sym (get_removed held.by_uri uri q) ∙ at)
     where
       go : (b : Bool) → cond b None (document_at held q) ≡ Some (InStep version text) → IsMadeFor version text (last_publication q made)
       go true h = absurd (none-some (InStep version text) h)
       go false h = now q version text h
 
-  note_sound : (asked : List SentAsk) (held : OpenDocuments) (note : DocumentEvent) (said : List MessageToEditor) (made more : List PublicationWithText) → AreLatest held made → RepliesToNotification held note said more → Sound asked (after_event held note) said made more
+  note_sound : (asked : List SentAsk) (held : OpenDocuments) (note : DocumentEvent) (said : List MessageToEditor) (made more : List PublicationWithText) → AreLatest held made → RepliesToNotification held note said more → Sound asked (documents_after_event held note) said made more
   note_sound asked held (Opened uri version text) said made more now h =
-      publish_sound asked (after_event held (Opened uri version text)) uri (document_at (after_event held (Opened uri version text)) uri) said made more refl (put_others held uri (InStep version text) made now) h
+      publish_sound asked (documents_after_event held (Opened uri version text)) uri (document_at (documents_after_event held (Opened uri version text)) uri) said made more refl (put_others held uri (InStep version text) made now) h
   note_sound asked held (Changed uri version how) said made more now h =
-      publish_sound asked (after_event held (Changed uri version how)) uri (document_at (after_event held (Changed uri version how)) uri) said made more refl
+      publish_sound asked (documents_after_event held (Changed uri version how)) uri (document_at (documents_after_event held (Changed uri version how)) uri) said made more refl
       (update_others held uri (changed_document held.unit version how) made now) h
-  note_sound asked held (Lost uri) said made more now h = silent asked (after_event held (Lost uri)) made said more h.0 h.1 (lost_latest held uri made now)
+  note_sound asked held (Lost uri) said made more now h = silent asked (documents_after_event held (Lost uri)) made said more h.0 h.1 (lost_latest held uri made now)
   note_sound asked held (Closed uri) said made more now h =
-      let quiet : Sound asked (after_event held (Closed uri)) [] made more = silent asked (after_event held (Closed uri)) made [] more refl h.1 (remove_latest held uri made now) in
+      let quiet : Sound asked (documents_after_event held (Closed uri)) [] made more = silent asked (documents_after_event held (Closed uri)) made [] more refl h.1 (remove_latest held uri made now) in
       record {
         fit = subst (All (AnswerFits unit asked)) (sym h.0) (taken_back_fits asked uri (is_some (document_at held uri)));
         right = quiet.right;

@@ -8,7 +8,7 @@ use Rattle.std.proofs.lemmas.Option.{same_Some, none-some}
 use Rattle.std.proofs.lemmas.List.Elements.{All-head, All-tail, All-weaker, All-append}
 use Rattle.std.proofs.lemmas.List.Sums.{fold-append}
 use Rattle.ob0_text.specs.declared.position_types.Unit.{Unit}
-use Rattle.ob0_text.specs.OpenDocuments.{OpenDocuments, InStep, document_with_text, DocumentEvent, Opened, Changed, Lost, Closed, TextChange, after_event, changed_document, document_at}
+use Rattle.ob0_text.specs.OpenDocuments.{OpenDocuments, InStep, document_with_text, DocumentEvent, Opened, Changed, Lost, Closed, TextChange, documents_after_event, changed_document, document_at}
 use Rattle.ob0_text.proofs.EntryLaws.{updated-some}
 use Rattle.ob0_world_rules.specs.Edited.{Replacement, text_after_changes}
 use Rattle.ob0_world_rules.specs.ClientAndServer.{OpenDocument, SentAsk, Answer, open_at, MessageToServer, notifies, requests, MessageToEditor, publishes, answers, Applied, ClientAndServer, after_message}
@@ -40,7 +40,7 @@ HasText held uri text = (version : ℤ) × (document_at held uri ≡ Some (InSte
 -- holds if the server, when it takes each request of a queue, will have the text that the request was about
 abbrev pub AsksSee : List SentAsk → OpenDocuments → List MessageToServer → Type 0
 AsksSee asked held [] = ⊤
-AsksSee asked held (notifies note ∷ rest) = AsksSee asked (after_event held note) rest
+AsksSee asked held (notifies note ∷ rest) = AsksSee asked (documents_after_event held note) rest
 AsksSee asked held (requests k uri ask ∷ rest) = Known asked k (HasText held uri) × AsksSee asked held rest
 
 pub record Kept (unit : Unit) (w : ClientAndServer) : Type 0 where
@@ -56,7 +56,7 @@ pub record Kept (unit : Unit) (w : ClientAndServer) : Type 0 where
 
 -- ---- the unit
 
-pub note_unit : (held : OpenDocuments) (note : DocumentEvent) → (after_event held note).unit ≡ held.unit
+pub note_unit : (held : OpenDocuments) (note : DocumentEvent) → (documents_after_event held note).unit ≡ held.unit
 note_unit held (Opened uri version text) = refl
 note_unit held (Changed uri version how) = refl
 note_unit held (Lost uri) = refl
@@ -85,12 +85,12 @@ module _ (unit : Unit) (asked now : List SentAsk) (later : Later asked now) wher
 
 asks_later : (asked now : List SentAsk) → Later asked now → (held : OpenDocuments) (q : List MessageToServer) → AsksSee asked held q → AsksSee now held q
 asks_later asked now later held [] h = h
-asks_later asked now later held (notifies note ∷ rest) h = asks_later asked now later (after_event held note) rest h
+asks_later asked now later held (notifies note ∷ rest) h = asks_later asked now later (documents_after_event held note) rest h
 asks_later asked now later held (requests k uri ask ∷ rest) h = (still_known asked now k (HasText held uri) later h.0, asks_later asked now later held rest h.1)
 
 asks_append : (asked : List SentAsk) (held : OpenDocuments) (q more : List MessageToServer) → AsksSee asked held q → AsksSee asked (fold after_message held q) more → AsksSee asked held (q ++ more)
 asks_append asked held [] more h k = k
-asks_append asked held (notifies note ∷ rest) more h k = asks_append asked (after_event held note) rest more h k
+asks_append asked held (notifies note ∷ rest) more h k = asks_append asked (documents_after_event held note) rest more h k
 asks_append asked held (requests n uri ask ∷ rest) more h k = (h.0, asks_append asked held rest more h.1 k)
 
 -- ---- the editor acts
@@ -133,7 +133,7 @@ remove_mirrors w uri mirror q =
 -- Changing a document's text at client and server keeps the mirror.
 change_mirrors : (w : ClientAndServer) (uri : List ℕ) (d new : OpenDocument) (how : List TextChange) → Mirrors w → (documents_after_queue w).unit ≡ w.editor.unit → open_at w.editor uri ≡ Some d
     → text_after_changes w.editor.unit (Some d.text) how ≡ Some new.text → (q : List ℕ)
-    → document_at (after_event (documents_after_queue w) (Changed uri new.version how)) q ≡ option_map in_step_document (map_of.get (map_of.insert w.editor.documents uri new) q)
+    → document_at (documents_after_event (documents_after_queue w) (Changed uri new.version how)) q ≡ option_map in_step_document (map_of.get (map_of.insert w.editor.documents uri new) q)
 change_mirrors w uri d new how mirror same_unit was_open is q =
     let held : document_at (documents_after_queue w) uri ≡ Some (in_step_document d) = mirror uri ∙ ap (option_map in_step_document) was_open in
     ap (λ m. map_of.get m q) (updated-some (documents_after_queue w).by_uri uri (changed_document (documents_after_queue w).unit new.version how) (in_step_document d) held)

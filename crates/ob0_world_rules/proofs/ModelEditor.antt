@@ -91,7 +91,7 @@ applied_so e k edits a d text answered numbered same as_asked makes =
       first = whole_text_change text ∷ [];
       next = [];
       cut = refl;
-      first_make = whole e.unit d.text text;
+      first_changes_make_text = whole e.unit d.text text;
       is = refl;
     }
 
@@ -255,5 +255,5 @@ publications_in_order unit events end run =
       waiting = holds.waiting;
       all = subst (AreAnnounced (start unit) events) holds.all led.are;
       are_made_for_documents = holds.are_made_for_documents;
-      still_wait = λ other too. holds.still_wait ∙ ap versions_announced_in (others_none end.to_server) ∙ ap (λ (x : ClientAndServer). versions_announced_in x.to_server) (course_is_determined (start unit) events end other run too);
+      unpublished_are_queued = λ other too. holds.unpublished_are_queued ∙ ap versions_announced_in (others_none end.to_server) ∙ ap (λ (x : ClientAndServer). versions_announced_in x.to_server) (course_is_determined (start unit) events end other run too);
     }

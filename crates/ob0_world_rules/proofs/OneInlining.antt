@@ -19,7 +19,7 @@ use Rattle.ob0_tree.specs.Tree.{Tree, identifiers, module_text, nesting, occurre
 use Rattle.ob0_tree.proofs.Leaves.{leaves_ascend, occurrences_ascend}
 use Rattle.ob0_edits_tokens.specs.Ranges.{range_of}
 use Rattle.ob0_edits_tokens.specs.Removed.{span_of_tokens, text_after_removal}
-use Rattle.ob0_edits_tokens.specs.Replaced.{edit_at, range_and_text, text_after_replacement}
+use Rattle.ob0_edits_tokens.specs.Replaced.{replacement_at_token, range_and_text, text_after_replacement}
 use Rattle.ob0_language_names.specs.Inlining.{inlined, inlined_everywhere, single_occurrence}
 use Rattle.ob0_language_names.specs.Names.{declared, same_label}
 use Rattle.ob0_language_names.specs.Occurrences.{bindings}
@@ -87,8 +87,8 @@ module _ {m n : ParsedModule} (e : Same m n) (parsed : IsParsed n) (offset : ℕ
   same_refusal_here : refusal_here m u ≡ refusal_here n v
   same_refusal_here = λ i. refused_at (e.source i) (e.tree i) (use_token i) (use_occurrence i) (use_value i)
 
-  same_edit_here : (unit : Unit) (text : List ℕ) → edit_at unit text m.source.tokens (value_text u.value) u.token ≡ edit_at unit text n.source.tokens (value_text v.value) v.token
-  same_edit_here unit text = λ i. edit_at unit text ((e.source i).tokens) (value_text (use_value i)) (use_token i)
+  same_edit_here : (unit : Unit) (text : List ℕ) → replacement_at_token unit text m.source.tokens (value_text u.value) u.token ≡ replacement_at_token unit text n.source.tokens (value_text v.value) v.token
+  same_edit_here unit text = λ i. replacement_at_token unit text ((e.source i).tokens) (value_text (use_value i)) (use_token i)
 
 use_there : {m n : ParsedModule} → Same m n → (offset : ℕ) (u : ConstantUse) → IsUseAt m offset u → IsUseAt n offset u
 use_there e offset u at = record {
@@ -144,11 +144,11 @@ module _ {m n : ParsedModule} (e : Same m n) (offset : ℕ) (c d : NamedConstant
   same_refusal_everywhere = λ i. refused_everywhere (e.source i) (e.tree i) (constant_ordinal i) (constant_value i) (constant_first i) (constant_last i)
 
   same_edits_everywhere : (unit : Unit) (text : List ℕ)
-      → (range_of (width_of unit) text (span_of_tokens m.source.tokens c.first c.last), []) ∷ map (edit_at unit text m.source.tokens (value_text c.value)) (uses_in m.source (tree_of m) c.ordinal)
-      ≡ (range_of (width_of unit) text (span_of_tokens n.source.tokens d.first d.last), []) ∷ map (edit_at unit text n.source.tokens (value_text d.value)) (uses_in n.source (tree_of n) d.ordinal)
+      → (range_of (width_of unit) text (span_of_tokens m.source.tokens c.first c.last), []) ∷ map (replacement_at_token unit text m.source.tokens (value_text c.value)) (uses_in m.source (tree_of m) c.ordinal)
+      ≡ (range_of (width_of unit) text (span_of_tokens n.source.tokens d.first d.last), []) ∷ map (replacement_at_token unit text n.source.tokens (value_text d.value)) (uses_in n.source (tree_of n) d.ordinal)
   same_edits_everywhere unit text = λ i.
       (range_of (width_of unit) text (span_of_tokens ((e.source i).tokens) (constant_first i) (constant_last i)), [])
-      ∷ map (edit_at unit text ((e.source i).tokens) (value_text (constant_value i))) (uses_in (e.source i) (e.tree i) (constant_ordinal i))
+      ∷ map (replacement_at_token unit text ((e.source i).tokens) (value_text (constant_value i))) (uses_in (e.source i) (e.tree i) (constant_ordinal i))
 
 module _ {m n : ParsedModule} (e : Same m n) (unit : Unit) (text : List ℕ) (offset : ℕ) (xs : Vec Edit Global) where
   everywhere_one : (ys : Vec Edit Global) → AnswersInlineEverywhere unit text m offset (Ok xs) → AnswersInlineEverywhere unit text n offset (Ok ys) → map range_and_text xs.items ≡ map range_and_text ys.items

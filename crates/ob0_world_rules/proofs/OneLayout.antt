@@ -18,7 +18,7 @@ use Rattle.ob0_layout.specs.Gaps.{EditContent, edit_content, edit_of, changed_ga
 use Rattle.ob0_layout.specs.LineRoles.{line_roles}
 use Rattle.ob0_edits.specs.Diagnosed.{IsTextOf, IsWellTypedModule}
 use Rattle.ob0_edits.specs.Texts.{utf8}
-use Rattle.ob0_edits.specs.Layouts.{FormatsIn, IsTooLongFormatted, layout_changes, layout_of}
+use Rattle.ob0_edits.specs.Layouts.{FormatsIn, FormattedTextIsTooLong, formatting_changes, formatted_text_of}
 use Rattle.ob0_world_rules.specs.Edited.{Replacement, replacements}
 use Rattle.ob0_world_rules.proofs.Trees.{same_tree}
 
@@ -41,10 +41,10 @@ module _ (text : List ℕ) (m n : IsWellTypedModule (utf8 text)) where
       (subst (λ t. LexesInto t m.text_of.scan.scan.lexemes) m.text_of.scan.of m.text_of.scan.scan.lexed)
       (subst (λ t. LexesInto t n.text_of.scan.scan.lexemes) n.text_of.scan.of n.text_of.scan.scan.lexed)
 
-  one_layout : (indent : Indent) → layout_of indent m ≡ layout_of indent n
+  one_layout : (indent : Indent) → formatted_text_of indent m ≡ formatted_text_of indent n
   one_layout indent = λ i. layout indent (one_module i) (one_lexing i)
 
-  one_change : (unit : Unit) (indent : Indent) → layout_changes unit indent text m ≡ layout_changes unit indent text n
+  one_change : (unit : Unit) (indent : Indent) → formatting_changes unit indent text m ≡ formatting_changes unit indent text n
   one_change unit indent = λ i. map (edit_of (width_of unit) text) (changed_gaps (one_source i).text (all_gaps indent (one_source i).text (line_roles 0 (one_module i)) (one_lexing i)))
 
 -- Two formattings of a text have equal edits, by the bytes of their texts.
@@ -58,9 +58,9 @@ lays_out_one unit indent text xs ys h k = same_said xs ys (lays_out_said unit in
 short_enough : (text : List ℕ) (tree : Tree Name module_text) → IsTextOf tree text → length text ≤ max_text
 short_enough text tree is = subst (λ t. length t ≤ max_text) is.scan.of is.module_of.short
 
-pub lays_out_or_long : (unit : Unit) (indent : Indent) (text : List ℕ) (xs : List Edit) → FormatsIn unit indent text xs → IsTooLongFormatted indent text → ⊥
+pub lays_out_or_long : (unit : Unit) (indent : Indent) (text : List ℕ) (xs : List Edit) → FormatsIn unit indent text xs → FormattedTextIsTooLong indent text → ⊥
 lays_out_or_long unit indent text xs h long =
     let short : length (utf8 h.after) ≤ max_text = short_enough (utf8 h.after) h.before.tree h.same_module in
-    let here : length (layout_of indent h.before) ≤ max_text = subst (λ t. length t ≤ max_text) h.is_formatted_text short in
-    let there : length (layout_of indent long.before) ≤ max_text = subst (λ t. length t ≤ max_text) (one_layout text h.before long.before indent) here in
+    let here : length (formatted_text_of indent h.before) ≤ max_text = subst (λ t. length t ≤ max_text) h.is_formatted_text short in
+    let there : length (formatted_text_of indent long.before) ≤ max_text = subst (λ t. length t ≤ max_text) (one_layout text h.before long.before indent) here in
     omega (arith, there, long.long)

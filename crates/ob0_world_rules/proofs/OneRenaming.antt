@@ -17,7 +17,7 @@ use Rattle.ob0_tree.specs.declared.tree.Role.TheVariants as role
 use Rattle.ob0_tree.specs.ParsedModule.{named_tree_of}
 use Rattle.ob0_tree.specs.Places.{tree_with_names, token_text_at}
 use Rattle.ob0_tree.specs.Tree.{Tree, identifiers, module_text, occurrences}
-use Rattle.ob0_edits_tokens.specs.Replaced.{edit_at, range_and_text, text_after_replacement}
+use Rattle.ob0_edits_tokens.specs.Replaced.{replacement_at_token, range_and_text, text_after_replacement}
 use Rattle.ob0_language_names.specs.Names.{Name, same_name}
 use Rattle.ob0_language_names.specs.Occurrences.{NameConflict, Free, at_declaration, at_occurrence, first_name_conflict}
 use Rattle.ob0_language_names.specs.Parts.{module_block}
@@ -31,7 +31,7 @@ use Rattle.ob0_types_fields.specs.Identifiers.{fields_declared_in_block, field_i
 use Rattle.ob0_edits.specs.Analysed.{IsResolvedWellTypedModule}
 use Rattle.ob0_edits.specs.Texts.{utf8}
 use Rattle.ob0_rename.specs.Renaming.{Renaming, RenameTarget, declaration, field_of, field_tokens_to_rename, renaming_target, target_of_name_or_field, nothing, occurrence_range, conflicting_field_range, conflicting_declaration_range, predeclared, renaming_of, text_after_renaming, tokens_to_rename}
-use Rattle.ob0_rename.specs.Answers.{AreRenameEdits, IsRenameRefusal, IsDeclarationRefusal, IsFieldRefusal, IsTargetRefusal, RenamesDeclaration, RenamesField, WritesName}
+use Rattle.ob0_rename.specs.Answers.{AreRenameEdits, IsRenameRefusal, IsDeclarationRefusal, IsFieldRefusal, IsTargetRefusal, RenamesDeclaration, RenamesField, WritesNewName}
 use Rattle.ob0_edits.specs.Renamings.{IsRenameRefusedIn, RenamesIn}
 use Rattle.ob0_world_rules.specs.Edited.{replacements}
 use Rattle.ob0_world_rules.proofs.OneModule.{Same, same_module, one_named_tree, one_name, identifiers_of, same_parts}
@@ -137,9 +137,9 @@ module _ (unit : Unit) (text : List ℕ) (place : Position) (new : Name) (names 
   one_text xs ys same = λ i. text_after_replacement (e.source i) (same i) new
 
   -- Edits that write the new name at the same tokens are equal.
-  one_writing : (xs ys : List ℕ) (t u : Tree Name module_text) (es fs : List Edit) → xs ≡ ys → WritesName r xs t es → WritesName q ys u fs → map range_and_text es ≡ map range_and_text fs
+  one_writing : (xs ys : List ℕ) (t u : Tree Name module_text) (es fs : List Edit) → xs ≡ ys → WritesNewName r xs t es → WritesNewName q ys u fs → map range_and_text es ≡ map range_and_text fs
   one_writing xs ys t u es fs same h k =
-      h.changes ∙ ((λ i. map (edit_at unit text ((e.source i).tokens) new) (same i)) ∙ sym k.changes)
+      h.changes ∙ ((λ i. map (replacement_at_token unit text ((e.source i).tokens) new) (same i)) ∙ sym k.changes)
 
   one_declaration : {c d : ℕ} → declaration c ≡ declaration d → c ≡ d
   one_declaration h = cc
@@ -162,7 +162,7 @@ module _ (unit : Unit) (text : List ℕ) (place : Position) (new : Name) (names 
 
   -- ---- edits, or a refusal
 
-  too_long : (xs ys : List ℕ) (t : Tree Name module_text) (es : List Edit) → xs ≡ ys → WritesName r xs t es → max_text < length (text_after_renaming q ys) → ⊥
+  too_long : (xs ys : List ℕ) (t : Tree Name module_text) (es : List Edit) → xs ≡ ys → WritesNewName r xs t es → max_text < length (text_after_renaming q ys) → ⊥
   too_long xs ys t es same h long =
       let short : length (text_after_renaming q ys) ≤ max_text = subst (λ x. length x ≤ max_text) (one_text xs ys same) h.short in
       omega (arith, short, long)

@@ -4,7 +4,7 @@
 use Rattle.std.proofs.Common.{◌≡◌, ◌∙◌, ℕ, List, [], ◌∷◌, ◌++◌, map, append-nil, append_assoc, refl, sym, ap, subst}
 use Rattle.std.specs.Prelude.{fold, Option, Some, None, option_map}
 use Rattle.std.proofs.lemmas.List.{map-append}
-use Rattle.ob0_text.specs.OpenDocuments.{OpenDocuments, Opened, Changed, Lost, Closed, after_event, document_at}
+use Rattle.ob0_text.specs.OpenDocuments.{OpenDocuments, Opened, Changed, Lost, Closed, documents_after_event, document_at}
 use Rattle.ob0_world_rules.specs.ClientAndServer.{OpenDocument, MessageToServer, notifies, requests, MessageToEditor, PublicationWithText, ClientAndServer, after_message}
 use Rattle.ob0_world_rules.specs.Serving.{Publishes, Replies}
 use Rattle.ob0_world_rules.specs.Happens.{ServerTakes}
@@ -18,8 +18,8 @@ AwaitedAt held uri now = (o : Option OpenDocument) × (document_at held uri ≡ 
 
 -- holds if these are the documents for which the server publishes when it takes this message and has these documents
 abbrev pub Awaits : OpenDocuments → MessageToServer → List AnnouncedDocument → Type 0
-Awaits held (notifies (Opened uri version text)) now = AwaitedAt (after_event held (Opened uri version text)) uri now
-Awaits held (notifies (Changed uri version how)) now = AwaitedAt (after_event held (Changed uri version how)) uri now
+Awaits held (notifies (Opened uri version text)) now = AwaitedAt (documents_after_event held (Opened uri version text)) uri now
+Awaits held (notifies (Changed uri version how)) now = AwaitedAt (documents_after_event held (Changed uri version how)) uri now
 Awaits held (notifies (Lost uri)) now = now ≡ []
 Awaits held (notifies (Closed uri)) now = now ≡ []
 Awaits held (requests number uri ask) now = now ≡ []
@@ -59,8 +59,8 @@ none_made : (made : List PublicationWithText) (now : List AnnouncedDocument) →
 none_made made now no_made none_announced = subst (AreMadeForDocuments made) (sym none_announced) (subst (λ ms. AreMadeForDocuments ms []) (sym no_made) tt)
 
 pub message_made : (held : OpenDocuments) (m : MessageToServer) (said : List MessageToEditor) (made : List PublicationWithText) (now : List AnnouncedDocument) → Replies held m said made → Awaits held m now → AreMadeForDocuments made now
-message_made held (notifies (Opened uri version text)) said made now may awaits = awaited (after_event held (Opened uri version text)) uri said made now may awaits
-message_made held (notifies (Changed uri version how)) said made now may awaits = awaited (after_event held (Changed uri version how)) uri said made now may awaits
+message_made held (notifies (Opened uri version text)) said made now may awaits = awaited (documents_after_event held (Opened uri version text)) uri said made now may awaits
+message_made held (notifies (Changed uri version how)) said made now may awaits = awaited (documents_after_event held (Changed uri version how)) uri said made now may awaits
 message_made held (notifies (Lost uri)) said made now may awaits = none_made made now may.1 awaits
 message_made held (notifies (Closed uri)) said made now may awaits = none_made made now may.1 awaits
 message_made held (requests number uri ask) said made now (edits, answer, is_said, none) awaits = none_made made now none awaits

@@ -12,7 +12,7 @@ use Rattle.ob0_text.specs.Texts.{offset_of}
 use Rattle.ob0_text.specs.Units.{width_of}
 use Rattle.ob0_edits.specs.Renamings.{RenamesIn, IsRenameRefusedIn}
 use Rattle.ob0_edits.specs.Inlinings.{InlinesIn, IsInliningRefusedIn}
-use Rattle.ob0_edits.specs.Layouts.{FormatsIn, IsTooLongFormatted}
+use Rattle.ob0_edits.specs.Layouts.{FormatsIn, FormattedTextIsTooLong}
 pub use Rattle.ob0_edits.specs.declared.inlinings.Inlining.{Inlining}
 pub use Rattle.ob0_edits.specs.declared.inlinings.Inlining.TheVariants.{OneUse, Everywhere}
 use Rattle.ob0_world_rules.specs.Language.{WellTypedText}
@@ -48,7 +48,7 @@ Refuses unit text (inline_here position) =
     IsInliningRefusedIn OneUse unit text (position_offset unit text position)
 Refuses unit text (inline_all position) =
     IsInliningRefusedIn Everywhere unit text (position_offset unit text position)
-Refuses unit text (format indent) = IsTooLongFormatted (clamped_indent indent) text
+Refuses unit text (format indent) = FormattedTextIsTooLong (clamped_indent indent) text
 
 -- States that the edits `given` answer the ask about this text. They are the requested edits, or
 -- none if the ask is refused or the text isn't a well-typed module.
@@ -64,7 +64,7 @@ IsAnswer unit (Some (InStep version text)) ask given = IsAnswerForText unit text
 IsAnswer unit (Some OutOfStep) ask given = given ≡ []
 IsAnswer unit None ask given = given ≡ []
 
--- States that a list of diagnostics is correct for this text: the list is empty exactly when the
--- text is a well-typed module. `empty` says whether the list is empty.
+-- States that `empty` (a list of diagnostics is empty) is true exactly when the text is a
+-- well-typed module.
 abbrev pub IsEmptyIfWellTyped : List ℕ → Bool → Type 0
 IsEmptyIfWellTyped text empty = IsTrue empty ↔ WellTypedText text

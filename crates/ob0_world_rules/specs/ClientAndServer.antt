@@ -5,7 +5,7 @@ use Rattle.std.specs.Ordering.{nat_cmp}
 use Rattle.std.specs.Cmp.Lexicographic.{slice_cmp}
 use Rattle.std.specs.FinMap as map_of
 use Rattle.ob0_text.specs.declared.position_types.Unit.{Unit}
-use Rattle.ob0_text.specs.OpenDocuments.{OpenDocuments, DocumentEvent, after_event, no_open_documents}
+use Rattle.ob0_text.specs.OpenDocuments.{OpenDocuments, DocumentEvent, documents_after_event, no_open_documents}
 use Rattle.ob0_world_rules.specs.Edited.{Replacement}
 use Rattle.ob0_world_rules.specs.Asks.{Ask}
 
@@ -121,5 +121,5 @@ start unit =
 
 -- returns the server's documents after the server has taken a message
 abbrev pub after_message : OpenDocuments → MessageToServer → OpenDocuments
-after_message held (notifies note) = after_event held note
+after_message held (notifies note) = documents_after_event held note
 after_message held (requests number uri ask) = held

@@ -67,8 +67,8 @@ changes_of (r ∷ more) = r.sent_changes ++ changes_of more
 
 -- States that the edits of the answer to request `k` are made in the document that was asked about,
 -- all at once. The document still has the text that it had when the request was sent. The changes
--- `first` make the edited text, and are sent first. The changes `next` are later changes of the
--- user, which an editor may send together with the edits.
+-- `first` make the edited text. The changes `next` are the user's later ones, which an editor may
+-- send with them.
 pub record AppliesAnswer (e : Editor) (k : ℕ) (revisions : List Revision) (done : ActResult)
     (announced : List AnnouncedDocument) : Type 0 where
   pub edits : List Replacement
@@ -85,7 +85,7 @@ pub record AppliesAnswer (e : Editor) (k : ℕ) (revisions : List Revision) (don
   pub first : List TextChange
   pub next : List TextChange
   pub cut : changes_of revisions ≡ first ++ next
-  pub first_make : text_after_changes e.unit (Some document.text) first ≡ Some text
+  pub first_changes_make_text : text_after_changes e.unit (Some document.text) first ≡ Some text
   pub is : done
       ≡ record {
         editor = new;

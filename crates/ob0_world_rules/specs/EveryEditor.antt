@@ -155,7 +155,7 @@ pub record HoldsWithEditor (w : EditorAndServer) : Type 0 where
   pub waiting : List AnnouncedDocument
   pub all : w.announced ≡ published ++ waiting
   pub are_made_for_documents : AreMadeForDocuments w.made published
-  pub still_wait : map versioned_uri waiting ≡ versions_announced_in (modeled_messages w.to_server)
+  pub unpublished_are_queued : map versioned_uri waiting ≡ versions_announced_in (modeled_messages w.to_server)
 
 -- states that the guarantees hold for every editor that keeps ob0's rules, in every interleaving of
 -- the turns

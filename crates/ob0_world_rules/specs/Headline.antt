@@ -49,7 +49,7 @@ pub record Holds (w : ClientAndServer) : Type 0 where
   pub made : All IsCorrectPublication w.made
   -- If no message waits for the server, the latest diagnostics of each open document were made for
   -- its present text.
-  pub latest_made : w.to_server ≡ [] → AreUpToDate w.editor w.made
+  pub latest_are_up_to_date : w.to_server ≡ [] → AreUpToDate w.editor w.made
 
 -- States that a list of events, from the start, leads to exactly one state. This state has these
 -- applied edits and these publications, in this order. The guarantees (`Holds`) hold in this state.

@@ -92,7 +92,7 @@ pub record AreMadeInOrder (unit : Unit) (events : List Event) (made : List Publi
   pub waiting : List AnnouncedDocument
   pub all : AreAnnounced (start unit) events (announced ++ waiting)
   pub are_made_for_documents : AreMadeForDocuments made announced
-  pub still_wait : (end : ClientAndServer)
+  pub unpublished_are_queued : (end : ClientAndServer)
       → Course (start unit) events end
       → map versioned_uri waiting ≡ versions_announced_in end.to_server
 

@@ -1,7 +1,7 @@
 -- Defines the messages that the server sends for each message that it takes.
 -- Rule: docs/PROTOCOL.md, Documents, Publishing, Requests on documents.
 use Rattle.std.specs.Prelude.{◌≡◌, ℕ, List, [], ◌∷◌, Bool, true, Option, Some, None, is_some, if◌then◌else◌}
-use Rattle.ob0_text.specs.OpenDocuments.{OpenDocuments, Document, InStep, OutOfStep, DocumentEvent, Opened, Changed, Lost, Closed, document_at, after_event}
+use Rattle.ob0_text.specs.OpenDocuments.{OpenDocuments, Document, InStep, OutOfStep, DocumentEvent, Opened, Changed, Lost, Closed, document_at, documents_after_event}
 use Rattle.ob0_world_rules.specs.Edited.{Replacement}
 use Rattle.ob0_world_rules.specs.Answers.{IsAnswer, IsEmptyIfWellTyped}
 use Rattle.ob0_world_rules.specs.ClientAndServer.{MessageToServer, notifies, requests, MessageToEditor, publishes, answers, PublicationWithText}
@@ -25,9 +25,9 @@ abbrev pub RepliesToNotification : OpenDocuments
     → List PublicationWithText
     → Type 0
 RepliesToNotification held (Opened uri version text) sent made =
-    Publishes uri (document_at (after_event held (Opened uri version text)) uri) sent made
+    Publishes uri (document_at (documents_after_event held (Opened uri version text)) uri) sent made
 RepliesToNotification held (Changed uri version how) sent made =
-    Publishes uri (document_at (after_event held (Changed uri version how)) uri) sent made
+    Publishes uri (document_at (documents_after_event held (Changed uri version how)) uri) sent made
 RepliesToNotification held (Lost uri) sent made = (sent ≡ []) × (made ≡ [])
 RepliesToNotification held (Closed uri) sent made =
     (sent ≡ (if is_some (document_at held uri) then publishes uri None true ∷ [] else []))

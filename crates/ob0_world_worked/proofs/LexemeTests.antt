@@ -51,7 +51,7 @@ among reserved.Repeat = refl
 among reserved.Until = refl
 
 not_reserved : (text : List ℕ) → not (is_reserved text) ≡ true → (word : ReservedWord) → text ≡ reserved_text word → ⊥
-not_reserved text free word is = go (is_reserved text) refl free
+not_reserved text differs_from_reserved word is = go (is_reserved text) refl differs_from_reserved
   where
     always : is_reserved text ≡ true
     always = subst (λ t. is_reserved t ≡ true) (sym is) (among word)
@@ -64,7 +64,7 @@ pub identifier_of : (text : List ℕ) → is_name text ≡ true → IsIdentifier
 identifier_of text h =
     let a = and_parts (is_ascii_alphabetic (slice_index text 0)) (list_all is_ascii_alphanumeric text && not (is_reserved text)) h in
     let b = and_parts (list_all is_ascii_alphanumeric text) (not (is_reserved text)) a.1 in
-    record { word = record { letter = a.0; all = AllPass-from_list_all is_ascii_alphanumeric text b.0 }; free = not_reserved text b.1 }
+    record { word = record { letter = a.0; all = AllPass-from_list_all is_ascii_alphanumeric text b.0 }; differs_from_reserved = not_reserved text b.1 }
 
 abbrev pub belongs_test : LexemeKind → List ℕ → Bool
 belongs_test lexeme.Space text = nat_lt 0 (length text) && list_all is_space text

@@ -26,7 +26,7 @@ use Rattle.ob0_analysis.specs.Texts.{utf8}
 use Rattle.ob0_analysis.proofs.Scanning.{is_module, utf8_of}
 use Rattle.ob0_edits_tokens.specs.Ranges.{range_of}
 use Rattle.ob0_edits_tokens.specs.Removed.{span_of_tokens, text_after_removal}
-use Rattle.ob0_edits_tokens.specs.Replaced.{edit_at, range_and_text, text_after_replacement}
+use Rattle.ob0_edits_tokens.specs.Replaced.{replacement_at_token, range_and_text, text_after_replacement}
 use Rattle.ob0_rename.specs.Answers.{IsRenameRefusal, RenamesDeclaration}
 use Rattle.ob0_rename.specs.Renaming.{TargetsDeclaration, Renaming, rename_target_at, renaming_of}
 use Rattle.ob0_inline.specs.declared.uses.ConstantUse.{ConstantUse}
@@ -176,7 +176,7 @@ inlines_in how offset edits t leaves well same inlines =
 
 here_made : at_uses.Made worked_names the_use Utf16 worked_text (puts_two ∷ [])
 here_made = record {
-  edits_are = subst (λ (t : List ℕ). map range_and_text (puts_two ∷ []) ≡ edit_at Utf16 worked_text (scanned_of worked_lexemes).tokens t 16 ∷ []) text_of_two (ap (λ p. p ∷ []) inlines_parts);
+  edits_are = subst (λ (t : List ℕ). map range_and_text (puts_two ∷ []) ≡ replacement_at_token Utf16 worked_text (scanned_of worked_lexemes).tokens t 16 ∷ []) text_of_two (ap (λ p. p ∷ []) inlines_parts);
   make_text = record {
     leaves = λ alone. record {
       after = scanned_of inlined_lexemes;
@@ -217,7 +217,7 @@ constant_at = record { token = 16; named = refl; is_constant = constant_so }
 everywhere_made : at_constants.Made worked_names the_constant Utf16 worked_text (takes_out ∷ puts_two ∷ [])
 everywhere_made = record {
   edits_are =
-      subst (λ (t : List ℕ). map range_and_text (takes_out ∷ puts_two ∷ []) ≡ (range_of (width_of Utf16) worked_text (span_of_tokens (scanned_of worked_lexemes).tokens 4 7), []) ∷ edit_at Utf16 worked_text (scanned_of worked_lexemes).tokens t 16 ∷ []) text_of_two
+      subst (λ (t : List ℕ). map range_and_text (takes_out ∷ puts_two ∷ []) ≡ (range_of (width_of Utf16) worked_text (span_of_tokens (scanned_of worked_lexemes).tokens 4 7), []) ∷ replacement_at_token Utf16 worked_text (scanned_of worked_lexemes).tokens t 16 ∷ []) text_of_two
       (λ i. declaration_parts i ∷ inlines_parts i ∷ []);
   make_text = record {
     leaves = λ alone. record {

@@ -12,7 +12,7 @@ use Rattle.ob0_text.specs.Texts as texts
 use Rattle.ob0_text.specs.Patches.{are_all_disjoint, cut_at, in_text_order, patched, patched_by_cuts, text_with_cuts, char_count_before}
 use Rattle.ob0_edits_tokens.specs.Ranges.{range_of}
 use Rattle.ob0_edits_tokens.specs.Removed.{span_of_tokens, text_after_removal}
-use Rattle.ob0_edits_tokens.specs.Replaced.{edit_at, range_and_text, text_after_replacement}
+use Rattle.ob0_edits_tokens.specs.Replaced.{replacement_at_token, range_and_text, text_after_replacement}
 use Rattle.ob0_scope_table.specs.Resolution.{span_at}
 use Rattle.ob0_world_worked.specs.WorkedText.{line_position, worked_text}
 use Rattle.ob0_world_worked.proofs.WorkedValues.{string_of}
@@ -41,11 +41,11 @@ pub n_is_at : offset_of (width_of Utf16) worked_text (line_position 6 7) ≡ 56
 unfolding text_before fitting_prefix lines line_body ends_line starts_with_lf texts.text_of_lines lib.Utf8.encode
 n_is_at = refl
 
-pub renames_parts : map range_and_text renames ≡ map (edit_at Utf16 worked_text (scanned_of worked_lexemes).tokens (codes "y")) (9 ∷ 14 ∷ 20 ∷ [])
+pub renames_parts : map range_and_text renames ≡ map (replacement_at_token Utf16 worked_text (scanned_of worked_lexemes).tokens (codes "y")) (9 ∷ 14 ∷ 20 ∷ [])
 unfolding position_of position_in lines ends_line starts_with_lf fitting_prefix
 renames_parts = refl
 
-pub inlines_parts : range_and_text puts_two ≡ edit_at Utf16 worked_text (scanned_of worked_lexemes).tokens (codes "2") 16
+pub inlines_parts : range_and_text puts_two ≡ replacement_at_token Utf16 worked_text (scanned_of worked_lexemes).tokens (codes "2") 16
 unfolding position_of position_in lines ends_line starts_with_lf fitting_prefix
 inlines_parts = refl
 

@@ -357,7 +357,7 @@ applies_so = record {
   first = law.worked_changes;
   next = [];
   cut = refl;
-  first_make = changes_make;
+  first_changes_make_text = changes_make;
   is = refl;
 }
 

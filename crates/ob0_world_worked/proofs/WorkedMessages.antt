@@ -11,7 +11,7 @@ use Rattle.ob0_rpc.specs.Appending.{ReadsBack}
 use Rattle.ob0_rpc.specs.Shapes.{edit_value, position_value, range_value, result_message}
 use Rattle.ob0_rpc.proofs.Appending.{position_read, range_read}
 use Rattle.ob0_session_json.specs.Shapes.{capabilities, publication}
-use Rattle.ob0_session_answers.specs.Actions.{RequestedActions, action_of, actions_array}
+use Rattle.ob0_session_answers.specs.Actions.{RequestedActions, code_action_of, actions_array}
 use Rattle.ob0_session_server.specs.Answers.{Sends}
 use Rattle.ob0_world_editor.specs.InitializeRequest.{text_document_capabilities, client_for, initialize_message, workspace_capabilities}
 use Rattle.ob0_world_worked.specs.WorkedText.{line_position}
@@ -233,7 +233,7 @@ two_actions_read =
       (
         text_read refl,
         (
-          array_read (action_of requested_actions OneUse (puts_two ∷ []) ∷ action_of requested_actions Everywhere (takes_out ∷ puts_two ∷ []) ∷ []) (
+          array_read (code_action_of requested_actions OneUse (puts_two ∷ []) ∷ code_action_of requested_actions Everywhere (takes_out ∷ puts_two ∷ []) ∷ []) (
             action_read (edit_value puts_two ∷ []) (codes "Inline here") (array_read (edit_value puts_two ∷ []) (two_put, tt)) (text_read refl),
             (
               action_read (edit_value takes_out ∷ edit_value puts_two ∷ []) (codes "Inline everywhere") (array_read (edit_value takes_out ∷ edit_value puts_two ∷ []) (taken_out, (two_put, tt))) (text_read refl),

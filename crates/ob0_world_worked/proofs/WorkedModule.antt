@@ -12,7 +12,7 @@ use Rattle.ob0_tree.specs.declared.tree.Block.{Block, Block', end_of-Procedure}
 use Rattle.ob0_tree.specs.ParsedModule.{IsParsed, ParsedModule, named_tree_of}
 use Rattle.ob0_tree.specs.Module.{ModuleOf}
 use Rattle.ob0_tree.specs.Tree.{nesting}
-use Rattle.ob0_scope_table.specs.Resolution.{AreFaultsOf, IsResolution, OnlyNamesHaveOrdinals, Resolution, is_identifier_token}
+use Rattle.ob0_scope_table.specs.Resolution.{AreNameFaultsOf, IsResolution, OnlyNamesHaveOrdinals, Resolution, is_identifier_token}
 use Rattle.ob0_language_types.specs.WellTyped.{WellTyped}
 use Rattle.ob0_world_worked.proofs.WorkedValues.{boxed, none_of, one_of, two_of}
 use Rattle.ob0_world_worked.proofs.WorkedTexts.{scanned_of, worked_lexemes, worked_short}
@@ -54,7 +54,7 @@ worked_ordinals =
     ∷ None ∷ None ∷ None ∷ None ∷ []
 
 abbrev pub worked_names : Resolution
-worked_names = record { module_read = worked_module; ordinals = worked_ordinals; declarations = 4 ∷ 9 ∷ []; uses = 11 ∷ 14 ∷ 16 ∷ 18 ∷ 20 ∷ []; faults = [] }
+worked_names = record { module_read = worked_module; ordinals = worked_ordinals; declaration_tokens = 4 ∷ 9 ∷ []; uses = 11 ∷ 14 ∷ 16 ∷ 18 ∷ 20 ∷ []; faults = [] }
 
 abbrev pub only_at : (ℕ → Bool) → ℕ → List (Option ℕ) → Bool
 only_at p k [] = true
@@ -72,7 +72,7 @@ elsewhere p k (Some o ∷ xs) h zero e =
 elsewhere p k (Some o ∷ xs) h (suc i) e =
     elsewhere p (suc k) xs (and_parts (p k) (only_at p (suc k) xs) h).1 i (subst (λ n. p n ≡ false) (omega (arith)) e)
 
-worked_faults : AreFaultsOf worked_module []
+worked_faults : AreNameFaultsOf worked_module []
 worked_faults = record { by_kind = refl; declared_twice = refl; undeclared = refl }
 
 worked_alone : OnlyNamesHaveOrdinals worked_module worked_ordinals

@@ -9,7 +9,7 @@ ghost use Rattle.ob0_types_check.specs.Known.{a_variable};
 ghost use Rattle.ob0_types_check.specs.Operations.{ReturnsAndReports};
 ghost use Rattle.ob0_types_check.specs.KnownDeclarations.{define_all};
 ghost use Rattle.ob0_types_check.specs.SomeBodies.{reported_block_with_bodies, report_body_if_wanted, reported_procedure_with_bodies, reported_procedures_with_bodies, walk_progress_of, includes_body};
-ghost use Rattle.ob0_types_check.specs.CheckerViews.{heading_in, declarations_in_state};
+ghost use Rattle.ob0_types_check.specs.CheckerViews.{heading_in_state, declarations_in_state};
 
 use crate::reporting::checker_state::{CheckerState, Meaning};
 use crate::reporting::{BodiesToWalk, Reporter};
@@ -156,7 +156,7 @@ impl<'t> Reporter<'t> {
         sections: &Option<Vec<ParameterSection>>,
     ) -> Result<Vec<FormalParameter>, AllocError>
         ensures { IfOk result (λ formals. ReturnsAndReports self.old.faults.items self.new.faults.items
-            (heading_in self.new.checker_state formals.items) (reported_sections
+            (heading_in_state self.new.checker_state formals.items) (reported_sections
             (record { formals = []; following = declarations_in_state self.old.checker_state })
             (formal_sections (formals_of sections.now)))) }
     {
@@ -173,8 +173,8 @@ impl<'t> Reporter<'t> {
         formals: &mut Vec<FormalParameter>,
     ) -> Result<(), AllocError>
         ensures { OnOk result (ReturnsAndReports self.old.faults.items self.new.faults.items
-            (heading_in self.new.checker_state formals.new.items) (reported_sections
-            (heading_in self.old.checker_state formals.old.items)
+            (heading_in_state self.new.checker_state formals.new.items) (reported_sections
+            (heading_in_state self.old.checker_state formals.old.items)
             (formal_sections (formals_of sections.now)))) }
     {
         match sections {
@@ -191,8 +191,8 @@ impl<'t> Reporter<'t> {
         formals: &mut Vec<FormalParameter>,
     ) -> Result<(), AllocError>
         ensures { OnOk result (ReturnsAndReports self.old.faults.items self.new.faults.items
-            (heading_in self.new.checker_state formals.new.items) (reported_sections
-            (heading_in self.old.checker_state formals.old.items)
+            (heading_in_state self.new.checker_state formals.new.items) (reported_sections
+            (heading_in_state self.old.checker_state formals.old.items)
             (items_of further_section_of sections.now))) }
     {
         for s in sections {
@@ -209,8 +209,8 @@ impl<'t> Reporter<'t> {
         formals: &mut Vec<FormalParameter>,
     ) -> Result<(), AllocError>
         ensures { OnOk result (ReturnsAndReports self.old.faults.items self.new.faults.items
-            (heading_in self.new.checker_state formals.new.items) (reported_section
-            (heading_in self.old.checker_state formals.old.items) (further_section_of s.now))) }
+            (heading_in_state self.new.checker_state formals.new.items) (reported_section
+            (heading_in_state self.old.checker_state formals.old.items) (further_section_of s.now))) }
     {
         let of = self.check_written_type(&s.written)?;
         let formal = FormalParameter {

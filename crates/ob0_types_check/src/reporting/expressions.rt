@@ -10,7 +10,7 @@ ghost use Rattle.ob0_types_check.specs.ExpressionFaults.{reported_expression, re
 ghost use Rattle.ob0_types_check.specs.Operations.{ReturnsAndReports, constant_name_operand, number_operand, add_operands, required_type, required_type_of_both, fault_at_operand, prefixed_operand, complement_operand, element_type_in_form, element_operand, operand_in_parentheses, field_type_in_form, field_operand, may_be_same_type, joint_operand, multiply_operands, name_operand, extended_operand, relate_operands, sign_operand, comparison_type, operand_type_of_addition, operand_type_of_equality, operand_type_of_multiplication, operand_type_of_relation, value_type};
 ghost use Rattle.ob0_types_check.specs.TypeFaults.{operand_value, reported_constant};
 ghost use Rattle.ob0_types_check.specs.KnownDeclarations.{same_type};
-ghost use Rattle.ob0_types_check.specs.CheckerViews.{facts_in, form_in, operand_of, known_types};
+ghost use Rattle.ob0_types_check.specs.CheckerViews.{facts_in, form_of_type_in, operand_of, known_types};
 
 use crate::reporting::checker_state::{CheckerState, Meaning};
 use ob0_language_values::Scalar;
@@ -60,8 +60,8 @@ fn operand_type_of_multiplication(operator: MultiplyOperator) -> TypeId
 }
 
 /// Returns the type that a relation requires of both operands. For `=` and `#` this is INTEGER or
-/// BOOLEAN, depending on the left operand's type. If `left` is the unknown type, so is the result,
-/// and nothing is required. All other relations require INTEGER.
+/// BOOLEAN, depending on the left operand's type. If `left` is the unknown type, the result is
+/// also the unknown type, and nothing is required. All other relations require INTEGER.
 fn operand_type_of_relation(relation: Relation, left: TypeId) -> TypeId
     ensures { result ≡ operand_type_of_relation (known_types []) relation left }
 {
@@ -576,7 +576,7 @@ impl<'t> CheckerState<'t> {
     ) -> Result<TypeId, AllocError>
         ensures { IfOk result (λ t. ReturnsAndReports faults.old.items faults.new.items t
             (element_type_in_form (facts_in self.now false) (operand_of index) index_type
-            (form_in self.now.composites.items base))) }
+            (form_of_type_in self.now.composites.items base))) }
     {
         match base {
             TypeId::Array(place) => {
@@ -601,7 +601,7 @@ impl<'t> CheckerState<'t> {
     ) -> Result<TypeId, AllocError>
         ensures { IfOk result (λ t. ReturnsAndReports faults.old.items faults.new.items t
             (element_type_in_form (facts_in self.now false) (operand_of index) type.Integer
-            (form_in [] type.Integer))) }
+            (form_of_type_in [] type.Integer))) }
     {
         self.report_at(faults, FaultCode::NotArray, index.first.saturating_sub(1))?;
         Ok(TypeId::Unknown)
@@ -632,7 +632,7 @@ impl<'t> CheckerState<'t> {
         name: usize,
     ) -> Result<TypeId, AllocError>
         ensures { IfOk result (λ t. ReturnsAndReports faults.old.items faults.new.items t
-            (field_type_in_form (facts_in self.now false) name (form_in self.now.composites.items base))) }
+            (field_type_in_form (facts_in self.now false) name (form_of_type_in self.now.composites.items base))) }
     {
         match base {
             TypeId::Record(place) => match self.field_type_at(place, self.text(name)) {
@@ -656,7 +656,7 @@ impl<'t> CheckerState<'t> {
         name: usize,
     ) -> Result<TypeId, AllocError>
         ensures { IfOk result (λ t. ReturnsAndReports faults.old.items faults.new.items t
-            (field_type_in_form (facts_in self.now false) name (form_in [] type.Integer))) }
+            (field_type_in_form (facts_in self.now false) name (form_of_type_in [] type.Integer))) }
     {
         self.report_at(faults, FaultCode::NotRecord, name.saturating_sub(1))?;
         Ok(TypeId::Unknown)

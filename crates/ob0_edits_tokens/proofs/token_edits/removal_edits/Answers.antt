@@ -4,7 +4,7 @@ use Rattle.ob0_scan.specs.TextWithTokens.{max_text}
 use Rattle.ob0_scan.specs.declared.lexeme.Token.{Token}
 use Rattle.ob0_text.specs.Patches.{text_with_cuts}
 use Rattle.ob0_edits_tokens.specs.Changed.{words_of, changed_words, changes_at}
-use Rattle.ob0_edits_tokens.specs.Replaced.{span_at, replacement_cut, CutsAscend, range_and_text, edit_at, LeavesWords}
+use Rattle.ob0_edits_tokens.specs.Replaced.{span_at, replacement_cut, CutsAscend, range_and_text, replacement_at_token, LeavesWords}
 use Rattle.ob0_text.specs.Units.{width_of}
 use Rattle.ob0_edits_tokens.specs.Ranges.{range_of}
 use Rattle.ob0_edits_tokens.specs.Removed.{changes_with_removal, span_of_tokens, text_after_removal}
@@ -61,13 +61,13 @@ returns-clause-words g c =
     let first : map range_and_text c.push.new.self.items ≡ (range_of (width_of unit) content (span_of_tokens s.tokens c.args.first c.args.last), []) ∷ [] =
     ap (map range_and_text) (c.in_ok-push.ensures.items ∙ ap (λ xs. xs ++ (record { range = c.range_of-range.result; text = c.new.result } ∷ [])) c.new-edits.ensures.items)
     ∙ (λ i. (range i, c.new.ensures.bytes i) ∷ []) in
-    let all : map range_and_text c.add_edits.new.edits.items ≡ (range_of (width_of unit) content (span_of_tokens s.tokens c.args.first c.args.last), []) ∷ map (edit_at unit content s.tokens c.args.new.now) c.args.token_indexes.now =
-    c.in_ok-add_edits.ensures.added ∙ ap (λ xs. xs ++ map (edit_at unit content s.tokens c.args.new.now) c.args.token_indexes.now) first in
+    let all : map range_and_text c.add_edits.new.edits.items ≡ (range_of (width_of unit) content (span_of_tokens s.tokens c.args.first c.args.last), []) ∷ map (replacement_at_token unit content s.tokens c.args.new.now) c.args.token_indexes.now =
+    c.in_ok-add_edits.ensures.added ∙ ap (λ xs. xs ++ map (replacement_at_token unit content s.tokens c.args.new.now) c.args.token_indexes.now) first in
     let sum = (λ i. start i + length (text_with_cuts s.text (end i) (map (replacement_cut s.tokens c.args.new.now) c.args.token_indexes.now)))
     ∙ length_without s c.text-text.ensures.scan c.args.new.now c.args.token_indexes.now c.args.first c.args.last c.requires.declaration c.requires.names in
     let short : length (text_after_removal s c.args.first c.args.last c.args.token_indexes.now c.args.new.now) ≤ max_text =
     subst (λ n. n ≤ max_text) sum (ltb-false max_text _ (sym c.is_too_long.ensures ∙ c.if-is_too_long.false)) in
     λ ws replaces.
     let made = leaves_words_without unit s c.text-text.ensures.scan c.args.new.now ws replaces c.utf8.new c.args.first c.args.last c.requires.declaration c.args.token_indexes.now c.requires.names c.add_edits.new.edits.items
-    (subst (λ t. map range_and_text c.add_edits.new.edits.items ≡ (range_of (width_of unit) t (span_of_tokens s.tokens c.args.first c.args.last), []) ∷ map (edit_at unit t s.tokens c.args.new.now) c.args.token_indexes.now) c.requires.content all) short in
+    (subst (λ t. map range_and_text c.add_edits.new.edits.items ≡ (range_of (width_of unit) t (span_of_tokens s.tokens c.args.first c.args.last), []) ∷ map (replacement_at_token unit t s.tokens c.args.new.now) c.args.token_indexes.now) c.requires.content all) short in
     subst (λ t. LeavesWords unit t c.add_edits.new.edits.items (changed_words (changes_with_removal c.args.first c.args.last (changes_at c.args.token_indexes.now ws)) 0 (words_of s))) (sym c.requires.content) made

@@ -2,7 +2,7 @@ use Rattle.std.proofs.Common.{◌≡◌, ◌+◌, ◌++◌, ◌≤◌, ◌∙◌
 use Rattle.std.proofs.lemmas.Bool.{ltb-false}
 use Rattle.ob0_scan.specs.TextWithTokens.{max_text}
 use Rattle.ob0_edits_tokens.specs.Changed.{words_of, changed_words, changes_at}
-use Rattle.ob0_edits_tokens.specs.Replaced.{range_and_text, edit_at, text_after_replacement, LeavesWords}
+use Rattle.ob0_edits_tokens.specs.Replaced.{range_and_text, replacement_at_token, text_after_replacement, LeavesWords}
 use Rattle.ob0_edits_tokens.proofs.Lengths.{chain_at}
 use Rattle.ob0_edits_tokens.proofs.Made.{leaves_words}
 use Rattle.ob0_edits_tokens.proofs.token_edits.replacement_edits.Goals as goal
@@ -15,11 +15,11 @@ returns-clause-words g c =
     let s = c.args.tokens.now in
     let content = g.T.TextStore.content c.args.store.now in
     let unit = g.T.TextStore.unit_of c.args.store.now in
-    let all : map range_and_text c.add_edits.new.edits.items ≡ map (edit_at unit content s.tokens c.args.new.now) c.args.token_indexes.now =
-    c.in_ok-add_edits.ensures.added ∙ ap (λ xs. map range_and_text xs ++ map (edit_at unit content s.tokens c.args.new.now) c.args.token_indexes.now) c.new-edits.ensures.items in
+    let all : map range_and_text c.add_edits.new.edits.items ≡ map (replacement_at_token unit content s.tokens c.args.new.now) c.args.token_indexes.now =
+    c.in_ok-add_edits.ensures.added ∙ ap (λ xs. map range_and_text xs ++ map (replacement_at_token unit content s.tokens c.args.new.now) c.args.token_indexes.now) c.new-edits.ensures.items in
     let long = length (text_after_replacement s c.args.token_indexes.now c.args.new.now) in
     let short : long ≤ max_text = let low = ltb-false max_text (0 + long) (sym c.is_too_long.ensures ∙ c.if-is_too_long.false) in omega (arith, low) in
     λ ws replaces.
     let made = leaves_words unit s c.text-text.ensures.scan c.args.new.now ws replaces c.utf8.new c.args.token_indexes.now c.requires.names c.add_edits.new.edits.items
-    (subst (λ t. map range_and_text c.add_edits.new.edits.items ≡ map (edit_at unit t s.tokens c.args.new.now) c.args.token_indexes.now) c.requires.content all) short in
+    (subst (λ t. map range_and_text c.add_edits.new.edits.items ≡ map (replacement_at_token unit t s.tokens c.args.new.now) c.args.token_indexes.now) c.requires.content all) short in
     subst (λ t. LeavesWords unit t c.add_edits.new.edits.items (changed_words (changes_at c.args.token_indexes.now ws) 0 (words_of s))) (sym c.requires.content) made

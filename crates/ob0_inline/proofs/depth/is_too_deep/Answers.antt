@@ -7,4 +7,4 @@ pub returns-then-nesting-lt-MAX_NESTING-clause-deep : goal.returns-then-nesting-
 returns-then-nesting-lt-MAX_NESTING-clause-deep g c = λ ws t leaves spelled low. sym (le-ltb 100 (nesting t) (omega (arith, low, c.nesting.ensures, c.if-nesting-lt-MAX_NESTING.true)))
 
 pub returns-clause-deep : goal.returns-clause-deep
-returns-clause-deep g c = λ ws t leaves spelled low. c.patched_is_too_deep.ensures.deep ws t leaves spelled
+returns-clause-deep g c = λ ws t leaves spelled low. c.is_patched_text_too_deep.ensures.deep ws t leaves spelled

@@ -25,8 +25,8 @@ move_selectors-loop-i-preserved t c = next_down c.loop-i.invariant (search (rule
 pub move_selectors-returns : goal.move_selectors-returns
 move_selectors-returns t c = parts_moved selector_of c.args.by _ _ (ends c.loop-i.invariant.1 (search (rules, arith)))
 
-pub move_simple-returns : goal.move_simple-returns
-move_simple-returns t c = simple_moved c.args.by c.args.s.now c.move_term.new.t c.move_addends.new.parts c.move_term.ensures c.move_addends.ensures
+pub move_simple_expression-returns : goal.move_simple_expression-returns
+move_simple_expression-returns t c = simple_moved c.args.by c.args.s.now c.move_term.new.t c.move_addends.new.parts c.move_term.ensures c.move_addends.ensures
 
 pub move_term-returns : goal.move_term-returns
 move_term-returns t c = term_moved c.args.by c.args.t.now c.move_factor.new.f c.move_multipliers.new.parts c.move_factor.ensures c.move_multipliers.ensures

@@ -39,7 +39,7 @@ loop-scanner-preserved c =
       same_front = c.in_ok-step.ensures.front ∙ inv.same_front;
       reads = λ none.
           let one = c.in_ok-step.ensures.one none in
-          reads_more old from removed added c.args.scanner.now here c.step.new.self (inv.reads one.clear) one (λ far. elim c.if-is_empty.branch [
+          reads_more old from removed added c.args.scanner.now here c.step.new.self (inv.reads one.had_no_fault) one (λ far. elim c.if-is_empty.branch [
             | then-is_empty+then-scanner-change+else-first_begins_at w ↦ (
                 let place = w.old_offset-place.result in
                 let same : place ≡ here.at + removed - added = omega (arith, w.old_offset-place.ensures) in
@@ -49,7 +49,7 @@ loop-scanner-preserved c =
                 (ap₂ (λ ts cs. first_token_begins_at place ts || first_comment_begins_at place cs) (sym tokens) (sym comments) ∙ sym w.first_begins_at.ensures ∙ w.if-first_begins_at.false)))
             | else-is_empty w ↦ elim w.else-is_empty.branch [
               | else-is_empty-via-then-is_empty+else-scanner-change v ↦ absurd (omega (arith, far, v.if-scanner-change.false))
-              | else-is_empty-via-else-is_empty v ↦ absurd (omega (arith, one.clear, false-eqb (vec_len here.faults) 0 (sym v.if-is_empty.false ∙ c.is_empty.ensures), here.faults.ok))
+              | else-is_empty-via-else-is_empty v ↦ absurd (omega (arith, one.had_no_fault, false-eqb (vec_len here.faults) 0 (sym v.if-is_empty.false ∙ c.is_empty.ensures), here.faults.ok))
             ]
           ]);
       tokens = λ place far later. elim c.if-is_empty.branch [

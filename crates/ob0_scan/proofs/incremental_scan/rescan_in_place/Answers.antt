@@ -2,7 +2,7 @@ use Rattle.std.proofs.Common.{◌≡◌, ◌≤◌, ◌+◌, ◌-◌, ℕ, List,
 use Rattle.ob0_scan.specs.declared.lexeme.Token.{Token}
 use Rattle.ob0_scan.specs.TextWithTokens.{TextWithTokens, IsScanOf}
 use Rattle.ob0_scan.specs.Reused.{kinds, names_in, words_of_tokens, Reuses}
-use Rattle.ob0_scan.specs.RescanState.{with_middle}
+use Rattle.ob0_scan.specs.RescanState.{scan_with_new_middle}
 use Rattle.ob0_scan.proofs.Alike.{kinds_stay}
 use Rattle.ob0_scan.proofs.Named.{back_written, front_written, names_stay, words_stay}
 use Rattle.ob0_scan.proofs.SameKinds.{joined_length, joined_tokens, same_tokens}
@@ -64,7 +64,7 @@ returns-in_ok-tokens-in-Ok-clause-written c =
     let b = c.in-Ok.between in
     let old : TextWithTokens = c.args.old in
     let new : TextWithTokens = c.in_ok-tokens-in-Ok.tokens in
-    let whole = with_middle old c.args.new_text.now c.args.removed c.args.added b in
+    let whole = scan_with_new_middle old c.args.new_text.now c.args.removed c.args.added b in
     let w = c.in-Ok.ensures.ok in
     let last : ℕ = b.old_end.tokens in
     let s : SameParts = record { prefix = b.old_start.tokens; old_suffix = last; new_suffix = length c.tokens-in-Ok-2.result.now - (length c.tokens-in-Ok.result.now - last) } in

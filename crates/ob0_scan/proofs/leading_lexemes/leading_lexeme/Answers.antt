@@ -45,7 +45,7 @@ returns-in_default c =
             (family-mark byte (sym c.if-is_space.ensures) (sym c.if-is_ascii_alphabetic.ensures.value) (sym c.if-is_ascii_digit.ensures.value))
             (no_pair bytes c.if-starts_with.ensures.value)
             c.in_default.ensures.none);
-        shows = (
+        fault_at_start = (
           subst (λ t. is_ascii_digit (get_or t 0 0) ≡ false) same (sym c.if-is_ascii_digit.ensures.value),
           subst (λ t. take 2 t ≢ 40 ∷ 42 ∷ []) same (no_pair bytes c.if-starts_with.ensures.value),
           c.first_char_len.ensures.character,

@@ -2,7 +2,7 @@ use Rattle.std.proofs.Common.{◌≡◌, ◌≤◌, ◌++◌, [], ℕ, List, Opt
 use Rattle.std.specs.List.{list_any}
 use Rattle.ob0_scan.specs.TextWithTokens.{TextWithTokens}
 use Rattle.ob0_tree.specs.ParsedModule.{tree_of}
-use Rattle.ob0_scope_table.specs.Resolution.{is_declaration_fault, undeclared_faults_by_table}
+use Rattle.ob0_scope_table.specs.Resolution.{is_duplicate_or_end_name, undeclared_faults_by_table}
 use Rattle.ob0_scope_numbering.specs.BodyWalk.{renumber_module, initial_walk_over}
 use Rattle.ob0_scope_numbering.specs.Written.{original_spellings}
 use Rattle.ob0_scope.specs.Carried.{carried_tokens, carried_ordinals}
@@ -13,7 +13,7 @@ use Rattle.ob0_scope.proofs.body_rebinding.carry_unchanged_bindings.Goals as goa
 pub recheck_declarations-requires : goal.recheck_declarations-requires
 recheck_declarations-requires c =
     let was = c.requires.was_bound in
-    ap (list_any is_declaration_fault) c.deref-5.ensures.value
+    ap (list_any is_duplicate_or_end_name) c.deref-5.ensures.value
     ∙ (was.resolved.reported.declared_twice ∙ ap not (sym (still_once was.old c.args.read.now was.path c.requires.same was.replaced)))
 
 pub returns : goal.returns
@@ -26,10 +26,10 @@ returns c =
     let count : length c.tokens.result.now ≡ length m.source.tokens = ap length (c.tokens.ensures ∙ ap (λ (s : TextWithTokens). s.tokens) c.tokens-tokens.ensures.source) in
     let within : length m.source.tokens ≤ length c.in_ok-table.table.items = omega (arith, c.if-len-tokens.false, c.len.ensures, count, c.in_ok-table.table.ok) in
     let long : length m.source.tokens ≤ length (carried_ordinals range b.ordinals.items) = subst (λ (t : List (Option ℕ)). length m.source.tokens ≤ length t) table within in
-    let declared : c.in_ok-declarations.declarations.items ≡ carried_tokens range b.declarations.items [] = c.in_ok-declarations.ensures ∙ ap (λ is. carried_tokens range is []) c.deref-2.ensures.value in
+    let declared : c.in_ok-declaration_tokens.declaration_tokens.items ≡ carried_tokens range b.declaration_tokens.items [] = c.in_ok-declaration_tokens.ensures ∙ ap (λ is. carried_tokens range is []) c.deref-2.ensures.value in
     let numbered = c.in_ok-ordinals.ensures ∙ (λ i. (renumber_module (c.deref-3.ensures.value i) range.first (tree_of m) (initial_walk_over (original_spellings m.source) (table i))).marks) in
     let used : c.in_ok-occurrences.occurrences.items ≡ carried_tokens range b.occurrences.items own = c.in_ok-occurrences.ensures ∙ ap (λ is. carried_tokens range is own) c.deref-4.ensures.value in
     let all = c.in_ok-report_undeclared.ensures
     ∙ (λ i. c.in_ok-faults.faults.items ++ undeclared_faults_by_table (c.tokens-tokens.ensures.source i) (c.deref-6.ensures.value i) (c.deref-7.ensures.value i)) in
-    new_body_bound m b range own c.in_ok-ordinals.ordinals.items c.in_ok-declarations.declarations.items c.in_ok-occurrences.occurrences.items c.in_ok-faults.faults.items c.report_undeclared.new.faults.items
+    new_body_bound m b range own c.in_ok-ordinals.ordinals.items c.in_ok-declaration_tokens.declaration_tokens.items c.in_ok-occurrences.occurrences.items c.in_ok-faults.faults.items c.report_undeclared.new.faults.items
     c.requires long declared numbered used c.in_ok-faults.ensures all

@@ -10,7 +10,7 @@ use Rattle.ob0_scope.proofs.module_resolution.bindings_of.Goals as goal
 pub returns : goal.returns
 returns c =
     let m = c.args.«module».now in
-    let parts = c.into_parts-declarations in
+    let parts = c.into_parts-declaration_tokens in
     let faults = c.report_undeclared.new.faults.items in
     let once = c.in_ok-faults.faults.items in
     let written = original_spellings m.source in
@@ -18,5 +18,5 @@ returns c =
     ∙ ap (number_module (tree_of m)) (c.original_spellings.ensures ∙ ap original_spellings c.tokens-tokens.ensures.source) in
     let all = c.in_ok-report_undeclared.ensures ∙ (λ i. once ++ undeclared_faults_by_table (c.tokens-tokens.ensures.source i) (c.deref.ensures.value i) (c.deref-2.ensures.value i)) in
     resolution_made m (listing.visit_module (tree_of m) (listing.initial_walk written)) parts.result.2.items parts.result.0.items parts.result.1.items once faults
-    c.tokens-tokens.ensures.parsed refl (parts.ensures.table ∙ ap (λ (v : WalkState). v.marks) gone) (parts.ensures.declarations ∙ ap (λ (v : WalkState). v.declarations) gone)
+    c.tokens-tokens.ensures.parsed refl (parts.ensures.table ∙ ap (λ (v : WalkState). v.marks) gone) (parts.ensures.declaration_tokens ∙ ap (λ (v : WalkState). v.declaration_tokens) gone)
     (parts.ensures.uses ∙ ap (λ (v : WalkState). v.uses) gone) c.in_ok-faults.ensures all

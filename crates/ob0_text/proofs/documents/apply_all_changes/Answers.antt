@@ -8,5 +8,5 @@ loop-change-preserved g c = record {
   counted = c.in_ok-bytes.ensures.unit;
   made = c.in_ok-bytes.ensures.ok ∙ ap (λ t. changed_text c.args.unit t (text_change_of c.change-item.result)) c.loop-change.invariant.made ∙ grind (arith, common_steps);
   known = c.loop-change.invariant.known;
-  covered = c.extend_hull-covering_change.ensures _ _ _ c.loop-change.invariant.known c.loop-change.invariant.covered c.in_ok-bytes.ensures.bytes;
+  covered = c.extend_covering_change-covering_change.ensures _ _ _ c.loop-change.invariant.known c.loop-change.invariant.covered c.in_ok-bytes.ensures.bytes;
 }

@@ -2,7 +2,7 @@ use Rattle.std.proofs.Common.{◌∷◌, ◌++◌, sym, ap, ◌∙◌, arith}
 use Rattle.std.specs.Prelude.{option_to_list}
 use Rattle.std.proofs.lemmas.List.{drop_all}
 use Rattle.ob0_text.specs.Texts.{ends_line}
-use Rattle.ob0_text.specs.LineStarts.{starts_after}
+use Rattle.ob0_text.specs.LineStarts.{line_starts_after_bytes}
 use Rattle.ob0_text.proofs.StartLaws.{start_pushed, start_passed, last_test, start_last, no_start_last}
 use Rattle.ob0_text.proofs.line_starts.add_line_starts.Goals as goal
 use Rattle.ob0_text.proofs.line_starts.add_line_starts.Goals.{then-separates_lines+in_ok-push, else-separates_lines}
@@ -28,7 +28,7 @@ returns-in_ok-push-2 c =
     let v = c.loop-byte in
     let test = sym (last_test v.last c.args.following.now) ∙ ap (λ o. ends_line v.last (option_to_list o)) (sym (c.copied.ensures ∙ c.first.ensures.value)) ∙ sym c.separates_lines-2.ensures ∙ c.if-separates_lines-2.true in
     c.in_ok-push-2.ensures.items ∙ start_last v.starts.items c.args.following.now v.at v.last test
-    ∙ ap (λ t. v.starts.items ++ starts_after v.at (v.last ∷ t) c.args.following.now) (sym (drop_all v.byte-index c.args.bytes.now c.loop-byte-test.false))
+    ∙ ap (λ t. v.starts.items ++ line_starts_after_bytes v.at (v.last ∷ t) c.args.following.now) (sym (drop_all v.byte-index c.args.bytes.now c.loop-byte-test.false))
     ∙ v.invariant.found
 
 pub returns-else-separates_lines-2 : goal.returns-else-separates_lines-2
@@ -36,5 +36,5 @@ returns-else-separates_lines-2 c =
     let v = c.loop-byte in
     let test = sym (last_test v.last c.args.following.now) ∙ ap (λ o. ends_line v.last (option_to_list o)) (sym (c.copied.ensures ∙ c.first.ensures.value)) ∙ sym c.separates_lines-2.ensures ∙ c.if-separates_lines-2.false in
     no_start_last v.starts.items c.args.following.now v.at v.last test
-    ∙ ap (λ t. v.starts.items ++ starts_after v.at (v.last ∷ t) c.args.following.now) (sym (drop_all v.byte-index c.args.bytes.now c.loop-byte-test.false))
+    ∙ ap (λ t. v.starts.items ++ line_starts_after_bytes v.at (v.last ∷ t) c.args.following.now) (sym (drop_all v.byte-index c.args.bytes.now c.loop-byte-test.false))
     ∙ v.invariant.found

@@ -10,8 +10,8 @@ pub loop-offset-preserved : goal.loop-offset-preserved
 loop-offset-preserved c = record {
   place = c.advance_to_offset-place.ensures.place;
   done = c.in_ok-push.ensures.items
-      ∙ one_more (position_of (width_of c.args.unit) (chars c.args.text.now)) c.args.offsets.now c.loop-offset.offset-index 0 c.loop-offset.positions.items c.position_at.result
-      c.loop-offset-test.true c.loop-offset.invariant.done (c.position_at.ensures ∙ c.advance_to_offset-place.ensures.position);
+      ∙ one_more (position_of (width_of c.args.unit) (chars c.args.text.now)) c.args.offsets.now c.loop-offset.offset-index 0 c.loop-offset.positions.items c.position_of_place.result
+      c.loop-offset-test.true c.loop-offset.invariant.done (c.position_of_place.ensures ∙ c.advance_to_offset-place.ensures.position);
 }
 
 pub returns : goal.returns

@@ -29,25 +29,25 @@ further_factors t xs e none same =
     ∙ (found_later (identifiers role.Declaring (factor_of (out-Term t).first)) (identifiers role.Declaring (items_of multiplier_of (out-Term t).more.items)) e none
     ∙ ap first_identifier (sym (term_parts t)))
 
-pub first_in_simple-returns-then-is_some : goal.first_in_simple-returns-then-is_some
-first_in_simple-returns-then-is_some t c =
+pub first_in_simple_expression-returns-then-is_some : goal.first_in_simple_expression-returns-then-is_some
+first_in_simple_expression-returns-then-is_some t c =
     let s = out-SimpleExpression c.args.s.now in
     found_first (identifiers role.Declaring (term_of s.first)) (identifiers role.Declaring (items_of addend_of s.more.items)) c.first_in_term-found.ensures (sym c.is_some.ensures ∙ c.if-is_some.true)
     ∙ ap first_identifier (sym (simple_parts c.args.s.now))
 
-pub first_in_simple-returns-then-is_some-2 : goal.first_in_simple-returns-then-is_some-2
-first_in_simple-returns-then-is_some-2 t c =
+pub first_in_simple_expression-returns-then-is_some-2 : goal.first_in_simple_expression-returns-then-is_some-2
+first_in_simple_expression-returns-then-is_some-2 t c =
     found_here addend_of c.addend-item.result c.loop-addend.invariant c.loop-addend-test.true c.addend-item.is
     (c.first_in_term-found-in-loop-addend.ensures ∙ ap first_identifier (sym (addend_parts c.addend-item.result))) (sym c.is_some-in-loop-addend.ensures ∙ c.if-is_some-2.true)
     ∙ further_terms c.args.s.now c.deref-addend-items.result.now c.first_in_term-found.ensures (sym c.is_some.ensures ∙ c.if-is_some.false) c.deref-addend-items.ensures.value
 
-pub first_in_simple-loop-addend-preserved : goal.first_in_simple-loop-addend-preserved
-first_in_simple-loop-addend-preserved t c =
+pub first_in_simple_expression-loop-addend-preserved : goal.first_in_simple_expression-loop-addend-preserved
+first_in_simple_expression-loop-addend-preserved t c =
     seeks_on addend_of c.addend-item.result c.loop-addend.invariant c.loop-addend-test.true c.addend-item.is
     (c.first_in_term-found-in-loop-addend.ensures ∙ ap first_identifier (sym (addend_parts c.addend-item.result))) (sym c.is_some-in-loop-addend.ensures ∙ c.if-is_some-2.false)
 
-pub first_in_simple-returns : goal.first_in_simple-returns
-first_in_simple-returns t c =
+pub first_in_simple_expression-returns : goal.first_in_simple_expression-returns
+first_in_simple_expression-returns t c =
     none_found c.loop-addend.invariant c.loop-addend-test.false
     ∙ further_terms c.args.s.now c.deref-addend-items.result.now c.first_in_term-found.ensures (sym c.is_some.ensures ∙ c.if-is_some.false) c.deref-addend-items.ensures.value
 

@@ -2,7 +2,7 @@ use Rattle.std.proofs.Common.{◌≡◌, ℕ, List, Option, is_some, true, false
 use Rattle.ob0_tree.specs.declared.tree.If.{If, out-If}
 use Rattle.ob0_tree.specs.declared.tree.Role.{Role}
 use Rattle.ob0_tree.specs.declared.tree.Role.TheVariants as role
-use Rattle.ob0_tree.specs.FirstIdentifier.{first_identifier, first_token_of}
+use Rattle.ob0_tree.specs.FirstIdentifier.{first_identifier, token_of_first_identifier}
 use Rattle.ob0_tree.specs.Tree.{branches, identifiers}
 use Rattle.ob0_tree.specs.View.{else_part_of, elsif_of, expression_of, if_of, items_of, sequence_of_list, statement_of}
 use Rattle.ob0_tree.proofs.Firsts.{found_first, found_later}
@@ -24,27 +24,27 @@ module _ (i : If) where
   abbrev last_branch : List (Role × ℕ)
   last_branch = identifiers role.Declaring (else_part_of (out-If i).otherwise)
 
-  whole : first_token_of (condition ++ (first_branch ++ (elsif_parts ++ last_branch))) ≡ first_identifier (if_of i)
+  whole : token_of_first_identifier (condition ++ (first_branch ++ (elsif_parts ++ last_branch))) ≡ first_identifier (if_of i)
   whole = ap first_identifier (sym (if_parts i))
 
-  module _ {a : Option ℕ} (is_a : a ≡ first_token_of condition) where
+  module _ {a : Option ℕ} (is_a : a ≡ token_of_first_identifier condition) where
     in_condition : is_some a ≡ true → a ≡ first_identifier (if_of i)
     in_condition some = found_first condition (first_branch ++ (elsif_parts ++ last_branch)) is_a some ∙ whole
 
-    module _ (no_a : is_some a ≡ false) {b : Option ℕ} (is_b : b ≡ first_token_of first_branch) where
+    module _ (no_a : is_some a ≡ false) {b : Option ℕ} (is_b : b ≡ token_of_first_identifier first_branch) where
       in_first_branch : is_some b ≡ true → b ≡ first_identifier (if_of i)
       in_first_branch some =
           found_first first_branch (elsif_parts ++ last_branch) is_b some
           ∙ (found_later condition (first_branch ++ (elsif_parts ++ last_branch)) is_a no_a ∙ whole)
 
-      module _ (no_b : is_some b ≡ false) {d : Option ℕ} (is_d : d ≡ first_token_of elsif_parts) where
-        after_two : first_token_of (elsif_parts ++ last_branch) ≡ first_identifier (if_of i)
+      module _ (no_b : is_some b ≡ false) {d : Option ℕ} (is_d : d ≡ token_of_first_identifier elsif_parts) where
+        after_two : token_of_first_identifier (elsif_parts ++ last_branch) ≡ first_identifier (if_of i)
         after_two = found_later first_branch (elsif_parts ++ last_branch) is_b no_b ∙ (found_later condition (first_branch ++ (elsif_parts ++ last_branch)) is_a no_a ∙ whole)
 
         in_elsifs : is_some d ≡ true → d ≡ first_identifier (if_of i)
         in_elsifs some = found_first elsif_parts last_branch is_d some ∙ after_two
 
-        in_last_branch : is_some d ≡ false → first_token_of last_branch ≡ first_identifier (if_of i)
+        in_last_branch : is_some d ≡ false → token_of_first_identifier last_branch ≡ first_identifier (if_of i)
         in_last_branch none = found_later elsif_parts last_branch is_d none ∙ after_two
 
 pub first_in_if-returns-then-is_some : goal.first_in_if-returns-then-is_some

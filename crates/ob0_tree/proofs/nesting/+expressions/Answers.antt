@@ -20,16 +20,16 @@ designator_nesting-returns t c =
     list_ends c.loop-s.invariant c.loop-s-test.false
     ∙ ap (λ xs. capped_to_u32 (nesting (items_of selector_of xs))) c.deref-s-items.ensures.value
 
-pub simple_nesting-loop-addend-preserved : goal.simple_nesting-loop-addend-preserved
-simple_nesting-loop-addend-preserved t c =
+pub simple_expression_nesting-loop-addend-preserved : goal.simple_expression_nesting-loop-addend-preserved
+simple_expression_nesting-loop-addend-preserved t c =
     let a = c.addend-item.result in
     deeper_on addend_of a c.loop-addend.invariant c.loop-addend-test.true c.addend-item.is (c.term_nesting.ensures ∙ ap (λ t. capped_to_u32 (nesting t)) (sym (addend_parts a))) c.max-deepest.ensures
 
 pub term_nesting-loop-multiplier-preserved : goal.term_nesting-loop-multiplier-preserved
 term_nesting-loop-multiplier-preserved t c = deeper_on multiplier_of c.multiplier-item.result c.loop-multiplier.invariant c.loop-multiplier-test.true c.multiplier-item.is c.factor_nesting.ensures c.max-deepest.ensures
 
-pub simple_nesting-returns : goal.simple_nesting-returns
-simple_nesting-returns t c =
+pub simple_expression_nesting-returns : goal.simple_expression_nesting-returns
+simple_expression_nesting-returns t c =
     let items = deepest_ends c.loop-addend.invariant c.loop-addend-test.false in
     let listed = ap (λ xs. capped_to_u32 (nesting (items_of addend_of xs))) c.deref-addend-items.ensures.value in
     let s = out-SimpleExpression c.args.s.now in

@@ -17,16 +17,16 @@ use Rattle.ob0_tree.proofs.walk.+expressions.Goals as goal
 comparison_parts : (x : Comparison) → comparison_of x ≡ relates (out-Comparison x).relation (simple_of (out-Comparison x).right)
 comparison_parts x = sym (ap comparison_of (roll-out-Comparison x)) ∙ comparison_made (out-Comparison x)
 
-pub walk_compound-returns-in_ok-walk_simple-2 : goal.walk_compound-returns-in_ok-walk_simple-2
-walk_compound-returns-in_ok-walk_simple-2 g t c =
+pub walk_compound-returns-in_ok-walk_simple_expression-2 : goal.walk_compound-returns-in_ok-walk_simple_expression-2
+walk_compound-returns-in_ok-walk_simple_expression-2 g t c =
     let x = out-CompoundExpression c.args.c.now in
     let right = c.in-Some.compared.value in
     let tree : compound_of c.args.c.now ≡ compares (simple_of x.left) (one (relates (out-Comparison right).relation (simple_of (out-Comparison right).right))) =
     compound_parts c.args.c.now
     ∙ (ap (λ o. compares (simple_of x.left) (maybe_comparison_of (back-CompoundExpression-compared o))) c.in-Some.is ∙ ap (λ y. compares (simple_of x.left) (one y)) (comparison_parts right)) in
-    c.in_ok-walk_simple-2.ensures
-    ∙ (ap (λ (x : Comparison). state_after_visit g.V.Visitor.seen (simple_of (out-Comparison x).right) c.walk_simple.new.visitor) c.deref.ensures
-    ∙ (then_visited g.V.Visitor.seen c.args.visitor.now (identifiers role.Declaring (simple_of x.left)) (identifiers role.Declaring (simple_of (out-Comparison right).right)) c.in_ok-walk_simple.ensures
+    c.in_ok-walk_simple_expression-2.ensures
+    ∙ (ap (λ (x : Comparison). state_after_visit g.V.Visitor.seen (simple_of (out-Comparison x).right) c.walk_simple_expression.new.visitor) c.deref.ensures
+    ∙ (then_visited g.V.Visitor.seen c.args.visitor.now (identifiers role.Declaring (simple_of x.left)) (identifiers role.Declaring (simple_of (out-Comparison right).right)) c.in_ok-walk_simple_expression.ensures
     ∙ ap (λ t. state_after_visit g.V.Visitor.seen t c.args.visitor.now) (sym tree)))
 
 pub walk_factor-returns-in-Designator : goal.walk_factor-returns-in-Designator
@@ -34,11 +34,11 @@ walk_factor-returns-in-Designator g t c =
     subst (λ z. OnOk c.walk_designator.result (c.walk_designator.new.visitor ≡ state_after_visit g.V.Visitor.seen z c.args.visitor.now))
     (sym (designator_made c.in-Designator.d) ∙ sym (ap factor_of c.in-Designator.is)) c.walk_designator.ensures
 
-pub walk_simple-loop-addend-preserved : goal.walk_simple-loop-addend-preserved
-walk_simple-loop-addend-preserved g t c = visits_on addend_of c.addend-item.result c.walk_term-in-loop-addend.new.visitor c.loop-addend.invariant c.loop-addend-test.true c.addend-item.is (c.in_ok-walk_term-2.ensures ∙ ap (λ a. state_after_visit g.V.Visitor.seen a c.loop-addend.visitor) (sym (addend_parts c.addend-item.result)))
+pub walk_simple_expression-loop-addend-preserved : goal.walk_simple_expression-loop-addend-preserved
+walk_simple_expression-loop-addend-preserved g t c = visits_on addend_of c.addend-item.result c.walk_term-in-loop-addend.new.visitor c.loop-addend.invariant c.loop-addend-test.true c.addend-item.is (c.in_ok-walk_term-2.ensures ∙ ap (λ a. state_after_visit g.V.Visitor.seen a c.loop-addend.visitor) (sym (addend_parts c.addend-item.result)))
 
-pub walk_simple-returns : goal.walk_simple-returns
-walk_simple-returns g t c =
+pub walk_simple_expression-returns : goal.walk_simple_expression-returns
+walk_simple_expression-returns g t c =
     let first = identifiers role.Declaring (term_of (out-SimpleExpression c.args.s.now).first) in
     let rest : List Addend → List (Role × ℕ) = λ xs. identifiers role.Declaring (items_of addend_of xs) in
     all_visited c.loop-addend.invariant c.loop-addend-test.false

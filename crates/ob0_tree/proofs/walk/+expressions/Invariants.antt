@@ -6,8 +6,8 @@ use Rattle.ob0_tree.proofs.walk.+expressions.Given as goal
 abbrev pub invariant-walk_designator-loop-s : goal.invariant-walk_designator-loop-s
 invariant-walk_designator-loop-s g l = Visiting g.V.Visitor.seen selector_of role.Declaring l.initial.visitor l.s-items l.s-index l.visitor
 
-abbrev pub invariant-walk_simple-loop-addend : goal.invariant-walk_simple-loop-addend
-invariant-walk_simple-loop-addend g l = Visiting g.V.Visitor.seen addend_of role.Declaring l.initial.visitor l.addend-items l.addend-index l.visitor
+abbrev pub invariant-walk_simple_expression-loop-addend : goal.invariant-walk_simple_expression-loop-addend
+invariant-walk_simple_expression-loop-addend g l = Visiting g.V.Visitor.seen addend_of role.Declaring l.initial.visitor l.addend-items l.addend-index l.visitor
 
 abbrev pub invariant-walk_term-loop-multiplier : goal.invariant-walk_term-loop-multiplier
 invariant-walk_term-loop-multiplier g l = Visiting g.V.Visitor.seen multiplier_of role.Declaring l.initial.visitor l.multiplier-items l.multiplier-index l.visitor

@@ -2,7 +2,7 @@ use Rattle.std.proofs.Common.{rules, refl, ◌≡◌, ◌↔◌, ◌++◌, [], l
 use Rattle.std.proofs.lemmas.List.Sorted.{answers_always}
 use Rattle.std.specs.List.{filter}
 use Rattle.std.specs.List.Sorted.{IsPermutation}
-use Rattle.ob0_scope_table.specs.Resolution.{is_declaration_fault}
+use Rattle.ob0_scope_table.specs.Resolution.{is_duplicate_or_end_name}
 use Rattle.ob0_types.proofs.AllReported.{empty_alike}
 use Rattle.ob0_types.proofs.FaultNumbers.{sorted_by_key}
 use Rattle.ob0_types.proofs.checked.first_faults.Tie as tie
@@ -11,11 +11,11 @@ use Rattle.ob0_types.proofs.checked.first_faults.Goals as goal
 pub returns-clause-none : goal.returns-clause-none
 returns-clause-none c =
     let first = c.args.of_types.items in
-    let scopes = filter is_declaration_fault c.args.resolved.now.faults in
-    let added = c.add_declaration_faults.new.faults in
+    let scopes = filter is_duplicate_or_end_name c.args.resolved.now.faults in
+    let added = c.add_duplicates_and_end_names.new.faults in
     let sorted = c.sort_by_key.new.self in
     let kept = c.truncate.new.self in
-    let all = c.in_ok-add_declaration_faults.ensures ∙ ap (λ fs. first ++ filter is_declaration_fault fs) c.faults.ensures in
+    let all = c.in_ok-add_duplicates_and_end_names.ensures ∙ ap (λ fs. first ++ filter is_duplicate_or_end_name fs) c.faults.ensures in
     let joined : added.items ≡ first ++ scopes = all in
     let a = added.ok.0 in
     let s = sorted.ok.0 in
@@ -33,7 +33,7 @@ returns-clause-few c =
 pub returns-clause-first : goal.returns-clause-first
 returns-clause-first c =
     let first = c.args.of_types.items in
-    let all = c.in_ok-add_declaration_faults.ensures ∙ ap (λ fs. first ++ filter is_declaration_fault fs) c.faults.ensures in
+    let all = c.in_ok-add_duplicates_and_end_names.ensures ∙ ap (λ fs. first ++ filter is_duplicate_or_end_name fs) c.faults.ensures in
     record {
       all = c.sort_by_key.new.self.items;
       joined = subst (λ fs. IsPermutation fs c.sort_by_key.new.self.items) all c.in_ok-sort_by_key.ensures.permutation;

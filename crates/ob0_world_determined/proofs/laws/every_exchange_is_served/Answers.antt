@@ -17,7 +17,7 @@ returns c unit begin now turns begins leads =
           c.an_ended_conversation_is_served.ensures (now.wire.taken ++ shutdown ∷ exit ∷ []) ((now.wire.got ++ now.wire.to_editor) ++ sent) end 0 short
           (conversation_then start now.wire.taken (now.wire.got ++ now.wire.to_editor) now.wire.session (shutdown ∷ exit ∷ []) sent end holds.conversation talked)
           (holds.ends id shutdown exit is_shutdown is_exit sent end talked).ended more put result written served;
-      in_part = λ taken put part are.
+      written_after_memory_fault = λ taken put part are.
           part.frames
           ∙ ap (flat_map frame)
           (c.conversation_is_determined.ensures start now.wire.taken part.sent (now.wire.got ++ now.wire.to_editor) part.after now.wire.session

@@ -4,7 +4,7 @@ use Rattle.ob0_analysis.specs.AnalysisInvariants.{IsValidAnalysisResult, text_of
 use Rattle.ob0_analysis.proofs.Scanning.{no_lexemes_is_none}
 use Rattle.ob0_analysis.proofs.analysis.Analysis.module_parts.Goals as goal
 
-pub returns-in-NoLexemes : goal.returns-in-NoLexemes
-returns-in-NoLexemes c =
-    let by = subst IsValidAnalysisResult c.in-NoLexemes.is c.self.invariant in
-    subst (λ (t : List ℕ). IsWellTypedModule t → ⊥) (sym (ap text_of c.in-NoLexemes.is) ∙ c.self.view_is) (no_lexemes_is_none _ by.0)
+pub returns-in-Unscannable : goal.returns-in-Unscannable
+returns-in-Unscannable c =
+    let by = subst IsValidAnalysisResult c.in-Unscannable.is c.self.invariant in
+    subst (λ (t : List ℕ). IsWellTypedModule t → ⊥) (sym (ap text_of c.in-Unscannable.is) ∙ c.self.view_is) (no_lexemes_is_none _ by.0)

@@ -37,8 +37,8 @@ parse_multiplier-returns-in_err-factor t c =
     let p = err_from_is_err_and c.from_residual.result c.from_residual.ensures.1 in
     rw (p.1, p.2) (multiplier_fails_factor c.in-Some.kind c.in-Some-multiply_operator_of.operator c.in-Some-multiply_operator_of.ensures c.in-Some.ensures.here c.in_err-factor.ensures)
 
-pub parse_simple_fast-returns : goal.parse_simple_fast-returns
-parse_simple_fast-returns t c =
+pub parse_simple_expression_fast-returns : goal.parse_simple_expression_fast-returns
+parse_simple_expression_fast-returns t c =
     rw (simple_made _, term_made _, c.new-multipliers.ensures.items, c.new-addends.ensures.items) (lone_simple _ 3 _ (omega arith) c.in-Some.ensures.alone)
 
 pub parse_term_fast-returns : goal.parse_term_fast-returns
@@ -47,23 +47,23 @@ parse_term_fast-returns t c = rw (term_made _, c.new-more.ensures.items) (lone_t
 pub parse_factor_fast-returns : goal.parse_factor_fast-returns
 parse_factor_fast-returns t c = c.in-Some.ensures.alone.taken _
 
-pub parse_simple-returns-in_err-first : goal.parse_simple-returns-in_err-first
-parse_simple-returns-in_err-first t c =
+pub parse_simple_expression-returns-in_err-first : goal.parse_simple_expression-returns-in_err-first
+parse_simple_expression-returns-in_err-first t c =
     let p = err_from_is_err_and c.from_residual.result c.from_residual.ensures.1 in
     rw (p.1, p.2) (simple_fails_first _ c.parse_sign-sign.ensures c.in_err-first.ensures)
 
-pub parse_simple-returns-in_err-addend : goal.parse_simple-returns-in_err-addend
-parse_simple-returns-in_err-addend t c =
+pub parse_simple_expression-returns-in_err-addend : goal.parse_simple_expression-returns-in_err-addend
+parse_simple_expression-returns-in_err-addend t c =
     let p = err_from_is_err_and c.from_residual-in_err-addend.result c.from_residual-in_err-addend.ensures.1 in
     rw (p.1, p.2) (simple_fails_addend _ (term_of c.in_ok-first.first) (items_of addend_of c.loop-more.more.items) c.parse_sign-sign.ensures c.in_ok-first.ensures c.loop-more.invariant c.in_err-addend.ensures)
 
-pub parse_simple-loop-more-preserved : goal.parse_simple-loop-more-preserved
-parse_simple-loop-more-preserved t c =
+pub parse_simple_expression-loop-more-preserved : goal.parse_simple_expression-loop-more-preserved
+parse_simple_expression-loop-more-preserved t c =
     let item = rw c.in-Some.is at c.in_ok-addend.ensures in
     rw c.in_ok-push_doubling.ensures.added (taking_more addend_of c.loop-more.more.items _ _ _ _ _ _ c.loop-more.invariant item.0)
 
-pub parse_simple-returns : goal.parse_simple-returns
-parse_simple-returns t c =
+pub parse_simple_expression-returns : goal.parse_simple_expression-returns
+parse_simple_expression-returns t c =
     let stop = rw c.in_default.is at c.in_ok-addend.ensures in
     let items = items_of addend_of c.loop-more.more.items in
     rw (simple_made _) (taken_sum _ (term_of c.in_ok-first.first) items c.parse_sign-sign.ensures c.in_ok-first.ensures (taking_done items c.loop-more.invariant stop))
@@ -114,8 +114,8 @@ parse_expression_parts-returns-in_default t c =
     let absent = rw c.in_default.is at c.in_ok-comparison.ensures in
     rw c.in_ok-lone.ensures (taken_compares _ _ c.in_ok-left.ensures (taken_no_item comparison _ _ _ c.in_ok-left.ensures.within absent))
 
-pub parse_simple-loop-more-init : goal.parse_simple-loop-more-init
-parse_simple-loop-more-init t c = rw c.new-more.ensures.items (taking_none addend _ _ _ c.in_ok-first.ensures.within)
+pub parse_simple_expression-loop-more-init : goal.parse_simple_expression-loop-more-init
+parse_simple_expression-loop-more-init t c = rw c.new-more.ensures.items (taking_none addend _ _ _ c.in_ok-first.ensures.within)
 
 pub parse_term-loop-more-init : goal.parse_term-loop-more-init
 parse_term-loop-more-init t c = (rw c.new-more.ensures.items (taking_none multiplier _ _ _ c.in_ok-first.ensures.within), refl)

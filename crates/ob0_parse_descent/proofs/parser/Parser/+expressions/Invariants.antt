@@ -12,11 +12,11 @@ decreases-parse_expression_parts l = 14 * l.room + 12
 abbrev pub decreases-parse_comparison : goal.decreases-parse_comparison
 decreases-parse_comparison l = 14 * l.room + 11
 
-abbrev pub decreases-parse_simple_fast : goal.decreases-parse_simple_fast
-decreases-parse_simple_fast l = 14 * l.room + 10
+abbrev pub decreases-parse_simple_expression_fast : goal.decreases-parse_simple_expression_fast
+decreases-parse_simple_expression_fast l = 14 * l.room + 10
 
-abbrev pub decreases-parse_simple : goal.decreases-parse_simple
-decreases-parse_simple l = 14 * l.room + 9
+abbrev pub decreases-parse_simple_expression : goal.decreases-parse_simple_expression
+decreases-parse_simple_expression l = 14 * l.room + 9
 
 abbrev pub decreases-parse_addend : goal.decreases-parse_addend
 decreases-parse_addend l = 14 * l.room + 8
@@ -54,11 +54,11 @@ invariant-parse_designator-loop-selectors l = Taking (items_of selector_of l.sel
 abbrev pub decreases-parse_designator-loop-selectors : goal.decreases-parse_designator-loop-selectors
 decreases-parse_designator-loop-selectors l = length l.self.tokens.now - l.next
 
-abbrev pub invariant-parse_simple-loop-more : goal.invariant-parse_simple-loop-more
-invariant-parse_simple-loop-more l = Taking (items_of addend_of l.more.items) l.room l.self.tokens.now l.initial.next l.next
+abbrev pub invariant-parse_simple_expression-loop-more : goal.invariant-parse_simple_expression-loop-more
+invariant-parse_simple_expression-loop-more l = Taking (items_of addend_of l.more.items) l.room l.self.tokens.now l.initial.next l.next
 
-abbrev pub decreases-parse_simple-loop-more : goal.decreases-parse_simple-loop-more
-decreases-parse_simple-loop-more l = length l.self.tokens.now - l.next
+abbrev pub decreases-parse_simple_expression-loop-more : goal.decreases-parse_simple_expression-loop-more
+decreases-parse_simple_expression-loop-more l = length l.self.tokens.now - l.next
 
 abbrev pub invariant-parse_term-loop-more : goal.invariant-parse_term-loop-more
 invariant-parse_term-loop-more l = (Taking (items_of multiplier_of l.more.items) l.room l.self.tokens.now l.initial.next l.next) × (l.first ≡ l.initial.first)

@@ -15,7 +15,7 @@ use Rattle.ob0_parse_descent.proofs.parser.Parser.+statements.Goals as goal
 
 pub parse_statement-returns : goal.parse_statement-returns
 parse_statement-returns t c =
-    taken_empty c.if-has_name_at.ensures c.if-has_word_at.ensures c.if-has_word_at-2.ensures c.if-has_word_at-3.ensures
+    taken_empty c.if-has_identifier_at.ensures c.if-has_word_at.ensures c.if-has_word_at-2.ensures c.if-has_word_at-3.ensures
 
 pub parse_further_statement-returns-in_err-statement : goal.parse_further_statement-returns-in_err-statement
 parse_further_statement-returns-in_err-statement t c =

@@ -33,24 +33,24 @@ pub parse_array_type-returns : goal.parse_array_type-returns
 parse_array_type-returns t c =
     rw c.in_ok-element-2.ensures.ok (taken_array (expression_of c.in_ok-size.size) _ c.in_ok-inner.ensures c.requires.0 c.in_ok-size.ensures c.in_ok-start.ensures c.in_ok-element.ensures)
 
-pub parse_fields-returns-then-not-has_name_at : goal.parse_fields-returns-then-not-has_name_at
-parse_fields-returns-then-not-has_name_at t c =
-    taken_no_fields c.if-not-has_name_at.ensures
+pub parse_fields-returns-then-not-has_identifier_at : goal.parse_fields-returns-then-not-has_identifier_at
+parse_fields-returns-then-not-has_identifier_at t c =
+    taken_no_fields c.if-not-has_identifier_at.ensures
 
 pub parse_fields-returns-in_err-names : goal.parse_fields-returns-in_err-names
 parse_fields-returns-in_err-names t c =
     let p = err_from_is_err_and c.from_residual.result c.from_residual.ensures.1 in
-    rw (p.1, p.2) (fields_fail c.if-not-has_name_at.ensures.0 (fails_in c.in_err-names.ensures))
+    rw (p.1, p.2) (fields_fail c.if-not-has_identifier_at.ensures.0 (fails_in c.in_err-names.ensures))
 
 pub parse_fields-returns-in_err-start : goal.parse_fields-returns-in_err-start
 parse_fields-returns-in_err-start t c =
     let p = err_from_is_err_and c.from_residual-in_err-start.result c.from_residual-in_err-start.ensures.1 in
-    rw (p.1, p.2) (fields_fail c.if-not-has_name_at.ensures.0 (fails_pass (names_of c.in_ok-names.names) c.in_ok-names.ensures (fails_in_token c.in_err-start.ensures)))
+    rw (p.1, p.2) (fields_fail c.if-not-has_identifier_at.ensures.0 (fails_pass (names_of c.in_ok-names.names) c.in_ok-names.ensures (fails_in_token c.in_err-start.ensures)))
 
 pub parse_fields-returns-in_err-written : goal.parse_fields-returns-in_err-written
 parse_fields-returns-in_err-written t c =
     let p = err_from_is_err_and c.from_residual-in_err-written.result c.from_residual-in_err-written.ensures.1 in
-    rw (p.1, p.2) (fields_fail c.if-not-has_name_at.ensures.0 (fails_pass (names_of c.in_ok-names.names) c.in_ok-names.ensures (fails_pass_token c.in_ok-start.ensures.0 c.in_ok-start.ensures.2 c.in_err-written.ensures)))
+    rw (p.1, p.2) (fields_fail c.if-not-has_identifier_at.ensures.0 (fails_pass (names_of c.in_ok-names.names) c.in_ok-names.ensures (fails_pass_token c.in_ok-start.ensures.0 c.in_ok-start.ensures.2 c.in_err-written.ensures)))
 
 pub parse_fields-returns : goal.parse_fields-returns
 parse_fields-returns t c =
@@ -98,10 +98,10 @@ pub parse_record_type-returns : goal.parse_record_type-returns
 parse_record_type-returns t c =
     rw (made_record_type _) (taken_record c.loop-groups.groups.items c.in_ok-inner.ensures c.requires.0 (listing_done c.loop-groups.invariant (rw c.in_default.is at c.in_ok-fields.ensures)) c.in_ok-end.ensures)
 
-pub parse_type-returns-then-has_name_at : goal.parse_type-returns-then-has_name_at
-parse_type-returns-then-has_name_at t c =
-    taken_named c.if-has_name_at.ensures
+pub parse_type-returns-then-has_identifier_at : goal.parse_type-returns-then-has_identifier_at
+parse_type-returns-then-has_identifier_at t c =
+    taken_named c.if-has_identifier_at.ensures
 
 pub parse_type-returns : goal.parse_type-returns
 parse_type-returns t c =
-    rw c.syntax_error.ensures (type_missing c.if-has_name_at.ensures c.if-has_word_at.ensures c.if-has_word_at-2.ensures)
+    rw c.syntax_error.ensures (type_missing c.if-has_identifier_at.ensures c.if-has_word_at.ensures c.if-has_word_at-2.ensures)

@@ -63,4 +63,4 @@ returns-clause-one c =
         sym (ap (λ k. old.comments.items ++ comment_at k span) w.in-Token.is ∙ append-nil old.comments.items),
       )
     ] in
-    λ none. record { kind = kind; len = c.args.len; clear = taken.0 none; tokens = taken.1; comments = taken.2 }
+    λ none. record { kind = kind; len = c.args.len; had_no_fault = taken.0 none; tokens = taken.1; comments = taken.2 }

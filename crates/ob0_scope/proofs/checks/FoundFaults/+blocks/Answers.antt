@@ -4,7 +4,7 @@ use Rattle.ob0_tree.specs.declared.tree.Procedure.{out-Procedure, roll-out-Proce
 use Rattle.ob0_tree.specs.View.{block_of, body_of, constants_of, formals_of, items_of, procedure_of, types_of, variables_of}
 use Rattle.ob0_tree.proofs.Viewed.{block_parts, procedure_made}
 use Rattle.ob0_language_names.specs.ConsistentNames.{procedure_names}
-use Rattle.ob0_scope_table.specs.DeclaredTwice.{duplicate_faults, block_declaration_faults, procedure_declaration_faults, procedures_declaration_faults}
+use Rattle.ob0_scope_table.specs.DuplicatesAndEndNames.{duplicate_faults, block_declaration_faults, procedure_declaration_faults, procedures_declaration_faults}
 use Rattle.ob0_language_names.specs.Parts.{formal_names, formal_sections, declared_type_names, section_types, section_variables, variable_names}
 use Rattle.ob0_scope.proofs.Checking.{block_reported, gathered, procedure_reported}
 use Rattle.ob0_scope.proofs.checks.FoundFaults.+blocks.Goals as goal

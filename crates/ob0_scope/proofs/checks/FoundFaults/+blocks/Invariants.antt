@@ -1,4 +1,4 @@
-use Rattle.ob0_scope_table.specs.DeclaredTwice.{procedures_declaration_faults}
+use Rattle.ob0_scope_table.specs.DuplicatesAndEndNames.{procedures_declaration_faults}
 use Rattle.ob0_tree.specs.View.{items_of, procedure_of}
 use Rattle.ob0_scope.proofs.Checking.{Gathering}
 use Rattle.ob0_scope.proofs.checks.FoundFaults.+blocks.Given as goal

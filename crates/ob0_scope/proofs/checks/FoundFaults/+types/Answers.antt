@@ -2,7 +2,7 @@ use Rattle.std.proofs.Common.{◌≡◌, [], ◌++◌, OnOk, refl, sym, ap, ◌�
 use Rattle.ob0_tree.specs.View.{fields_of, further_fields_of_group, items_of, type_of}
 use Rattle.ob0_tree.proofs.Viewed.{made_record_type}
 use Rattle.ob0_language_names.specs.ConsistentNames.{group_field_names, further_field_names}
-use Rattle.ob0_scope_table.specs.DeclaredTwice.{duplicate_faults, duplicate_field_faults, duplicate_field_faults_in_group, duplicate_field_faults_in_groups}
+use Rattle.ob0_scope_table.specs.DuplicatesAndEndNames.{duplicate_faults, duplicate_field_faults, duplicate_field_faults_in_group, duplicate_field_faults_in_groups}
 use Rattle.ob0_scope.proofs.Checking.{gathered, gathers_on, record_reported}
 use Rattle.ob0_scope.proofs.checks.FoundFaults.+types.Goals as goal
 

@@ -1,5 +1,5 @@
 use Rattle.ob0_language_names.specs.ConsistentNames.{further_field_names}
-use Rattle.ob0_scope_table.specs.DeclaredTwice.{duplicate_field_faults_in_groups}
+use Rattle.ob0_scope_table.specs.DuplicatesAndEndNames.{duplicate_field_faults_in_groups}
 use Rattle.ob0_tree.specs.View.{items_of, further_fields_of_group}
 use Rattle.ob0_scope.proofs.Checking.{Gathering}
 use Rattle.ob0_scope.proofs.checks.FoundFaults.+types.Given as goal

@@ -1,4 +1,4 @@
-use Rattle.ob0_scope_table.specs.DeclaredTwice.{duplicate_field_faults_in_variables}
+use Rattle.ob0_scope_table.specs.DuplicatesAndEndNames.{duplicate_field_faults_in_variables}
 use Rattle.ob0_tree.specs.View.{items_of, variable_of}
 use Rattle.ob0_scope.proofs.Checking.{Gathering}
 use Rattle.ob0_scope.proofs.checks.FoundFaults.check_variable_section_fields.Given as goal

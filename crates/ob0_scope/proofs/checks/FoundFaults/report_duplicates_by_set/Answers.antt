@@ -1,6 +1,6 @@
 use Rattle.std.proofs.Common.{◌++◌, refl, ap, ◌∙◌, get_or}
 use Rattle.ob0_scan.specs.declared.fault.Fault.{Fault}
-use Rattle.ob0_scope_table.specs.DeclaredTwice.{fault_unless}
+use Rattle.ob0_scope_table.specs.DuplicatesAndEndNames.{fault_unless}
 use Rattle.ob0_scope.proofs.Checking.{all_seen, has, one_more, sees_on}
 use Rattle.ob0_scope.proofs.checks.FoundFaults.report_duplicates_by_set.Goals as goal
 

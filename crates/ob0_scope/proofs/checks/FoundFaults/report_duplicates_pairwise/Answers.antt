@@ -2,7 +2,7 @@ use Rattle.std.proofs.Common.{◌≡◌, ◌||◌, ◌++◌, ◌+◌, suc, map, 
 use Rattle.ob0_scan.specs.declared.fault.Fault.{Fault}
 use Rattle.ob0_tree.specs.Places.{token_text_at}
 use Rattle.ob0_language_names.specs.ConsistentNames.{is_among}
-use Rattle.ob0_scope_table.specs.DeclaredTwice.{fault_unless}
+use Rattle.ob0_scope_table.specs.DuplicatesAndEndNames.{fault_unless}
 use Rattle.ob0_language_names.specs.Names.{same_name}
 use Rattle.ob0_scope.proofs.Checking.{all_seen, one_further, sees_on}
 use Rattle.ob0_scope.proofs.checks.FoundFaults.report_duplicates_pairwise.Goals as goal

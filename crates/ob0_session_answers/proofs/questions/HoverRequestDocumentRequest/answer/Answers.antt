@@ -1,7 +1,7 @@
 use Rattle.std.proofs.Common.{◌≡◌, ◌∙◌, ℕ, List, Option, ap, option_map, inl, inr, refl, subst, sym}
 use Rattle.std.proofs.lemmas.Result.{IfOk-weaker}
 use Rattle.ob0_refs.specs.Parts.{hover_view}
-use Rattle.ob0_refs.specs.Shown.{HoverText}
+use Rattle.ob0_refs.specs.NameHovers.{HoverText}
 use Rattle.ob0_refs.specs.declared.answers.Hover.{Hover}
 use Rattle.ob0_refs.specs.Questions.{hover_at_offset}
 use Rattle.ob0_scope_table.specs.Resolution.{Resolution}

@@ -8,6 +8,6 @@ use Rattle.ob0_session_server.proofs.session.Session.diagnostics_message.Goals a
 pub returns-clause-says : goal.returns-clause-says
 returns-clause-says g c =
     let uri = c.args.uri.now in
-    subst (λ (held : OpenDocuments). SendsReply (publication_reply held.unit uri (document_at held uri)) c.message_of.result)
+    subst (λ (held : OpenDocuments). SendsReply (publication_reply held.unit uri (document_at held uri)) c.message_of_outcome.result)
     (ap (λ (s : ServerState). s.held) c.self.view_is)
-    (published_with c.self.inside.documents uri c.in_ok-outcome.outcome c.message_of.result c.in_ok-outcome.ensures.outcome c.message_of.ensures)
+    (published_with c.self.inside.documents uri c.in_ok-outcome.outcome c.message_of_outcome.result c.in_ok-outcome.ensures.outcome c.message_of_outcome.ensures)

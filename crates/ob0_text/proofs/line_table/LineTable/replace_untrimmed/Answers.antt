@@ -4,7 +4,7 @@ use Rattle.std.specs.Str.{IsUtf8, chars}
 use Rattle.std.specs.Vec.{vec_capacity}
 use Rattle.std.proofs.lemmas.Str.{IsUtf8-string_bytes}
 use Rattle.ob0_text.specs.Texts.{LF}
-use Rattle.ob0_text.specs.LineStarts.{AreAllBelow, LineStartTable, line_starts, starts_after, stored_starts}
+use Rattle.ob0_text.specs.LineStarts.{AreAllBelow, LineStartTable, line_starts, line_starts_after_bytes, stored_starts}
 use Rattle.ob0_text.proofs.LineTables.{all_within, table_replaced}
 use Rattle.ob0_text.proofs.line_table.LineTable.replace_untrimmed.Goals as goal
 
@@ -54,7 +54,7 @@ returns-clause-table c =
     let few : length c.move_starts_to_back.new.front.items ≤ kept = omega (arith, c.in_ok-move_starts_to_back.ensures.left) in
     let enough : kept ≤ length (stored_starts c.self.inside.len c.move_starts_to_back.new.front.items c.move_starts_to_back.new.back.items) = subst (λ xs. kept ≤ length xs) (sym left) c.count_starts_before-kept.ensures.bound in
     let here : length front ≡ kept = c.in_ok-move_starts_to_front.ensures.left few enough in
-    let added_is : added ≡ starts_after from (get_or (LF ∷ bytes) from 0 ∷ new) (drop to bytes) = c.in_ok-added.ensures ∙ ap (λ t. starts_after from (get_or (LF ∷ t) from 0 ∷ new) (drop to t)) c.as_str.ensures.value in
+    let added_is : added ≡ line_starts_after_bytes from (get_or (LF ∷ bytes) from 0 ∷ new) (drop to bytes) = c.in_ok-added.ensures ∙ ap (λ t. line_starts_after_bytes from (get_or (LF ∷ t) from 0 ∷ new) (drop to t)) c.as_str.ensures.value in
     let room : vec_len c.reserve.new.self + length c.deref.result.now ≤ vec_capacity c.reserve.new.self = omega (arith, c.in_ok-reserve.ensures.ok, c.len.ensures, c.deref.ensures.len) in
     let done : is_ok c.extend_from_slice.result ≡ true = c.extend_from_slice.ensures.succeeds room in
     let front_is : c.extend_from_slice.new.self.items ≡ front ++ added =

@@ -22,7 +22,7 @@ returns-in_ok-known c =
     record {
       faults = c.requires.faults;
       known = (nothing r t.faults.items t.checker_state c.args.bodies_with_faults.items c.requires c.walk_without_fault_finds_meanings.ensures c.module-module.ensures.resolved none, subst (HasDeclarations (named_tree_of r.module_read)) (sym c.in_ok-known.ensures) table);
-      bodies_with_faults = c.requires.faulty_are;
+      bodies_with_faults = c.requires.faulty_bodies_are;
     }
 
 pub returns-else-is_empty : goal.returns-else-is_empty
@@ -32,5 +32,5 @@ returns-else-is_empty c =
     record {
       faults = c.requires.faults;
       known = λ none. is_something t.faults.items (vec_len t.faults) c.is_empty.result (omega (arith, ok)) c.is_empty.ensures c.if-is_empty.false (c.requires.faults ∙ none);
-      bodies_with_faults = c.requires.faulty_are;
+      bodies_with_faults = c.requires.faulty_bodies_are;
     }

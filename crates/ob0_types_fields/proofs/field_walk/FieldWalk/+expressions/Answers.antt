@@ -3,7 +3,7 @@ use Rattle.std.specs.Vec.{vec_len}
 use Rattle.ob0_tree.proofs.Viewed.{designator_made, simple_parts, term_parts}
 use Rattle.ob0_tree.specs.declared.tree.SimpleExpression.{out-SimpleExpression}
 use Rattle.ob0_tree.specs.declared.tree.Term.{out-Term}
-use Rattle.ob0_language_types.specs.Typing.{object_type}
+use Rattle.ob0_language_types.specs.Typing.{type_of_variable_or_constant}
 use Rattle.ob0_types_fields.specs.Owned.{fields_in_tree, fields_in_path}
 use Rattle.ob0_types_fields.specs.Walk.{field_walk_meanings}
 use Rattle.ob0_tree.specs.View.{items_of, compound_of, expression_of, addend_of, multiplier_of, selector_of, term_of, factor_of}
@@ -42,7 +42,7 @@ add_designator_fields-returns-then-is_empty t c =
     let m = field_walk_meanings c.args.self.now in
     let none = is_nothing d.selectors.items (vec_len d.selectors) c.is_empty.result d.selectors.ok.0 c.is_empty.ensures c.if-is_empty.true in
     sym (append-nil c.args.found.now.items)
-    ∙ ap (λ xs. c.args.found.now.items ++ fields_in_path m (object_type (m.object_for d.name)) (items_of selector_of xs)) (sym none)
+    ∙ ap (λ xs. c.args.found.now.items ++ fields_in_path m (type_of_variable_or_constant (m.object_for d.name)) (items_of selector_of xs)) (sym none)
 
 pub add_expression_fields-returns-in-Factor : goal.add_expression_fields-returns-in-Factor
 add_expression_fields-returns-in-Factor t c =

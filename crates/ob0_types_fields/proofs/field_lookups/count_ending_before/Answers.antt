@@ -2,7 +2,7 @@ use Rattle.std.proofs.Common.{rules}
 use Rattle.std.specs.Prelude.{nat_lt}
 use Rattle.std.proofs.lemmas.List.Sorted.{IsPartitionPoint-from_clause, IsPartitionedBy-ltb}
 use Rattle.ob0_scope_table.specs.Resolution.{span_at}
-use Rattle.ob0_types_fields.proofs.field_lookups.count_ended_before.Goals as goal
+use Rattle.ob0_types_fields.proofs.field_lookups.count_ending_before.Goals as goal
 
 pub returns-clause-point : goal.returns-clause-point
 returns-clause-point c =

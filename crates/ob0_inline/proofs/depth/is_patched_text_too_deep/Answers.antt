@@ -3,7 +3,7 @@ use Rattle.std.specs.Str.{IsUtf8}
 use Rattle.ob0_edits_tokens.specs.Words.{terminal_of_word}
 use Rattle.ob0_tree.specs.Tree.{nesting}
 use Rattle.ob0_inline.proofs.Depths.{not_shallow_is, same_bytes, lexemes_of_words}
-use Rattle.ob0_inline.proofs.depth.patched_is_too_deep.Goals as goal
+use Rattle.ob0_inline.proofs.depth.is_patched_text_too_deep.Goals as goal
 
 pub returns-in_ok-module-in-Ok-clause-deep : goal.returns-in_ok-module-in-Ok-clause-deep
 returns-in_ok-module-in-Ok-clause-deep g c = λ ws t leaves spelled.

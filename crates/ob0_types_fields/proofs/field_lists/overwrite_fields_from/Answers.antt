@@ -2,8 +2,8 @@ use Rattle.std.proofs.Common.{◌+◌, ◌<◌, ◌≤◌, drop, length, sym, ap
 use Rattle.std.proofs.lemmas.List.{drop_more}
 use Rattle.ob0_types_fields.specs.FieldLists.{overwritten_fields}
 use Rattle.ob0_types_fields.proofs.WrittenOver.{past_end}
-use Rattle.ob0_types_fields.proofs.field_lists.overwrite_from.Goals as goal
-use Rattle.ob0_types_fields.proofs.field_lists.overwrite_from.Goals.{then-place-len, else-place-len}
+use Rattle.ob0_types_fields.proofs.field_lists.overwrite_fields_from.Goals as goal
+use Rattle.ob0_types_fields.proofs.field_lists.overwrite_fields_from.Goals.{then-place-len, else-place-len}
 
 pub loop-field-preserved : goal.loop-field-preserved
 loop-field-preserved c =

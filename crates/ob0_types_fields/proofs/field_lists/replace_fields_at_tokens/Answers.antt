@@ -3,7 +3,7 @@ use Rattle.std.specs.List.Sorted.{IsNonDecreasingBy, IsPartitionPoint}
 use Rattle.std.specs.Prelude.{option_copied}
 use Rattle.ob0_types_fields.specs.declared.field_name.FieldName.{FieldName}
 use Rattle.ob0_types_fields.proofs.WrittenOver.{over_others, rise, start_found, without_others}
-use Rattle.ob0_types_fields.proofs.field_lists.replace_at_tokens.Goals as goal
+use Rattle.ob0_types_fields.proofs.field_lists.replace_fields_at_tokens.Goals as goal
 
 pub returns-in-Some : goal.returns-in-Some
 returns-in-Some c =
@@ -14,7 +14,7 @@ returns-in-Some c =
     let here = sym c.first.ensures.value ∙ ap option_copied c.in-Some.is in
     let rises = subst (λ (xs : List FieldName). IsNonDecreasingBy (λ x. x.token) xs) (sym c.deref.ensures.value) (rise all before found after h) in
     let point = subst (λ (xs : List FieldName). IsPartitionPoint (λ x. nat_lt x.token first.token ≡ true) (λ x. nat_lt x.token first.token ≡ false) xs c.count_fields_before-start.result) c.deref.ensures.value (c.count_fields_before-start.ensures rises) in
-    c.overwrite_from.ensures ∙ over_others all before found after h c.count_fields_before-start.result (start_found all before found after h first here c.count_fields_before-start.result point)
+    c.overwrite_fields_from.ensures ∙ over_others all before found after h c.count_fields_before-start.result (start_found all before found after h first here c.count_fields_before-start.result point)
 
 pub returns-in-None : goal.returns-in-None
 returns-in-None c = λ before after h. without_others c.args.all.now.items before c.args.found.now after h (sym c.first.ensures.value ∙ ap option_copied c.in-None.is)

@@ -2,7 +2,7 @@ use Rattle.std.proofs.Common.{codes, sym}
 use Rattle.std.proofs.lemmas.Slice.Eq.{bytes_eq-Decides}
 use Rattle.clap.specs.Words.{found_of, rows_of}
 use Rattle.ob0_cli.proofs.Needed.{check_needs, rename_needs, run_needs}
-use Rattle.ob0_cli.proofs.line.subcommand_line.Goals as goal
+use Rattle.ob0_cli.proofs.line.command_line_for_subcommand.Goals as goal
 
 pub text_value_of-requires : goal.text_value_of-requires
 text_value_of-requires c = check_needs c.args.name.now (rows_of (found_of c.args.given.now)) c.requires ((bytes_eq-Decides c.args.name.now (codes "check")).0 (sym c.if-eq-2.ensures))
