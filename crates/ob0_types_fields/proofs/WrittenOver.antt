@@ -15,7 +15,7 @@ past_end xs k [] le = refl
 past_end xs k (y ∷ ys) le = ap (λ l. overwritten_fields l (k + 1) ys) (set_past xs k y le) ∙ past_end xs (k + 1) ys (omega (arith, le))
 
 -- Overwriting as many fields as there are after a prefix replaces exactly these fields.
-over_as_many : (before old others after : List FieldName) → length old ≡ length others → overwritten_fields (before ++ (replaced_fields ++ after)) (length before) others ≡ before ++ (others ++ after)
+over_as_many : (before old others after : List FieldName) → length old ≡ length others → overwritten_fields (before ++ (old ++ after)) (length before) others ≡ before ++ (others ++ after)
 over_as_many before [] [] after e = refl
 over_as_many before [] (y ∷ ys) after e = absurd (omega (arith, e))
 over_as_many before (x ∷ old) [] after e = absurd (omega (arith, e))
