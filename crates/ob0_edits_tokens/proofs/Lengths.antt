@@ -22,7 +22,7 @@ not_reserved reserved.Module e = cc
 not_reserved _ e = cc
 
 some_name : IsIdentifier (codes "x")
-some_name = record { word = record { letter = refl; all = each }; free = not_reserved }
+some_name = record { word = record { letter = refl; all = each }; differs_from_reserved = not_reserved }
   where
     each : (k d : ℕ) → k < 1 → is_ascii_alphanumeric (get_or (codes "x") k d) ≡ true
     each k d h =

@@ -133,5 +133,5 @@ false_free _ e = omega (arith, ap length e)
 
 -- TRUE and FALSE may replace any identifier.
 pub a_truth : (b : Bool) → ReplacesName (truth_text b) (truth_words b)
-a_truth true = a_name (codes "TRUE") (record { word = record { letter = refl; all = AllPass-from_list_all is_ascii_alphanumeric (codes "TRUE") refl }; free = true_free })
-a_truth false = a_name (codes "FALSE") (record { word = record { letter = refl; all = AllPass-from_list_all is_ascii_alphanumeric (codes "FALSE") refl }; free = false_free })
+a_truth true = a_name (codes "TRUE") (record { word = record { letter = refl; all = AllPass-from_list_all is_ascii_alphanumeric (codes "TRUE") refl }; differs_from_reserved = true_free })
+a_truth false = a_name (codes "FALSE") (record { word = record { letter = refl; all = AllPass-from_list_all is_ascii_alphanumeric (codes "FALSE") refl }; differs_from_reserved = false_free })
