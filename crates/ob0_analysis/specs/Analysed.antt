@@ -1,5 +1,5 @@
 -- Defines when an answer of `ask` about the module of a text is right.
--- Rule: none; for contracts of `ask`.
+-- Rule: none; used in the contract of `ask`.
 use Rattle.std.specs.Prelude.{ℕ, List, None, Option, Some}
 use Rattle.ob0_scan.specs.TextWithTokens.{IsScanOf}
 use Rattle.ob0_tree.specs.ParsedModule.{ParsedModule, IsParsed, named_tree_of}

@@ -1,5 +1,5 @@
 -- Defines the invariants of the analysis of a text.
--- Rule: none; for private contracts: the results that an analysis keeps.
+-- Rule: none; used in private contracts about the results that an analysis keeps.
 use Rattle.std.specs.Prelude.{ℕ, IfSome, List, string_bytes}
 use Rattle.ob0_scan.specs.Refused.{AreFaults}
 use Rattle.ob0_scan.specs.TextWithTokens.{TextWithTokens, IsScannable}

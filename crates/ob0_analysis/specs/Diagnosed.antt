@@ -83,8 +83,8 @@ syntax_error word place =
 abbrev pub depth_error : Span → ReportedDiagnosis
 depth_error place = record { code = codes "TooDeep"; message = codes "nested too deep"; span = place }
 
--- States that the error `c` reports this refusal, at the token that the parser refused. Never holds
--- if the refusal is lack of memory.
+-- States that the error `c` reports this refusal of the text with the tokens `s`, at the token that
+-- the parser refused. Never holds if the refusal is lack of memory.
 abbrev pub ReportsRefusal : TextWithTokens → ParseRefusal → ReportedDiagnosis → Type 0
 ReportsRefusal s (Syntax token expected) c = c ≡ syntax_error (expected_text expected) (token_span_or_end s token)
 ReportsRefusal s (TooDeep token) c = c ≡ depth_error (token_span_or_end s token)

@@ -1,5 +1,5 @@
 -- Defines the last text that was a module, and the tokens that the current text shares with it.
--- Rule: none; for private contracts: the results that an analysis reuses.
+-- Rule: none; used in private contracts about the results that an analysis reuses.
 use Rattle.std.specs.Prelude.{◌≡◌, ◌≤◌, ◌+◌, IfSome, Option, Some}
 use Rattle.ob0_scan.specs.SameKinds.{HasSameKinds, HasSameWords}
 use Rattle.ob0_scan.specs.TextWithTokens.{IsScan, TextWithTokens}

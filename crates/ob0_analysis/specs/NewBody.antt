@@ -1,6 +1,6 @@
 -- States that a body of the earlier module and a body of the current module are the same body, in
 -- which statements were replaced.
--- Rule: none; for private contracts: the results that an analysis reuses.
+-- Rule: none; used in private contracts about the results that an analysis reuses.
 use Rattle.std.specs.Prelude.{◌≡◌, ◌<◌, ◌+◌, Option, Some}
 use Rattle.ob0_scan.specs.declared.tokens.SameParts.{SameParts}
 use Rattle.ob0_scope_table.specs.declared.one_body.BodyPlace.{BodyPlace}

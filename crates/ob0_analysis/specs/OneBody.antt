@@ -1,6 +1,6 @@
 -- Defines an earlier module whose tokens have the same kinds as the current text's tokens. So the
 -- earlier module's tree is also the current text's tree.
--- Rule: none; for private contracts: the results that an analysis reuses.
+-- Rule: none; used in private contracts about the results that an analysis reuses.
 use Rattle.std.specs.Prelude.{◌≡◌}
 use Rattle.ob0_scan.specs.Reused.{kinds}
 use Rattle.ob0_scan.specs.TextWithTokens.{TextWithTokens}

@@ -1,5 +1,5 @@
--- Defines the common pieces of two texts.
--- Rule: none; for private contracts: the comparison of two texts.
+-- States that two texts have the same bytes from given offsets, one offset in each text.
+-- Rule: none; used in private contracts about the comparison of two texts.
 use Rattle.std.specs.Prelude.{◌≡◌, ◌+◌, ◌≤◌, ℕ, List, length, take, drop}
 
 -- states that the `size` bytes of `a` at the byte offset `in_a` exist, and equal the `size` bytes

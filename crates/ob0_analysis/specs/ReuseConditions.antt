@@ -1,5 +1,6 @@
--- States when an analysis of the changed text may reuse the analysis of the previous text.
--- Rule: none; for private contracts: the results that an analysis reuses.
+-- States the conditions under which the analysis of a changed text may reuse results for the
+-- previous text.
+-- Rule: none; used in private contracts about the results that an analysis reuses.
 use Rattle.std.specs.Prelude.{◌≡◌, ◌==◌, ℕ, true, IfSome, List, Option, map}
 use Rattle.ob0_scan.specs.Refused.{AreFaults}
 use Rattle.ob0_scan.specs.Reused.{kinds, names_in, words_of_tokens}
@@ -39,8 +40,9 @@ pub record AreKeptResultsBeforeChange (c : RescanInPlace) (kept_trees : KeptTree
   pub same_kinds : c.same_kinds ≡ true → AreInPlace c.rescan.tokens.tokens kept_trees
   pub was : IfSome last (IsLastModuleOf old)
 
--- States that `places` has the tokens at which a module has faults of names and types. `starts_with_token` must
--- be true exactly if the first token starts at byte 0 or the text has no tokens.
+-- States that `places` has the faults of a module's names (`b.faults`) and types (`types.faults`), each
+-- with the indexes of its first and last token instead of its span. `starts_with_token` must be true
+-- exactly if the first token starts at byte 0 or the text has no tokens.
 pub record AreFaultPlacesOf
     (source : TextWithTokens) (b : Bindings) (types : ModuleTypes) (places : FaultPlaces) : Type 0 where
   pub names : places.names.items ≡ map (fault_by_tokens source.tokens) b.faults.items
@@ -66,8 +68,8 @@ pub record HasSameTypesWithFaultsAt
   pub bodies_with_faults : moved.bodies_with_faults ≡ types.bodies_with_faults
   pub faults : moved.faults.items ≡ map (fault_at source) places
 
--- States that this tree, these bindings and this result of checking types belong to the text
--- `source`. `places` must have the tokens of the module's faults of names and types.
+-- States that the text `source` is a module with this tree, these bindings and this result of
+-- checking its types. `places` must have the module's faults with their first and last tokens.
 pub record IsModuleWithFaultPlaces
     (source : TextWithTokens) (tree : ModuleTree) (b : Bindings) (types : ModuleTypes)
     (places : FaultPlaces) : Type 0 where
@@ -76,10 +78,10 @@ pub record IsModuleWithFaultPlaces
   pub types_are : AreTypesOf (resolution_with (parsed_module source tree) b) types
   pub places_are : AreFaultPlacesOf source b types places
 
--- States that a previous text was a module with this tree, these bindings, this result of checking
--- its types, and faults at these places. The scan `c` of the changed text must be right about the
--- tokens that both texts share. If `c` reports that all kinds, all names or all spellings are the
--- same, it must also be right about that.
+-- States that the previous text (`old`) was a module with this tree, these bindings and this result of
+-- checking its types, and that `places` has its faults with their first and last tokens. The scan `c` of
+-- the changed text must be right about the tokens that both texts share. If `c` reports that all kinds,
+-- all names or all spellings are the same, `c` must also be right about that.
 pub record WasModuleBeforeChange
     (c : RescanInPlace) (tree : ModuleTree) (b : Bindings) (types : ModuleTypes)
     (places : FaultPlaces) : Type 0 where
@@ -95,10 +97,10 @@ pub record WasModuleBeforeChange
   pub same_words : c.same_words ≡ true
       → words_of_tokens c.rescan.tokens.text c.rescan.tokens.tokens ≡ words_of_tokens old.text old.tokens
 
--- States that a previous text was a module with this tree, these bindings, this result of checking
--- its types, and faults at these places. The tokens of the previous text must have the same
--- spelling as the tokens of `new`, and the two texts must begin alike (`AreWrittenAlike`). The tree
--- must also be the tree of `new`.
+-- States that the previous text (`old`) was a module with this tree, these bindings and this result of
+-- checking its types, and that `places` has its faults with their first and last tokens. The tokens of
+-- the previous text must have the same spellings as the tokens of `new`, and both texts must begin with a
+-- token, or neither (`AreWrittenAlike`). The tree must also be the tree of `new`.
 pub record IsModuleWithSameSpelling
     (new : TextWithTokens) (tree : ModuleTree) (b : Bindings) (types : ModuleTypes) (places : FaultPlaces)
     : Type 0 where

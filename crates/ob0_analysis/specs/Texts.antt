@@ -1,5 +1,5 @@
 -- Defines the bytes of a text that is given by its characters.
--- Rule: none; for contracts: a text as characters and as bytes.
+-- Rule: none; used in contracts about texts that are given by their characters.
 use Rattle.std.specs.Prelude.{ℕ, List, encode_utf8_all}
 
 -- returns the UTF-8 bytes of a text that is given by its characters

@@ -31,12 +31,12 @@
 //!   the parser refuses. Meanwhile the results for the earlier module are kept (`last_module.rt`).
 //!
 //! If all tokens have the same spelling (`words_of_tokens`), for example after a change of blanks,
-//! line endings or comments, everything is kept (`reanalyse_same_words`). The tree has the same
-//! names and numbers, and each fault is at the same tokens (`bindings_move_with_tokens` of
+//! line endings or comments, everything is kept (`reanalyse_same_words`). The tree has the
+//! same names and numbers, and each fault is at the same tokens (`bindings_move_with_tokens` of
 //! `ob0_scope`, `types_depend_on_tokens` of `ob0_types`). Faults are stored with spans. So the
 //! tokens of each fault are found by binary search before the scan, and the spans are computed
-//! again after it (`FaultPlaces`). A fault without tokens is at the text's start. So everything is
-//! kept only if both texts begin with a token, or neither does (`AreWrittenAlike`).
+//! again after the scan (`FaultPlaces`). A fault without tokens is at the text's start. So
+//! everything is kept only if both texts begin with a token, or neither does (`AreWrittenAlike`).
 //!
 //! If a new text has lexical faults, all results for the last text that had lexemes are kept,
 //! because a failing scan returns the old tokens (`IsRightRescanRefusal`). The next successful scan
@@ -62,8 +62,9 @@ use std::marker::Model;
 /// number of bytes.
 const MAX_SPARE_BYTES: usize = 4096;
 
-/// The analysis of a text with lexical faults: the text, its faults, and the analysis of the last
-/// text that had lexemes. `last` is None if no such analysis is kept.
+/// The analysis of a text with lexical faults: the text, its lexical faults, and the analysis of
+/// the last earlier text without lexical faults (`last`). `last` is None if no such analysis is
+/// kept.
 #[derive(Drop)]
 pub(crate) struct UnscannableText {
     text: String,
@@ -71,7 +72,8 @@ pub(crate) struct UnscannableText {
     last: Option<ScannedText>,
 }
 
-/// The result of analysing a text: its lexical faults, or the analysis of its tokens.
+/// The result of analysing a text: `Unscannable` for a text with lexical faults, otherwise `Read`
+/// with the analysis of its tokens.
 #[derive(Drop)]
 pub(crate) enum AnalysisResult {
     Unscannable(UnscannableText),
@@ -82,9 +84,9 @@ pub(crate) enum AnalysisResult {
 /// earlier results answers like one from scratch.
 pub struct Analysis {
     outcome: AnalysisResult,
-    /// The length, in bytes, of the longest earlier text with lexemes since the last analysis from
-    /// scratch, or 0 if there is none. Lists keep their capacity, so reused lists may have room for
-    /// a text of that length.
+    /// The length, in bytes, of the longest earlier text whose lists may be reused in this
+    /// analysis, or 0 if there is none. Such a text had no lexical faults. Lists keep their
+    /// capacity, so the reused lists may have room for a text of that length.
     room: usize,
 }
 
@@ -152,9 +154,9 @@ impl Analysis {
         }
     }
 
-    /// Analyses a text if the previous text had lexical faults (`ill`). Reuses the analysis of the
-    /// last text that had lexemes, if that analysis is kept. The lists of that analysis have room
-    /// for a text of `room` bytes.
+    /// Analyses a changed text (`text`). The previous text had lexical faults (`ill`). Reuses the
+    /// analysis of the last text that had lexemes, if that analysis is kept. The lists of that
+    /// analysis have room for a text of `room` bytes.
     fn analyse_after_faults(
         alloc: Global,
         ill: UnscannableText,
@@ -174,9 +176,9 @@ impl Analysis {
         }
     }
 
-    /// Analyses a text, and reuses the analysis `read` of a text that has lexemes. The lists of
-    /// `read` have room for a text of `room` bytes. If `room` is much more than the new text needs,
-    /// `read` is dropped, because reused lists keep their capacity.
+    /// Analyses a changed text (`text`), and reuses the analysis `read` of an earlier text, which
+    /// has lexemes. The lists of `read` have room for a text of `room` bytes. If `room` is much
+    /// more than `text` needs, `read` is dropped, because reused lists keep their capacity.
     fn analyse_after_scanned(
         alloc: Global,
         read: ScannedText,

@@ -6,8 +6,8 @@
 //!
 //! A question is a struct with `impl Question`. The impl has the type `Answer` of the answers, the
 //! function `answer`, and a ghost member `answers = { λ question names answer. .. }`, which is the
-//! contract of `answer`. If the contract is about the characters `content` of the text, `answers`
-//! is an implication with two conditions: `IsResolvedWellTypedModule (utf8 content) names` and
+//! contract of `answer`. A contract about the characters of the text (`content`) is an implication
+//! with two conditions: `IsResolvedWellTypedModule (utf8 content) names` and
 //! `content ≡ chars names.module_read.source.text`. If a question can be asked about only one text,
 //! the ghost member `is_about` states which text, and callers of `ask` must prove it.
 
@@ -30,7 +30,7 @@ pub trait Question {
     /// default, there is none.
     ghost is_about: { Self → List ℕ → Type 0 } = { λ _ _. ⊤ };
 
-    /// The relation between a question, a module, and a right answer to the question.
+    /// States that an answer (the last argument) is right for a question about a well-typed module.
     ghost answers: { Self → Resolution → Self.Answer → Type 0 };
 
     /// Answers the question about this module. Fails only if an allocation fails.

@@ -1,5 +1,5 @@
-//! Makes the diagnoses of a text: a code, a message and a range for each fault or for the parser's
-//! refusal.
+//! Makes the diagnoses of a text, each with a code, a message and a range of bytes. A text has a
+//! diagnosis for each fault, or only one diagnosis for the parser's refusal.
 
 ghost use Rattle.std.specs.Prelude.{◌≡◌, IfOk, map};
 ghost use Rattle.ob0_analysis.specs.Diagnosed.{ReportsRefusal, reported_diagnosis_of, reported_diagnosis_of_fault, syntax_error as expected_at, depth_error as too_deep_at, token_span_or_end as span_or_end};
@@ -8,7 +8,8 @@ use ob0_parse_descent::ParseRefusal;
 use ob0_scan::{Fault, Span, Tokens};
 use std::alloc::{AllocError, Global};
 
-/// An error of a text: the name of its code, a message, and the range of its bytes.
+/// An error of a text: the name of its code, a message, and the range of bytes at which it is
+/// reported.
 #[derive(Drop)]
 pub struct Diagnosis {
     pub code: &'static str,
@@ -16,7 +17,8 @@ pub struct Diagnosis {
     pub span: Span,
 }
 
-/// Returns a diagnosis for each of these faults of lexemes, names or types, in the same order.
+/// Returns a diagnosis for each of `faults` (faults of lexemes, or of names and types), in the same
+/// order.
 pub fn diagnoses_of_faults(alloc: Global, faults: &[Fault]) -> Result<Vec<Diagnosis>, AllocError>
     ensures { IfOk result (λ list. map reported_diagnosis_of list.items ≡ map reported_diagnosis_of_fault faults.now) }
 {

@@ -45,8 +45,8 @@ fn common_prefix_length(a: &[u8], b: &[u8]) -> usize
     extend_prefix(a, b, known, 1)
 }
 
-/// Extends the common prefix of two texts, whose first `known` bytes are equal, by as many equal
-/// pieces of `size` bytes as possible. Returns the length of the extended prefix, in bytes.
+/// Extends a common prefix of two texts, which has `known` bytes, by as many equal pieces of `size`
+/// bytes as possible. Returns the length of the extended prefix, in bytes.
 fn extend_prefix(a: &[u8], b: &[u8], known: usize, size: usize) -> usize
     requires some { 0 < size }
     requires in_a { known ≤ length a.now }
@@ -77,9 +77,8 @@ fn common_suffix_length(a: &[u8], b: &[u8], start: usize) -> usize
     extend_suffix(a, b, most, known, 1)
 }
 
-/// Extends the common suffix of two texts, whose last `known` bytes are equal, by as many equal
-/// pieces of `size` bytes as possible. Returns the length of the extended suffix, which is at most
-/// `most` bytes.
+/// Extends a common suffix of two texts, which has `known` bytes, by as many equal pieces of `size`
+/// bytes as possible. Returns the length of the extended suffix, which has at most `most` bytes.
 fn extend_suffix(a: &[u8], b: &[u8], most: usize, known: usize, size: usize) -> usize
     requires some { 0 < size }
     requires in_a { most ≤ length a.now }

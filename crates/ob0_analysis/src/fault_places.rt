@@ -1,5 +1,6 @@
-//! Keeps the tokens at which a module has faults. After a change that keeps the spelling of all
-//! tokens, the spans of the faults in the new text are computed from these tokens.
+//! Keeps each fault of a module with the indexes of its first and last token instead of its span.
+//! After a change that keeps the spelling of all tokens, the faults' spans in the new text are
+//! computed from these tokens.
 
 ghost use Rattle.std.specs.Prelude.{◌≡◌, ◌==◌, true, IfOk, map};
 ghost use Rattle.ob0_scope_table.specs.FaultTokens.{fault_at, first_token_start};
@@ -10,8 +11,9 @@ use ob0_scope_table::{Bindings, FaultByTokens, faults_at_tokens, faults_by_token
 use ob0_types::ModuleTypes;
 use std::alloc::{AllocError, Global};
 
-/// The tokens at which a module has faults of names and of types. `starts_with_token` is true if
-/// the text begins with a token or has no tokens.
+/// The faults of a module's names (`names`) and types (`types`), each with the indexes of its first
+/// and last token instead of its span. `starts_with_token` is true if the module's text begins with
+/// a token or has no tokens.
 #[derive(Drop)]
 pub(crate) struct FaultPlaces {
     pub(crate) names: Vec<FaultByTokens>,
@@ -20,7 +22,8 @@ pub(crate) struct FaultPlaces {
 }
 
 impl FaultPlaces {
-    /// Returns the tokens at which a module has faults of names and of types.
+    /// Returns the faults of a module's names and types, each with the indexes of its first and
+    /// last token instead of its span.
     pub(crate) fn from_faults(
         alloc: Global,
         tokens: &Tokens,

@@ -1,5 +1,5 @@
-//! Keeps the names and types of the last text that was a module, while the parser refuses the texts
-//! after it.
+//! Keeps the names and types of the last text that was a module, while the parser refuses the
+//! changed texts.
 //!
 //! After most keystrokes in an unfinished statement the text has no tree. Meanwhile the names and
 //! types of the earlier module are kept, as long as all differences from that module lie in one
@@ -7,9 +7,10 @@
 //! block. When the text has a tree again, only that body is bound and checked
 //! (`reuse_last_module`).
 //!
-//! The earlier module's tree isn't kept when the parser refuses the next text, so the body can't be
-//! found again later. After that, the whole body counts as different (`widen_to_body`), and any
-//! further change must lie in the same body (`keep_optional_across_change`).
+//! The earlier module's tree isn't kept while the parser refuses the texts, so the body that
+//! contains the differences can't be found again. So the whole body counts as different
+//! (`widen_to_body`), and each further change must lie in the same body
+//! (`keep_optional_across_change`).
 
 ghost use Rattle.std.specs.Prelude.{◌≡◌, ◌≤◌, IfSome, Some};
 ghost use Rattle.ob0_analysis.specs.LastModule.{IsEarlierModule, WidensDifference, KeepsLastModule, IsLastModuleOf};
@@ -20,8 +21,8 @@ use ob0_tree::ModuleTree;
 use ob0_types::ModuleTypes;
 
 /// The names and types of the last text that was a module. `same` describes the tokens that the
-/// current text certainly shares with that module. `place` is the place, in that module, of the
-/// body that contains all other tokens (the differences).
+/// current text certainly shares with that module. All other tokens of that module lie in one body:
+/// `place` has the tokens of this body's first identifier and of its block's closing name.
 #[derive(Drop)]
 pub(crate) struct LastModule {
     pub(crate) bindings: Bindings,

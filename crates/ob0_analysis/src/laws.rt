@@ -1,4 +1,5 @@
-//! States a law about the errors of a text, for the proofs of other crates.
+//! States the law that the parser's refusal of a text is reported in only one way. With this law,
+//! `ob0_world_determined` proves that a text determines its diagnoses.
 
 ghost use Rattle.ob0_analysis.specs.Diagnosed.{RefusalIsUnique};
 

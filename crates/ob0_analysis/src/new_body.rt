@@ -1,5 +1,5 @@
-//! Binds names and checks types of a text in which the statements of one body were replaced.
-//! Outside this body, the names and types of the last module are reused.
+//! Binds names and checks types of a module that differs from an earlier module only in the
+//! statements of one body. Outside this body, the names and types of the earlier module are reused.
 
 ghost use Rattle.std.specs.Prelude.{◌≡◌, true, IfOk};
 ghost use Rattle.ob0_tree.specs.ParsedModule.{IsParsed, parsed_module};
@@ -20,9 +20,10 @@ use ob0_tree::{Module, ModuleTree};
 use ob0_types::{ModuleTypes, types_with_new_body};
 use std::alloc::{AllocError, Global};
 
-/// Analyses a module, and reuses names and types of the last module if possible. If all tokens that
-/// may differ lie in one body of both modules, only that body is bound and checked again. Otherwise
-/// the whole module is bound and checked.
+/// Analyses a module, given its tokens and tree, and reuses names and types of an earlier module
+/// (`last`) if possible. If all tokens that may differ lie in one body of both modules, only that
+/// body's names are bound and its types checked. Otherwise all names are bound and all types are
+/// checked.
 pub(crate) fn reuse_last_module(
     alloc: Global,
     tokens: Tokens,
@@ -73,8 +74,8 @@ fn is_same_body(was: BodyPlace, now: Option<BodyPlace>, same: SameParts) -> bool
     place.closing - same.new_suffix == was.closing - same.old_suffix
 }
 
-/// Binds the names of the replaced body again and reuses all other bindings. Fails only if an
-/// allocation fails.
+/// Binds the names of the body that contains all differences from the earlier module (`same`).
+/// Reuses the earlier module's other bindings (`bindings`). Fails only if an allocation fails.
 fn bind_new_body(
     alloc: Global,
     tokens: &Tokens,
@@ -90,7 +91,8 @@ fn bind_new_body(
     rebind_new_body(alloc, &read, bindings, same)
 }
 
-/// Checks the types of the replaced body again and reuses the results for all other bodies.
+/// Checks the types of the body that contains all differences from the earlier module (`same`).
+/// Reuses the earlier module's other types (`types`). Fails only if an allocation fails.
 fn check_new_body(
     alloc: Global,
     tokens: &Tokens,

@@ -29,8 +29,9 @@ pub(crate) fn differs_in_one_body(tokens: &Tokens, tree: &ModuleTree, same: Same
     is_in_body(&read, same.prefix, same.old_suffix)
 }
 
-/// Binds the names of a text that has the same tree as the previous text. If the texts differ in
-/// only one body (`in_body`), only that body's names are bound again.
+/// Binds the names of a text that has the same tree as the previous text. `bindings` are the
+/// bindings of the previous text. If the texts differ in only one body (`in_body`), only that
+/// body's names are bound again. Otherwise all names are bound again.
 pub(crate) fn rebind_names(
     alloc: Global,
     tokens: &Tokens,
@@ -53,8 +54,9 @@ pub(crate) fn rebind_names(
     }
 }
 
-/// Checks the types of a text that has the same tree as the previous text. If the texts differ in
-/// only one body (`in_body`), the previous types outside this body are reused.
+/// Checks the types of a text that has the same tree as the previous text. `types` are the types of
+/// the previous text. If the texts differ in only one body (`in_body`), the types outside this body
+/// are reused. Otherwise all types are checked again.
 pub(crate) fn recheck_types(
     alloc: Global,
     tokens: &Tokens,

@@ -40,9 +40,9 @@ use std::alloc::{AllocError, Global};
 use std::marker::Model;
 
 /// A text without lexical faults that the parser refuses: its tokens and the refusal. `kept` has
-/// the trees of procedures that the next parse can reuse. `last` has the names and types of the
-/// last text that was a module. `last` is None if there was no such text, or if the differences
-/// from that text aren't known to lie in one body.
+/// the trees of procedures and of the module's body that the next parse can reuse. `last` has the
+/// names and types of the last text that was a module. `last` is None if there was no such text, or
+/// if the differences from that text aren't known to lie in one body.
 #[derive(Drop)]
 pub(crate) struct UnparsableText {
     tokens: Tokens,
@@ -93,8 +93,8 @@ impl From<AllocError> for ReanalysisFailure {
 }
 
 impl ScannedText {
-    /// Parses and analyses a text, given its tokens. The procedures in `kept` and the names and
-    /// types in `last` come from earlier texts and are reused if possible.
+    /// Parses and analyses a text, given its tokens. The trees in `kept` and the names and types in
+    /// `last` come from earlier texts and are reused if possible.
     pub(crate) fn parse_tokens(
         alloc: Global,
         tokens: Tokens,
@@ -120,8 +120,9 @@ impl ScannedText {
         }
     }
 
-    /// Binds the names and checks the types of a text that has this tree. If `last` is Some, the
-    /// names and types of the last module are reused if possible.
+    /// Binds the names and checks the types of a text that has the tree `tree`. If there is an
+    /// earlier module (`last`) and the two modules differ in only one body, its names and types
+    /// outside this body are reused.
     fn analyse_tree(
         alloc: Global,
         tokens: Tokens,
@@ -149,7 +150,7 @@ impl ScannedText {
     }
 
     /// Analyses a changed text. These results for the previous text are reused:
-    /// - always the tokens and procedures that both texts have in common;
+    /// - always the tokens, and the trees of procedures, that both texts have in common;
     /// - if all tokens have the same kinds as before, the tree or the parser's refusal;
     /// - if also all identifiers have the same spelling and no name has a fault, the bindings;
     /// - if all differences lie in one body, the bindings and types outside this body;
@@ -172,7 +173,7 @@ impl ScannedText {
         }
     }
 
-    /// Scans and analyses a changed text if the parser refused the previous text.
+    /// Scans and analyses the changed text `text`. The parser refused the previous text (`ill`).
     fn analyse_after_refusal(
         alloc: Global,
         ill: UnparsableText,
@@ -225,9 +226,10 @@ impl ScannedText {
         }
     }
 
-    /// Analyses a changed text that was scanned, if the parser refused the previous text. If all
-    /// tokens have the same kinds as before, the refusal is kept. Otherwise the text is parsed, and
-    /// the kept procedures and the names and types of the last module are reused if possible.
+    /// Analyses a changed text, given its scan (`changed`). The parser refused the previous text.
+    /// If all tokens have the same kinds as before, the refusal is kept. Otherwise the text is
+    /// parsed, and the kept trees (`kept`) and the names and types of the last module (`last`) are
+    /// reused if possible.
     fn reanalyse_refused(
         alloc: Global,
         changed: RescanInPlace,
@@ -262,7 +264,7 @@ impl ScannedText {
         })
     }
 
-    /// Scans and analyses a changed text if the previous text was a module.
+    /// Scans and analyses the changed text `text`. The previous text was a module (`old`).
     fn analyse_after_module(
         alloc: Global,
         old: ModuleParts,
@@ -306,9 +308,9 @@ impl ScannedText {
         }
     }
 
-    /// Analyses a changed text that was scanned. The previous text was a module, and `places` has
-    /// the tokens of its faults. If all tokens have the same kinds as before, the tree is kept. The
-    /// bindings and types are reused if possible.
+    /// Analyses a changed text, given its scan (`changed`). The previous text was a module with the
+    /// tree `tree`, and `places` has the tokens of its faults. If all tokens have the same kinds as
+    /// before, the tree is kept. The bindings and types are reused if possible.
     fn reanalyse_module(
         alloc: Global,
         changed: RescanInPlace,
@@ -362,9 +364,10 @@ impl ScannedText {
         ScannedText::parse_tokens(alloc, tokens, kept, last)
     }
 
-    /// Analyses a text with the same tree as the previous text. If the identifiers have the same
-    /// spelling (`same_names`) and no name has a fault, the bindings are kept. Otherwise names are
-    /// bound again, because their bindings or the spans of their faults may have changed.
+    /// Analyses a text that has the same tree as the previous text. If the identifiers have the
+    /// same spellings as before (`same_names`) and no name has a fault, the bindings are kept.
+    /// Otherwise names are bound again, because their bindings or the spans of their faults may
+    /// have changed.
     fn reanalyse_same_tree(
         alloc: Global,
         tokens: Tokens,
@@ -391,8 +394,9 @@ impl ScannedText {
         ScannedText::reanalyse_with_bindings(alloc, tokens, tree, names, types, same, in_body)
     }
 
-    /// Checks the types of a text that has the previous tree and these bindings. If the texts
-    /// differ in only one body (`in_body`), the previous types outside this body are reused.
+    /// Analyses a text, given its tree and its bindings. The tree is also the previous text's tree,
+    /// and `types` are the previous text's types. If the texts differ in only one body (`in_body`),
+    /// the types outside this body are reused. Otherwise all types are checked again.
     fn reanalyse_with_bindings(
         alloc: Global,
         tokens: Tokens,
@@ -413,9 +417,9 @@ impl ScannedText {
         Ok(ScannedText::from_module(parts))
     }
 
-    /// Analyses a text whose tokens have the same spelling as the previous text's. The tree,
-    /// bindings and types are kept. Only the spans of the faults are computed again, from the same
-    /// tokens (`places`) in the changed text.
+    /// Analyses a changed text whose tokens have the same spellings as the previous text's tokens.
+    /// The tree, bindings and types are kept. Only the spans of the faults are computed again, from
+    /// each fault's first and last token (`places`) in the changed text.
     fn reanalyse_same_words(
         alloc: Global,
         tokens: Tokens,
@@ -477,8 +481,8 @@ impl ScannedText {
     }
 }
 
-/// Scans a changed text, and reuses the tokens of the old text outside the change. If the new text
-/// has lexical faults, the error has these faults and the old tokens.
+/// Scans the changed text `text`, and reuses the tokens of the old text (`old`) outside the change.
+/// If the changed text has lexical faults, the error has these faults and the old tokens.
 fn rescan_text(alloc: Global, old: Tokens, text: &str) -> Result<RescanInPlace, RescanRefusal>
     ensures ok { IfOk result (λ r. IsScanOf text.now r.rescan.tokens) }
     ensures same { IfOk result (λ r. HasSameKinds r.same old.tokens r.rescan.tokens.tokens) }

@@ -14,13 +14,13 @@ use Rattle.ob0_cli.specs.declared.line.CommandLine.TheVariants.{Serve, Check, Ru
 use Rattle.ob0_cli.specs.declared.line.CommandFault.{CommandFault}
 use Rattle.ob0_cli.specs.declared.line.CommandFault.TheVariants.{Refused, Memory}
 
--- The subcommand that clap found: its name and the values of its arguments. None means that no
--- subcommand was found.
+-- The subcommand that clap found in a command line: its name and the values of its arguments. None
+-- means that there is no subcommand.
 abbrev pub FoundSubcommand : Type 0
 FoundSubcommand = Option (Text × List Row)
 
--- States that the value of the argument `id` is the number `n`. The value was given or is the
--- default.
+-- States that the value of the argument `id` is the number `n`. `rows` has the values that clap
+-- found: from the command line, or else the defaults.
 abbrev pub HasNumberValue : Text → List Row → ℕ → Type 0
 HasNumberValue id rows n =
     (digits : Text)
@@ -28,7 +28,8 @@ HasNumberValue id rows n =
     × (n ≡ digits_value 10 (without_leading_plus digits))
 
 -- States that the command belongs to the subcommand with this name, and has the values that clap
--- found for its arguments.
+-- found for the subcommand's arguments (`rows`). The numbers `calls` and `turns` are within their
+-- limits.
 abbrev pub HasFoundValues : Text → List Row → CommandLine → Type 0
 HasFoundValues name rows Serve = name ≡ codes "serve"
 HasFoundValues name rows (Check file) =
@@ -74,7 +75,7 @@ RefusesWords words Memory = Unit {0}
 
 -- ---- the values that clap finds for the arguments of a subcommand, and their kinds
 
--- States that the argument `id` has a value, which is a text.
+-- States that clap found a value for the argument `id`, and that the value is a text.
 abbrev pub HasTextValue : Text → List Row → Type 0
 HasTextValue id rows = (text : Text) × (first_of id rows ≡ Some text)
 
@@ -83,16 +84,15 @@ HasTextValue id rows = (text : Text) × (first_of id rows ≡ Some text)
 abbrev pub max_option_value : Text → ℕ
 max_option_value id = if bytes_eq id (codes "calls") then max_calls else max_turns
 
--- States that the value of the option is a number from 0 to the greatest number that the option
--- accepts.
+-- States that the value of the option `id` is a number from 0 to the greatest number that the
+-- option accepts (`max_option_value`).
 abbrev pub HasBoundedValue : Text → List Row → Type 0
 HasBoundedValue id rows =
     (text : Text)
     × (one_of id rows ≡ Some (without_minus text))
     × IsSignedIn (pos 0) (pos (max_option_value id)) text
 
--- States that the value of the argument is an unsigned number of 64 bits, such as a line or a
--- column.
+-- States that the value of the argument `id` (a line or a column) is an unsigned number of 64 bits.
 abbrev pub HasCoordinateValue : Text → List Row → Type 0
 HasCoordinateValue id rows =
     (text : Text) × (one_of id rows ≡ Some text) × IsUnsignedIn 0 18446744073709551615 text

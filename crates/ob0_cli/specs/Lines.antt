@@ -5,8 +5,8 @@ use Rattle.clap.specs.Words.{App, Rule, Text, new_app, new_rule, with_rule, with
 use Rattle.clap.specs.declared.builder.ArgAction.TheVariants.{Set, SetTrue}
 use Rattle.clap.specs.declared.builder.value_parser.ValueParser.TheVariants.{Signed, Unsigned}
 
--- Returns clap's rule for a required argument whose value is a word. The help shows one name for
--- the value.
+-- Returns clap's rule for the required argument `id`, whose value is any word of the command line.
+-- The help shows the value under one name, such as FILE.
 abbrev pub word_rule : Text → Rule
 word_rule id = record (new_rule id) { action = Some Set; value_names = 1; required = true }
 
@@ -54,8 +54,8 @@ abbrev pub client_rule : Rule
 client_rule =
     record (new_rule (codes "client")) { long = Some (codes "clientProcessId"); value_names = 1 }
 
--- The subcommand `serve` without its options. Each option may be given several times, because a
--- client may add an option that the user has already given.
+-- The subcommand `serve` without its options. On a command line, each option may occur several
+-- times, because a client may add an option that the user has also written.
 abbrev pub serve_without_options : App
 serve_without_options =
     record (new_app (codes "serve"))

@@ -278,8 +278,8 @@ fn coordinate_value_of(given: &ArgMatches<'_>, id: &str) -> u64
     }
 }
 
-/// Makes clap's definition of `ob0`, which has four subcommands. One of them must be given. clap
-/// also adds `help`.
+/// Makes clap's definition of `ob0`, which has four subcommands. A command line must have one of
+/// them. clap also adds the subcommand `help`.
 fn ob0_definition<'a>(alloc: Global) -> Result<Command<'a>, AllocError>
     ensures { IfOk result (λ c. app_of c ≡ ob0_app) }
 {
@@ -293,8 +293,8 @@ fn ob0_definition<'a>(alloc: Global) -> Result<Command<'a>, AllocError>
 }
 
 /// Adds the subcommand `below` to the command `above`. If one of them is an error (out of memory),
-/// returns that error. The other one is then dropped in this function, so that no other proof has
-/// to cover the drop.
+/// returns that error. In that case the other command is dropped here, so that no other function's
+/// proof has to cover the drop.
 fn add_subcommand<'a>(
     above: Result<Command<'a>, AllocError>,
     below: Result<Command<'a>, AllocError>,
@@ -353,7 +353,8 @@ fn serve_definition<'a>(alloc: Global) -> Result<Command<'a>, AllocError>
     add_argument(with_stdio, client_argument(alloc))
 }
 
-/// Makes the subcommand `serve` without its options. Each option may be given several times.
+/// Makes the subcommand `serve` without its options. On a command line, each option may occur
+/// several times.
 fn serve_without_options<'a>(alloc: Global) -> Command<'a>
     ensures { app_of result ≡ serve_lines_alone }
 {

@@ -34,7 +34,8 @@ ChecksFile contents is_flushed has_failed before after IsPrintedOnStderr file st
 
 -- States that `run` ends with this status. With status 0 or 1, a run of the file's module on the
 -- numbers of the input is printed, or the file's errors are printed (`RunEndsWithoutFault`). With
--- any other status, a fault ended the command (`EndsByFault`).
+-- any other status, a fault ended the command (`EndsByFault`). At most `c` calls are open at a time
+-- in the run, and each execution of a loop has at most `t` iterations.
 abbrev pub RunsFile : {O I : Type 0}
     → (contents : O → Option (List ℕ))
     → (is_flushed has_failed : O → Bool)
@@ -76,10 +77,10 @@ RenamesInFile contents is_flushed has_failed before after IsPrintedOnStderr file
     status
     ⊎ EndsByFault has_failed before after file (StopsCommandOnFile file) IsPrintedOnStderr status
 
--- States that the command of this command line ends with this status, as `ChecksFile`, `RunsFile`
--- or `RenamesInFile` says. `input` and `input_after` are the input before and after the call. Only `run`
--- reads from the input: at most one byte over the limit `max_input`, and nothing if the file isn't a
--- well-typed module. Never holds for `serve`, which isn't a command on a file.
+-- States that the command of this command line ends with this status and has the effect that `ChecksFile`, `RunsFile`
+-- or `RenamesInFile` describes. `input` and `input_after` are the input before and after the call. Only `run` reads
+-- from the input: at most one byte over the limit `max_input`, and nothing if the file isn't a well-typed module. Never
+-- holds for `serve`, which isn't a command on a file.
 abbrev pub PerformsOnFile : {O I : Type 0}
     → (contents : O → Option (List ℕ))
     → (is_flushed has_failed : O → Bool)

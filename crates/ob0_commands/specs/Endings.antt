@@ -21,9 +21,9 @@ pub record EndsWithoutFault (Good Other Both : Type 0) (status : ℕ) : Type 0 w
   pub other : status ≡ 1 → Other
   pub both : Both
 
--- States that a fault ends the command. `Stops` holds for the fault, the command's status is the
--- fault's status, and the fault's line is printed on standard error (`IsPrintedOnStderr`). The output is
--- unchanged, unless the fault is `Write`. The fault is `Memory` only if the file isn't too long.
+-- States that a fault ends the command. `Stops` holds for the fault, the command's status is the fault's status, and
+-- the fault's line is printed on standard error (`IsPrintedOnStderr`). If the fault is `Write`, the output has failed.
+-- With any other fault, the output is unchanged. The fault is `Memory` only if the file isn't too long.
 pub record EndsByFault {O : Type 0} (has_failed : O → Bool) (before after : O) (file : List ℕ)
     (Stops : FileFault → Type 0) (IsPrintedOnStderr : Option (List ℕ) → Type 0) (status : ℕ) : Type 0 where
   pub ending_fault : FileFault

@@ -1,5 +1,5 @@
 -- Defines the parts of a `TrackedReader`, and a bound on the bytes that are read from a reader.
--- Rule: none; for the contracts of functions that read from an `Input`.
+-- Rule: none; used in the contracts of functions that read from an `Input`.
 use Rattle.std.specs.Prelude.{◌≤◌, ℕ, List, Option, Bool, length}
 use Rattle.std.specs.Io.KnownBytes.{Consumes}
 use Rattle.ob0_commands.specs.declared.reading.TrackedReader.{TrackedReader}

@@ -39,7 +39,7 @@ IsListOfNumbers text = (ns : List ℤ) × SpellsNumbers text ns
 abbrev pub max_input : ℕ
 max_input = 16777216
 
--- States that the text of an input spells these numbers and has at most 16,777,216 bytes.
+-- States that the text of an input spells the numbers `ns`, and has at most 16,777,216 bytes.
 pub record IsInputOf (ns : List ℤ) (text : List ℕ) : Type 0 where
   pub short : length text ≤ max_input
   pub writes : SpellsNumbers text ns
@@ -48,7 +48,7 @@ pub record IsInputOf (ns : List ℤ) (text : List ℕ) : Type 0 where
 abbrev pub IsInvalidInput : List ℕ → Type 0
 IsInvalidInput text = ¬ ((ns : List ℤ) × IsInputOf ns text)
 
--- States that an input can't be used: its reader has failed, or its bytes aren't a valid input. If
--- the bytes aren't known (None), only a failed reader counts.
+-- States that an input can't be used: its reader has failed (`failed`), or its bytes (`given`)
+-- aren't a valid input. If the bytes aren't known (None), only a failed reader counts.
 abbrev pub IsUnusableInput : Option (List ℕ) → Bool → Type 0
 IsUnusableInput given failed = (failed ≡ true) ⊎ IfSome given IsInvalidInput

@@ -53,11 +53,12 @@ abbrev pub all_diagnosis_lines : List ℕ → List ReportedDiagnosis → List �
 all_diagnosis_lines text [] = []
 all_diagnosis_lines text (c ∷ cs) = diagnosis_line text c ++ all_diagnosis_lines text cs
 
--- The diagnostic of a text that is too long.
+-- The diagnostic `TooLong` of a text that is too long. Its span is empty and lies at the start of
+-- the text.
 abbrev pub too_long_diagnosis : ReportedDiagnosis
 too_long_diagnosis = reported_diagnosis_of_fault (record { code = TooLong; span = record { start = 0; end = 0 } })
 
--- The line that reports a text that is too long.
+-- The line that reports that a text is too long: `0:0: TooLong: text too long` and a line feed.
 abbrev pub too_long_line : List ℕ
 too_long_line = diagnosis_line_at (record { line = 0; character = 0 }) too_long_diagnosis
 

@@ -18,8 +18,9 @@ use Rattle.ob0_commands.specs.Printed.{PrintsDiagnostics}
 use Rattle.ob0_commands.specs.StderrLines.{refusal_line}
 use Rattle.ob0_commands.specs.Statuses.{IsTextFile}
 
--- States that the edits can be applied to the text, and that the edited text is printed in UTF-8.
--- If the output's bytes aren't known, nothing is stated about them.
+-- States that the edits can be applied to the text `content`, with positions in this unit, and that
+-- the edited text is printed in UTF-8. If the output's bytes aren't known, nothing is stated about
+-- them.
 pub record PrintsPatched (unit : Unit) (content : List ℕ) (edits : List Edit)
     (before after : Option (List ℕ)) : Type 0 where
   pub text : List ℕ
@@ -27,8 +28,8 @@ pub record PrintsPatched (unit : Unit) (content : List ℕ) (edits : List Edit)
   pub made : patched (width_of unit) content edits ≡ Some (chars text)
   pub printed : Appends before after text
 
--- States that the result is a list of edits that can be applied to the text, and that the edited
--- text is printed. A refusal never satisfies this.
+-- States that the third argument is `Ok` with edits that can be applied to the text `content`, and
+-- that the edited text is printed. A refusal (`Err`) never satisfies this.
 abbrev pub PrintsEditedText : Unit
     → List ℕ
     → Result (Vec Edit Global) EditRefusal
@@ -39,8 +40,8 @@ PrintsEditedText unit content (Ok edits) before after =
     PrintsPatched unit content edits.items before after
 PrintsEditedText unit content (Err refusal) before after = ⊥
 
--- States that the result is a refusal whose line is printed on standard error. A list of edits
--- never satisfies this.
+-- States that the first argument is a refusal (`Err`), and that its line is printed on standard
+-- error. A list of edits (`Ok`) never satisfies this.
 abbrev pub PrintsRefusal : Result (Vec Edit Global) EditRefusal
     → (Option (List ℕ) → Type 0)
     → Type 0

@@ -51,8 +51,8 @@ PrintsNothingUnlessWriteFault before after f = f ≢ fault.Write → after ≡ b
 abbrev pub IsFaultOrMemory : (name : FileFault) → (reason otherwise : Type 0) → FileFault → Type 0
 IsFaultOrMemory name reason otherwise f = ((f ≡ name) × reason) ⊎ ((f ≡ fault.Memory) × otherwise)
 
--- Returns the exit status for the end of a run: 0 if the run reaches the end of the module's body,
--- otherwise 1.
+-- Returns the exit status for this end of a run: 0 for `Done`, and 1 for a fault or an exceeded
+-- bound.
 abbrev pub run_end_status : End → ℕ
 run_end_status end.Done = 0
 run_end_status end.Overflow = 1
@@ -62,17 +62,18 @@ run_end_status end.InputEnd = 1
 run_end_status end.CallBound = 1
 run_end_status end.TurnBound = 1
 
--- States that the output's failure matches the fault. `before` and `after` say whether the output
--- has failed, before and after the call. If the fault is `Write`, the output has failed. For any
--- other fault, the call didn't change whether the output has failed.
+-- States how a command's fault determines whether the output has failed. `before` and `after` say
+-- whether the output has failed, before and after the call. If the fault is `Write`, `after` is
+-- true. For any other fault, `after` equals `before`.
 abbrev pub OutputFailureMatches : (before after : Bool) → FileFault → Type 0
 OutputFailureMatches before after f =
     (f ≡ fault.Write → after ≡ true) × (f ≢ fault.Write → after ≡ before)
 
 -- ---- the faults that stop `run`
 
--- States that the file is a well-typed module, but that there are no numbers to run it on. The
--- input has failed, is too long, or isn't a list of numbers.
+-- States that the file is a well-typed module, but that there are no numbers to run it on: the
+-- input has failed (`input_failed`), or its bytes (`given`) are too long or aren't a list of
+-- numbers.
 abbrev pub ModuleLacksInput : List ℕ → Option (List ℕ) → (input_failed : Bool) → Type 0
 ModuleLacksInput file given input_failed = IsWellTypedModule file × IsUnusableInput given input_failed
 

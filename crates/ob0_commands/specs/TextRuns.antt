@@ -42,8 +42,8 @@ pub record PrintsRun (file : List ℕ) (given : Option (List ℕ)) (c t : ℕ)
   pub runs : TextRunsAs file input c t r
   pub printed : Appends before after (output_text r.output)
 
--- States that the output of a run is printed, and that the run reaches the end of the module's
--- body.
+-- States that the output of a run of the file's module is printed (`PrintsRun`), and that the run
+-- reaches the end of the module's body.
 abbrev pub PrintsCompleteRun : List ℕ
     → Option (List ℕ)
     → ℕ
@@ -54,8 +54,9 @@ abbrev pub PrintsCompleteRun : List ℕ
 PrintsCompleteRun file given c t before after =
     (r : Run) × PrintsRun file given c t before after r × (r.ending ≡ meaning_of_end end.Done)
 
--- States that a run has an end other than `Done` and that its output is printed. The line that
--- reports this end is printed on standard error.
+-- States that the run `r` of the file's module ends with a fault or at a bound (any end except
+-- `Done`), and that its output is printed. The line that reports this end is printed on standard
+-- error.
 pub record PrintsStoppedRun (file : List ℕ) (given : Option (List ℕ)) (c t : ℕ)
     (before after : Option (List ℕ)) (IsPrintedOnStderr : Option (List ℕ) → Type 0) : Type 0 where
   pub r : Run
@@ -66,7 +67,7 @@ pub record PrintsStoppedRun (file : List ℕ) (given : Option (List ℕ)) (c t :
   pub said : IsPrintedOnStderr (run_end_line last)
 
 -- States that one of two cases applies. Either the file's errors are printed, and nothing is
--- printed on standard error. Or a run with an end other than `Done` is printed
+-- printed on standard error. Or the output of a run that ends with a fault or at a bound is printed
 -- (`PrintsStoppedRun`).
 abbrev pub PrintsErrorsOrStoppedRun : List ℕ
     → Option (List ℕ)
@@ -82,8 +83,8 @@ PrintsErrorsOrStoppedRun file given c t before after IsPrintedOnStderr =
 
 -- States that `run` ends with this status and that no fault stops it. With status 0, the output of
 -- a run to the end of the module's body is printed, and nothing is printed on standard error. With
--- status 1, the output of a run with another end is printed, or the file's errors. All output is
--- flushed. With either status, `Both` holds.
+-- status 1, the output of a run with any other end is printed, or the file's errors are printed.
+-- All output is flushed. With either status, `Both` holds.
 abbrev pub RunEndsWithoutFault : {O : Type 0}
     → (contents : O → Option (List ℕ))
     → (is_flushed : O → Bool)

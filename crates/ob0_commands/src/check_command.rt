@@ -26,8 +26,8 @@ use std::mem::ManuallyDrop;
 /// the program's exit status. `L:C` is the diagnostic's start, in lines and UTF-16 units counted
 /// from 0. `file` holds all bytes of the file, or the first 1,048,577 if the file has more. The
 /// status is 0 if there are no diagnostics and 1 if there are some. If the bytes aren't UTF-8 or a
-/// write fails, the status is 4. If an allocation fails, it is 5. With 4 or 5 the line `fault:
-/// NAME` is printed to `err`.
+/// write fails, the status is 4. If an allocation fails, it is 5. With status 4 or 5, the line
+/// `fault: NAME` is printed to `err`.
 pub fn check_text<O: Output, E: Output>(alloc: Global, file: &[u8], out: &mut O, err: &mut E) -> u8
     ensures { ChecksFile O.contents O.is_flushed O.has_failed out.old out.new
         (PrintsLine E.contents E.is_flushed E.has_failed err.old err.new) file.now result }
@@ -41,7 +41,7 @@ pub fn check_text<O: Output, E: Output>(alloc: Global, file: &[u8], out: &mut O,
 
 /// Returns the text of a file that has no diagnostics. Otherwise prints the diagnostics, flushes
 /// and returns None. A file that has more bytes than a text may have gets only one diagnostic: it
-/// is too long.
+/// is too long. If the bytes of any other file aren't UTF-8, the fault is `Utf8`.
 pub fn check_file<'f, O: Output>(
     alloc: Global,
     file: &'f [u8],
@@ -87,8 +87,8 @@ pub fn analyse(alloc: Global, text: &str) -> Result<ManuallyDrop<Analysis>, Allo
     Ok(ManuallyDrop::new(analysis))
 }
 
-/// Returns the text of a file. If the file is too long, prints the diagnostic for that, flushes and
-/// returns None. If the bytes aren't UTF-8, the fault is `Utf8`.
+/// Returns the text of a file. If the file is too long, prints a diagnostic that says so, flushes
+/// and returns None. If the bytes of a shorter file aren't UTF-8, the fault is `Utf8`.
 pub fn decode_or_print_too_long<'f, O: Output>(
     file: &'f [u8],
     out: &mut O,
@@ -116,7 +116,8 @@ pub fn decode_or_print_too_long<'f, O: Output>(
     }
 }
 
-/// Prints a line for each diagnostic of a text, and flushes.
+/// Prints a line for each of these diagnostics of a text, in order, and flushes. If the write or
+/// the flush fails, the fault is `Write`. If an allocation fails, it is `Memory`.
 pub fn print_diagnoses<O: Output>(
     alloc: Global,
     text: &str,

@@ -20,10 +20,10 @@ use ob0_scan::MAX_TEXT;
 use std::alloc::Global;
 use std::io::{self, Read};
 
-/// The most bytes of a file that are read: one more than a text may have.
+/// The greatest number of bytes that are read from a file: one more than a text may have.
 pub const MAX_BYTES_READ: usize = MAX_TEXT + 1;
 
-/// The most bytes that the input of a run may have.
+/// The greatest length of the input of a run, in bytes.
 const MAX_INPUT: usize = 16_777_216;
 
 /// A reader that remembers whether one of its reads has failed.

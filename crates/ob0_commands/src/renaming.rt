@@ -44,7 +44,8 @@ pub fn rename_text<O: Output, E: Output>(
     }
 }
 
-/// Does the work of `rename_text`, but returns a fault instead of printing its line.
+/// Does the work of `rename_text`, but returns a fault instead of printing the line `fault: NAME`
+/// for the fault.
 fn rename_in_file<O: Output, E: Output>(
     alloc: Global,
     file: &[u8],

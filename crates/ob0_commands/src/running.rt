@@ -80,7 +80,8 @@ pub fn run_text<R: Input, O: Output, E: Output>(
     }
 }
 
-/// Does the work of `run_text`, but returns a fault instead of printing its line.
+/// Does the work of `run_text`, but returns a fault instead of printing the line `fault: NAME` for
+/// the fault.
 fn run_file<R: Input, O: Output, E: Output>(
     alloc: Global,
     file: &[u8],
@@ -163,8 +164,8 @@ fn execute_module(
     execute(alloc, program, input, calls, turns)
 }
 
-/// Returns the line that reports an end other than `Done`, including its line feed. Returns None
-/// for `Done`.
+/// Returns the line that reports how a run ended, including the line feed. Returns None for `Done`,
+/// the normal end.
 fn run_end_line_of(end: End) -> Option<&'static str>
     ensures { option_map (λ line. line.now) result ≡ run_end_line end }
 {
@@ -210,7 +211,8 @@ pub fn print_run_outcome<O: Output, E: Output>(
     }
 }
 
-/// The greatest length in bytes of an output item's text: a space, a sign and ten digits.
+/// The greatest length in bytes of an output item's text. The longest text is a space, a sign and
+/// ten digits.
 const MAX_ITEM_LENGTH: usize = 12;
 
 /// Prints the items of a run's output, and flushes. Their text is collected in pieces on the stack,
@@ -254,7 +256,7 @@ fn append_item<O: Output>(
 }
 
 /// Appends an output item to a text. A number becomes a space and its digits, and a line end
-/// becomes a line feed. The text must have room for 12 bytes.
+/// becomes a line feed. `text` must have at least 12 bytes of free capacity.
 fn push_item(text: &mut ArrayString<PIECE_SIZE>, digits: &mut Buffer, item: Item)
     requires { array_string_len text.old + 12 ≤ 8192 }
     ensures { text.new.bytes ≡ text.old.bytes ++ output_item_text (item_of item) }

@@ -31,8 +31,8 @@ abbrev pub AnswersInlining : Inlining
 AnswersInlining OneUse unit text m offset answer = AnswersInlineHere unit text m offset answer
 AnswersInlining Everywhere unit text m offset answer = AnswersInlineEverywhere unit text m offset answer
 
--- States that these are the edits of an inlining at a byte offset of a module. None means that the
--- inlining is refused for another reason than a failed allocation.
+-- States that these edits are the right answer to an inlining at a byte offset of a module. None
+-- means that the inlining is refused, but not because an allocation failed.
 abbrev pub IsInlineResult : Inlining → Unit → List ℕ → ParsedModule → ℕ → Option (Vec Edit Global) → Type 0
 IsInlineResult how unit text m offset (Some edits) = AnswersInlining how unit text m offset (Ok edits)
 IsInlineResult how unit text m offset None =
@@ -51,7 +51,8 @@ pub record InlinesIn (how : Inlining) (unit : Unit) (text : List ℕ) (offset : 
   pub made : patched (width_of unit) text edits.items ≡ Some after
   pub runs : RunsAsBefore (utf8 text) (utf8 after)
 
--- States that the text is a well-typed module and that this inlining is refused.
+-- States that the text is a well-typed module, and that inlining the constant at this byte offset
+-- is refused, but not because an allocation failed.
 pub record IsInliningRefusedIn (how : Inlining) (unit : Unit) (text : List ℕ) (offset : ℕ) : Type 0 where
   pub module_read : ParsedModule
   pub read : IsParsedWellTypedModule (utf8 text) module_read
@@ -59,14 +60,15 @@ pub record IsInliningRefusedIn (how : Inlining) (unit : Unit) (text : List ℕ) 
 
 -- ---- answers to inlinings at a byte offset of a text: edits or None
 
--- States that these are the edits in the answer to an inlining. None means that the answer is a
--- refusal other than a failed allocation.
+-- States that `answer` has these edits. None means that `answer` is a refusal other than `Memory`
+-- (a failed allocation).
 abbrev pub AreEditsUnlessRefused : Result (Vec Edit Global) EditRefusal → Option (Vec Edit Global) → Type 0
 AreEditsUnlessRefused answer (Some edits) = answer ≡ Ok edits
 AreEditsUnlessRefused answer None = (refusal : EditRefusal) × ¬ (refusal ≡ Memory) × (answer ≡ Err refusal)
 
 -- States that these edits inline the constant at a byte offset of the text. None means that the
--- text is a well-typed module and this inlining is refused.
+-- text is a well-typed module, and that this inlining is refused, but not because an allocation
+-- failed.
 abbrev pub OffersInlining : Inlining → Unit → List ℕ → ℕ → Option (Vec Edit Global) → Type 0
 OffersInlining how unit text offset (Some edits) = InlinesIn how unit text offset edits
 OffersInlining how unit text offset None = IsInliningRefusedIn how unit text offset

@@ -34,9 +34,9 @@ formatting_changes unit indent characters m =
     map (edit_of (width_of unit) characters) (changed_gaps source.text
     (all_gaps indent source.text (line_roles 0 m.tree) m.text_of.scan.scan.lexemes))
 
--- States that these edits format a text. For each gap that changes there is one edit, which
--- replaces the whole gap. Applied all at once, the edits give the formatted text. The formatted
--- text has the same module, with the same runs.
+-- States that these edits format a text. For each gap (white space between lexemes) that changes,
+-- there is one edit, which replaces the whole gap. Applied all at once, the edits give the
+-- formatted text. The formatted text has the same module, with the same runs.
 pub record FormatsIn (unit : Unit) (indent : Indent) (text : List ℕ)
     (edits : List Edit) : Type 0 where
   pub before : IsWellTypedModule (utf8 text)
@@ -52,8 +52,9 @@ pub record FormattedTextIsTooLong (indent : Indent) (text : List ℕ) : Type 0 w
   pub before : IsWellTypedModule (utf8 text)
   pub long : max_text < length (formatted_text_of indent before)
 
--- States that the answer is right: edits format the module, and the refusal `TooLong` means that
--- the formatted text is too long. No other refusal is right.
+-- States that the answer to a request for formatting is right. Edits are right if they format the
+-- module. The refusal `TooLong` is right if the formatted text is too long. No other refusal is
+-- right.
 abbrev pub IsFormatResult : Unit → Indent → List ℕ → Result (Vec Edit Global) EditRefusal → Type 0
 IsFormatResult unit indent text (Ok edits) = FormatsIn unit indent text edits.items
 IsFormatResult unit indent text (Err refusal) = (refusal ≡ TooLong) × FormattedTextIsTooLong indent text

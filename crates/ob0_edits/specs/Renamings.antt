@@ -1,4 +1,4 @@
--- Defines the result of a renaming in a text: the edits, or the refusal.
+-- Defines the result of renaming a declaration or field in a text: the edits, or the refusal.
 -- Rule: docs/PROTOCOL.md, Requests on documents 2, 6.
 use Rattle.std.specs.Prelude.{◌≡◌, ℕ, List, Option, Some, None, Result, Ok, Err, Vec}
 use Rattle.std.specs.declared.alloc.Global.{Global}
@@ -33,15 +33,16 @@ pub record RenamesIn (unit : Unit) (text : List ℕ) (place : Position) (new : L
   pub made : patched (width_of unit) text edits ≡ Some after
   pub runs : RunsAsBefore (utf8 text) (utf8 after)
 
--- States that the text is a well-typed module and that the renaming is refused for this reason.
+-- States that the text is a well-typed module, and that renaming the declaration or field at the
+-- position `place` to `new` is refused for the reason `refusal`.
 pub record IsRenameRefusedIn (unit : Unit) (text : List ℕ) (place : Position) (new : List ℕ)
     (refusal : EditRefusal) : Type 0 where
   pub names : Resolution
   pub read : IsResolvedWellTypedModule (utf8 text) names
   pub refused : IsRenameRefusal (renaming_of unit text names place new) refusal
 
--- States that this is the result of renaming in a text: edits, or the refusal. None means that the
--- text isn't a well-typed module.
+-- States that this is the result of renaming the declaration or field at a position of a text:
+-- edits, or the refusal. None means that the text isn't a well-typed module.
 abbrev pub FindsRenameResult : Unit
     → List ℕ
     → Position

@@ -1,9 +1,9 @@
 //! Inlines a constant in a text, using the text's analysis.
 //!
-//! `InliningsQuestion` finds the edits of both kinds of inlining. It is a `Question` of
+//! `InliningsQuestion` asks for the edits of both kinds of inlining. It is a `Question` of
 //! `ob0_analysis`, which is answered only for a well-typed text. `edits_unless_refused` separates a
-//! failed allocation from the refusals. A new kind of inlining needs a variant of `Inlining`, a
-//! line in `AnswersInlining`, a field in `Inlinings`, and a case in `inlines_in` of
+//! failed allocation from the refusals. To add another kind of inlining, add a variant of
+//! `Inlining`, a line in `AnswersInlining`, a field in `Inlinings`, and a case in `inlines_in` of
 //! `proofs/Inlined`.
 
 ghost use Rattle.std.specs.Prelude.{◌≡◌, IfOk};
@@ -34,7 +34,8 @@ pub struct Inlinings {
     pub everywhere: Option<Vec<Edit>>,
 }
 
-/// The question of which edits inline the constant at the position `place` in a store's text.
+/// A question about a well-typed text: which edits inline the constant at the position `place`, for
+/// each kind of inlining.
 #[derive(Drop)]
 struct InliningsQuestion<'a, T: TextStore> {
     store: &'a T,

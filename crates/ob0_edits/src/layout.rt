@@ -15,7 +15,7 @@ use ob0_layout::laws::{
 use ob0_text::{Edit, EditRefusal, Indent, TextStore};
 use std::alloc::{AllocError, Global};
 
-/// The question of which edits format a store's text with this indentation.
+/// A question about a well-typed text: which edits format it with the indentation `indent`.
 #[derive(Drop)]
 struct FormatQuestion<'a, T: TextStore> {
     store: &'a T,

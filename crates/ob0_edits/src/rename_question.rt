@@ -5,9 +5,9 @@
 //! (`WritesNewName`). So one lemma, `renames_in` of `proofs/Renamings`, covers declarations and
 //! fields. `RenamesIn` and `IsRenameRefusedIn` are about the module with its names bound
 //! (`IsResolvedWellTypedModule`), because fields are found through the bindings of names. The
-//! contract of `ask`, which answers a question about a well-typed text, is about the bytes of the
-//! text, while `RenamesIn` is about its characters. The lemma `new_name_found` derives `RenamesIn`
-//! from this contract.
+//! function `ask` answers a question about a well-typed text. Its contract is about the bytes of
+//! the text, while `RenamesIn` is about the characters. The lemma `new_name_found` derives
+//! `RenamesIn` from this contract.
 
 ghost use Rattle.std.specs.Prelude.{◌≡◌, IfOk};
 ghost use Rattle.std.specs.Str.{chars};
@@ -20,8 +20,8 @@ use ob0_rename::rename;
 use ob0_text::{Edit, EditRefusal, Position, TextStore};
 use std::alloc::{AllocError, Global};
 
-/// The question of which edits rename the declaration or field at the position `place` in a store's
-/// text to `new`.
+/// A question about a well-typed text: which edits rename the declaration or field at the position
+/// `place` to `new`.
 #[derive(Drop)]
 struct RenameQuestion<'a, T: TextStore> {
     store: &'a T,

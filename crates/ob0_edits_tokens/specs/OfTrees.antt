@@ -1,5 +1,6 @@
--- Relates the words of a text to a tree whose names and integers are the indexes of these words.
--- Rule: none; for contracts of edit makers.
+-- Relates the words of a text to a tree that has the index of a word instead of each name and each
+-- integer.
+-- Rule: none; used in contracts about making edits.
 use Rattle.std.specs.Prelude.{◌≡◌, ℕ, suc, if◌then◌else◌, List, [], ◌∷◌, map, slice_index_or}
 use Rattle.ob0_scan.specs.TextWithTokens.{Word, TextWithTokens}
 use Rattle.ob0_tree.specs.Lexeme.{Terminal}
@@ -10,8 +11,8 @@ use Rattle.ob0_edits_tokens.specs.Changed.{words_of, changed_words, changes_at, 
 use Rattle.ob0_edits_tokens.specs.Replaced.{AreIdentifierIndexes}
 use Rattle.ob0_edits_tokens.specs.Written.{name_word}
 
--- Returns the words as the tokens that a tree over word indexes spells. The token of a name or
--- integer has the index of its word instead of the name or the value. `k` is the index in the text
+-- Returns the tokens that a tree spells for these words if it has word indexes instead of names and
+-- integers. The token of a name or integer has the index of its word. `k` is the index in the text
 -- of the list's first word.
 abbrev pub indexed_tokens : ℕ → List Word → List (Terminal ℕ)
 indexed_tokens k [] = []
@@ -25,8 +26,8 @@ word_at ws k = slice_index_or ws k (name_word [])
 abbrev pub word_text_at : List Word → ℕ → List ℕ
 word_text_at ws k = (word_at ws k).text
 
--- Returns the value of the integer with this word index, or 0 if there is no such word or the word
--- isn't an integer.
+-- Returns the value of the integer that is the word with this index. Returns 0 if there is no such
+-- word or the word isn't an integer.
 abbrev pub number_at : List Word → ℕ → ℕ
 number_at ws k = kind_value_or_zero (word_at ws k).kind
 
@@ -35,9 +36,9 @@ number_at ws k = kind_value_or_zero (word_at ws k).kind
 abbrev pub renamed_word_text : List Word → List ℕ → List ℕ → ℕ → List ℕ
 renamed_word_text ws token_indexes new k = if is_in_list k token_indexes then new else word_text_at ws k
 
--- States that renaming keeps the spelling of trees. Let a tree over word indexes spell the words of
--- a text. If the identifiers with the same indexes get a new name in the tree and in the words, the
--- renamed tree spells the renamed words.
+-- States that renaming keeps the spelling of trees. Let a tree with word indexes instead of names
+-- spell the words of a text. If the identifiers with the indexes `token_indexes` get the name `new`
+-- both in the tree and in the words, the renamed tree spells the renamed words.
 abbrev pub RenamingKeepsSpelling : Type 0
 RenamingKeepsSpelling =
     (s : TextWithTokens) (sort : Sort) (t : Tree ℕ sort) (token_indexes new : List ℕ)

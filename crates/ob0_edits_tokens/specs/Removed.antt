@@ -1,5 +1,5 @@
--- Defines the text after the declaration of a constant is removed and identifiers after it are
--- replaced.
+-- Defines the text that is left if a constant's declaration is removed and identifiers behind the
+-- declaration are replaced.
 -- Rule: docs/PROTOCOL.md, Requests on documents 9.
 use Rattle.std.specs.Prelude.{◌≡◌, ℕ, suc, ◌<◌, ◌⊎◌, nat_le, ◌&&◌, if◌then◌else◌, List, [], ◌∷◌, length, map, Some}
 use Rattle.ob0_scan.specs.declared.lexeme.ReservedWord.TheVariants as reserved
@@ -12,8 +12,8 @@ use Rattle.ob0_text.specs.Patches.{Cut, text_with_cuts}
 use Rattle.ob0_edits_tokens.specs.Changed.{WordChanges}
 use Rattle.ob0_edits_tokens.specs.Replaced.{token_or_empty, span_at, replacement_cut}
 
--- Returns the changes that remove the words from the index `first` to the index `last`, both
--- included. All other words change as in `changes`.
+-- Returns a change of words that removes the words from the index `first` to the index `last`, both
+-- included. It changes all other words as `changes` does.
 abbrev pub changes_with_removal : ℕ → ℕ → WordChanges → WordChanges
 changes_with_removal first last changes k = if nat_le first k && nat_le k last then Some [] else changes k
 
@@ -43,8 +43,9 @@ abbrev pub removal_cut : List Token → ℕ → ℕ → Cut
 removal_cut tokens first last =
     record { from = (span_at tokens first).start; to = (span_at tokens last).end; new = [] }
 
--- Returns the text without the part from the token with the index `first` to the token with the
--- index `last`, in which each token whose index is in `token_indexes` is replaced by `new`.
+-- Returns the text that is left if the part from the token with the index `first` to the token with
+-- the index `last` is removed, and each token whose index is in `token_indexes` is replaced by
+-- `new`.
 abbrev pub text_after_removal : TextWithTokens → ℕ → ℕ → List ℕ → List ℕ → List ℕ
 text_after_removal s first last token_indexes new =
     text_with_cuts s.text 0 (removal_cut s.tokens first last ∷ map (replacement_cut s.tokens new) token_indexes)

@@ -1,5 +1,5 @@
--- Defines the text after several identifiers are replaced by another text, and the edits that do
--- this.
+-- Defines the text that is left if several identifiers are replaced by another text, and the edits
+-- that replace them.
 -- Rule: docs/PROTOCOL.md, Requests on documents 10.
 use Rattle.std.specs.Prelude.{◌≡◌, ℕ, suc, ◌<◌, ◌≤◌, false, List, [], ◌∷◌, ◌++◌, length, map, IsTrue, Some, slice_index, slice_index_or, string_bytes}
 use Rattle.std.specs.Char.{is_ascii_alphabetic, is_ascii_alphanumeric}
@@ -50,14 +50,15 @@ replacement_cut tokens new p =
 abbrev pub text_after_replacement : TextWithTokens → List ℕ → List ℕ → List ℕ
 text_after_replacement s token_indexes new = text_with_cuts s.text 0 (map (replacement_cut s.tokens new) token_indexes)
 
--- States that each cut begins at or after the end of the previous cut, and removes at least one
--- byte. The first cut begins at or after the byte offset `at`.
+-- States that the cuts are in text order and don't overlap: each begins at or after the end of the
+-- previous cut, and removes at least one byte. The first cut begins at or after the byte offset
+-- `at`.
 abbrev pub CutsAscend : ℕ → List Cut → Type 0
 CutsAscend at [] = Unit {0}
 CutsAscend at (c ∷ cs) = (at ≤ c.from) × (c.from < c.to) × CutsAscend c.to cs
 
--- States that the text of each lexeme belongs to its kind, and that no lexeme is continued by the
--- byte after it. The byte `byte` follows the last lexeme.
+-- States that the text of each lexeme belongs to the class of the lexeme's kind, and that the byte
+-- after a lexeme never continues the lexeme. `byte` is the byte after the last lexeme.
 abbrev pub LexemesEndBefore : List Lexeme → ℕ → Type 0
 LexemesEndBefore [] byte = Unit {0}
 LexemesEndBefore (l ∷ lexemes) byte =
@@ -87,7 +88,8 @@ range_and_text edit = (edit.range, string_bytes edit.text)
 abbrev pub replacement_at_token : counting.Unit → List ℕ → List Token → List ℕ → ℕ → Range × List ℕ
 replacement_at_token unit text tokens new p = (range_of (width_of unit) text (span_at tokens p), new)
 
--- States that the edits, applied all at once, leave a text that can be scanned and has these words.
+-- States that the edits, applied to `text` all at once, give a text that can be scanned and has the
+-- words `ws`.
 pub record LeavesWords
     (unit : counting.Unit) (text : List ℕ) (edits : List Edit) (ws : List Word) : Type 0 where
   pub after : TextWithTokens

@@ -1,5 +1,5 @@
 -- Defines the token that a tree spells for a word.
--- Rule: none; for contracts of edit makers.
+-- Rule: none; used in contracts about making edits.
 use Rattle.std.specs.Prelude.{List, ℕ}
 use Rattle.ob0_scan.specs.TextWithTokens.{Word}
 use Rattle.ob0_tree.specs.Lexeme.{Terminal, terminal_of_kind}

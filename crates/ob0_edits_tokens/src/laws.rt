@@ -1,4 +1,5 @@
-//! States the laws of replacing identifiers by another identifier.
+//! Proves two laws of renaming: an identifier may replace any identifier of a text, and a renamed
+//! tree spells the renamed words.
 
 ghost use Rattle.std.specs.Prelude.{ℕ, List, [], ◌∷◌};
 ghost use Rattle.ob0_scan.specs.Classes.{IsIdentifier};
@@ -12,9 +13,9 @@ pub fn names_replace_names()
     ensures { (new : List ℕ) → IsIdentifier new → ReplacesName new (name_word new ∷ []) }
 {}
 
-/// Proves that renaming keeps the spelling of trees. Let a tree spell the words of a text. If the
-/// identifiers with the same indexes get a new name in the tree and in the words, the renamed tree
-/// spells the renamed words.
+/// Proves that renaming keeps the spelling of trees. Let a tree that has word indexes instead of
+/// names spell the words of a text. If the identifiers with the same indexes get a new name in the
+/// tree and in the words, the renamed tree spells the renamed words.
 pub fn renaming_keeps_spelling()
     ensures { RenamingKeepsSpelling }
 {}

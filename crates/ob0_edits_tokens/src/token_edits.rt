@@ -104,8 +104,8 @@ pub fn removal_edits<T: TextStore>(
     Ok(edits)
 }
 
-/// Appends one edit to `edits` for each of the indexes `token_indexes`. The edit replaces the token
-/// with this index by `new`. Fails only with `Memory`.
+/// Appends edits to `edits`, in order: for each index in `token_indexes`, one edit that replaces
+/// the token with this index by `new`. The only refusal is `Memory`, if an allocation fails.
 fn add_edits<T: TextStore>(
     alloc: Global,
     store: &T,

@@ -1,4 +1,5 @@
--- Defines the states of a framer, and the effect of one piece of the stream.
+-- Defines the states of a framer (a reader of messages from a stream), and the effect of one piece
+-- of the stream.
 -- Rule: docs/PROTOCOL.md, Framing 4, 5.
 use Rattle.std.specs.Prelude.{◌≡◌, ℕ, List, [], ◌++◌}
 use Rattle.ob0_frame.specs.Frames.{Frames, CannotBeginMessage}
@@ -9,16 +10,16 @@ pub data StreamRest : Type 0 where
   Open : List ℕ → StreamRest
   Broken : StreamRest
 
--- The state of a framer: the contents that wait to be returned, in order, and the rest of the
--- stream.
+-- The state of a framer: the contents of complete messages that wait to be returned, in order, and
+-- the rest of the stream.
 pub record FramerState : Type 0 where
   pub waiting : List (List ℕ)
   pub rest : StreamRest
 
--- States that reading a piece (second argument) completes these contents (third argument). The
--- first argument is the rest before the piece is read, and the last argument is the rest
--- afterwards. Bytes with which no message can begin break the stream. A broken stream remains
--- broken and completes nothing.
+-- States that reading a piece (second argument) completes the messages with these contents (third
+-- argument). The first argument is the rest of the stream before the piece is read, and the last
+-- argument is the rest afterwards. If no message can begin with the bytes that are left, the stream
+-- is broken. A broken stream remains broken and completes nothing.
 abbrev pub Feeds : StreamRest → List ℕ → List (List ℕ) → StreamRest → Type 0
 Feeds (Open rest) piece contents (Open left) = Frames (rest ++ piece) contents left × ¬ (CannotBeginMessage left)
 Feeds (Open rest) piece contents Broken =
@@ -26,8 +27,8 @@ Feeds (Open rest) piece contents Broken =
 Feeds Broken piece contents (Open left) = ⊥
 Feeds Broken piece contents Broken = contents ≡ []
 
--- States that reading a piece changes the state `old` to `new`. The contents that the piece
--- completes are added after the contents that already wait.
+-- States that reading a piece changes the state of a framer from `old` to `new`. The contents of
+-- the messages that the piece completes are added after the contents that already wait.
 pub record TakesPiece (old : FramerState) (piece : List ℕ) (new : FramerState) : Type 0 where
   pub contents : List (List ℕ)
   pub feeds : Feeds old.rest piece contents new.rest

@@ -1,5 +1,5 @@
 -- Defines which part of the message at the beginning of a list of bytes has arrived.
--- Rule: none; for private contracts: how far a message has come.
+-- Rule: none; used in private contracts about how much of a message has arrived.
 use Rattle.std.specs.Prelude.{ℕ, ◌-◌, ◌<◌, ◌≤◌, List, ◌++◌, length, take, drop}
 use Rattle.ob0_frame.specs.declared.head.MessageStage.{MessageStage}
 use Rattle.ob0_frame.specs.declared.head.MessageStage.TheVariants.{Head, Content, Bad}
@@ -28,8 +28,8 @@ IsUnfinished bytes Head = Unit {0}
 IsUnfinished bytes (Content start end) = length bytes < end
 IsUnfinished bytes Bad = Unit {0}
 
--- States that the first `taken` bytes are messages with these contents, and that the message after
--- them has this stage.
+-- States that the first `taken` bytes are complete messages with these contents, and that the
+-- message behind these bytes has this stage.
 pub record CutsMessages (bytes : List ℕ) (contents : List (List ℕ)) (taken : ℕ)
     (stage : MessageStage) : Type 0 where
   pub within : taken ≤ length bytes

@@ -1,5 +1,5 @@
--- Defines the constant at a place, the module after the constant is inlined everywhere, and the
--- refusals of this edit.
+-- Defines the constant whose name is at a byte offset, the module after the constant is inlined
+-- everywhere, and the refusals of this edit.
 -- Rule: docs/PROTOCOL.md, Requests on documents 9, Refusals of edits.
 use Rattle.std.specs.Prelude.{◌≡◌, ◌≢◌, ◌⊎◌, ℕ, Bool, not, ◌&&◌, if◌then◌else◌, List, [], ◌∷◌, Option, Some, None, Result, Ok, Err, Vec, drop, length, map}
 use Rattle.std.specs.List.{All, filter, list_any, position_from, range_with_len, zip}
@@ -49,7 +49,8 @@ pub record IsConstantAt (m : ParsedModule) (offset : ℕ) (c : NamedConstant) : 
   pub named : name_at_offset m offset ≡ Some (record { token = token; ordinal = c.ordinal })
   pub is_constant : IsConstant m c
 
--- States that the byte offset isn't on a name of a constant.
+-- States that the byte offset isn't on a name of a constant: if a name is at the offset, its
+-- declaration isn't a constant with a value.
 abbrev pub HasNoConstantAt : ParsedModule → ℕ → Type 0
 HasNoConstantAt m offset =
     (n : named.Named)
@@ -63,8 +64,8 @@ uses_of m d =
     map (λ u. u.0) (filter (λ u. same_label u.1 (declared d))
     (zip (occurrences (tree_of m)) (bindings (named_tree_of m))))
 
--- States that each use of the declaration with the ordinal `d` is a whole factor: a name without
--- selectors in an expression.
+-- States that each use of the declaration with the ordinal `d` is a whole factor of an expression:
+-- a name without selectors.
 abbrev pub UsesAreFactors : ParsedModule → ℕ → Type 0
 UsesAreFactors m d = All (λ l. l ≢ declared d) (non_factor_names (numbered (named_tree_of m)))
 

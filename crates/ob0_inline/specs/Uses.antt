@@ -1,5 +1,5 @@
--- Defines the use of a constant at a place, the module after the constant is inlined there, and the
--- refusals of this edit.
+-- Defines the use of a constant at a byte offset, the module after the constant is inlined at that
+-- use, and the refusals of this edit.
 -- Rule: docs/PROTOCOL.md, Requests on documents 9, Refusals of edits.
 use Rattle.std.specs.Prelude.{◌≡◌, ◌⊎◌, ℕ, Bool, true, false, if◌then◌else◌, List, [], ◌∷◌, Option, Some, None, Result, Ok, Err, Vec, map, slice_get}
 use Rattle.std.specs.declared.alloc.Global.{Global}
@@ -28,7 +28,8 @@ use Rattle.ob0_inline.specs.Inlined.{EditsGiveModule, first_refusal}
 use Rattle.ob0_inline.specs.Values.{value_factor, value_text}
 
 -- States that the byte offset is on a use of a constant of a CONST section, and that `u` is this
--- use. So `u` has the use's token and occurrence, and the constant's ordinal and value.
+-- use. So `u` has the use's token index, its number among the occurrences, and the constant's
+-- ordinal and value.
 pub record IsUseAt (m : ParsedModule) (offset : ℕ) (u : ConstantUse) : Type 0 where
   pub named : name_at_offset m offset ≡ Some (record { token = u.token; ordinal = u.constant })
   pub occurs : slice_get (occurrences (tree_of m)) u.occurrence ≡ Some u.token

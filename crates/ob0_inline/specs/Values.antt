@@ -9,7 +9,7 @@ use Rattle.ob0_language_values.specs.declared.scalar.Scalar.TheVariants as scala
 use Rattle.ob0_edits_tokens.specs.Written.{number_text, number_words, truth_text, truth_words}
 use Rattle.ob0_language_types.specs.Written.{number_literal}
 
--- Returns the text, in bytes, that is written in a module for the value.
+-- Returns the text, in bytes, that an inlining writes for the value.
 abbrev pub value_text : Scalar → List ℕ
 value_text (scalar.Number n) = number_text n
 value_text (scalar.Truth b) = truth_text b

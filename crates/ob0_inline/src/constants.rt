@@ -1,4 +1,5 @@
-//! Finds the constant whose name is at a place in the text, and the tokens of its declaration.
+//! Finds the constant whose name is at a byte offset in the text, and the first and last token of
+//! its declaration.
 
 ghost use Rattle.std.specs.Prelude.{◌≡◌, drop, IsSomeAnd, MatchOption, Some};
 ghost use Rattle.std.specs.List.{position_from};
@@ -42,8 +43,8 @@ pub(crate) fn constant_at(module: &WellTyped, offset: usize) -> Option<NamedCons
     }
 }
 
-/// Returns the constant with this ordinal and value, together with the first and last token of its
-/// declaration. The contract promises that the result isn't None.
+/// Returns the constant with this ordinal and value, together with the token indexes of its name
+/// and of its declaration's `;`. The contract promises that the result isn't None.
 fn named_constant(names: &Resolved, ordinal: usize, value: Scalar) -> Option<NamedConstant>
     requires has_value { value_of_constant (named_tree_of names.now.module_read) ordinal
         ≡ Some (scalar_value value) }

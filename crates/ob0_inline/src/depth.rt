@@ -18,8 +18,8 @@ use std::alloc::Global;
 
 /// Returns whether the text that results from the edits is nested deeper than a module may be.
 /// `read` is the module before the edits. The contract assumes that the edits add at most one level
-/// of nesting. So the result is false if `read` has less than the greatest depth. Otherwise the
-/// edited text is parsed.
+/// of nesting. So the result is false if the depth of `read` is less than `MAX_NESTING`. Otherwise
+/// the edited text is parsed to find out.
 pub(crate) fn is_too_deep<T: TextStore>(
     alloc: Global,
     store: &T,
@@ -39,8 +39,8 @@ pub(crate) fn is_too_deep<T: TextStore>(
 }
 
 /// Returns whether the text that results from the edits is nested deeper than a module may be. The
-/// edited text is parsed to find out. If the edits overlap or the edited text isn't a module, the
-/// result is true.
+/// edited text is parsed to find out. The result is also true if the edits overlap or the edited
+/// text isn't a module. The contract covers neither case.
 fn is_patched_text_too_deep<T: TextStore>(
     alloc: Global,
     store: &T,

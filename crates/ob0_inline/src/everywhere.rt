@@ -83,9 +83,9 @@ fn inline_constant<T: TextStore>(
 }
 
 /// Returns the edits that inline `constant` everywhere. The first edit removes the constant's
-/// declaration. Then comes one edit for each use, in text order, which writes the value in place of
-/// the use. If the edited text is too long, the refusal is `TooLong`. If it is nested too deep, the
-/// refusal is `TooDeep`.
+/// declaration. Each further edit writes the value in place of one use, in text order. If the
+/// edited text is too long, the refusal is `TooLong`. If it is nested too deep, the refusal is
+/// `TooDeep`.
 fn constant_edits<T: TextStore>(
     alloc: Global,
     store: &T,

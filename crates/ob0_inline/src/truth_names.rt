@@ -35,8 +35,8 @@ pub(crate) fn is_predeclared_truth(
     }
 }
 
-/// Returns whether `name`, written in place of the occurrence with the number `occurrence`, would
-/// be bound to the declaration with the ordinal `ordinal`.
+/// Returns whether `name`, written in place of the occurrence with the number `occurrence` (from 0,
+/// in text order), would be bound to the declaration with the ordinal `ordinal`.
 fn would_bind_to(
     alloc: Global,
     names: &Resolved,
@@ -52,8 +52,8 @@ fn would_bind_to(
 }
 
 /// Returns whether the item of `bound` with the index `occurrence` is `ordinal`. `bound` has an
-/// item for each occurrence in the text: the ordinal of a declaration, or None. If the item is None
-/// or missing, the result is false.
+/// item for each occurrence in the text, in text order: the ordinal of a declaration, or None. If
+/// the item is None or missing, the result is false.
 fn has_ordinal_at(bound: &[Option<usize>], occurrence: usize, ordinal: usize) -> bool
     ensures { result
         ≡ same_ordinal (option_and_then (λ found. found) (slice_get bound.now occurrence)) ordinal }
@@ -94,8 +94,8 @@ pub(crate) fn any_use_shadowed(
     }
 }
 
-/// Returns whether the constant has a use at which `name`, if written there, wouldn't be bound to
-/// the declaration with the ordinal `ordinal`. `constant` is the constant's ordinal.
+/// Returns whether some use of the constant with the ordinal `constant` is at a place where `name`,
+/// written instead, wouldn't be bound to the declaration with the ordinal `ordinal`.
 fn any_use_binds_elsewhere(
     alloc: Global,
     names: &Resolved,
@@ -115,9 +115,9 @@ fn any_use_binds_elsewhere(
     Ok(any_use_differs(names, &bound, constant, ordinal))
 }
 
-/// Returns whether the constant with the ordinal `constant` has a use whose item in `bound` isn't
-/// `ordinal`. `bound` has an item for each occurrence, in text order: the ordinal of a declaration,
-/// or None.
+/// Returns whether some use of the constant with the ordinal `constant` has an item in `bound`
+/// other than `ordinal`. `bound` has an item for each occurrence, in text order: the ordinal of a
+/// declaration, or None.
 fn any_use_differs(
     names: &Resolved,
     bound: &[Option<usize>],

@@ -20,8 +20,8 @@ use ob0_scope_table::Resolved;
 use ob0_text::{Edit, EditRefusal, TextStore};
 use std::alloc::Global;
 
-/// Returns the edit that writes a constant's value in place of a use. If the edited text is too
-/// long, the refusal is `TooLong`. If it is nested too deep, the refusal is `TooDeep`.
+/// Returns the edit that writes a constant's value in place of the use `found`. If the edited text
+/// is too long, the refusal is `TooLong`. If it is nested too deep, the refusal is `TooDeep`.
 pub(crate) fn use_edits<T: TextStore>(
     alloc: Global,
     store: &T,

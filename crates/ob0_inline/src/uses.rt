@@ -1,4 +1,4 @@
-//! Finds the use of a constant at a place in the text.
+//! Finds the use of a constant at a byte offset in the text.
 
 ghost use Rattle.std.specs.Prelude.{◌≡◌, ◌==◌, MatchOption, Some};
 ghost use Rattle.std.specs.List.{position_from};
@@ -47,8 +47,8 @@ pub(crate) fn use_at(module: &WellTyped, offset: usize) -> Option<ConstantUse>
 }
 
 /// Returns the number of the occurrence whose token has the index `token`, counted from 0. Returns
-/// None if that token isn't an occurrence. The search is a binary search, because the tokens of
-/// occurrences ascend.
+/// None if that token isn't an occurrence. The function can use a binary search, because the token
+/// indexes of occurrences ascend.
 fn occurrence_at(names: &Resolved, token: usize) -> Option<usize>
     ensures { result ≡ position_from (λ other. other == token) 0 names.now.uses }
 {

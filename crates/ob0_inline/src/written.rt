@@ -1,4 +1,4 @@
-//! Defines the text that is written in a module for a value.
+//! Computes the text that an inlining writes for a constant's value.
 
 ghost use Rattle.std.specs.Prelude.{◌≡◌, IfOk, IsTrue, string_bytes};
 ghost use Rattle.ob0_edits_tokens.specs.Replaced.{ReplacesName};
@@ -11,9 +11,9 @@ ghost use Rattle.ob0_inline.specs.Values.{value_text, value_words};
 use ob0_language_values::Scalar;
 use std::alloc::{AllocError, Global};
 
-/// Returns the text that is written for a value. A negative number is in parentheses. The least
-/// 32-bit number is written as a difference, because 2147483648 is too large for an integer
-/// literal.
+/// Returns the text that an inlining writes for a value: a number, TRUE or FALSE. A negative number
+/// is in parentheses. The least 32-bit number is written as a difference, because 2147483648 is too
+/// large for an integer literal.
 pub(crate) fn value_text(alloc: Global, value: Scalar) -> Result<String, AllocError>
     ensures text { IfOk result (λ text. string_bytes text ≡ value_text value) }
     ensures can_replace { ReplacesName (value_text value) (value_words value) }
@@ -48,7 +48,7 @@ fn number_replaces_name(number: i32)
     ensures { ReplacesName (number_text number) (number_words number) }
 {}
 
-/// Proves that a value is a 32-bit number or a truth value. The function has no effect.
+/// Proves that each `Scalar` is a 32-bit number or a truth value. The function has no effect.
 pub(crate) fn value_is_scalar(value: Scalar)
     ensures { IsScalar (scalar_value value) }
 {
@@ -61,6 +61,6 @@ pub(crate) fn value_is_scalar(value: Scalar)
 fn number_fits_in_32_bits(number: i32)
     ensures { IsTrue (fits_in_32_bits number) }
 {
-    // The proof needs the range of this value.
+    // The proof needs the fact that `number` is in the range of `i32`.
     let _ = number;
 }

@@ -1,6 +1,6 @@
 -- Laws of renamed fields: a well-typed module remains well-typed and has the same runs if different fields of the same
 -- record get different names.
--- Rule: none; laws of renamed fields.
+-- Rule: none; states laws about renamed fields.
 use Rattle.std.specs.Prelude.{◌≡◌, ℕ, Some}
 use Rattle.ob0_tree.specs.Tree.{Tree, module_text}
 use Rattle.ob0_language_names.specs.Names.{Name, naming_by_spelling, same_name}
@@ -14,8 +14,8 @@ use Rattle.ob0_language_fields.specs.Renaming.{IsFreeFieldName, with_renamed_fie
 abbrev pub KeepsFieldsDistinct : FieldRenaming → Type 0
 KeepsFieldsDistinct l = (k : ℕ) (x y : Name) → same_name (l (Some k) x) (l (Some k) y) ≡ same_name x y
 
--- States that renaming fields doesn't change whether a module's declarations and statements are well-typed. Different
--- fields of the same record must get different names.
+-- States that renaming fields doesn't change whether a module passes the type check, which ignores duplicate names and
+-- wrong closing names. Different fields of the same record must get different names.
 abbrev pub FieldRenamingKeepsTypeCheck : Type 0
 FieldRenamingKeepsTypeCheck =
     (l : FieldRenaming) (m : Tree Name module_text)

@@ -1,9 +1,10 @@
-//! The laws of renamed fields. Each function does nothing; its contract is the law.
+//! Laws about renaming the fields of records. Each function does nothing; its contract is the law.
 
 ghost use Rattle.ob0_language_field_laws.specs.FieldLaws.{FreeFieldRenamingKeepsTypingAndRuns, FieldRenamingKeepsTypeCheck, FieldRenamingKeepsTypingAndRuns};
 
-/// Proves that renaming fields doesn't change whether a module's declarations and statements are
-/// well-typed. Different fields of the same record must get different names.
+/// Proves that renaming fields doesn't change whether a module passes the type check, which ignores
+/// duplicate names and wrong closing names. Different fields of the same record must get different
+/// names.
 pub fn field_renaming_keeps_type_check()
     ensures { FieldRenamingKeepsTypeCheck }
 {}

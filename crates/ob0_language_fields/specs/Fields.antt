@@ -216,7 +216,8 @@ environment_after_procedures env k (more p rest) =
 -- because they contain no fields.
 abbrev mutual
   -- returns a block with the fields in its types, variables, procedures and statements renamed;
-  -- `env` is the environment around the block
+  -- `env` is the environment around the block, and `k` is the number of words ARRAY and RECORD
+  -- before the block
   pub rename_fields_in_block : FieldRenaming → TypeEnvironment Name → ℕ → Tree Name block → Tree Name block
   rename_fields_in_block l env k (forms_block (declares cs ts vs ps) statements) =
       forms_block
@@ -230,7 +231,8 @@ abbrev mutual
       (constructors_before_procedures k (forms_block (declares cs ts vs ps) statements)) ps)) None statements)
 
   -- returns procedures with their fields renamed; `env` is the environment before the first
-  -- procedure, and each procedure is visible in the later procedures
+  -- procedure, and `k` is the number of words ARRAY and RECORD before it; each procedure is visible
+  -- in the later procedures
   pub rename_fields_in_procedures : FieldRenaming
       → TypeEnvironment Name
       → ℕ
@@ -243,7 +245,8 @@ abbrev mutual
       (rename_fields_in_procedures l (environment_after_heading env k p) (k + procedure_constructor_count p) rest)
 
   -- returns a procedure with its fields renamed; `env` is the environment around the procedure's
-  -- block and already binds the procedure's name and parameters
+  -- block and already binds the procedure's name and parameters; `k` is the number of words ARRAY
+  -- and RECORD before the procedure
   pub rename_fields_in_procedure : FieldRenaming
       → TypeEnvironment Name
       → ℕ

@@ -30,7 +30,8 @@ pub record RecordFields : Type 0 where
 
 -- Returns the records in a written type or a part of it. `k` is the number of words ARRAY and RECORD before this part.
 abbrev mutual
-  -- returns the records in a written type, in the order of their words RECORD in the text
+  -- returns the records in a written type, in the order of their words RECORD in the text; `k` is the number of words
+  -- ARRAY and RECORD before the written type
   pub records_in_type : ℕ → Tree Name written_type → List RecordFields
   records_in_type k (named_type x) = []
   records_in_type k (array_type e t) = records_in_type (suc k) t
@@ -75,7 +76,8 @@ records_in_sections k (more (then_section f) fs) =
 -- Returns the records in a block or in its procedures, in text order. `k` is the number of words ARRAY and RECORD
 -- before this part.
 abbrev mutual
-  -- returns the records in the types, the variables and the procedures of a block
+  -- returns the records in the types, the variables and the procedures of a block; `k` is the number of words ARRAY and
+  -- RECORD before the block
   pub records_in_block : ℕ → Tree Name block → List RecordFields
   records_in_block k (forms_block (declares cs ts vs ps) statements) =
       records_in_types k (section_types ts)
@@ -83,13 +85,14 @@ abbrev mutual
       (section_variables vs)
       ++ records_in_procedures (constructors_before_procedures k (forms_block (declares cs ts vs ps) statements)) ps)
 
-  -- returns the records in procedures, in text order
+  -- returns the records in procedures, in text order; `k` is the number of words ARRAY and RECORD before the procedures
   pub records_in_procedures : ℕ → Tree Name (items procedure) → List RecordFields
   records_in_procedures k end = []
   records_in_procedures k (more p rest) =
       records_in_procedure k p ++ records_in_procedures (k + procedure_constructor_count p) rest
 
-  -- returns the records in the parameters and the block of a procedure
+  -- returns the records in the parameters and the block of a procedure; `k` is the number of words ARRAY and RECORD
+  -- before the procedure
   pub records_in_procedure : ℕ → Tree Name (item procedure) → List RecordFields
   records_in_procedure k (declares_procedure x fs b closing) =
       records_in_sections k (formal_sections fs)

@@ -12,8 +12,9 @@ use Rattle.ob0_language_names.specs.Scopes.{ordinal_after_names, ordinal_after_p
 abbrev pub OccurrenceSet : Type 0
 OccurrenceSet = ℕ → Bool
 
--- Returns the tree in which the factor `v` replaces each occurrence in the set `uses` that is a whole factor. `k` is
--- the number of the tree's first occurrence in its module.
+-- Returns the tree in which the factor `v` replaces each occurrence in the set `uses` that is a whole factor.
+-- Occurrences of names are numbered in text order within the module, and the first occurrence in this tree has number
+-- `k`.
 abbrev pub inline_in : {s : Sort} → OccurrenceSet → Tree Name factor → ℕ → Tree Name s → Tree Name s
 inline_in uses v k none = none
 inline_in uses v k (one t) = one (inline_in uses v k t)

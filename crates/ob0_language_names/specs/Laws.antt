@@ -1,13 +1,13 @@
 -- The law that renaming to a free name changes no binding.
--- Rule: none; laws of names.
+-- Rule: none; states a law about names.
 use Rattle.std.specs.Prelude.{◌≡◌, ℕ}
 use Rattle.ob0_tree.specs.Tree.{Tree, module_text}
 use Rattle.ob0_language_names.specs.Names.{Name}
 use Rattle.ob0_language_names.specs.Occurrences.{Free}
 use Rattle.ob0_language_names.specs.Scopes.{numbered, renamed}
 
--- States that renaming a declaration to a free name doesn't change the module's numbered tree. This
--- tree has the ordinal of its declaration in place of each bound name.
+-- States that renaming a declaration to a free name doesn't change the module's numbered tree. In
+-- this tree, each bound name is replaced by the ordinal of its declaration.
 abbrev pub FreeRenamingKeepsNumbering : Type 0
 FreeRenamingKeepsNumbering =
     (m : Tree Name module_text) (d : ℕ) (new : Name)

@@ -11,16 +11,16 @@ use Rattle.ob0_language_names.specs.Scopes.{label_from_ordinal, relabel_module}
 abbrev pub naming_for_lookup_of : Name → Naming Name
 naming_for_lookup_of y = record { same = λ x. same_name y; written = λ x. x; predeclared = predeclared_name }
 
--- Returns the ordinal of the declaration to which the name `y` would be bound if `y` replaced this
--- occurrence. Occurrences are numbered from 0 in text order. Returns None if `y` would be unbound
--- or there is no such occurrence.
+-- Returns the ordinal of the declaration to which the name `y` would be bound if `y` replaced the
+-- name at the occurrence with number `occurrence`. Occurrences of names are numbered from 0 in text
+-- order. Returns None if `y` would be unbound or there is no such occurrence.
 abbrev pub resolve_at_occurrence : Tree Name module_text → ℕ → Name → Option ℕ
 resolve_at_occurrence m occurrence y =
     option_and_then label_ordinal
     (slice_get (occurrences (relabel_module (naming_for_lookup_of y) (label_from_ordinal (naming_for_lookup_of y)) m)) occurrence)
 
--- returns, for each occurrence in text order, the ordinal of the declaration to which the name `y`
--- would be bound if `y` replaced this occurrence; None if `y` would be unbound
+-- returns, for each occurrence of a name in text order, the ordinal of the declaration to which the
+-- name `y` would be bound if `y` replaced the name there; None if `y` would be unbound
 abbrev pub resolve_at_occurrences : Tree Name module_text → Name → List (Option ℕ)
 resolve_at_occurrences m y =
     map label_ordinal (occurrences (relabel_module (naming_for_lookup_of y) (label_from_ordinal (naming_for_lookup_of y)) m))

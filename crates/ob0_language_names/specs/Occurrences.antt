@@ -78,8 +78,8 @@ first_difference (a ∷ as₁) (b ∷ bs) =
     if same_binding a b then option_map suc (first_difference as₁ bs) else Some 0
 first_difference _ _ = None
 
--- A conflict of a new name. `at_declaration`: the block has another declaration with this name. `at_occurrence`: the
--- binding of the occurrence with this number would change.
+-- A conflict that a declaration's new name would cause. `at_declaration`: the block has another declaration with this
+-- name. `at_occurrence`: the binding of the occurrence with this number would change.
 pub data NameConflict : Type 0 where
   at_declaration : NameConflict
   at_occurrence : ℕ → NameConflict

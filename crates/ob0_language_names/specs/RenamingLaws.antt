@@ -1,6 +1,6 @@
 -- Laws about renaming. Renaming to a free name makes no duplicate declaration. A new name has a
 -- conflict exactly if it isn't free.
--- Rule: none; laws of renaming.
+-- Rule: none; states laws about renaming.
 use Rattle.std.specs.Prelude.{IsTrue, None, ℕ, ◌↔◌, ◌≡◌}
 use Rattle.ob0_tree.specs.Tree.{Tree, module_text}
 use Rattle.ob0_language_names.specs.Names.{Name}

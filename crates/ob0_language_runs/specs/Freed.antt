@@ -14,10 +14,10 @@ abbrev pub drop_variables : ℕ → Progress → Progress
 drop_variables n (running s) = running record s { store = take n s.store }
 drop_variables n (stopped e out) = stopped e out
 
--- Performs the call of the procedure `x`. The first number is how many calls may still be opened
--- within each other. If it is 0, the run ends with CallBound. The second number bounds the
--- iterations of each loop. After the call returns, the store has as many variables as before the
--- call.
+-- Performs the call of the procedure `x`. The first number is how many nested calls are still
+-- allowed, including this call. If this number is 0, the run ends with CallBound. The second number
+-- bounds the iterations of each loop. After the call returns, the store has as many variables as
+-- before the call.
 unfoldable pub call_freeing : {N : Type 0} → Naming N → ℕ → ℕ → Activation N → CallFunction N
 unfolding activate
 call_freeing naming zero t env x args s = stopped CallBound s.output

@@ -1,6 +1,6 @@
--- Laws of runs: which changes keep the result of a run, and that no run of a well-typed module gets stuck. A module's
--- numbered tree has the ordinal of its declaration in place of each bound name (`numbered`).
--- Rule: none; laws of runs.
+-- Laws about runs: some changes to a module don't change the result of a run, and no run of a well-typed module gets
+-- stuck. In a module's numbered tree (`numbered`), each bound name is replaced by the ordinal of its declaration.
+-- Rule: none; states laws about runs.
 use Rattle.std.specs.Prelude.{◌≡◌, ℕ, ◌≢◌, List, ℤ, Some}
 use Rattle.ob0_tree.specs.Tree.{Tree, factor, module_text, occurrences, statement}
 use Rattle.ob0_language_names.specs.Inlining.{OccurrenceSet, inline_in}
@@ -15,14 +15,14 @@ use Rattle.ob0_language_runs.specs.Freed.{run_freeing}
 use Rattle.ob0_language_runs.specs.Runs.{CallFunction, State, execute, run, run_numbered, run_with_naming}
 
 -- States that a module and its numbered tree have the same run for every input and all bounds on calls and loop
--- iterations. The numbered tree has the ordinal of its declaration in place of each bound name.
+-- iterations. In the numbered tree, each bound name is replaced by the ordinal of its declaration.
 abbrev pub NumberingKeepsRuns : Type 0
 NumberingKeepsRuns =
     (m : Tree Name module_text) (input : List ℤ) (c t : ℕ)
     → run m input c t ≡ run_numbered (numbered m) input c t
 
 -- States that two modules with the same numbered tree have the same run for every input and all bounds on calls and
--- loop iterations. A numbered tree has the ordinal of its declaration in place of each bound name.
+-- loop iterations. In a numbered tree, each bound name is replaced by the ordinal of its declaration.
 abbrev pub NumberedTreeDecidesRuns : Type 0
 NumberedTreeDecidesRuns =
     (a b : Tree Name module_text)

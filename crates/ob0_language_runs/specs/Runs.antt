@@ -25,8 +25,8 @@ pub record State : Type 0 where
   pub input : List ℤ
   pub output : List PrintedItem
 
--- the progress of a run: it continues with a state, or it has stopped; a stopped run has the way in which it ended and
--- the output before its end
+-- the progress of a run: it continues with a state, or it has stopped; a stopped run has the reason why it ended
+-- (`End`) and the output before its end
 pub data Progress : Type 0 where
   running : State → Progress
   stopped : End → List PrintedItem → Progress
@@ -361,7 +361,7 @@ statement_meanings naming env =
     record
     { object_for = λ x. statement_object ((meanings naming env).object_for x); written = naming.written }
 
--- executes the statements of a body; does nothing if there is no body
+-- executes the statements of a block (its body); does nothing if the block has no statements
 unfoldable pub execute_body : {N : Type 0}
     → Naming N
     → Activation N
@@ -406,16 +406,16 @@ activate naming enter t ((x, a_procedure code) ∷ rest) args s =
     (λ f. execute_body naming f.env (enter f.env) t (block_statements (procedure_block code.text)))
 activate naming enter t _ args s = stopped Stuck s.output
 
--- Performs the call of the procedure `x`. The first number is how many calls may still be opened within each other. If
--- it is 0, the run ends with CallBound. The second number bounds the iterations of each loop. The store keeps the
--- call's variables after the call returns.
+-- Performs the call of the procedure `x`. The first number is how many nested calls are still allowed, including this
+-- call. If this number is 0, the run ends with CallBound. The second number bounds the iterations of each loop. The
+-- store keeps the call's variables after the call returns.
 unfoldable pub call : {N : Type 0} → Naming N → ℕ → ℕ → Activation N → CallFunction N
 unfolding activate
 call naming zero t env x args s = stopped CallBound s.output
 call naming (suc c) t env x args s =
     activate naming (call naming c t) t (environment_from_binding naming env x) args s
 
--- the result of a run: its output and the way in which it ends
+-- the result of a run: its output and the reason why it ended (`End`)
 pub record Run : Type 0 where
   pub output : List PrintedItem
   pub ending : End

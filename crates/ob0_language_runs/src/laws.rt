@@ -1,5 +1,6 @@
-//! The laws of runs and edits. Each function does nothing; its contract is the law. A module's
-//! numbered tree (`numbered`) has the ordinal of its declaration in place of each bound name.
+//! Laws about runs, and about edits that leave the runs of a module unchanged. Each function does
+//! nothing; its contract is the law. In a module's numbered tree (`numbered`), each bound name is
+//! replaced by the ordinal of its declaration.
 //!
 //! In the definition `run`, the store keeps every variable until the run ends. In
 //! `run_freeing` (`specs/Freed`), a call's variables are dropped when the call returns.
@@ -11,15 +12,15 @@ ghost use Rattle.ob0_language_runs.specs.Laws.{NumberingKeepsRuns, NumberedTreeD
 ghost use Rattle.ob0_language_runs.specs.EditLaws.{FreeRenamingKeepsTypingAndRuns, InliningKeepsTypingAndRuns, RemovingUnusedKeepsTypingAndRuns, InliningEverywhereKeepsTypingAndRuns};
 
 /// Proves that a module and its numbered tree have the same run for every input and all bounds on
-/// calls and loop iterations. The numbered tree has the ordinal of its declaration in place of each
-/// bound name.
+/// calls and loop iterations. In the numbered tree, each bound name is replaced by the ordinal of
+/// its declaration.
 pub fn numbering_keeps_runs()
     ensures { NumberingKeepsRuns }
 {}
 
 /// Proves that two modules with the same numbered tree have the same run for every input and all
-/// bounds on calls and loop iterations. A numbered tree has the ordinal of its declaration in place
-/// of each bound name.
+/// bounds on calls and loop iterations. In a numbered tree, each bound name is replaced by the
+/// ordinal of its declaration.
 pub fn numbered_tree_decides_runs()
     ensures { NumberedTreeDecidesRuns }
 {}

@@ -1,5 +1,5 @@
--- The bindings that all declarations of a module make, newest first. Each binding is made in the environment in which
--- its declaration is checked.
+-- The bindings that all declarations of a module make, newest first. The object in a binding is determined by checking
+-- the declaration in the environment before it.
 -- Rule: docs/LANGUAGE.md, Scopes 2 to 4.
 use Rattle.std.specs.Prelude.{ℕ, ◌+◌, ◌-◌, List, [], ◌++◌, length, take, Some, None, Option}
 use Rattle.ob0_tree.specs.Tree.{Tree, block, declares, declares_procedure, end, forms_block, item, items, module_text, more, procedure}

@@ -1,4 +1,4 @@
--- The bodies of a module, each with the environment in which its statements are checked.
+-- The bodies of a module: the statements of each block, with the environment in which they are checked.
 -- Rule: docs/LANGUAGE.md, Scopes 2.
 use Rattle.std.specs.Prelude.{◌≡◌, ℕ, ◌+◌, List, [], ◌∷◌, ◌++◌, Some, All}
 use Rattle.ob0_tree.specs.Tree.{Tree, block, body, declares, declares_procedure, end, forms_block, item, items, maybe, module_text, more, procedure}
@@ -13,7 +13,7 @@ use Rattle.ob0_language_types.specs.Expressions.{Object}
 use Rattle.ob0_language_types.specs.WellTyped.{Signature, TypeEnvironment, TypedParameter, WellTyped, bind_typed_parameters, bind_procedure, typed_parameters}
 use Rattle.ob0_language_values.specs.Values.{Shape}
 
--- the statements of a body, with the environment in which they are checked
+-- the statements of a block (its body), with the environment in which they are checked
 pub record BodyAt (N : Type 0) : Type 0 where
   pub environment : TypeEnvironment N
   pub statements : Tree N (maybe body)
@@ -116,8 +116,9 @@ abbrev mutual
   HoldsInProcedure Q env k (declares_procedure x fs b closing) =
       HoldsInBlock Q env (k + formals_constructor_count (formal_sections fs)) b
 
--- States that environments agree with declarations. If the environment in which a body of a well-typed module is
--- checked binds an ordinal to an object, the declaration with this ordinal makes the same object (`declared_object`).
+-- States that environments agree with declarations. If the statements of a block in a well-typed module are checked in
+-- an environment that binds an ordinal to an object, `declared_object` returns the same object for this ordinal. An
+-- ordinal is the number of a declaration in text order.
 abbrev pub BindingsMatchDeclarations : Type 0
 BindingsMatchDeclarations =
     (m : Tree Name module_text) → WellTyped m

@@ -13,12 +13,12 @@ use Rattle.ob0_language_types.specs.Expressions.{Object, a_constant, a_procedure
 use Rattle.ob0_language_types.specs.Typing.{constant_value, ◌>>=◌}
 use Rattle.ob0_language_types.specs.WellTyped.{bind_names}
 
--- environments that have the values of constants, and nothing about the other names except that
--- they are bound
+-- environments that bind the name of each constant to its value, and any other name to the
+-- placeholder `non_constant`
 abbrev pub ConstantEnvironment : Type 0
 ConstantEnvironment = Environment Name (Unit {0}) (Unit {0})
 
--- the object that replaces every object other than a constant in a `ConstantEnvironment`
+-- a placeholder for any object that isn't a constant, in a `ConstantEnvironment`
 abbrev pub non_constant : Object (Unit {0}) (Unit {0})
 non_constant = a_variable tt
 
@@ -30,14 +30,15 @@ keep_constant (a_variable p) = non_constant
 keep_constant (a_procedure p) = non_constant
 keep_constant (a_standard p) = non_constant
 
--- returns the environment of the predeclared names, in which only the constants have values
+-- the environment of the predeclared names: TRUE and FALSE are bound to their values, the other
+-- names to `non_constant`
 abbrev pub predeclared_constants : ConstantEnvironment
 predeclared_constants =
     map (λ b. (b.0, keep_constant b.1)) (outermost_environment {V = Unit {0}} {P = Unit {0}} naming_by_spelling)
 
--- Returns the value of the constant with ordinal `d` in a list of constant declarations. The first
--- declaration in the list has ordinal `k`. Returns None if the list doesn't declare `d`, or if this
--- constant or an earlier one in the list has no value.
+-- Returns the value of the constant with ordinal `d` in a list of constant declarations. `known` is
+-- the environment before the list. The first declaration in the list has ordinal `k`. Returns None
+-- if the list doesn't declare `d`, or if this constant or an earlier one in the list has no value.
 unfoldable pub value_in_constants : ConstantEnvironment → ℕ → ℕ → Tree Name (items constant) → Option Value
 unfolding constant_value
 value_in_constants known d k end = None

@@ -1,5 +1,5 @@
--- The bindings that declarations of constants and types make, both in the checker and in a run.
--- Also counts the words ARRAY and RECORD in declarations.
+-- The environments after declarations of constants and types, both in the checker and in a run.
+-- Also the numbers of words ARRAY and RECORD in declarations.
 -- Rule: docs/LANGUAGE.md, Scopes 2, Types 1.
 use Rattle.std.specs.Prelude.{ℕ, ◌+◌, ◌∷◌, Some, Option}
 use Rattle.ob0_tree.specs.Tree.{Tree, block, constant, declares, declares_constant, declares_procedure, declares_type, declares_variable, end, further_section, forms_block, item, items, more, procedure, then_section, type_definition, variable}

@@ -1,5 +1,5 @@
 -- The environments after the declarations of a procedure and of a block.
--- Rule: none; for contracts of inlining and renaming.
+-- Rule: none; used in definitions of bindings, and in laws about inlining and renaming.
 use Rattle.std.specs.Prelude.{ℕ, if◌then◌else◌, Some, None, Option}
 use Rattle.ob0_tree.specs.Tree.{Tree, block, item, procedure}
 use Rattle.ob0_language_names.specs.Names.{Naming}

@@ -1,5 +1,5 @@
 -- Laws of edits: which edits leave a module well-typed.
--- Rule: none; laws of edits and types.
+-- Rule: none; states laws about edits and types.
 use Rattle.std.specs.Prelude.{All, IsTrue, Some, codes, false, true, ℕ, ◌≡◌, ◌≢◌}
 use Rattle.ob0_tree.specs.Tree.{Tree, factor, module_text}
 use Rattle.ob0_language_names.specs.NonFactorNames.{non_factor_names}
@@ -30,15 +30,15 @@ IsScalar (elements vs) = ⊥
 IsScalar (members k ms) = ⊥
 
 -- States that the word for a truth value (TRUE or FALSE) would be bound to the predeclared constant if it replaced the
--- occurrence with number `occurrence`. Occurrences are numbered from 0 in text order. States nothing for any other
--- value.
+-- name at the occurrence with number `occurrence`. Occurrences of names are numbered from 0 in text order. States
+-- nothing for any other value.
 abbrev pub MeansPredeclaredTruth : Tree Name module_text → ℕ → Value → Type 0
 MeansPredeclaredTruth m occurrence (truth true) = resolve_at_occurrence m occurrence (codes "TRUE") ≡ Some 2
 MeansPredeclaredTruth m occurrence (truth false) = resolve_at_occurrence m occurrence (codes "FALSE") ≡ Some 3
 MeansPredeclaredTruth m occurrence _ = Unit {0}
 
--- States that a CONST section declares a constant with ordinal `d`. Its value is `w`, and the factor `v` is the literal
--- for this value.
+-- States that a CONST section declares a constant with ordinal `d` and that its value `w` is a number or a truth value.
+-- The factor `v` must be the literal for this value.
 pub record IsConstantWithLiteral
     (m : Tree Name module_text) (d : ℕ) (w : Value) (v : Tree Name factor) : Type 0 where
   pub value : value_of_constant m d ≡ Some w

@@ -25,15 +25,15 @@ pub record Meanings (N V P : Type 0) : Type 0 where
   pub object_for : N → Option (Object V P)
   pub written : N → Name
 
--- Returns the step from an array to its element at an index. An index below 0 or not below the array's length ends the
--- run with Index. Returns Stuck if the operands aren't an array and a number.
+-- Returns the step of a path (`at_index`) that leads from an array to its element at an index. An index below 0 or not
+-- below the array's length ends the run with Index. Returns Stuck if the operands aren't an array and a number.
 abbrev pub element_step : Value → Value → Outcome Step
 element_step (elements vs) (number (pos i)) =
     if nat_lt i (count_values vs) then succeeds_with (at_index i) else ends_run_with Index
 element_step (elements vs) (number (negsuc i)) = ends_run_with Index
 element_step _ _ = ends_run_with Stuck
 
--- returns the place of a variable; Stuck for any other object
+-- returns the place of a variable in the store (`Place`); Stuck for any other object
 abbrev pub object_place : {P : Type 0} → Option (Object Place P) → Outcome Place
 object_place (Some (a_variable p)) = succeeds_with p
 object_place _ = ends_run_with Stuck
@@ -126,7 +126,7 @@ unfoldable mutual
     succeeds_with (s ∷ steps)
 
 -- returns the place of a designator: the place of the variable `x`, extended by the path of the selectors; Stuck if `x`
--- isn't a variable
+-- isn't a variable; the evaluation of an index can also end the run
 unfoldable pub designated_place : {N P : Type 0}
     → Meanings N Place P
     → Store

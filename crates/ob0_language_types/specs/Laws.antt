@@ -1,6 +1,7 @@
--- Laws of types, constants and evaluation: what numbering a module and inlining a constant leave unchanged. A module's
--- numbered tree has the ordinal of its declaration in place of each bound name (`numbered`).
--- Rule: none; laws of types.
+-- Laws about type checks, the values of constants, and evaluation. They are about numbering a module, and about
+-- inlining a constant. In a module's numbered tree (`numbered`), each bound name is replaced by the ordinal of its
+-- declaration.
+-- Rule: none; states laws about types.
 use Rattle.std.specs.Prelude.{◌≡◌, ℕ, suc, true, ◌↔◌, List, [], ◌∷◌, IsTrue, Some}
 use Rattle.ob0_tree.specs.Tree.{Tree, expression, factor, module_text, occurrences}
 use Rattle.ob0_language_names.specs.Inlining.{OccurrenceSet, inline_in}
@@ -13,14 +14,14 @@ use Rattle.ob0_language_names.specs.ConsistentNames.{has_consistent_names}
 use Rattle.ob0_language_types.specs.WellTyped.{Mode, TypeMeanings, WellTyped, passes_type_check}
 
 -- States that the type check by names accepts a module exactly if the type check by ordinals accepts the module's
--- numbered tree. This tree has the ordinal of its declaration in place of each bound name.
+-- numbered tree. In this tree, each bound name is replaced by the ordinal of its declaration.
 abbrev pub NumberingKeepsTypeCheck : Type 0
 NumberingKeepsTypeCheck =
     (m : Tree Name module_text) → passes_type_check naming_by_spelling m ≡ passes_type_check naming_by_label (numbered m)
 
--- States that two modules with the same numbered tree are both well-typed or neither is. A numbered tree has the
--- ordinal of its declaration in place of each bound name. Both modules must declare no name twice in a block or record,
--- and each closing name must equal the name of its module or procedure.
+-- States that two modules with the same numbered tree are both well-typed or neither is. In a numbered tree, each bound
+-- name is replaced by the ordinal of its declaration. Both modules must declare no name twice in a block or record, and
+-- each closing name must equal the name of its module or procedure.
 abbrev pub NumberedTreeDecidesTyping : Type 0
 NumberedTreeDecidesTyping =
     (a b : Tree Name module_text)

@@ -1,5 +1,5 @@
 -- The selectors of a designator, and the results of operations with two optional operands.
--- Rule: none; for contracts about designators and optional operands.
+-- Rule: none; used in contracts about designators and optional operands.
 use Rattle.std.specs.Prelude.{ℕ, Option, option_and_then}
 use Rattle.ob0_tree.specs.Tree.{Tree, items, selector}
 use Rattle.ob0_tree.specs.View.{items_of, selector_of}

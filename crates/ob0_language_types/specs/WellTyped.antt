@@ -30,7 +30,8 @@ abbrev mutual
       same_name x y && (same_shape s t && same_fields rest others)
   same_fields _ _ = false
 
--- the way in which an argument is passed: by its place for a VAR parameter, otherwise by its value
+-- the mode of a parameter: a VAR parameter gets the place of its argument, any other parameter gets the argument's
+-- value
 pub data Mode : Type 0 where
   by_value by_place : Mode
 
@@ -229,7 +230,7 @@ abbrev pub bind_procedure : {N : Type 0}
     → TypeEnvironment N
 bind_procedure x ps env = (x, a_procedure (map (λ p. p.formal) ps)) ∷ env
 
--- returns whether the statements of a body are well-typed; true if there is no body
+-- returns whether the statements of a block (its body) are well-typed; true if the block has no statements
 unfoldable pub body_is_well_typed : {N : Type 0} → Naming N → TypeEnvironment N → Tree N (maybe body) → Bool
 unfolding statement_is_well_typed
 body_is_well_typed naming env none = true

@@ -1,10 +1,12 @@
-//! The laws of bindings. Each function does nothing; its contract is the law.
+//! The law that environments agree with declarations. The function does nothing; its contract is
+//! the law.
 
 ghost use Rattle.ob0_language_types.specs.Bodies.{BindingsMatchDeclarations};
 
-/// Proves that environments agree with declarations. If the environment in which a body of a
-/// well-typed module is checked binds an ordinal to an object, the declaration with this ordinal
-/// makes the same object (`declared_object`).
+/// Proves that environments agree with declarations. If the statements of a block in a well-typed
+/// module are checked in an environment that binds an ordinal to an object, `declared_object`
+/// returns the same object for this ordinal. An ordinal is the number of a declaration in text
+/// order.
 pub fn bindings_match_declarations()
     ensures { BindingsMatchDeclarations }
 {}

@@ -1,17 +1,18 @@
-//! The laws of types and edits. Each function does nothing; its contract is the law.
+//! Laws about types, and about edits that leave a module well-typed. Each function does nothing;
+//! its contract is the law.
 
 ghost use Rattle.ob0_language_types.specs.Laws.{NumberingKeepsTypeCheck, NumberedTreeDecidesTyping, ConstantValuesAgree, InliningKeepsEvaluation, InliningKeepsTypes};
 ghost use Rattle.ob0_language_types.specs.EditLaws.{FreeRenamingKeepsWellTyped, InliningKeepsWellTyped, RemovingUnusedKeepsWellTyped, InliningEverywhereKeepsWellTyped, ConstantUsesAreFactors};
 
 /// Proves that the type check by names accepts a module exactly if the type check by ordinals
-/// accepts the module's numbered tree. This tree has the ordinal of its declaration in place of
-/// each bound name.
+/// accepts the module's numbered tree. In this tree, each bound name is replaced by the ordinal of
+/// its declaration.
 pub fn numbering_keeps_type_check()
     ensures { NumberingKeepsTypeCheck }
 {}
 
-/// Proves that two modules with the same numbered tree are both well-typed or neither is. A
-/// numbered tree has the ordinal of its declaration in place of each bound name. Each module must
+/// Proves that two modules with the same numbered tree are both well-typed or neither is. In a
+/// numbered tree, each bound name is replaced by the ordinal of its declaration. Each module must
 /// declare no name twice in a block or record, and each closing name must equal the name of its
 /// module or procedure.
 pub fn numbered_tree_decides_typing()

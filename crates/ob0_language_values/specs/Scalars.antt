@@ -1,6 +1,6 @@
 -- Conversions from the code's scalars, faults and results of operators to the values and outcomes
 -- of the definitions.
--- Rule: none; for contracts of code that computes with scalars.
+-- Rule: none; used in contracts of code that computes with scalars.
 use Rattle.std.specs.Prelude.{ℤ, Some, None, Ok, Err, Option, Result}
 use Rattle.ob0_language_values.specs.declared.scalar.OperatorFault.{OperatorFault}
 use Rattle.ob0_language_values.specs.declared.scalar.OperatorFault.TheVariants as fault
@@ -13,7 +13,7 @@ abbrev pub scalar_value : Scalar → Value
 scalar_value (scalar.Number n) = number n
 scalar_value (scalar.Truth b) = truth b
 
--- returns the way in which a run ends if an operator has this fault
+-- returns the reason why a run ends (`End`) if an operator has this fault
 abbrev pub end_for_fault : OperatorFault → End
 end_for_fault fault.Overflow = Overflow
 end_for_fault fault.Divisor = Divisor

@@ -14,7 +14,8 @@ pub use Rattle.ob0_language_values.specs.Division.{checked_division, quotient, r
 
 infixl 20 ◌>>=◌
 -- The type of a variable or value. `k` is the number of words ARRAY and RECORD in the module before the word that
--- constructs the type. So two types are the same exactly if their shapes are equal.
+-- constructs the type. This number differs for each such word, so two types are the same exactly if their shapes are
+-- equal.
 mutual
   -- a type: INTEGER, BOOLEAN, an array with its length, or a record
   pub data Shape : Type 0 where
@@ -48,11 +49,12 @@ mutual
     no_member : Members
     next_member : Name → Value → Members → Members
 
--- the ways in which a run ends; a run ends with Stuck at a step that has no meaning
+-- the reason why a run ended: the end of the module's body (Done), a fault (Overflow, Divisor, Index or InputEnd), a
+-- bound on calls or loop iterations (CallBound or TurnBound), or a step that has no meaning (Stuck)
 pub data End : Type 0 where
   Done Overflow Divisor Index InputEnd CallBound TurnBound Stuck : End
 
--- the outcome of an evaluation: a result, or the way in which the evaluation ends the run
+-- the outcome of an evaluation: a result, or the reason why the evaluation ends the run (`End`)
 pub data Outcome (A : Type 0) : Type 0 where
   succeeds_with : A → Outcome A
   ends_run_with : End → Outcome A

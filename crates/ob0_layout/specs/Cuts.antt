@@ -1,6 +1,6 @@
 -- Defines the gaps that the code finds while it visits the tokens and comments of a text. Also
 -- defines each gap as a cut: a range of bytes and its replacement.
--- Rule: none; for private contracts: gaps as cuts of bytes, and runs of a byte.
+-- Rule: none; used in private contracts about gaps and indents.
 use Rattle.std.specs.Prelude.{◌≤◌, ℕ, Bool, true, ◌&&◌, ◌==◌, if◌then◌else◌, nat_lt, Option, Some, None, List, [], ◌∷◌, filter}
 use Rattle.ob0_scan.specs.declared.lexeme.LexemeKind.{LexemeKind}
 use Rattle.ob0_scan.specs.declared.lexeme.Span.{Span}
@@ -27,7 +27,8 @@ next_lexeme (t ∷ ts) (c ∷ cs) =
     if nat_lt c.start t.span.start then Some (next.Comment c) else Some (next.Token t)
 
 -- Returns the formatted gap between a token or comment and the next one, which has the kind `kind`
--- and the role `role`. At the start of the text (None) the gap is empty.
+-- and the role `role`. At the start of the text, no token or comment comes before (None), and the
+-- gap is empty.
 abbrev pub gap_before : Option KindAndRole → LexemeKind → LineRole → Gap
 gap_before None kind role = Nothing
 gap_before (Some b) kind role = gap_between b.kind b.role kind role
@@ -46,7 +47,8 @@ gap_cut indent g = record { from = g.start; to = g.end; new = gap_text indent g.
 abbrev pub changed_sites : Indent → List ℕ → List GapSite → List GapSite
 changed_sites indent text gs = filter (λ (g : GapSite). is_changed text (gap_cut indent g)) gs
 
--- States that the gap `g` lies in a text of `len` bytes.
+-- States that the gap `g` lies in a text of `len` bytes: its start isn't after its end, and its end
+-- is at most `len`.
 pub record LiesIn (len : ℕ) (g : GapSite) : Type 0 where
   pub ordered : g.start ≤ g.end
   pub within : g.end ≤ len

@@ -14,7 +14,7 @@ use Rattle.ob0_layout.specs.Layout.{PlacedLexeme, placed_lexemes, gap_text_betwe
 
 -- Returns the gaps after the token or comment `a`. Each gap is given as a cut: its byte range, and
 -- the text that replaces it. The list has the tokens and comments after `a`, and `len` is the
--- length of the text in bytes. The last gap becomes a line feed.
+-- length of the text in bytes. The replacement of the last gap is a line feed.
 abbrev pub gaps_after : Indent → ℕ → PlacedLexeme → List PlacedLexeme → List Cut
 gaps_after indent len a [] = record { from = a.span.end; to = len; new = 10 ∷ [] } ∷ []
 gaps_after indent len a (b ∷ bs) =
@@ -22,15 +22,16 @@ gaps_after indent len a (b ∷ bs) =
     ∷ gaps_after indent len b bs
 
 -- Returns all gaps of a text of `len` bytes. Each gap is given as a cut: its byte range, and the
--- text that replaces it. The list has the tokens and comments of the text. The gap at the start of
--- the text becomes empty.
+-- text that replaces it. The list has the tokens and comments of the text. The replacement of the
+-- gap at the start of the text is empty.
 abbrev pub gaps_of_lexemes : Indent → ℕ → List PlacedLexeme → List Cut
 gaps_of_lexemes indent len [] = record { from = 0; to = len; new = [] } ∷ []
 gaps_of_lexemes indent len (a ∷ bs) =
     record { from = 0; to = a.span.start; new = [] } ∷ gaps_after indent len a bs
 
--- Returns all gaps of a text as cuts. `lexemes` are all lexemes of the text, including white space,
--- and `ss` has the line roles of its tokens.
+-- Returns all gaps of a text as cuts: for each gap its byte range, and the text that replaces it.
+-- `lexemes` are all lexemes of the text, including white space, and `ss` has the line roles of the
+-- text's tokens.
 abbrev pub all_gaps : Indent → List ℕ → List LineRole → List Lexeme → List Cut
 all_gaps indent text ss lexemes = gaps_of_lexemes indent (length text) (placed_lexemes 0 0 true ss lexemes)
 
@@ -39,7 +40,7 @@ all_gaps indent text ss lexemes = gaps_of_lexemes indent (length text) (placed_l
 abbrev pub is_changed : List ℕ → Cut → Bool
 is_changed text c = not (bytes_eq (slice_range text c.from c.to) c.new)
 
--- Returns the gaps that formatting changes, in the same order.
+-- Returns the cuts of `cs` whose gaps formatting changes, in the same order.
 abbrev pub changed_gaps : List ℕ → List Cut → List Cut
 changed_gaps text cs = filter (is_changed text) cs
 
@@ -69,6 +70,6 @@ abbrev pub formatted_len_from : ℕ → ℕ → List Cut → ℕ
 formatted_len_from len at [] = len - at
 formatted_len_from len at (c ∷ cs) = (c.from - at) + (length c.new + formatted_len_from len c.to cs)
 
--- States that the gap that the cut `c` replaces contains only white space before it is replaced.
+-- States that the bytes of `text` that the cut `c` replaces are only white space.
 abbrev pub IsWhiteSpace : List ℕ → Cut → Type 0
 IsWhiteSpace text c = AllPass is_space (slice_range text c.from c.to)

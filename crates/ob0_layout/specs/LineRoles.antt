@@ -32,7 +32,8 @@ separator_role false = Plain ∷ []
 -- of a statement, or the level of the block for declarations and bodies. The module has level 0,
 -- and a procedure is one level deeper than the block that declares it. The statements of a body are
 -- one level deeper than its block. Statements inside a statement are one level deeper than that
--- statement. A construct within a line has no level, and its `k` is 0.
+-- statement. A construct that never begins a line, such as an expression, doesn't use `k`, which is
+-- then 0.
 abbrev pub line_roles : {N : Type 0} {s : Sort} → ℕ → Tree N s → List LineRole
 line_roles k none = []
 line_roles k (one t) = line_roles k t

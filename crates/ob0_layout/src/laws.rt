@@ -1,4 +1,6 @@
-//! States the laws of formatting. Each function has an empty body, because its contract is the law.
+//! Proves laws about formatting: it changes only white space, it keeps the module's tree, and
+//! formatting a second time changes nothing. Each function has an empty body, because its contract
+//! is the law.
 
 ghost use Rattle.std.specs.Prelude.{◌≡◌, ℕ, List, length};
 ghost use Rattle.std.specs.List.{All, AllPass};
@@ -43,7 +45,8 @@ pub fn formatting_is_idempotent()
 {}
 
 /// Proves three facts: replacing the gaps that formatting changes gives the formatted text, the
-/// formatted text is UTF-8, and `formatted_len_from` computes its length in bytes.
+/// formatted text is UTF-8, and `formatted_len_from` computes the length of the formatted text in
+/// bytes.
 pub fn gaps_give_formatted_text()
     ensures utf8 { (indent : Indent) (s : TextWithTokens) (scan : IsScan s)
         (tree : Tree (List ℕ) module_text)
@@ -60,8 +63,8 @@ pub fn gaps_give_formatted_text()
         ≡ length (layout indent tree scan.lexemes) }
 {}
 
-/// Proves that formatting changes only white space: each gap contains only white space before
-/// formatting and also after it.
+/// Proves that each gap between tokens and comments contains only white space, before formatting
+/// and also afterwards.
 pub fn gaps_are_white_space()
     ensures before { (indent : Indent) (s : TextWithTokens) (scan : IsScan s)
         (tree : Tree (List ℕ) module_text)

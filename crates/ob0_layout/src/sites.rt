@@ -31,7 +31,7 @@ pub struct KindAndRole {
     pub role: LineRole,
 }
 
-/// The next token or comment of a text.
+/// The next token or comment of a text. A comment is given by its span.
 #[derive(Clone, Copy)]
 pub enum NextLexeme {
     Token(Token),
@@ -137,8 +137,9 @@ fn next_lexeme(left: &[Token], comments: &[Span]) -> Option<NextLexeme>
     }
 }
 
-/// Returns the formatted gap between `before` and the next token or comment, which has the kind
-/// `kind` and the role `role`. At the start of the text, `before` is None and the gap is empty.
+/// Returns the formatted gap between the token or comment `before` and the next one, which has the
+/// kind `kind` and the role `role`. At the start of the text, `before` is None and the gap is
+/// empty.
 fn gap_before(before: Option<KindAndRole>, kind: LexemeKind, role: LineRole) -> Gap
     ensures { result ≡ gap_before before kind role }
 {
@@ -186,7 +187,7 @@ fn next_role(roles: &[LineRole]) -> LineRole
     roles[0]
 }
 
-/// Returns a list without its first item. Returns an empty list unchanged.
+/// Returns the list `items` without its first item, or an empty list if `items` is empty.
 fn without_first_item<T>(items: &[T]) -> &[T]
     ensures { result.now ≡ drop 1 items.now }
 {
@@ -208,8 +209,8 @@ fn comment_role(broken: bool, level: u32) -> LineRole
     }
 }
 
-/// Returns whether the token or comment after a gap begins a line. It does if the gap has a line
-/// break, or if the gap is at the start of the text (`before` is None).
+/// Returns whether a comment begins a line, given the bytes of the gap before it. The comment does
+/// if the gap has a line break, or if the gap is at the start of the text (`before` is None).
 fn begins_line(before: Option<KindAndRole>, gap: &[u8]) -> bool
     ensures { result ≡ (is_none before || has_break gap.now) }
 {

@@ -37,7 +37,7 @@ fn deeper_level(level: u32) -> u32
     level.saturating_add(1)
 }
 
-/// Appends the role `Plain`, for one token.
+/// Appends the line role `Plain`, for one token that doesn't begin a line.
 fn add_plain_role(out: &mut Vec<LineRole>) -> Result<(), AllocError>
     ensures { IfOk result (λ _. out.new.items ≡ out.old.items ++ (Plain ∷ [])) }
 {
@@ -70,7 +70,8 @@ fn add_compound_roles(out: &mut Vec<LineRole>, c: &CompoundExpression) -> Result
     Ok(())
 }
 
-/// Appends the role of the sign. If there is no sign (None), appends nothing.
+/// Appends the line role of a simple expression's sign. If there is no sign (None), appends
+/// nothing.
 fn add_sign_role(out: &mut Vec<LineRole>, sign: Option<Sign>) -> Result<(), AllocError>
     ensures { IfOk result (λ _. out.new.items ≡ out.old.items ++ sign_role sign) }
 {
@@ -220,7 +221,7 @@ fn add_statement_roles(out: &mut Vec<LineRole>, level: u32, s: &Statement) -> Re
     }
 }
 
-/// Appends the role `Begins(level)`, for a token that begins a line.
+/// Appends the line role `Begins(level)`, for one token that begins a line of the level `level`.
 fn add_line_start_role(out: &mut Vec<LineRole>, level: u32) -> Result<(), AllocError>
     ensures { IfOk result (λ _. out.new.items ≡ out.old.items ++ (Begins level ∷ [])) }
 {
@@ -373,8 +374,8 @@ fn add_field_roles(out: &mut Vec<LineRole>, f: &Fields) -> Result<(), AllocError
     }
 }
 
-/// Appends the roles of the tokens in formal parameters, including the parentheses. If `sections`
-/// is None, appends nothing.
+/// Appends the line roles of the tokens in a procedure's formal parameters, including the
+/// parentheses. If the procedure has no parentheses (None), appends nothing.
 fn add_formal_roles(
     out: &mut Vec<LineRole>,
     sections: &Option<Vec<ParameterSection>>,
@@ -495,7 +496,7 @@ fn add_body_roles(
     }
 }
 
-/// Appends the roles of a block's tokens. `level` is the level of the block.
+/// Appends the line roles of a block's tokens. `level` is the indentation level of the block.
 #[cycle(blocks)]
 fn add_block_roles(out: &mut Vec<LineRole>, level: u32, b: &Block) -> Result<(), AllocError>
     ensures { IfOk result

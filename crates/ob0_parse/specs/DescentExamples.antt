@@ -13,8 +13,8 @@ use Rattle.ob0_tree.specs.Places.{index_terminal}
 use Rattle.ob0_parse_descent.specs.Descent.{Stop, Done, Expects, Deep, DescendsText}
 use Rattle.ob0_parse_descent.specs.declared.refusal.Expected.TheVariants as expected
 
--- Returns tokens of the kinds in the list, followed by the end of the text. The first token has the
--- index `i`.
+-- Returns the tokens of a text, given their kinds, followed by the end of the text. The first token
+-- has the index `i`.
 abbrev pub terminals_of_kinds : ℕ → List TokenKind → List (Terminal ℕ)
 terminals_of_kinds i [] = EndOfText ∷ []
 terminals_of_kinds i (k ∷ ks) = index_terminal i k ∷ terminals_of_kinds (i + 1) ks
@@ -35,7 +35,7 @@ symbol_kind c = kind.Symbol c
 abbrev pub identifier_kind : TokenKind
 identifier_kind = kind.Identifier
 
--- The kind of each integer in the examples. It is the kind of 1, because the value doesn't matter.
+-- The kind of each integer in the examples: the kind of the integer 1. The value doesn't matter.
 abbrev pub integer_kind : TokenKind
 integer_kind = kind.Integer 1
 
@@ -53,7 +53,7 @@ repeat_kinds zero ks = []
 repeat_kinds (suc n) ks = ks ++ repeat_kinds n ks
 
 -- States at which token the descent stops in each example of docs/LANGUAGE.md, and which token or
--- construct is expected there. The last example is a whole module.
+-- construct is expected there. In the last example the descent reads the whole text.
 pub record ExpectedStops : Type 0 where
   pub empty : DescendsKinds [] (Expects 0 (expected.Word reserved.Module))
   -- `MODULE M; BEGIN x = 1 END M.`: END is expected at `=`.

@@ -1,6 +1,6 @@
 -- States which tokens belong to the procedures and the body that are kept from earlier parses,
 -- before and after a change of the text.
--- Rule: none; for contracts of `KeptTrees` and of `reparse_tree`.
+-- Rule: none; used in the contracts of `KeptTrees` and of `reparse_tree`.
 use Rattle.std.specs.declared.vec.Vec.{Vec}
 use Rattle.std.specs.declared.alloc.Global.{Global}
 use Rattle.std.specs.Prelude.{◌≡◌, ℕ, ◌+◌, ◌-◌, ◌<◌, ◌≤◌, List, [], ◌∷◌, Option, Some, IfSome, option_map, length, slice_get, slice_range}
@@ -20,8 +20,8 @@ use Rattle.ob0_parse.specs.declared.kept.KeptTrees.{KeptTrees}
 use Rattle.ob0_parse.specs.declared.kept.KeptBody.{KeptBody}
 use Rattle.ob0_parse.specs.declared.kept.KeptProcedure.{KeptProcedure}
 
--- Returns tokens of the kinds in a list, as they are spelled by a tree whose leaves are token
--- indexes. The first token has the index `i`.
+-- Returns tokens as they are spelled by a tree whose leaves are token indexes, given the kinds of
+-- the tokens. The first token has the index `i`.
 abbrev pub index_terminals_of_kinds : ℕ → List TokenKind → List (Terminal ℕ)
 index_terminals_of_kinds i [] = []
 index_terminals_of_kinds i (k ∷ ks) = index_terminal i k ∷ index_terminals_of_kinds (i + 1) ks
@@ -50,24 +50,26 @@ pub record HasTokensAt {s : Sort} (ts : List Token) (from at next : ℕ) (t : Tr
 abbrev pub IsInPlace : {s : Sort} → List Token → ℕ → ℕ → Tree ℕ s → Type 0
 IsInPlace ts at next t = HasTokensAt ts at at next t
 
--- States that the tokens of the procedure are in the range that its leaves determine, and that its
--- leaves are the indexes of these tokens.
+-- States that the leaves of the procedure `p` are the indexes of its tokens in `ts`. The leaves
+-- also determine the range of these tokens.
 abbrev pub IsProcedureInPlace : List Token → Procedure → Type 0
 IsProcedureInPlace ts p = IsInPlace ts (first_token_index (procedure_of p)) (end_token_index (procedure_of p)) (procedure_of p)
 
--- States that the tokens of the kept procedure are `k.at..k.next`. Its leaves may still be the
--- indexes of these tokens in an earlier text.
+-- States that the kept procedure `k` is in place: the tokens `k.at..k.next` of `ts` have the kinds
+-- that the procedure spells. The procedure's leaves may still be the indexes of these tokens in an
+-- earlier text.
 abbrev pub IsKeptInPlace : List Token → KeptProcedure → Type 0
 IsKeptInPlace ts k =
     HasTokensAt ts (first_token_index (procedure_of k.procedure)) k.at k.next (procedure_of k.procedure)
 
--- States that BEGIN and the statements of the kept body are the tokens `k.at..k.next`. The leaves
--- may still be the indexes of these tokens in an earlier text.
+-- States that the kept body `k` is in place: the tokens `k.at..k.next` of `ts` have the kinds that
+-- BEGIN and the statements spell. The leaves may still be the indexes of these tokens in an earlier
+-- text.
 abbrev pub IsKeptBodyInPlace : List Token → KeptBody → Type 0
 IsKeptBodyInPlace ts k = HasTokensAt ts k.from k.at k.next (body_of (Some k.statements))
 
--- States that BEGIN and the statements of the kept body are in the range that is kept with the
--- body. If no body is kept, it states nothing.
+-- States that the kept body is in place (`IsKeptBodyInPlace`). If no body is kept (None), states
+-- nothing.
 abbrev pub IsAnyKeptBodyInPlace : List Token → Option KeptBody → Type 0
 IsAnyKeptBodyInPlace ts body = IfSome body (IsKeptBodyInPlace ts)
 
@@ -83,9 +85,10 @@ pub record AreInPlace (ts : List Token) (k : KeptTrees) : Type 0 where
   pub waiting : HoldsForEach (IsKeptInPlace ts) k.waiting.items
   pub body : IsAnyKeptBodyInPlace ts k.body
 
--- States that `k` has the given statements (not None) as its body and the range of the body's
--- tokens, in a module with the procedures `ps`. BEGIN follows the last procedure. END follows the
--- statements and comes before the closing name, which has the token index `closing`.
+-- States that `k` has the given statements, which aren't None, and the range of their tokens. The
+-- statements are the body of a module with the procedures `ps`. BEGIN follows the last procedure.
+-- END follows the statements and comes before the closing name, which has the token index
+-- `closing`.
 pub record IsLocatedBody
     (ps : List Procedure) (statements : Option (Vec Statement Global)) (closing : ℕ) (k : KeptBody)
     : Type 0 where
@@ -98,8 +101,8 @@ pub record IsLocatedBody
 -- ---- kept trees in a changed text
 
 -- States that each tree with the tokens `at..next` in the old text has the tokens
--- `place.0..place.1` in the new text. This holds for every two texts that share the tokens
--- described by `same`.
+-- `place.0..place.1` in the new text. The old and the new text are any two texts that share the
+-- tokens described by `same`.
 abbrev pub RelocatesRange : SameParts → ℕ → ℕ → ℕ × ℕ → Type 0
 RelocatesRange same at next place =
     (s : Sort) (old new : List Token) (from : ℕ) (t : Tree ℕ s)
@@ -107,16 +110,17 @@ RelocatesRange same at next place =
     → HasTokensAt old from at next t
     → HasTokensAt new from place.0 place.1 t
 
--- States that the kept procedure `b` is at its place in the new text if `a` is at its place in the
--- old text. This holds for every two texts that share the tokens described by `same`.
+-- States that the kept procedure `b` is in place in the new text (`IsKeptInPlace`) if `a` is in
+-- place in the old text. The old and the new text are any two texts that share the tokens described
+-- by `same`.
 abbrev pub RelocatesProcedure : SameParts → KeptProcedure → KeptProcedure → Type 0
 RelocatesProcedure same a b =
     (old new : List Token) → HasSameKinds same old new → IsKeptInPlace old a → IsKeptInPlace new b
 
--- States that the kept procedures `after` are at their places in the new text, under two
--- conditions. The procedure `a` is at its place in the old text. The procedures `before` are at
--- their places in the new text. This holds for every two texts that share the tokens described by
--- `same`.
+-- States that each procedure of `after` is in place in the new text (`IsKeptInPlace`) if two
+-- conditions hold: `a` is in place in the old text, and each procedure of `before` is in place in
+-- the new text. It is used for a list `after` that is `before`, with or without `a` appended. The
+-- old and the new text are any two texts that share the tokens described by `same`.
 abbrev pub AppendsKeptProcedure : SameParts
     → KeptProcedure
     → List KeptProcedure
@@ -129,8 +133,9 @@ AppendsKeptProcedure same a before after =
     → HoldsForEach (IsKeptInPlace new) before
     → HoldsForEach (IsKeptInPlace new) after
 
--- States that the kept procedures `ys` are at their places in the new text if `xs` are at their
--- places in the old text. This holds for every two texts that share the tokens described by `same`.
+-- States that each kept procedure of `ys` is in place in the new text (`IsKeptInPlace`) if each of
+-- `xs` is in place in the old text. The old and the new text are any two texts that share the
+-- tokens described by `same`.
 abbrev pub RelocatesProcedures : SameParts → List KeptProcedure → List KeptProcedure → Type 0
 RelocatesProcedures same xs ys =
     (old new : List Token)
@@ -138,9 +143,10 @@ RelocatesProcedures same xs ys =
     → HoldsForEach (IsKeptInPlace old) xs
     → HoldsForEach (IsKeptInPlace new) ys
 
--- States that the kept procedures `after` are at their places in the new text, under two
--- conditions. The leaves of `p` are the indexes of its tokens in the old text. The procedures
--- `before` are at their places in the new text. This holds for every two texts that share the
+-- States that each procedure of `after` is in place in the new text (`IsKeptInPlace`) if two
+-- conditions hold: the leaves of `p` are the indexes of its tokens in the old text, and each
+-- procedure of `before` is in place in the new text. It is used for a list `after` that is
+-- `before`, with or without `p` appended. The old and the new text are any two texts that share the
 -- tokens described by `same`.
 abbrev pub AppendsMadeProcedure : SameParts
     → Procedure
@@ -154,10 +160,11 @@ AppendsMadeProcedure same p before after =
     → HoldsForEach (IsKeptInPlace new) before
     → HoldsForEach (IsKeptInPlace new) after
 
--- States that the kept procedures `after` are at their places in the new text, under two
--- conditions. The leaves of the procedures `ps` are the indexes of their tokens in the old text.
--- The procedures `before` are at their places in the new text. This holds for every two texts that
--- share the tokens described by `same`.
+-- States that each procedure of `after` is in place in the new text (`IsKeptInPlace`) if two
+-- conditions hold: the leaves of the procedures `ps` are the indexes of their tokens in the old
+-- text, and each procedure of `before` is in place in the new text. It is used for a list `after`
+-- that is `before`, with some or all of `ps` appended. The old and the new text are any two texts
+-- that share the tokens described by `same`.
 abbrev pub AppendsMadeProcedures : SameParts
     → List Procedure
     → List KeptProcedure
@@ -170,8 +177,9 @@ AppendsMadeProcedures same ps before after =
     → HoldsForEach (IsKeptInPlace new) before
     → HoldsForEach (IsKeptInPlace new) after
 
--- States that the body `b` is at its place in the new text if the body `a` is at its place in the
--- old text. This holds for every two texts that share the tokens described by `same`.
+-- States that the kept body `b` is in place in the new text (`IsKeptBodyInPlace`) if the kept body
+-- `a` is in place in the old text. The old and the new text are any two texts that share the tokens
+-- described by `same`.
 abbrev pub RelocatesBody : SameParts → KeptBody → KeptBody → Type 0
 RelocatesBody same a b =
     (old new : List Token)
@@ -179,9 +187,9 @@ RelocatesBody same a b =
     → IsKeptBodyInPlace old a
     → IsKeptBodyInPlace new b
 
--- States that the body `b` is at its place in the new text if the body `a` is at its place in the
--- old text. A missing body counts as being at its place. This holds for every two texts that share
--- the tokens described by `same`.
+-- States that the kept body `b` is in place in the new text (`IsKeptBodyInPlace`) if the kept body
+-- `a` is in place in the old text. A missing body (None) counts as being in place. The old and the
+-- new text are any two texts that share the tokens described by `same`.
 abbrev pub RelocatesAnyBody : SameParts → Option KeptBody → Option KeptBody → Type 0
 RelocatesAnyBody same a b =
     (old new : List Token) → HasSameKinds same old new → IsAnyKeptBodyInPlace old a → IsAnyKeptBodyInPlace new b
@@ -195,23 +203,23 @@ IsLocatedProcedure p k =
 
 -- ---- kept trees that a parse reuses
 
--- States that the procedure `x.0` has the tokens `at..x.1` of this text, and that its leaves are
--- the indexes of these tokens.
+-- States that the procedure `x.0` has the tokens `at..x.1` of `ts`, and that its leaves are the
+-- indexes of these tokens.
 abbrev pub IsReusedProcedure : List Token → ℕ → Procedure × ℕ → Type 0
 IsReusedProcedure ts at x = IsInPlace ts at x.1 (procedure_of x.0)
 
 -- States that `IsReusedProcedure` holds for `x` in every text in which all the kept procedures
--- `waiting` are at their places.
+-- `waiting` are in place (`IsKeptInPlace`).
 abbrev pub IsReusedFromKept : List KeptProcedure → ℕ → Procedure × ℕ → Type 0
 IsReusedFromKept waiting at x = (ts : List Token) → HoldsForEach (IsKeptInPlace ts) waiting → IsReusedProcedure ts at x
 
--- States that the procedures `after` are at their places in every text in which the procedures
--- `before` are at their places.
+-- States that the kept procedures `after` are in place (`IsKeptInPlace`) in every text in which the
+-- kept procedures `before` are in place.
 abbrev pub RemainInPlace : List KeptProcedure → List KeptProcedure → Type 0
 RemainInPlace before after =
     (ts : List Token) → HoldsForEach (IsKeptInPlace ts) before → HoldsForEach (IsKeptInPlace ts) after
 
--- States that BEGIN and the statements `x.0` have the tokens `at..x.1` of this text. The leaves of
--- the statements are the indexes of these tokens.
+-- States that BEGIN and the statements `x.0` have the tokens `at..x.1` of `ts`, and that the leaves
+-- of the statements are the indexes of these tokens.
 abbrev pub IsReusedBody : List Token → ℕ → Vec Statement Global × ℕ → Type 0
 IsReusedBody ts at x = IsInPlace ts at x.1 (body_of (Some x.0))

@@ -1,6 +1,6 @@
 -- Defines how the leaves of a tree are adapted to a changed text. The leaves are token indexes, so
 -- they change if the tokens have moved.
--- Rule: none; for private contracts of the parser.
+-- Rule: none; used in private contracts of the parser.
 use Rattle.std.specs.Prelude.{ℕ, ◌+◌, ◌-◌, ◌^◌, min}
 use Rattle.ob0_tree.specs.Tree.{Sort, Tree, mapped_tree}
 use Rattle.ob0_parse.specs.declared.leaf_moves.LeafMove.{LeafMove}

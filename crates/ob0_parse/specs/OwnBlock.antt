@@ -1,6 +1,6 @@
 -- States which results of the parser are right, for a module and for the procedures that are
 -- declared directly in it. The parser stores these procedures in `KeptTrees`.
--- Rule: none; for private contracts of the parser.
+-- Rule: none; used in private contracts of the parser.
 use Rattle.std.specs.Prelude.{ℕ, List, [], ◌∷◌, Result, Ok, Err, length}
 use Rattle.ob0_scan.specs.declared.lexeme.Token.{Token}
 use Rattle.ob0_tree.specs.declared.tree.Block.{Block}
@@ -12,7 +12,7 @@ use Rattle.ob0_parse_descent.specs.Reading.{nonterminal, text_end, IsReadTree, F
 use Rattle.ob0_parse.specs.declared.parse_own_block.OwnBlockParts.{OwnBlockParts}
 use Rattle.ob0_parse_descent.specs.declared.refusal.ParseRefusal.{ParseRefusal}
 
--- Returns the tree of a block with the procedures `ps` and the other parts `parts`.
+-- Returns the tree of a block with the procedures `ps`, and with the sections and body in `parts`.
 abbrev pub block_with_procedures : List Procedure → OwnBlockParts → Tree ℕ block
 block_with_procedures ps parts =
     forms_block

@@ -1,6 +1,6 @@
 //! Keeps the trees of procedures and bodies from earlier parses, so that a later parse can reuse
-//! them. The range of a kept tree's tokens in the present text is stored with the tree, or the
-//! tree's leaves determine it.
+//! them. The range of a kept tree's tokens in the present text is either stored with the tree or
+//! determined by the tree's leaves.
 //!
 //! `KeptTrees` holds three groups of trees. They are the procedures that the last parse made or
 //! reused, the procedures that the last parse didn't reach, and the body of the module.
@@ -13,8 +13,9 @@
 //! A kept tree can be reused, whichever parse made it, if the token after the tree can't continue
 //! the tree. No token can continue a procedure, because a procedure ends with a semicolon
 //! (`stops_zero`). The token after a reused body is END, which can't continue a body. In both cases
-//! no other tree has the same tokens (`same`). The descent reads every tree that the tokens spell
-//! (`finishes`), so `IsReadTree` follows from the spelling (`taken_there`).
+//! no other tree has the same tokens (the lemma `same`). The descent reads every tree that the
+//! tokens spell (the lemma `finishes`). So `IsReadTree` follows if the tree spells the tokens (the
+//! lemma `taken_there`).
 //!
 //! The leaves of a procedure determine the range of its tokens. Its name is its second token, and
 //! its closing name is its last token but one. The leaves of a body don't determine the range of
@@ -24,9 +25,9 @@
 //! The leaves of a kept tree stay unchanged until a parser reaches the tree's tokens. Then
 //! `move_leaves` adds to each leaf the distance that the tokens have moved, by a walk in
 //! `leaf_moves.rt`. So procedures and the body can be reused on both sides of a change in the text.
-//! The moved tree is the old tree with each leaf changed, so it spells the current tokens
-//! (`moved_there`). No moved leaf exceeds the largest `usize`, because each moved leaf is less than
-//! the tree's `next`, which is a `usize`.
+//! The moved tree is the old tree with each leaf changed. So the moved tree spells the tokens of
+//! the present text (the lemma `moved_there`). No moved leaf exceeds the largest `usize`,
+//! because each moved leaf is less than the tree's `next`, which is a `usize`.
 
 ghost use Rattle.std.specs.Prelude.{◌≡◌, ◌+◌, ◌≤◌, ◌++◌, [], List, IfOk, OnOk, IfSome};
 ghost use Rattle.std.specs.Option.{option_to_list};
@@ -51,9 +52,9 @@ pub struct KeptProcedure {
     pub next: usize,
 }
 
-/// The statements of a module's own body from an earlier parse. BEGIN and the tokens of the
-/// statements have the indexes `at..next` in the present text. The leaves of the statements are
-/// token indexes in a text in which BEGIN has the index `from`.
+/// The statements of a module's body (not of a procedure's) from an earlier parse. BEGIN and the
+/// tokens of the statements have the indexes `at..next` in the present text. The leaves of the
+/// statements are token indexes in a text in which BEGIN has the index `from`.
 #[derive(Drop)]
 pub struct KeptBody {
     pub statements: Vec<Statement>,
@@ -78,7 +79,7 @@ pub struct KeptTrees {
 }
 
 impl KeptTrees {
-    /// Returns a `KeptTrees` that keeps no tree.
+    /// Returns a `KeptTrees` without any tree: no procedures and no body.
     pub fn empty(alloc: Global) -> KeptTrees
         ensures { (ts : List Token) → AreInPlace ts result }
     {
@@ -108,8 +109,9 @@ impl KeptTrees {
     }
 
     /// Returns the kept trees whose tokens are also in the changed text, with the ranges of these
-    /// tokens in the changed text. `same` says which tokens the old text and the changed text
-    /// share. The trees whose tokens have changed are dropped.
+    /// tokens in the changed text. `same` describes the tokens that the old and the changed text
+    /// share: those before and those after the change. The trees whose tokens have changed are
+    /// dropped.
     pub fn relocate(self, alloc: Global, same: SameParts) -> Result<KeptTrees, AllocError>
         ensures { IfOk result (λ kept. (old new : List Token)
             → HasSameKinds same old new
@@ -154,8 +156,8 @@ fn locate_body(
     })
 }
 
-/// Returns the waiting procedures whose tokens are also in the changed text, in the same order,
-/// with the ranges of these tokens in that text. The other procedures are dropped.
+/// Returns the procedures of `waiting` whose tokens are also in the changed text, in the same
+/// order, with the ranges of these tokens in the changed text. The other procedures are dropped.
 fn relocate_waiting_procedures(
     alloc: Global,
     waiting: Vec<KeptProcedure>,
@@ -171,8 +173,9 @@ fn relocate_waiting_procedures(
 }
 
 /// Moves the procedures of the last parse from `made` to the end of `kept`, beginning with the last
-/// procedure. Each procedure gets the range of its tokens in the changed text. Drops the procedures
-/// whose tokens the changed text doesn't have. Afterwards `made` is empty.
+/// procedure, so that `kept` is in reverse text order. Each procedure gets the range of its
+/// tokens in the changed text. Drops the procedures whose tokens the changed text doesn't have.
+/// Afterwards `made` is empty.
 fn relocate_made_procedures(
     kept: &mut Vec<KeptProcedure>,
     made: &mut Vec<Procedure>,
@@ -188,8 +191,8 @@ fn relocate_made_procedures(
     Ok(())
 }
 
-/// Appends a waiting procedure to `kept`, with the range of its tokens in the changed text. Drops
-/// the procedure if the changed text doesn't have its tokens.
+/// Appends the kept procedure `procedure` to `kept`, with the range of its tokens in the changed
+/// text. Drops the procedure if the changed text doesn't have its tokens.
 fn push_relocated_procedure(
     kept: &mut Vec<KeptProcedure>,
     procedure: KeptProcedure,
@@ -203,8 +206,8 @@ fn push_relocated_procedure(
     Ok(())
 }
 
-/// Appends a procedure of the last parse to `kept`, with the range of its tokens in the changed
-/// text. Drops the procedure if the changed text doesn't have its tokens.
+/// Appends `procedure`, which the last parse made or reused, to `kept`, with the range of its
+/// tokens in the changed text. Drops the procedure if the changed text doesn't have its tokens.
 fn push_made_procedure(
     kept: &mut Vec<KeptProcedure>,
     procedure: Procedure,
@@ -230,8 +233,8 @@ fn relocate_body(body: Option<KeptBody>, same: SameParts) -> Option<KeptBody>
 }
 
 /// Returns the procedure with the range of its tokens. Its leaves must be the indexes of its tokens
-/// in the present text, because they determine the range. Returns None if the index after its last
-/// token would be out of range.
+/// in the present text, because the leaves determine the range. Returns None if the index after its
+/// last token would be out of range.
 fn locate_procedure(procedure: Procedure) -> Option<KeptProcedure>
     ensures { IfSome result (IsLocatedProcedure procedure) }
 {
@@ -309,9 +312,9 @@ fn relocated_range(at: usize, next: usize, same: SameParts) -> Option<(usize, us
     Some((at, next))
 }
 
-/// Returns the index in the changed text of a token that follows all changed tokens, given its
-/// index in the old text. Returns None if the token doesn't follow all changed tokens, or if the
-/// returned index would be out of range.
+/// Returns the index in the changed text of a token that follows all changed tokens, given the
+/// token's index in the old text (`index`). Returns None if the token doesn't follow all changed
+/// tokens, or if the returned index would be out of range.
 fn relocated_index(index: usize, same: SameParts) -> Option<usize>
     ensures { IfSome result (λ place. (same.old_suffix ≤ index)
         × (place + same.old_suffix ≡ index + same.new_suffix)) }

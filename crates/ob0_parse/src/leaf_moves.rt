@@ -24,8 +24,8 @@ pub(crate) struct LeafMove {
 }
 
 impl LeafMove {
-    /// Returns the index that the move gives to the token with the index `leaf`, capped at 2^64 -
-    /// 1. An index below `from` counts as `from`.
+    /// Returns the index after the move of the token that has the index `leaf` before it. The
+    /// result is at most the largest `usize`. An index below `from` counts as `from`.
     fn moved_leaf(self, leaf: usize) -> usize
         ensures { result ≡ moved_leaf self leaf }
     {
@@ -258,7 +258,7 @@ fn move_if(i: &mut If, by: LeafMove)
     }
 }
 
-/// Applies the move `by` to each token index in ELSIF parts.
+/// Applies the move `by` to each token index in the ELSIF parts of an IF statement.
 #[cycle(statements)]
 fn move_elsifs(parts: &mut Vec<Elsif>, by: LeafMove)
     ensures { elsifs_of_vec parts.new ≡ moved_tree by (elsifs_of_vec parts.old) }

@@ -1,5 +1,5 @@
-//! Parses a module: its name, its own block and its closing name. Procedures and a body that are
-//! kept from earlier parses are reused.
+//! Parses a module: its name, its block and its closing name. If procedures or a body from earlier
+//! parses are kept, the parser reuses them.
 
 ghost use Rattle.std.specs.Prelude.{◌≡◌, ◌≤◌, Some, IfSome, length};
 ghost use Rattle.ob0_scan.specs.declared.lexeme.TokenKind.TheVariants as kind;
@@ -75,8 +75,8 @@ fn parse_own_procedures(
 }
 
 /// Returns the procedure that begins at the token `at`, and the index of the token after it. If the
-/// procedure is in `waiting`, it is reused, otherwise it is parsed. Returns None if no procedure
-/// begins at that token.
+/// procedure is in `waiting`, it is reused, otherwise it is parsed. Returns None if the token at
+/// `at` isn't PROCEDURE.
 fn next_own_procedure(
     parser: &Parser<'_>,
     at: usize,

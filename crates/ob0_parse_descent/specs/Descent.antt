@@ -76,7 +76,8 @@ is_assignment_next (WordOrSymbol (kind.Symbol symbol.Becomes) ∷ tokens) = true
 is_assignment_next tokens = is_item_next selector tokens
 
 -- Returns the production of an item that consists of an operator and a construct of the sort `s`.
--- The next token must be the operator, so the value for any other token doesn't matter.
+-- This function is used only if the next token is the operator, so its value for any other token
+-- doesn't matter.
 abbrev pub operation_choice : Sort → ℕ → List (Terminal ℕ) → ProductionChoice
 operation_choice s room (WordOrSymbol k ∷ tokens) = parts (token k ∷ nonterminal s room ∷ [])
 operation_choice s room tokens = missing expected.Expression
@@ -270,7 +271,7 @@ chosen_production module_text room tokens =
 -- ---- the stop: where and why the descent ends
 
 -- States that a token matches a part of a production. No token matches a part that is a construct,
--- because a construct is first replaced by its own parts.
+-- because the descent first replaces a construct by the parts of its production.
 abbrev pub MatchesPart : ProductionPart → Terminal ℕ → Type 0
 MatchesPart (token k) x = x ≡ WordOrSymbol k
 MatchesPart name x = (n : ℕ) × (x ≡ Name n)
@@ -288,7 +289,8 @@ expected_token (kind.Integer value) = None
 
 -- Returns the token that a syntax error reports as expected if a part of a production is missing.
 -- The result is None for an integer, because an integer is a part only if the next token is an
--- integer. The result is also None for a construct, because its own parts are read instead.
+-- integer. The result is also None for a construct, because the descent reads the parts of its
+-- production instead.
 abbrev pub expected_part : ProductionPart → Option Expected
 expected_part (token k) = expected_token k
 expected_part name = Some expected.Identifier
@@ -305,29 +307,31 @@ pub data Stop : Type 0 where
   Deep : ℕ → Stop
 
 -- States that the descent over a list of parts, reading from a list of tokens, ends with a given
--- stop. The number is the index in the text of the first token in the list.
+-- stop. The number (ℕ) is the index in the text of the first token in the list.
 pub data Descends : List ProductionPart → ℕ → List (Terminal ℕ) → Stop → Type 0 where
   -- No part is left: the descent is done.
   done : {i : ℕ} {tokens : List (Terminal ℕ)} → Descends [] i tokens Done
-  -- The next token matches the next part, so the descent continues after both.
+  -- The next token matches the next part: the descent continues after this token and this part.
   taken : {p : ProductionPart} {ps : List ProductionPart} {i : ℕ} {x : Terminal ℕ} {tokens : List (Terminal ℕ)}
       {o : Stop}
       → MatchesPart p x → Descends ps (i + 1) tokens o → Descends (p ∷ ps) i (x ∷ tokens) o
-  -- The next token doesn't match the next part, so the descent stops and expects that part.
+  -- The next token doesn't match the next part: the descent stops, because that part is expected.
   other : {p : ProductionPart} {ps : List ProductionPart} {i : ℕ} {x : Terminal ℕ} {tokens : List (Terminal ℕ)}
       {e : Expected}
       → ¬ MatchesPart p x → expected_part p ≡ Some e → Descends (p ∷ ps) i (x ∷ tokens) (Expects i e)
-  -- The next part is a construct, so its own parts take its place.
+  -- The next part is a construct: the descent continues with the parts of its production (`qs`)
+  -- instead.
   made : {s : Sort} {room : ℕ} {ps : List ProductionPart} {i : ℕ} {tokens : List (Terminal ℕ)} {o : Stop}
       (qs : List ProductionPart)
       → chosen_production s room tokens ≡ parts qs
       → Descends (qs ++ ps) i tokens o
       → Descends (nonterminal s room ∷ ps) i tokens o
-  -- The next part is a construct that can't begin with the next token.
+  -- The next part is a construct that can't begin with the next token: the descent stops.
   absent : {s : Sort} {room : ℕ} {ps : List ProductionPart} {i : ℕ} {tokens : List (Terminal ℕ)}
       {e : Expected}
       → chosen_production s room tokens ≡ missing e → Descends (nonterminal s room ∷ ps) i tokens (Expects i e)
-  -- The next part is a construct that opens a level of nesting, but no level is left.
+  -- The next part is a construct that opens a level of nesting, but no level is left: the descent
+  -- stops.
   deep : {s : Sort} {room : ℕ} {ps : List ProductionPart} {i : ℕ} {tokens : List (Terminal ℕ)}
       → chosen_production s room tokens ≡ too_deep → Descends (nonterminal s room ∷ ps) i tokens (Deep i)
 

@@ -1,6 +1,6 @@
--- Defines the promises of the parser's functions: which tokens a function has read as a tree, or why
--- no such tree begins at the given token.
--- Rule: none; for contracts of the parser.
+-- Defines the promises of the parser's functions: which tokens a function has read as a tree, or
+-- why it can't read a tree from the given token.
+-- Rule: none; used in the contracts of the parser.
 use Rattle.std.specs.declared.vec.Vec.{Vec}
 use Rattle.std.specs.declared.alloc.Global.{Global}
 use Rattle.std.specs.Prelude.{◌≡◌, ℕ, ◌+◌, ◌<◌, ◌≤◌, List, [], ◌∷◌, ◌++◌, Option, Some, None, IfNone, option_map, Result, Ok, Err, length, drop, ◌≢◌, Bool, true, false}
@@ -25,7 +25,7 @@ use Rattle.ob0_parse_descent.specs.declared.refusal.ParseRefusal.{ParseRefusal}
 use Rattle.ob0_parse_descent.specs.declared.refusal.ParseRefusal.TheVariants.{Syntax, TooDeep, Memory}
 
 -- Returns the token with the index `i` and the given kind, as it is spelled by a tree whose leaves
--- are token indexes. Returns the end of the text for None.
+-- are token indexes. If there is no kind (None), returns the end of the text.
 abbrev pub terminal_or_end : ℕ → Option TokenKind → Terminal ℕ
 terminal_or_end i None = EndOfText
 terminal_or_end i (Some k) = index_terminal i k
@@ -35,9 +35,9 @@ terminal_or_end i (Some k) = index_terminal i k
 unfoldable pub rest : List Token → ℕ → List (Terminal ℕ)
 rest ts i = drop i (index_terminals ts)
 
--- States that the tokens `w` begin with the parts in the list, in order. For each part that is a
--- construct, `w` has a tree of at most the part's `room` levels, and the token after the tree can't
--- continue it.
+-- States that the tokens `w` begin with the parts in the list, in order. At each part that is a
+-- construct, some tree of the construct spells the next tokens. That tree has at most `room` levels
+-- of nesting, and the token after it can't continue the construct.
 abbrev pub BeginsWithParts : List ProductionPart → List (Terminal ℕ) → Type 0
 BeginsWithParts [] w = Unit {0}
 BeginsWithParts (token k ∷ ps) w = (z : List (Terminal ℕ)) × (w ≡ WordOrSymbol k ∷ z) × BeginsWithParts ps z
@@ -52,9 +52,9 @@ BeginsWithParts (nonterminal s room ∷ ps) w =
     × BeginsWithParts ps z
 BeginsWithParts (text_end ∷ ps) w = (z : List (Terminal ℕ)) × (w ≡ EndOfText ∷ z) × BeginsWithParts ps z
 
--- States that the list `tokens` ends with `after`, and that the tokens before `after` can't be the
--- beginning of the parts `parts`, whatever tokens follow them. `fault` is the last token before
--- `after`.
+-- States that the list `tokens` consists of the tokens `passed`, the token `fault` and the tokens
+-- `after`. Also states that no list of tokens that begins with `passed` and `fault` begins with the
+-- parts `parts`.
 pub record CantBegin (parts : List ProductionPart) (tokens after : List (Terminal ℕ)) : Type 0 where
   pub passed : List (Terminal ℕ)
   pub fault : Terminal ℕ
@@ -70,18 +70,18 @@ pub record HaveSameHead (xs w : List (Terminal ℕ)) : Type 0 where
   pub alike : w ≡ head ∷ other
 
 -- States that two descents end with the same stop: the descent over the parts `ps`, starting at the
--- token `at`, and the descent over the parts `following`, starting at the token `next`. This holds
--- whatever parts `more` follow both lists.
+-- token `at`, and the descent over the parts `following`, starting at the token `next`. The stops
+-- are also the same if further parts `more` follow in both lists.
 pub record DescentsEndWithSameStop (ps following : List ProductionPart) (ts : List Token) (at next : ℕ) : Type 0 where
   pub stops_as_following : (o : Stop) (more : List ProductionPart)
       → Descends (following ++ more) next (rest ts next) o
       → Descends (ps ++ more) at (rest ts at) o
 
 -- States that the tree `t` spells the tokens `at..next`, that the descent reads `t` there, and that
--- `t` has at most `room` levels of nesting. The field `only` states that no other tree fits. Take
--- any list of tokens that begins with these tokens and the token at `next`. If a tree of the same
--- sort spells the beginning of this list, and the next token can't continue that tree
--- (`EndsConstruct`), the tree is `t`.
+-- `t` has at most `room` levels of nesting. The field `only` states that `t` is the only such tree.
+-- Take any list of tokens that begins with the tokens of `t` and the token at `next`. If a tree `u`
+-- of the same sort spells the beginning of this list, and the token after `u` can't continue `u`
+-- (`EndsConstruct`), `u` is `t`.
 pub record IsReadTree {s : Sort} (t : Tree ℕ s) (room : ℕ) (ts : List Token) (at next : ℕ) : Type 0 where
   pub spelled : rest ts at ≡ spell t ++ rest ts next
   pub shallow : nesting t ≤ room
@@ -94,9 +94,10 @@ pub record IsReadTree {s : Sort} (t : Tree ℕ s) (room : ℕ) (ts : List Token)
   pub within : next ≤ length ts
   pub forward : at ≤ next
 
--- States that the refusal of the parts `parts` reports the right token. If it is a syntax error or
--- too deep nesting at the token `i`, the parts can't begin with the tokens `at..=i`. The end of the
--- text counts as a token. For a failed allocation it states nothing.
+-- States that the refusal of the parts `parts` reports the right token. If the refusal is a syntax
+-- error or too deep nesting at the token `i`, no list of tokens that begins with the tokens
+-- `at..=i` begins with the parts. The end of the text counts as a token. For a failed allocation it
+-- states nothing.
 abbrev pub IsRightRefusalOfParts : List ProductionPart → List Token → ℕ → ParseRefusal → Type 0
 IsRightRefusalOfParts parts ts at (Syntax i expected) = (i ≤ length ts) × CantBegin parts (rest ts at) (rest ts (i + 1))
 IsRightRefusalOfParts parts ts at (TooDeep i) = (i ≤ length ts) × CantBegin parts (rest ts at) (rest ts (i + 1))
@@ -124,8 +125,8 @@ pub record FailsToRead
 
 -- States that the result of parsing a construct at the token `at` is right. The tree of a parsed
 -- construct begins at that token and ends before the returned index. If the result is a refusal, no
--- construct of this sort can be read there, for the reason that the refusal gives. `view` returns
--- the tree of a parsed value, and `room` is the number of nesting levels left.
+-- construct of the sort `s` can be read there, for the reason that the refusal gives. `view`
+-- returns the tree of a parsed value, and `room` is the number of nesting levels left.
 abbrev pub Reads : {A : Type 0} {s : Sort}
     → (A → Tree ℕ s)
     → ℕ
@@ -214,7 +215,7 @@ ReadsItem {i = i} view room ts at (Ok None) = ¬ NextHasRank (item_rank i) (rest
 ReadsItem view room ts at (Ok (Some x)) = IsReadTree (view x.0) room ts at x.1 × (at < x.1)
 ReadsItem {i = i} view room ts at (Err e) = ItemFails i room ts at e
 
--- States that the tokens don't begin with a sign.
+-- States that the list of tokens doesn't begin with a sign, `+` or `-`.
 pub record HasNoSign (w : List (Terminal ℕ)) : Type 0 where
   pub plus : (z : List (Terminal ℕ)) → w ≡ WordOrSymbol (kind.Symbol symbol.Plus) ∷ z → ⊥
   pub minus : (z : List (Terminal ℕ)) → w ≡ WordOrSymbol (kind.Symbol symbol.Minus) ∷ z → ⊥
@@ -238,9 +239,9 @@ ReadsDesignator room ts at (Ok x) =
     × ¬ NextHasRank 1 (rest ts x.1)
 ReadsDesignator room ts at (Err e) = FailsToRead (name ∷ nonterminal (items selector) room ∷ []) ts at e
 
--- States that the operator found for a token of the kind `k` is right. `mark` returns the kind that
--- spells an operator, and `r` is the rank of the operators. If an operator was found, `k` spells
--- it. If no operator was found (None), the rank of `k` isn't `r`.
+-- States that the operator found for a token of the kind `k` is right. `mark` returns the kind of
+-- token that spells an operator, and `r` is the rank of these tokens. If an operator was found,
+-- tokens of the kind `k` spell it. If no operator was found (None), the rank of `k` isn't `r`.
 abbrev pub IsOperatorOf : {A : Type 0} → (A → TokenKind) → ℕ → TokenKind → Option A → Type 0
 IsOperatorOf mark r k (Some a) = k ≡ mark a
 IsOperatorOf mark r k None = kind_rank k ≢ r

@@ -4,8 +4,9 @@ ghost use Rattle.std.specs.Prelude.{◌≡◌, ◌≤◌, ◌++◌, ◌∷◌, [
 
 use std::alloc::AllocError;
 
-/// Adds an item at the end of a list. The list's capacity grows as 1, 2, 4, 8 and so on, because
-/// most lists of a tree hold only one item. If an allocation fails, the list is unchanged.
+/// Adds an item at the end of a list. The list's capacity grows from 1 to 2, 4, 8 and so on. It
+/// begins with 1, because most lists of a syntax tree hold only one item. An allocation can fail
+/// only if the list is full, and then the list is unchanged.
 pub fn push_doubling<T: Drop>(list: &mut Vec<T>, item: T) -> Result<(), AllocError>
     ensures added { OnOk result (list.new.items ≡ list.old.items ++ item ∷ []) }
     ensures same { OnErr result (list.new.items ≡ list.old.items) }

@@ -1,7 +1,7 @@
 //! Parses by recursive descent, with one function for each production of the grammar. Each function
 //! returns the tree of the construct that begins at a given token, or a refusal with the token at
-//! which the parser stops. The rules are in docs/LANGUAGE.md, Grammar, Nesting and limits, Syntax
-//! faults.
+//! which the parser stops. The rules are in docs/LANGUAGE.md, in the sections Grammar, Nesting and
+//! limits, and Syntax faults.
 #![tactic(auto)]
 
 mod declarations;

@@ -22,29 +22,30 @@ use ob0_tree::{
 };
 use std::alloc::{AllocError, Global};
 
-/// The strength with which a selector binds the operand before it (see `binding_strength`). A
-/// smaller number binds more strongly.
+/// The rank of `.` and `[`, which begin a selector. The lower its rank, the more strongly a token
+/// binds the operand before it (see `binding_strength`).
 const SELECTOR_STRENGTH: u8 = 1;
 
-/// The strength with which `*`, DIV, MOD and `&` bind the operand before them.
+/// The rank of `*`, DIV, MOD and `&` (see `binding_strength`).
 const MULTIPLICATION_STRENGTH: u8 = 2;
 
-/// The strength with which `+`, `-` and OR bind the operand before them.
+/// The rank of `+`, `-` and OR (see `binding_strength`).
 const ADDITION_STRENGTH: u8 = 3;
 
-/// The strength with which a relation binds the operand before it.
+/// The rank of the relations `=`, `#`, `<`, `<=`, `>` and `>=` (see `binding_strength`).
 const COMPARISON_STRENGTH: u8 = 4;
 
-/// The strength of each token that neither begins a selector nor is an operator. Such a token binds
-/// no operand before it.
+/// The rank of each token that neither begins a selector nor is an operator. Such a token doesn't
+/// bind the operand before it (see `binding_strength`).
 const WEAKEST_STRENGTH: u8 = 5;
 
-/// The result of parsing a construct: the construct and the index of the token after it, or a
-/// refusal with the reason.
+/// The result of parsing a construct: the construct's tree and the index of the token after the
+/// construct, or a refusal with the reason.
 pub type ConstructResult<T> = Result<(T, usize), ParseRefusal>;
 
-/// The result of parsing an optional item: the item and the index of the token after it, or a
-/// refusal with the reason. The result is None if the token to parse doesn't begin such an item.
+/// The result of parsing an optional item: the item's tree and the index of the token after the
+/// item, or a refusal with the reason. The result is `Ok(None)` if the next token doesn't begin
+/// such an item.
 pub type ItemResult<T> = Result<Option<(T, usize)>, ParseRefusal>;
 
 /// The parser: the tokens to parse, and the allocator for the trees.
@@ -195,7 +196,7 @@ impl<'t> Parser<'t> {
     }
 
     /// Returns the expression that consists only of the simple expression `side`, without a
-    /// relation. If `side` is a single factor, the result is an `Expression::Factor`, which needs
+    /// comparison. If `side` is a single factor, the result is an `Expression::Factor`, which needs
     /// no box.
     #[inline(always)]
     fn expression_without_relation(&self, side: SimpleExpression) -> Result<Expression, AllocError>
@@ -232,9 +233,9 @@ impl<'t> Parser<'t> {
     }
 
     /// Returns the factor that consists only of the token at `at`. Returns None if that token is
-    /// neither an identifier nor an integer. Also returns None if the `binding_strength` of the
-    /// next token is at most `level`: that token may then continue the construct that the caller
-    /// parses.
+    /// neither an identifier nor an integer. `level` is the highest rank of a token that can
+    /// continue the construct that the caller parses. So the function also returns None if the rank
+    /// of the next token (`binding_strength`) is at most `level`.
     #[inline(always)]
     fn single_token_factor(&self, at: usize, level: u8) -> Option<Factor>
         requires within { at ≤ length self.now.tokens.now }
@@ -490,8 +491,8 @@ impl<'t> Parser<'t> {
     }
 }
 
-/// Returns the strength with which the token `next` binds the operand before it. A smaller number
-/// binds more strongly. At the end of the text (None) the strength is `WEAKEST_STRENGTH`.
+/// Returns the rank of the token `next`: the lower the rank, the more strongly the token binds the
+/// operand before it. At the end of the text (None) the rank is `WEAKEST_STRENGTH`.
 #[inline(always)]
 fn binding_strength(next: Option<TokenKind>) -> u8
     ensures { result ≡ binding_strength next }

@@ -1,6 +1,6 @@
 -- Converts an object in the program's table of declarations to the specification's `Object`, and a
 -- procedure's parameters to the specification's `Signature`.
--- Rule: none; for contracts: what values of the code mean.
+-- Rule: none; used in contracts about the program's table of declarations.
 use Rattle.std.specs.Prelude.{List, map, Option}
 use Rattle.ob0_types_table.specs.declared.known.FormalParameter as formal
 use Rattle.ob0_types_table.specs.declared.known.Object as declaration

@@ -28,21 +28,22 @@ abbrev pub is_by_place : Mode → Bool
 is_by_place by_value = false
 is_by_place by_place = true
 
--- returns a formal parameter with this name in the form for hover texts
+-- returns the `HoverParameter` for a formal parameter and its name
 abbrev pub hover_parameter : Name → FormalParameter → HoverParameter
 hover_parameter name f =
     record { by_place = is_by_place f.mode; name = name; text_of_type = type_text f.shape }
 
--- Returns the parameters of a procedure in the form for hover texts, one by one from the
--- procedure's signature. The list has the names declared after the procedure's name. The first of
--- these names are the names of the parameters.
+-- Returns the `HoverParameter` of each parameter in a procedure's signature. The first argument has the
+-- names that the text declares after the procedure's name, which begin with the parameters' names. If
+-- there are fewer names than parameters, the other parameters are left out.
 abbrev pub hover_parameters : List Name → Signature → List HoverParameter
 hover_parameters (x ∷ xs) (f ∷ fs) = hover_parameter x f ∷ hover_parameters xs fs
 hover_parameters [] fs = []
 hover_parameters (x ∷ xs) [] = []
 
 -- Returns the hover text of a declaration, given its name, the names declared after this name, and
--- its object. Returns None for a constant whose value is neither a number nor a truth value.
+-- the constant, type, variable or procedure that it declares. Returns None for a constant whose value
+-- is neither a number nor a truth value.
 abbrev pub object_hover : Name → List Name → Object Shape Signature → Option (List ℕ)
 object_hover name following (a_constant v) = constant_hover name v
 object_hover name following (a_type s) = Some (type_declaration_text name (type_text s))
@@ -57,8 +58,9 @@ names_declared_after m ordinal =
     map (token_text_at m.source)
     (drop (ordinal + 1 - predeclared_count) (declaring_names (identifiers role.Declaring (tree_of m))))
 
--- Returns the hover text of a name that the text declares, given the name's object. Returns None if
--- there is no object, or if the object is a constant without a hover text.
+-- Returns the hover text of a name that the text declares, given the constant, type, variable or
+-- procedure that it is declared as (`object`). Returns None if `object` is None or a constant without
+-- a hover text.
 abbrev pub declaration_hover : ParsedModule
     → named.Named
     → Option (Object Shape Signature)
@@ -66,9 +68,9 @@ abbrev pub declaration_hover : ParsedModule
 declaration_hover m n object =
     option_and_then (object_hover (token_text_at m.source n.token) (names_declared_after m n.ordinal)) object
 
--- Returns the hover text of a name, given the name's object. A name with an ordinal from 0 to 6 is
--- predeclared and needs no object. Returns None if any other name has no object, or if its object
--- is a constant without a hover text.
+-- Returns the hover text of a name, given the constant, type, variable or procedure that it is declared
+-- as (`object`). A name with an ordinal from 0 to 6 is predeclared, and `object` isn't used. For any
+-- other name, returns None if `object` is None or a constant without a hover text.
 abbrev pub name_hover : ParsedModule → named.Named → Option (Object Shape Signature) → Option (List ℕ)
 name_hover m n object =
     if nat_lt n.ordinal predeclared_count

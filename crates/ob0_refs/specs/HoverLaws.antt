@@ -1,5 +1,6 @@
--- States a law about the hover texts of procedures.
--- Rule: none; laws of hover texts.
+-- States the law on which a procedure's hover text relies: the names declared after a procedure's name
+-- begin with the names of its parameters.
+-- Rule: none; used in the contract of `parameters_follow_procedure`.
 use Rattle.std.specs.Prelude.{◌≡◌, ℕ, List, [], ◌++◌, ◌∷◌, Some, length, map, take}
 use Rattle.std.specs.List.{All}
 use Rattle.ob0_tree.specs.declared.tree.Role.TheVariants as role

@@ -1,6 +1,6 @@
 -- Converts the program's `Hover` to the specification's `HoverText`, and a `NameConflict` to its
 -- span.
--- Rule: none; for contracts: what values of the code mean.
+-- Rule: none; used in contracts about the program's answers.
 use Rattle.std.specs.Prelude.{string_bytes}
 use Rattle.ob0_scan.specs.declared.lexeme.Span.{Span}
 use Rattle.ob0_refs.specs.declared.answers.NameConflict as capture_answer

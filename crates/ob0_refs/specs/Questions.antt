@@ -1,5 +1,5 @@
--- Defines the answers to hover, definition, references and prepareRename at a place. They are about
--- the name or field that the identifier at the place refers to.
+-- Defines the answers to hover, definition, references and prepareRename at a byte offset. The answers
+-- are about the name or field that the identifier at the offset refers to.
 -- Rule: docs/PROTOCOL.md, Requests on documents 3 to 5.
 use Rattle.std.specs.Prelude.{◌≡◌, ◌==◌, ℕ, Bool, true, false, not, nat_lt, List, [], map, if◌then◌else◌, Option, Some, None, option_map, option_and_then, unwrap_or}
 use Rattle.std.specs.List.{filter}
@@ -57,8 +57,8 @@ renamable_span_of_identifier m token (Name ordinal) =
     if nat_lt ordinal predeclared_count then None else Some (span_at m.source token)
 renamable_span_of_identifier m token (Field k) = Some (span_at m.source token)
 
--- Returns the span of the name or field at a byte offset. Returns None if there is no name or field
--- at the offset, or if the name is predeclared.
+-- Returns the span of the identifier at a byte offset if it can be renamed. Returns None if no
+-- identifier at the offset refers to a name or field, or if the name is predeclared.
 abbrev pub renamable_span_at : Resolution → ℕ → Option Span
 renamable_span_at r offset =
     option_and_then (λ (x : ResolvedIdentifier). renamable_span_of_identifier r.module_read x.token x.means)
@@ -145,15 +145,15 @@ field_hover_with_type r token s =
 abbrev pub field_hover : Resolution → FieldName → Option HoverText
 field_hover r x = option_map (λ f. field_hover_with_type r x.token f.shape) (typed_field r x)
 
--- Returns the hover text of an identifier with this meaning. Returns None if the declaration or
--- field that it refers to isn't found.
+-- Returns the hover text of the identifier with this token index and this meaning. Returns None if the
+-- declaration or field that it refers to isn't found.
 abbrev pub hover_of_identifier : Resolution → ℕ → IdentifierMeaning → Option HoverText
 hover_of_identifier r token (Name ordinal) =
     hover_of_name r.module_read (record { token = token; ordinal = ordinal })
 hover_of_identifier r token (Field k) = field_hover r (record { token = token; owner = k })
 
--- returns the hover text of the identifier at a byte offset, or None if there is no name and no
--- field
+-- Returns the hover text of the identifier at a byte offset. Returns None if no identifier at the offset
+-- refers to a name or field, or if the declaration or field isn't found.
 abbrev pub hover_at_offset : Resolution → ℕ → Option HoverText
 hover_at_offset r offset =
     option_and_then (λ (x : ResolvedIdentifier). hover_of_identifier r x.token x.means) (identifier_meaning_at r offset)

@@ -11,8 +11,8 @@ pub enum Of {
     Declared(usize),
     Predeclared,
     /// A field, given by its record's ordinal and its index among the record's fields, counted from
-    /// 0. A record's ordinal is the number of the words ARRAY and RECORD in the text before the
-    /// record's own word RECORD.
+    /// 0. A record's ordinal is the number of the words ARRAY and RECORD that come before its word
+    /// RECORD in the text.
     Field { ordinal: usize, index: usize },
 }
 

@@ -1,4 +1,4 @@
-//! Finds the span of the identifier at which a new name for a declaration has a conflict.
+//! Finds the span of the identifier at which a conflict of a renaming is reported.
 
 ghost use Rattle.std.specs.Prelude.{◌≡◌};
 ghost use Rattle.ob0_scope.specs.Renames.{conflict_of};
@@ -9,11 +9,11 @@ use ob0_scan::Span;
 use ob0_scope::FirstConflict;
 use ob0_scope_table::{Resolved, token_span};
 
-/// Returns the span of the conflict `capture` that a new name for the declaration with the ordinal
-/// `declaration` has. If another declaration of the same block has the new name (`Duplicate`), this
-/// is the span of the identifier that declares `declaration`. Otherwise (`Occurrence`) it is the
-/// span of the looked-up name whose binding would change. If that identifier isn't found, the span
-/// is empty and at the text's start.
+/// Returns the span at which the conflict `capture` of a renaming is reported. `declaration` is the
+/// ordinal of the renamed declaration. If another declaration of the same block has the new name
+/// (`Duplicate`), this is the span of the identifier that declares `declaration`. Otherwise
+/// (`Occurrence`) it is the span of the looked-up name whose binding would change. If the
+/// identifier isn't found, the span is empty and at the text's start.
 pub(crate) fn conflict_span(names: &Resolved, declaration: usize, capture: FirstConflict) -> Span
     ensures { result ≡ conflict_span names.now.module_read declaration (conflict_of capture) }
 {

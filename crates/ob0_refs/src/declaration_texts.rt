@@ -1,8 +1,9 @@
 //! Makes the hover texts of names and fields, from their entries in the table of declarations.
 //!
-//! A procedure's signature doesn't have the names of the parameters. The text has
-//! these names: they are the first names that it declares after the procedure's name, as many as
-//! the signature has parameters. Predeclared names are recognized by their ordinals (0 to 6).
+//! A procedure's signature doesn't have the names of its parameters, so they are read from the
+//! module's text. They are the first names that the text declares after the procedure's name, as
+//! many as the signature has parameters. Predeclared names are recognized by their ordinals (0 to
+//! 6).
 
 ghost use Rattle.std.specs.Prelude.{◌≡◌, ◌+◌, ◌-◌, [], IfOk, Some, drop, map, option_map, string_bytes};
 ghost use Rattle.ob0_tree.specs.ParsedModule.{tree_of};

@@ -1,4 +1,6 @@
-//! States a law about hover texts. The function does nothing, and its contract is the law.
+//! States the law on which a procedure's hover text relies: the names declared after a procedure's
+//! name begin with the names of its parameters. The function does nothing, and its contract is the
+//! law.
 
 ghost use Rattle.ob0_refs.specs.HoverLaws.{ParametersFollowProcedure};
 

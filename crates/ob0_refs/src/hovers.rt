@@ -1,4 +1,4 @@
-//! Makes the hover texts of names, given the texts of their types.
+//! Makes the hover texts of declarations and predeclared names, given the texts of their types.
 
 ghost use Rattle.std.specs.Prelude.{◌≡◌, ◌++◌, ℕ, IfOk, OnOk, map, string_bytes};
 ghost use Rattle.ob0_language_values.specs.Values.{FieldShapes, Shape, array_shape, record_shape};

@@ -1,9 +1,10 @@
-//! States laws about fields. Each function does nothing, and its contract is the law.
+//! States laws about definition, hover and renaming at an identifier that refers to a field. Each
+//! function does nothing, and its contract is the law.
 
 ghost use Rattle.ob0_refs.specs.Laws.{FieldsHaveDefinitions, FieldRenamingChangesReferences, FieldsHaveHovers};
 
-/// Proves that a field of a valid module has a definition, both at its declaration and at each
-/// selector.
+/// Proves that in a valid module, definition finds a span at each identifier that refers to a
+/// field: at the field's declaration and at each selector.
 pub fn fields_have_definitions()
     ensures { FieldsHaveDefinitions }
 {}
@@ -14,8 +15,8 @@ pub fn field_renaming_changes_references()
     ensures { FieldRenamingChangesReferences }
 {}
 
-/// Proves that a field of a valid module has a hover text, both at its declaration and at each
-/// selector.
+/// Proves that in a valid module, hover returns a text at each identifier that refers to a field:
+/// at the field's declaration and at each selector.
 pub fn fields_have_hovers()
     ensures { FieldsHaveHovers }
 {}

@@ -1,5 +1,5 @@
-//! Makes the hover text at a place. The text shows the name or field that the identifier at the
-//! place refers to.
+//! Makes the hover text of the identifier at a byte offset. The text shows the name or field that
+//! the identifier refers to.
 
 ghost use Rattle.std.specs.Prelude.{◌≡◌, IfOk, option_map};
 ghost use Rattle.ob0_refs.specs.Parts.{hover_view};
@@ -35,8 +35,8 @@ pub fn hover(
     }
 }
 
-/// Returns the hover text of an identifier with this meaning. Returns None if the declaration or
-/// field that it refers to isn't found.
+/// Returns the hover text of the identifier `found`, which refers to a name or a field. Returns
+/// None if the declaration or the field isn't found.
 fn hover_of_identifier(
     alloc: Global,
     well_typed: &WellTyped<'_>,

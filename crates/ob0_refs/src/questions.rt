@@ -1,7 +1,8 @@
-//! Answers definition, references and prepareRename for the name or field at a place. Renaming and
-//! inlining use `at`, which returns the thing that the name or field refers to.
+//! Answers definition, references and prepareRename for the name or field at a byte offset. Also
+//! finds the declaration or field to which the identifier at the offset refers (`at`), for renaming
+//! and inlining.
 //!
-//! Each public function first finds the meaning of the identifier at the place
+//! Each public function first finds the meaning of the identifier at the offset
 //! (`identifier_meaning_at` of `ob0_types`). Then it has one case for a name and one for a field.
 //! The hover text is made in the same way (`place_hovers`). Renaming also uses
 //! `identifier_meaning_at`, so it renames the name or field that these answers are about.

@@ -1,4 +1,4 @@
-//! Makes the texts of types.
+//! Makes the texts that hover shows for types.
 //!
 //! The text of an array is made from the text of its element type. So in nested arrays the text of
 //! the innermost type is copied once for each array around it, at most 100 times.

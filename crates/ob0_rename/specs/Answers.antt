@@ -72,8 +72,8 @@ IsDeclarationRefusal r d refusal.Shadowed = ⊥
 IsDeclarationRefusal r d refusal.CommentInside = ⊥
 IsDeclarationRefusal r d refusal.Memory = ⊥
 
--- States that the answer is edits that rename the declaration `d`, or the first refusal that
--- applies, or `Memory`.
+-- States that the answer is edits that rename the declaration with the ordinal `d`, or the first
+-- refusal that applies, or `Memory`.
 abbrev pub AnswersForDeclaration : Renaming → ℕ → Result (Vec Edit Global) EditRefusal → Type 0
 AnswersForDeclaration r d (Ok edits) = RenamesDeclaration r d edits.items
 AnswersForDeclaration r d (Err why) = (why ≡ refusal.Memory) ⊎ IsDeclarationRefusal r d why
@@ -92,7 +92,7 @@ pub record RenamesField (r : Renaming) (k : ℕ) (f : Name) (edits : List Edit) 
 
 -- States that the given refusal is the first one that applies to the new name of the field `f` of
 -- the record with the ordinal `k`, in the order of the cases below. Only another field of that
--- record can conflict with the new name.
+-- record can conflict with the new name, so `Captures` never applies.
 abbrev pub IsFieldRefusal : Renaming → ℕ → Name → EditRefusal → Type 0
 IsFieldRefusal r k f refusal.NoName = ⊥
 IsFieldRefusal r k f refusal.Predeclared = ⊥
@@ -111,8 +111,8 @@ IsFieldRefusal r k f refusal.Shadowed = ⊥
 IsFieldRefusal r k f refusal.CommentInside = ⊥
 IsFieldRefusal r k f refusal.Memory = ⊥
 
--- States that the answer is edits that rename the field `f` of the record `k`, or the first refusal
--- that applies, or `Memory`.
+-- States that the answer is edits that rename the field `f` of the record with the ordinal `k`, or
+-- the first refusal that applies, or `Memory`.
 abbrev pub AnswersForField : Renaming → ℕ → Name → Result (Vec Edit Global) EditRefusal → Type 0
 AnswersForField r k f (Ok edits) = RenamesField r k f edits.items
 AnswersForField r k f (Err why) = (why ≡ refusal.Memory) ⊎ IsFieldRefusal r k f why
@@ -152,8 +152,8 @@ abbrev pub RenameAnswers : Renaming → Result (Vec Edit Global) EditRefusal →
 RenameAnswers r (Ok edits) = AreRenameEdits r edits.items
 RenameAnswers r (Err why) = (why ≡ refusal.Memory) ⊎ IsRenameRefusal r why
 
--- States that a declaration or field of the module is at the renaming's place, not a predeclared
--- name, and that the new name is an identifier. An allocation can fail only in this case.
+-- States that the renaming's place is on a field or on a declared name that isn't predeclared, and
+-- that the new name is an identifier. An allocation can fail only in this case.
 pub record MayRunOutOfMemory (r : Renaming) : Type 0 where
   pub identifier : IsIdentifier r.new
   pub some : ¬ (renaming_target r ≡ nothing)

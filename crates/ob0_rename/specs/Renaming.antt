@@ -54,9 +54,9 @@ named_tree r = read.named_tree_of (module_of r)
 pub data RenameTarget : Type 0 where
   nothing : RenameTarget
   predeclared : RenameTarget
-  -- the declaration with this ordinal
+  -- A declaration, given by its ordinal.
   declaration : ℕ → RenameTarget
-  -- the field with this name, in the record with this ordinal
+  -- A field, given by the ordinal of its record and by its name.
   field_of : ℕ → Name → RenameTarget
 
 -- Returns the target for a name that is bound to the declaration with the ordinal `ordinal`. The
@@ -65,8 +65,8 @@ pub data RenameTarget : Type 0 where
 abbrev pub ordinal_target : ℕ → RenameTarget
 ordinal_target ordinal = if nat_lt ordinal predeclared_count then predeclared else declaration ordinal
 
--- Returns the target for an identifier that declares or selects a field: that field. Returns
--- `nothing` if there is no such identifier (None).
+-- Returns the target for an identifier that declares or selects a field: that field. If no such
+-- identifier is at the place (None), returns `nothing`.
 abbrev pub field_target : TextWithTokens → Option FieldName → RenameTarget
 field_target source None = nothing
 field_target source (Some x) = field_of x.owner (token_text_at source x.token)
@@ -97,8 +97,8 @@ TargetsField r k f = renaming_target r ≡ field_of k f
 
 -- ---- the tokens at which the new name is written
 
--- Returns the index of the token that is the name in the declaration with the ordinal `ordinal`.
--- Returns None if there is no such token, as for a predeclared name.
+-- Returns the index of the token at which the declaration with the ordinal `ordinal` declares its
+-- name. Returns None if there is no such token, as for a predeclared name.
 abbrev pub declaring_token : read.ParsedModule → ℕ → Option ℕ
 declaring_token m ordinal =
     declaration_token (declaring_names (identifiers role.Declaring (read.tree_of m))) ordinal
@@ -110,8 +110,9 @@ is_declared_as m d new =
     elim (declaring_token m d)
     [ Some token ↦ same_name (token_text_at m.source token) new | None ↦ false ]
 
--- Returns the indexes of the tokens at which the name of the declaration `d` is declared, used or
--- repeated as a closing name. The list is empty if the declaration already has the name `new`.
+-- Returns the indexes of the tokens at which the name of the declaration with the ordinal `d` is
+-- declared, used or repeated as a closing name, in text order. The list is empty if the declaration
+-- already has the name `new`.
 abbrev pub tokens_to_rename : read.ParsedModule → ℕ → Name → List ℕ
 tokens_to_rename m d new = if is_declared_as m d new then [] else tokens_bound_to m d true
 
@@ -132,7 +133,8 @@ abbrev pub token_range : Renaming → ℕ → Range
 token_range r token = range_of (width_of r.unit) r.text (span_at (module_of r).source token)
 
 -- Returns the range of the identifier that already declares the new name in the block of the
--- declaration `d`. Returns None if no other declaration of that block has the new name.
+-- declaration with the ordinal `d`. Returns None if no other declaration of that block has the new
+-- name.
 abbrev pub conflicting_declaration_range : Renaming → ℕ → Option Range
 conflicting_declaration_range r d =
     option_map (token_range r)

@@ -32,12 +32,12 @@ use std::alloc::Global;
 /// If the present name is already `new`, there are no edits. The place may be in the name or at its
 /// end.
 ///
-/// If several refusals apply, the first in this order is returned: `NoName` (the place is on no
-/// name, or on the module's name), `Predeclared` (the name at the place is predeclared), `BadName`
-/// (`new` isn't an identifier), `Duplicate`, `Captures`, `TooLong`. `Duplicate` has the range of
-/// the other declaration's name, or of the other field's name in the record. `Captures` has the
-/// range of the first occurrence that would be bound to another declaration. A field is never
-/// refused with `Captures`.
+/// If several refusals apply, the first in this order is returned: `NoName` (the place is on
+/// neither a declared name nor a field; the module's name is neither), `Predeclared` (the name at
+/// the place is predeclared), `BadName` (`new` isn't an identifier), `Duplicate`, `Captures`,
+/// `TooLong`. `Duplicate` has the range of the other declaration's name, or of the other field's
+/// name in the record. `Captures` has the range of the first occurrence that would be bound to
+/// another declaration. A field is never refused with `Captures`.
 pub fn rename<T: TextStore>(
     alloc: Global,
     store: &T,
@@ -104,9 +104,10 @@ fn rename_declaration<T: TextStore>(
     }
 }
 
-/// Returns the refusal for the conflict `capture` of the new name. A conflict with a declaration
-/// gives `Duplicate` with the range of that declaration's name. A conflict at an occurrence gives
-/// `Captures` with the range of the occurrence, which would be bound to another declaration.
+/// Returns the refusal for the first conflict of the new name (`capture`). A conflict with a
+/// declaration gives `Duplicate` with the range of that declaration's name. A conflict at an
+/// occurrence gives `Captures` with the range of the occurrence, which would be bound to another
+/// declaration.
 fn refusal_of<T: TextStore>(store: &T, names: &Resolved, capture: FirstConflict) -> EditRefusal
     ensures duplicate { (other token : ℕ) → capture ≡ Duplicate other
         → declaring_token names.now.module_read other ≡ Some token

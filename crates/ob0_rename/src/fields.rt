@@ -74,7 +74,8 @@ pub(crate) fn rename_field<T: TextStore>(
 }
 
 /// Returns the index of the token that declares another field of the record `owner` with the name
-/// `new`. Returns None if no field has that name, or if `new` is the present name `old`.
+/// `new`. Returns None if no field of that record has the name `new`, or if `new` is the present
+/// name `old`. `owner` is the record's ordinal.
 fn conflicting_field(
     well_typed: &WellTyped<'_>,
     owner: usize,
@@ -92,8 +93,8 @@ fn conflicting_field(
     field_declaring_token(well_typed, owner, new)
 }
 
-/// Returns the indexes of the tokens that declare or select the field `old` of the record `owner`,
-/// in text order. The list is empty if `new` is equal to `old`.
+/// Returns the indexes of the tokens that declare or select the field `old` of the record with the
+/// ordinal `owner`, in text order. The list is empty if `new` is equal to `old`.
 fn field_tokens_to_rename(
     alloc: Global,
     well_typed: &WellTyped<'_>,

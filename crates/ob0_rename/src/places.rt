@@ -1,5 +1,5 @@
-//! Finds the identifier at a place and its meaning, the tokens that a renaming changes, and the
-//! ranges of tokens.
+//! Finds the identifier at a byte offset and its meaning, the tokens that the renaming of a
+//! declaration changes, and the range of a token.
 
 ghost use Rattle.std.specs.Prelude.{◌≡◌, ℕ, IfOk, IfSome, Some};
 ghost use Rattle.ob0_scan.specs.Classes.{IsIdentifier};

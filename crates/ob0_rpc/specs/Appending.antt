@@ -1,6 +1,6 @@
 -- States what it means to append the text of a JSON value, of list items or of an object's members
 -- to the bytes of an output.
--- Rule: none; for the contracts of functions that write JSON.
+-- Rule: none; used in the contracts of functions that write JSON.
 use Rattle.std.specs.Prelude.{◌≡◌, ◌++◌, ℕ, List, [], ◌∷◌, Bool, true, Option, Some, None, ⊤}
 use Rattle.std.specs.Str.{IsUtf8}
 use Rattle.json.specs.Tree.{HasNumbers}
@@ -8,8 +8,8 @@ use Rattle.serde_json.specs.Data.{Data, Members, member, no_members, null}
 use Rattle.serde_json.specs.Read.{of_json}
 use Rattle.serde_json.specs.Written.{comma_if, compact_text, outline}
 
--- States that the value's text reads back as the value. For that, whole numbers must fit in 64
--- bits, members must occur once and in order, and texts must be UTF-8.
+-- States that the value's compact JSON text is UTF-8 and reads back as the value. For that, whole
+-- numbers must fit in 64 bits, members must occur once and in order, and texts must be UTF-8.
 pub record ReadsBack (value : Data) : Type 0 where
   pub reads : of_json (outline value) ≡ Some value
   pub numbers : HasNumbers (outline value)
@@ -53,8 +53,8 @@ pub record AppendsMember (before : ℕ) (name : List ℕ) (value : Data)
   pub reads : ReadsBack value
 
 -- States that `new` is `old` followed by these members of an object and the closing bracket. The
--- byte `before` precedes the first member, and a comma precedes each later one. Each value's text
--- reads back as the value.
+-- byte `before` precedes the first of these members, and a comma precedes each of the others. Each
+-- value's text reads back as the value.
 abbrev pub AppendsMembers : ℕ → Members → List ℕ → List ℕ → Type 0
 AppendsMembers before no_members old new = new ≡ old ++ 125 ∷ []
 AppendsMembers before (member name value members) old new =

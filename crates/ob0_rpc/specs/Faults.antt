@@ -1,4 +1,4 @@
--- Defines the error that reports the fault of a message: an error code and a text.
+-- Defines the JSON-RPC error that reports an `RpcFault`: an error code and a text.
 -- Rule: docs/PROTOCOL.md, Order of checks, and errors; JSON-RPC 2.0, error object.
 use Rattle.std.specs.Prelude.{◌-◌, ℕ, ℤ, negsuc, List, codes}
 use Rattle.ob0_rpc.specs.declared.incoming.RpcFault.{RpcFault}

@@ -31,8 +31,8 @@ bool_member name d = option_and_then as_bool (get name d)
 abbrev pub unsigned_member : List ℕ → Data → Option ℕ
 unsigned_member name d = option_and_then as_u64 (option_and_then as_number (get name d))
 
--- Looks up this name in the object `textDocument` of params, and returns the value found. Returns
--- None if the object or the member is absent.
+-- Returns the member with this name of the object `textDocument` in params. Returns None if the
+-- object or the member is absent.
 abbrev pub document_member : List ℕ → Data → Option Data
 document_member name params = option_and_then (get name) (get (codes "textDocument") params)
 

@@ -1,5 +1,5 @@
 -- Translates the code's messages, requests and notifications into the types of the specs.
--- Rule: none; for the contracts of functions that read messages.
+-- Rule: none; used in the contracts of functions that read messages.
 use Rattle.std.specs.Prelude.{◌≡◌, ℕ, List, Option, Some, None, Result, Ok, Err, string_bytes, String, Vec, map, option_map}
 use Rattle.std.specs.Str.{chars}
 use Rattle.std.specs.declared.alloc.Global.{Global}
@@ -39,8 +39,8 @@ message_view (Notice method params) = notice (string_bytes method) (view params)
 message_view Ignored = response
 
 -- States that reading this JSON value may give this result. The result is the message that the
--- value means, or `NotAMessage` if the value isn't a message. `Memory` is always allowed, and other
--- errors never.
+-- value means, or the error `NotAMessage` if the value isn't a message. The error `Memory` (out of
+-- memory) is always allowed, and any other error never.
 abbrev pub HasMeaning : Data → Result Incoming RpcFault → Type 0
 HasMeaning d (Ok incoming) = meaning_of d ≡ message_view incoming
 HasMeaning d (Err NotAMessage) = meaning_of d ≡ not_a_message
@@ -49,9 +49,9 @@ HasMeaning d (Err NotJson) = ⊥
 HasMeaning d (Err UnknownMethod) = ⊥
 HasMeaning d (Err BadParams) = ⊥
 
--- States that reading this content may give this result. The result is `NotJson` if the content
--- isn't JSON. Otherwise `HasMeaning` must hold for the content's JSON value and the result.
--- `Memory` is always allowed.
+-- States that reading this content (the bytes received as one message) may give this result. The
+-- result is `NotJson` if the content isn't JSON. Otherwise `HasMeaning` must hold for the content's
+-- JSON value and the result. `Memory` is always allowed.
 abbrev pub ReadsMessage : List ℕ → Result Incoming RpcFault → Type 0
 ReadsMessage content (Err NotJson) = ReadsContent content None
 ReadsMessage content (Err Memory) = Unit {0}
@@ -102,8 +102,8 @@ notification_view (noted.TheVariants.Close uri) = closes (string_bytes uri)
 notification_view (noted.TheVariants.Unreadable uri) = unreadable (option_map string_bytes uri)
 notification_view noted.TheVariants.Other = other
 
--- States that the code's result is the notification with this method and these params. `Memory` is
--- always allowed, and other errors never.
+-- States that the code's result is the notification with this method and these params. The error
+-- `Memory` (out of memory) is always allowed, and any other error never.
 abbrev pub ReadsNotification : List ℕ → Data → Result noted.ClientNotification RpcFault → Type 0
 ReadsNotification method params (Ok note) = notification_by_method method params ≡ notification_view note
 ReadsNotification method params (Err Memory) = Unit {0}

@@ -34,13 +34,14 @@ change_with (Some range) (Some text) = Some (record { range = range; text = char
 change_with (Some range) None = None
 change_with None text = None
 
--- Reads an entry of the list `contentChanges` as a change of a range or of the whole text. Returns
--- None if the entry can't be read.
+-- Reads an item of the list `contentChanges` as a change of a range or of the whole text. Returns
+-- None if the item can't be read.
 abbrev pub content_change : Data → Option TextChange
 content_change entry =
     change_with (range_of_change (get (codes "range") entry)) (text_member (codes "text") entry)
 
--- Returns all changes in a list of entries, in order. Returns None if an entry can't be read.
+-- Returns the changes that the items of the list `contentChanges` describe, in order. Returns None
+-- if an item can't be read.
 abbrev pub all_changes : Items → Option (List TextChange)
 all_changes no_items = Some []
 all_changes (item entry later) =
@@ -48,7 +49,7 @@ all_changes (item entry later) =
     (content_change entry)
 
 -- Returns the changes in the list `contentChanges` of params, in order. Returns None if the list or
--- one of its entries can't be read.
+-- one of its items can't be read.
 abbrev pub changes_of : Data → Option (List TextChange)
 changes_of params =
     option_and_then all_changes (option_and_then as_array (get (codes "contentChanges") params))
@@ -74,7 +75,8 @@ abbrev pub close_or_unreadable : Option (List ℕ) → Notification
 close_or_unreadable None = unreadable None
 close_or_unreadable (Some uri) = closes uri
 
--- Returns the meaning of the notification with this method and these params.
+-- Returns the meaning of the notification with this method and these params. The meaning is `other`
+-- if the server ignores the method, and `unreadable` if the params can't be read.
 abbrev pub notification_by_method : List ℕ → Data → Notification
 notification_by_method method params =
     if bytes_eq method (codes "exit") then exits

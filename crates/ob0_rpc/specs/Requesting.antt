@@ -25,7 +25,7 @@ pub data ClientRequest : Type 0 where
   shutdown : ClientRequest
   hover : DocumentPlace → ClientRequest
   definition : DocumentPlace → ClientRequest
-  -- A request for references. The Bool says whether the declaration is also requested.
+  -- A request for references. The Bool is true if the declaration is also requested.
   references : DocumentPlace → Bool → ClientRequest
   prepare_rename : DocumentPlace → ClientRequest
   -- A request to rename the name or field at a position, with the new name.
@@ -48,7 +48,7 @@ member_at_path (name ∷ names) d = option_and_then (member_at_path names) (get 
 abbrev pub is_true : Option Data → Bool
 is_true found = unwrap_or (option_and_then as_bool found) false
 
--- Returns whether the second argument is a text that equals `text`.
+-- Returns whether the second argument is `Some` of a text that equals `text`.
 abbrev pub is_equal_text : List ℕ → Option (List ℕ) → Bool
 is_equal_text text None = false
 is_equal_text text (Some other) = bytes_eq other text
@@ -170,7 +170,8 @@ code_action_request_of params =
     (option_and_then requested_kinds (get (codes "context") params))
 
 -- Returns the indentation for these values of `tabSize` and `insertSpaces`, or None if either is
--- None. If `insertSpaces` is true, a level is `level_spaces size` spaces, otherwise a tab.
+-- None. If `insertSpaces` is true, one level of indentation is `level_spaces size` spaces,
+-- otherwise one tab.
 abbrev pub indent_with : Option ℕ → Option Bool → Option Indent
 indent_with (Some size) (Some spaces) = Some (if spaces then Spaces (level_spaces size) else Tab)
 indent_with (Some size) None = None

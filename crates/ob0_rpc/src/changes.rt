@@ -17,7 +17,7 @@ use serde_json::Value;
 use std::alloc::{AllocError, Global};
 
 /// Returns the changes in the list `contentChanges` of params, in order. Returns None if the list
-/// or one of its entries can't be read.
+/// or one of its items can't be read.
 pub fn read_changes(alloc: Global, params: Value) -> Result<Option<Vec<Change>>, AllocError>
     ensures { IfOk result (λ found. option_map (λ cs. map text_change_of cs.items) found
         ≡ changes_in (view params)) }
@@ -35,7 +35,7 @@ pub fn read_changes(alloc: Global, params: Value) -> Result<Option<Vec<Change>>,
     Ok(Some(changes))
 }
 
-/// Moves the entries of the list `contentChanges` out of params. Returns None if there is no such
+/// Moves the items of the list `contentChanges` out of params. Returns None if there is no such
 /// list.
 fn into_content_changes(params: Value) -> Option<Vec<Value>>
     ensures { option_map (λ v. items_view v.items) result
@@ -58,8 +58,8 @@ fn into_list(value: Value) -> Option<Vec<Value>>
     }
 }
 
-/// Reads an entry of `contentChanges` as a change of a range or of the whole text. Returns None if
-/// the entry can't be read.
+/// Reads an item of the list `contentChanges` as a change of a range or of the whole text. Returns
+/// None if the item can't be read.
 fn read_content_change(entry: Value) -> Option<Change>
     ensures { option_map text_change_of result ≡ content_change (view entry) }
 {

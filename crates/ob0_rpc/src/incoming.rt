@@ -98,7 +98,7 @@ impl<T: Drop> From<AllocFailed<T>> for RpcFault {
 
 /// Reads the content of one message: the bytes after the header. If the content isn't one JSON
 /// value in UTF-8, nested at most 127 deep, the fault is `NotJson`. If the JSON value isn't a
-/// message, the fault is `NotAMessage`. If an allocation fails, it is `Memory`.
+/// message, the fault is `NotAMessage`. If an allocation fails, the fault is `Memory`.
 pub fn read(alloc: Global, content: &[u8]) -> Result<Incoming, RpcFault>
     ensures { ReadsMessage content.now result }
 {

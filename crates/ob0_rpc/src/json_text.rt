@@ -14,7 +14,7 @@ ghost use Rattle.ob0_rpc.specs.Appending.{Appends, AppendsEach, AppendsItem, or_
 
 use std::alloc::AllocError;
 
-/// The most bytes that are reserved at once for the items of a list.
+/// The greatest number of bytes that are reserved in advance for the items of a list.
 const MAX_RESERVED_BYTES: usize = 1 << 26;
 
 /// A type whose values can be written as JSON. After a failed write, `out` may contain any bytes.

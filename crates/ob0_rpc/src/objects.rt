@@ -7,7 +7,8 @@ ghost use Rattle.ob0_rpc.specs.Appending.{AppendsMember};
 use crate::json_text::{WriteJson, write_piece};
 use std::alloc::AllocError;
 
-/// Writes an object's opening bracket and its first member.
+/// Writes an object's opening bracket and its first member. `name` is written unchanged, so it must
+/// not need escapes.
 #[inline(always)]
 pub fn write_first_member<W: WriteJson>(
     out: &mut Vec<u8>,
@@ -23,7 +24,8 @@ pub fn write_first_member<W: WriteJson>(
     value.write(out)
 }
 
-/// Writes a comma and another member of an object.
+/// Writes a comma and another member of an object. `name` is written unchanged, so it must not need
+/// escapes.
 #[inline(always)]
 pub fn write_next_member<W: WriteJson>(
     out: &mut Vec<u8>,
@@ -47,8 +49,8 @@ pub fn end_object(out: &mut Vec<u8>) -> Result<(), AllocError>
     write_piece(out, b"}")
 }
 
-/// A JSON object with exactly one member. The member's name may need escapes, because it can be any
-/// text, such as a uri.
+/// A JSON object with exactly one member. The member's name (`key`) can be any text, such as a uri.
+/// Characters of the name that need an escape are escaped.
 #[derive(Drop)]
 pub struct OneMemberObject<'a, W> {
     pub key: &'a str,

@@ -45,8 +45,8 @@ impl<'a> WriteJson for ResponseError<'a> {
     }
 }
 
-/// An error response: the answer to a request that is refused, or to a content that isn't a
-/// message. In the second case `id` is None.
+/// An error response: the answer to a refused request, or to received bytes that aren't a message.
+/// `id` is the id of the request, or None in the second case.
 #[derive(Drop)]
 pub struct ErrorResponse<'a> {
     pub error: ResponseError<'a>,
@@ -123,7 +123,8 @@ pub fn answer_text<W: WriteJson>(alloc: Global, id: &Id, value: &W) -> Result<Ve
     content_of(alloc, &Response { id, result: value })
 }
 
-/// Returns the JSON text of an error response. `id` is None if the refused content isn't a message.
+/// Returns the JSON text of an error response. `id` is the id of the refused request, or None if
+/// the received bytes aren't a message.
 pub fn error(
     alloc: Global,
     id: Option<&Id>,

@@ -17,7 +17,8 @@ use ob0_text::{Edit, Position, Range};
 use std::alloc::AllocError;
 
 /// The size in bytes of the buffer in which the text of a range is built. The range takes at most
-/// 160 bytes. The other 16 are for the text around the range in an edit.
+/// 160 bytes. The other 16 bytes are for the text of an edit around its range: `","range":` before
+/// the range, and `}` after it.
 const RANGE_CAPACITY: usize = 176;
 
 impl WriteJson for Position {
@@ -49,7 +50,7 @@ impl WriteJson for Edit {
 }
 
 /// Writes the part of an edit that follows its new text: the closing quote of the new text, the
-/// member `range` and the closing bracket.
+/// member `range`, and the closing bracket of the edit.
 fn write_edit_range(out: &mut Vec<u8>, start: Position, end: Position) -> Result<(), AllocError>
     ensures text { OnOk result (out.new.items ≡ out.old.items
         ++ (codes "\",\"range\":" ++ (compact_text (range_value start end) ++ 125 ∷ []))) }
@@ -71,8 +72,8 @@ fn write_range(out: &mut Vec<u8>, start: Position, end: Position) -> Result<(), 
     write_piece(out, &buffer[at..])
 }
 
-/// Writes a range's JSON text into the buffer. The text ends right before the index `at`. Returns
-/// the index of the first byte written.
+/// Writes the JSON text of the range from `start` to `end` into the buffer. The text takes at most
+/// 160 bytes, and ends right before the index `at`. Returns the index of the first byte written.
 pub fn write_range_before(buffer: &mut [u8], at: usize, start: Position, end: Position) -> usize
     requires { (160 ≤ at) × (at ≤ length buffer.old) }
     ensures within { (at ≤ result + 160) × (result ≤ at) }
@@ -87,8 +88,8 @@ pub fn write_range_before(buffer: &mut [u8], at: usize, start: Position, end: Po
     write_piece_before(buffer, at_end, b"{\"end\":")
 }
 
-/// Writes a position's JSON text into the buffer. The text ends right before the index `at`.
-/// Returns the index of the first byte written.
+/// Writes a position's JSON text into the buffer. The text takes at most 62 bytes, and ends right
+/// before the index `at`. Returns the index of the first byte written.
 fn write_position_before(buffer: &mut [u8], at: usize, position: Position) -> usize
     requires { (62 ≤ at) × (at ≤ length buffer.old) }
     ensures within { (at ≤ result + 62) × (result ≤ at) }

@@ -212,8 +212,8 @@ fn includes_declaration(params: &Value) -> Option<bool>
     bool_in(params.get("context")?, "includeDeclaration")
 }
 
-/// Returns the indentation that the object `options` in params requests. Returns None if the
-/// options can't be read.
+/// Returns the indentation that the object `options` in params requests. Returns None if `options`,
+/// its number `tabSize` or its boolean `insertSpaces` is missing or has another JSON type.
 fn indent_of(params: &Value) -> Option<Indent>
     ensures { result ≡ option_and_then indent_in (get (codes "options") (view params.now)) }
 {

@@ -1,4 +1,4 @@
-//! Writes messages whose result or params are a `Value`.
+//! Writes responses whose result is a `serde_json::Value`, and notifications whose params are one.
 ghost use Rattle.std.specs.Prelude.{◌≡◌, ◌≤◌, false, IfOk};
 ghost use Rattle.serde_json.specs.Data.{depth};
 ghost use Rattle.serde_json.specs.View.{view};

@@ -1,5 +1,5 @@
 -- Converts the results of the machine to the output, the end and the run of a module.
--- Rule: none; for contracts: what values of the code mean.
+-- Rule: none; used in contracts to give values of the code a meaning.
 use Rattle.std.specs.Prelude.{List, map}
 use Rattle.ob0_language_runs.specs.Runs.{Run, PrintedItem}
 use Rattle.ob0_language_values.specs.Values as values

@@ -1,5 +1,5 @@
 -- States that a lowered program has the run of its module.
--- Rule: none; for contracts: what a lowered program means.
+-- Rule: none; used in contracts of `ob0_run` and of its callers.
 use Rattle.std.specs.Prelude.{◌≡◌, ℕ, IfSome, List, ℤ}
 use Rattle.ob0_tree.specs.Tree.{Tree, module_text}
 use Rattle.ob0_language_names.specs.Names.{Name}
@@ -10,8 +10,8 @@ use Rattle.ob0_run_cells.specs.ActivationLaws.{run_of}
 use Rattle.ob0_run_lowering.specs.declared.programs.Program.{Program}
 
 -- States that a program has the module's run, for each input and for all bounds: `c` on open calls,
--- and `t` on the iterations of a loop. If the machine has no room for a run, nothing is claimed
--- about this run.
+-- and `t` on the iterations of a loop. Claims nothing about a run in which the number of cells
+-- would have more than 64 bits.
 abbrev pub RunsAs : Tree Name module_text → Program → Type 0
 RunsAs m p =
     (input : List ℤ) (c t : ℕ)

@@ -1,9 +1,9 @@
 //! Lowers and runs well-typed modules.
 //!
-//! The contract of `lower` follows from two facts. First, the lowered program means the module
-//! (`ProgramMeans`). Second, a program that means a well-typed module has the module's run, if the
-//! machine has room for the run's cells (`lowering_keeps_runs`). So `lower` ensures `RunsAs`.
-//! `execute` returns the run of each module for which the program has `RunsAs`.
+//! The contract of `lower` follows from two facts. First, the lowered program is correct code for
+//! the module (`ProgramMeans`). Second, a correct program for a well-typed module has the module's
+//! run, if the machine has room for the run's cells (`lowering_keeps_runs`). So `lower` ensures
+//! `RunsAs`. `execute` returns the run of each module for which the program has `RunsAs`.
 
 ghost use Rattle.std.specs.Prelude.{◌≡◌, IfOk};
 ghost use Rattle.ob0_tree.specs.ParsedModule.{named_tree_of};
@@ -22,7 +22,7 @@ use ob0_run_machine::Outcome;
 use ob0_types::WellTyped;
 use std::alloc::{AllocError, Global};
 
-/// Lowers a module to a program, which can be executed any number of times.
+/// Lowers a well-typed module to a program, which can be executed any number of times.
 ///
 /// # Errors
 ///
@@ -56,8 +56,8 @@ pub fn execute(
     ob0_run_machine::run(alloc, &program.code, input, calls, turns)
 }
 
-/// Runs a module on an input: lowers the module, and executes the program. `calls` and `turns` are
-/// the bounds on open calls and on iterations, as for `execute`.
+/// Lowers a well-typed module and executes the resulting program on an input. `calls` and `turns`
+/// are the bounds on open calls and on iterations, as for `execute`.
 ///
 /// # Errors
 ///

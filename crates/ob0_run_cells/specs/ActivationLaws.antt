@@ -1,5 +1,6 @@
--- States that a program that means a well-typed module has the module's run.
--- Rule: none; laws of lowered programs.
+-- States the law that a lowered program has the same output and the same end as its module
+-- (`LoweringKeepsRuns`).
+-- Rule: none; the law is used by `ob0_run`.
 use Rattle.std.specs.Prelude.{◌≡◌, ℕ, IfSome, List, map, ℤ}
 use Rattle.ob0_tree.specs.Tree.{Tree, module_text}
 use Rattle.ob0_language_names.specs.Names.{Name, naming_by_label}
@@ -16,9 +17,9 @@ use Rattle.ob0_run_cells.specs.Lowering.{end_of}
 abbrev pub run_of : execution.MachineRun → Run
 run_of r = record { output = map printed_item_of r.output; ending = end_of r.ending }
 
--- States that a program that means a well-typed module (`ProgramMeans`) has the run of the module.
--- This holds for each input and for all bounds `c` on open calls and `t` on iterations. Nothing is
--- claimed if the machine has no room for the program's cells.
+-- States that a program that is correct code for a well-typed module (`ProgramMeans`) has the run
+-- of the module. This holds for each input and for all bounds `c` on open calls and `t` on
+-- iterations. Claims nothing if the number of cells would have more than 64 bits.
 abbrev pub LoweringKeepsRuns : Type 0
 LoweringKeepsRuns =
     (m : Tree Name module_text) (program : lowered.LoweredCode) (c t : ℕ) (input : List ℤ)

@@ -1,12 +1,12 @@
--- States where lowered code finds the variables and procedures of a module, and when a program
--- means a module (`ProgramMeans`). A placement has the place of each name of an environment: a slot
--- for a variable, a target for a procedure. Variables of the module are `of_module`, at offsets
--- that begin with 0. Variables of a procedure are `in_activation 0`, after its value parameters.
--- VAR parameters are `by_reference 0`, by their index among the VAR parameters. A procedure may
--- have any index, if the entry of the routine table at this index means the procedure's block.
--- `PlacementFits` states that each binding of an activation is placed right. A procedure's binding
--- is judged by the placement at the procedure's declaration (`BindingIsPlaced`). So no slot has to
--- be translated back to an outer level.
+-- States where lowered code finds the variables and procedures of a module, and when a program is
+-- correct code for a module (`ProgramMeans`). A placement (`Placement`) has the place of each name
+-- of an environment: a slot for a variable, a target for a procedure. Variables of the module are
+-- `of_module`, at offsets that begin with 0. Variables of a procedure are `in_activation 0`, after
+-- its value parameters. VAR parameters are `by_reference 0`, by their index among the VAR
+-- parameters. A procedure may have any index, if the entry of the routine table at this index is
+-- correct code for the procedure's block. `PlacementFits` states that each binding of an activation
+-- has the right place. For a procedure, this is stated with the placement at its declaration
+-- (`BindingIsPlaced`). So no slot has to be translated back to an outer level.
 -- Rule: docs/LANGUAGE.md, Runs 1, 6.
 use Rattle.std.specs.Prelude.{◌≡◌, ℕ, suc, ◌+◌, ◌≤◌, true, false, List, [], ◌∷◌, drop, slice_get, Some, Option, option_and_then}
 use Rattle.ob0_tree.specs.Tree.{Tree, begins, block, body, declares, declares_procedure, declares_variable, end, forms_block, item, items, maybe, module_text, more, none, one, procedure, variable}
@@ -78,32 +78,33 @@ slot_in_placement naming placement x = first_slot (suffix_from_name naming place
 abbrev pub target_in_placement : {N : Type 0} → Naming N → Placement N → N → Target
 target_in_placement naming placement x = first_target (suffix_from_name naming placement x)
 
--- returns the same slot, as seen from an activation one level further in
+-- returns the same slot, as seen from an activation that is nested one level deeper
 abbrev pub inward_slot : Slot → Slot
 inward_slot (of_module at) = of_module at
 inward_slot (in_activation up at) = in_activation (suc up) at
 inward_slot (by_reference up at) = by_reference (suc up) at
 
--- returns the same place of a declaration, as seen from an activation one level further in
+-- returns the same place of a declaration, as seen from an activation that is nested one level
+-- deeper
 abbrev pub inward_binding_place : BindingPlace → BindingPlace
 inward_binding_place nowhere = nowhere
 inward_binding_place (in_slot s) = in_slot (inward_slot s)
 inward_binding_place (at_target t) = at_target record t { up = suc t.up }
 
--- returns the same placement, as seen from an activation one level further in
+-- returns the same placement, as seen from an activation that is nested one level deeper
 abbrev pub inward_placement : {N : Type 0} → Placement N → Placement N
 inward_placement [] = []
 inward_placement (b ∷ placement) = (b.0, inward_binding_place b.1) ∷ inward_placement placement
 
--- The state while the names of an activation are placed: the placement so far, the number of cells
--- so far, and the number of VAR parameters so far.
+-- The state while the names of an activation get their places: the placement so far, the number of
+-- cells so far, and the number of VAR parameters so far.
 pub record PlacementState (N : Type 0) : Type 0 where
   pub placement : Placement N
   pub cells : ℕ
   pub var_parameters_so_far : ℕ
 
 -- Adds the name `x` to a placement. A variable or a value parameter gets the next `n` cells, and
--- `at` returns its slot from its offset. A VAR parameter gets the next index.
+-- `at` converts the offset of these cells to a slot. A VAR parameter gets the next index.
 abbrev pub place_name : {N : Type 0} → (ℕ → Slot) → Mode → N → ℕ → PlacementState N → PlacementState N
 place_name at by_value x n p =
     record p { placement = (x, in_slot (at p.cells)) ∷ p.placement; cells = p.cells + n }
@@ -118,8 +119,8 @@ abbrev pub place_names : {N : Type 0} → (ℕ → Slot) → List N → ℕ → 
 place_names at [] n p = p
 place_names at (x ∷ xs) n p = place_names at xs n (place_name at by_value x n p)
 
--- Adds the variables of a block to a placement. Returns None if the type expression of a variable
--- denotes no type. `k` is the number of words ARRAY and RECORD before these variables.
+-- Adds the variables of a block to a placement. `k` is the number of words ARRAY and RECORD before
+-- these variables. Returns None if the type expression of a variable denotes no type.
 unfoldable pub place_variables : {N : Type 0}
     → Naming N
     → (ℕ → Slot)
@@ -135,13 +136,14 @@ place_variables naming at checked k (more (declares_variable ns u) gs) p =
     (bind_names (names_in_list ns) (a_variable s) checked) (k + constructor_count u) gs
     (place_names at (names_in_list ns) (size s) p)) (denoted_type (meanings naming checked) k u)
 
--- Adds the parameters of a procedure to a placement.
+-- Adds the parameters of a procedure to a placement, one by one.
 abbrev pub place_parameters : {N : Type 0} → List (TypedParameter N) → PlacementState N → PlacementState N
 place_parameters [] p = p
 place_parameters (q ∷ ps) p =
     place_parameters ps (place_name (in_activation 0) q.formal.mode q.name (size q.formal.shape) p)
 
--- Adds names that have no place to a placement, such as the names of constants and types.
+-- Adds names to a placement that have no place in lowered code, such as the names of constants and
+-- types.
 abbrev pub bind_without_place : {N : Type 0} → List N → Placement N → Placement N
 bind_without_place [] placement = placement
 bind_without_place (x ∷ xs) placement = bind_without_place xs ((x, nowhere) ∷ placement)
@@ -151,14 +153,14 @@ bind_without_place (x ∷ xs) placement = bind_without_place xs ((x, nowhere) �
 abbrev pub local_target : ℕ → BindingPlace
 local_target i = at_target record { procedure = i; up = 0 }
 
--- returns the placement in a procedure: its parameters, then the names around the procedure, as
--- seen from one level further in
+-- returns the placement inside a procedure: the names around the procedure, as seen from one level
+-- deeper, with the procedure's parameters added
 abbrev pub parameter_placement : {N : Type 0} → List (TypedParameter N) → Placement N → PlacementState N
 parameter_placement ps placement =
     place_parameters ps record { placement = inward_placement placement; cells = 0; var_parameters_so_far = 0 }
 
--- States that code means a body, in the environment in which the body's statements are checked. If
--- there is no body, the code has to be empty.
+-- States that `code` is correct code for a body, in the environment in which the body's statements
+-- are checked. If there is no body, `code` has to be empty.
 abbrev pub CodeMeansBody : {N : Type 0}
     → Naming N
     → TypeEnvironment N
@@ -180,10 +182,10 @@ pub record RoutineTable (N : Type 0) : Type 0 where
 abbrev pub label_table : List lowered.Routine → RoutineTable Label
 label_table routines = record { routines = routines; naming = naming_by_label }
 
--- Runs 6: states that the routine at an index of the table means a procedure. The procedure is
--- declared in the environment `checked`, with the placement `placement`. `Means` is the fact that
--- has to hold for the routine, in the environment and the placement that include the procedure and
--- its parameters.
+-- Runs 6: states that the routine at an index of the table is correct code for a procedure
+-- (`text`). The procedure is declared in the environment `checked`, with the placement `placement`.
+-- `Means` says that a routine is correct, in the environment and the placement that include the
+-- procedure and its parameters.
 pub record HasRoutine {N : Type 0} (table : RoutineTable N) (checked : TypeEnvironment N)
     (placement : Placement N) (x : N) (k : ℕ) (text : Tree N (item procedure)) (index : ℕ)
     (Means : TypeEnvironment N → PlacementState N → lowered.Routine → Type 0) : Type 0 where
@@ -195,9 +197,9 @@ pub record HasRoutine {N : Type 0} (table : RoutineTable N) (checked : TypeEnvir
   pub means : Means (bind_typed_parameters parameters (bind_procedure x parameters checked))
       (parameter_placement parameters ((x, local_target index) ∷ placement)) routine
 
--- Runs 1 and 6: states that the variables of a block have `cells` cells, which are placed after the
--- cells of `p`. `Inside` is the fact that has to hold for the procedures and statements of the
--- block.
+-- Runs 1 and 6: states that the variables of a block have `cells` cells, which follow the cells of
+-- `p`. `Inside` is the fact that has to hold for the procedures and statements of the block, in the
+-- environment and the placement that include the block's declarations.
 pub record BlockIsPlaced {N : Type 0} (table : RoutineTable N) (at : ℕ → Slot)
     (checked : TypeEnvironment N) (p : PlacementState N) (k cells : ℕ) (b : Tree N block)
     (Inside : TypeEnvironment N → Placement N → Type 0) : Type 0 where
@@ -217,12 +219,12 @@ pub record BlockIsPlaced {N : Type 0} (table : RoutineTable N) (at : ℕ → Slo
   pub cells_counted : p.cells + cells ≡ placed.cells
   pub inside : Inside inner placed.placement
 
--- States that code means a block, its procedures and the procedures inside them. `cells` is the
--- number of cells of the block's own variables.
+-- States that code is correct for a block, for its procedures, and for the procedures inside them.
+-- `cells` is the number of cells of the variables that the block declares outside its procedures.
 abbrev mutual
-  -- Runs 1 and 6: states that the variables of a block are placed after the cells of `p`. Also
-  -- states that the table has the code of the block's procedures, and that `code` means the block's
-  -- statements.
+  -- Runs 1 and 6: states that the cells of a block's variables follow the cells of `p`. Also states
+  -- that the table has correct code for the block's procedures, and that `code` is correct code for
+  -- the block's statements.
   pub CodeMeansBlock : {N : Type 0}
       → RoutineTable N
       → (ℕ → Slot)
@@ -238,8 +240,8 @@ abbrev mutual
       (λ inner placement. RoutinesMeanProcedures table inner placement
       (constructors_before_procedures k (forms_block (declares cs ts vs ps) statements)) code statements ps)
 
-  -- Runs 6: states that the table has the code of each of these procedures, and that `code` means
-  -- the statements of the block in which they are declared
+  -- Runs 6: states that the table has correct code for each of these procedures, and that `code` is
+  -- correct code for the statements of the block in which they are declared
   pub RoutinesMeanProcedures : {N : Type 0}
       → RoutineTable N
       → TypeEnvironment N
@@ -259,7 +261,7 @@ abbrev mutual
       ((procedure_name p, local_target index) ∷ placement) (k + procedure_constructor_count p) code
       statements rest
 
-  -- Runs 6: states that a routine means the block of a procedure
+  -- Runs 6: states that a routine is correct code for the block of a procedure
   pub RoutineMeansProcedure : {N : Type 0}
       → RoutineTable N
       → TypeEnvironment N
@@ -272,10 +274,10 @@ abbrev mutual
       CodeMeansBlock table (in_activation 0) checked p (k + formals_constructor_count (formal_sections fs))
       routine.cells routine.body b
 
--- States that one binding is placed right, as seen from the activations `ls`. A variable's slot has
--- the address of the variable's place (Runs 1). A procedure's routine means the procedure's block,
--- in the environment and a placement at the procedure's declaration (Runs 6). Other bindings have
--- no place.
+-- States that one binding has the right place, as seen from the activations `ls`. A variable's slot
+-- has the address of the variable's place (Runs 1). A procedure's routine is correct code for the
+-- procedure's block, in the environment and a placement at the procedure's declaration (Runs 6).
+-- Other bindings have no place.
 abbrev pub BindingIsPlaced : {N : Type 0}
     → RoutineTable N
     → StoreTyping
@@ -303,8 +305,8 @@ BindingIsPlaced table typing ls checked Fits x (a_standard p) nowhere (a_standar
 BindingIsPlaced table typing ls checked Fits x _ _ _ = ⊥
 
 -- States that the first bindings of an environment, a placement and an activation have the same
--- name. `Here` is the fact about these bindings, and `Further` is the fact about the older
--- bindings.
+-- name. `Here` is the fact about these bindings, and `Further` is the fact about the bindings after
+-- them.
 pub record FirstBindingsAgree {N : Type 0} (checked placed active : N) (Here Further : Type 0)
     : Type 0 where
   pub same_active : checked ≡ active
@@ -312,9 +314,9 @@ pub record FirstBindingsAgree {N : Type 0} (checked placed active : N) (Here Fur
   pub here : Here
   pub further : Further
 
--- Runs 1 and 6: states that each binding of an activation is placed right (`BindingIsPlaced`), as seen
--- from the activations `ls`. The environment, the placement and the activation have to bind the
--- same names.
+-- Runs 1 and 6: states that each binding of an activation has the right place (`BindingIsPlaced`),
+-- as seen from the activations `ls`. The environment, the placement and the activation have to bind
+-- the same names.
 abbrev pub PlacementFits : {N : Type 0}
     → RoutineTable N
     → StoreTyping
@@ -343,8 +345,8 @@ outermost_placement naming =
     ∷ (naming.predeclared 0, nowhere)
     ∷ []
 
--- States that a program means a module: the program's body means the module's body, and the
--- program's procedures mean the module's procedures.
+-- States that a program is correct code for a module: its body for the module's body, and its
+-- procedures for the module's procedures.
 abbrev pub ProgramMeans : {N : Type 0}
     → Naming N
     → Tree N module_text

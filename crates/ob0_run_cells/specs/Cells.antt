@@ -1,6 +1,6 @@
 -- Defines the cells of a store, as one list. Each cell is a number. A number or a truth value has
 -- one cell, with 0 for FALSE and 1 for TRUE. The cells of elements and members follow one another.
--- Rule: none; for contracts of lowering: a store of docs/LANGUAGE.md, Runs, as cells.
+-- Rule: none; used in contracts of lowering.
 use Rattle.std.specs.Prelude.{ℕ, ◌+◌, ◌*◌, Bool, true, false, List, [], ◌∷◌, ◌++◌, length, take, drop, ℤ, pos, if◌then◌else◌, slice_get, option_map, unwrap_or}
 use Rattle.ob0_language_names.specs.Names.{Name, same_name}
 use Rattle.ob0_language_values.specs.Values.{FieldShapes, Members, Place, Shape, Step, Store, Value, Values, array_shape, at_field, at_index, boolean_shape, elements, integer_shape, members, next_field_shape, next_member, next_value, no_field_shape, no_member, no_value, number, record_shape, truth}

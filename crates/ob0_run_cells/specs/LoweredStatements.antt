@@ -1,5 +1,5 @@
--- States the meaning of lowered statements: they change the machine's cells, input and output as a
--- module's statements change the module's store, input and output.
+-- States when lowered statements are correct: they change the machine's cells, input and output as
+-- a module's statements change the module's store, input and output.
 -- Rule: docs/LANGUAGE.md, Runs 5 to 9.
 use Rattle.std.specs.Prelude.{◌≡◌, ℕ, ◌^◌, ◌<◌, true, List, [], ◌∷◌, ◌++◌, length, map, ℤ, Some}
 use Rattle.ob0_tree.specs.Tree.{Tree, else_part, elsif_part, expression, further_statement, items, maybe, selector, sequence, statement}
@@ -21,8 +21,9 @@ abbrev pub printed_item_of : execution.OutputItem → PrintedItem
 printed_item_of (execution.number_out n) = number_out n
 printed_item_of execution.line_out = line_out
 
--- States that the state `low` of the machine represents the state `s` of the module. It has the
--- cells of the store of `s`, whose variables have these types, and the same input and output.
+-- States that the state `low` of the machine represents the state `s` of the module. `low` has the
+-- cells of the store of `s`, whose variables have these types, and the same input and output as
+-- `s`.
 pub record Represents (typing : StoreTyping) (low : execution.MachineState) (s : State)
     : Type 0 where
   pub store_fits : StoreHasTypes typing s.store
@@ -30,9 +31,9 @@ pub record Represents (typing : StoreTyping) (low : execution.MachineState) (s :
   pub same_input : low.input ≡ s.input
   pub same_output : map printed_item_of low.output ≡ s.output
 
--- States that a run of the machine and a run of the module agree. They continue in states that
--- represent each other, or have ended with the same end and output. If the machine has no room for
--- its cells, nothing is claimed.
+-- States that a run of the machine and a run of the module agree. Both continue, in states that
+-- represent each other, or both have ended with the same end and output. Claims nothing if the
+-- number of the machine's cells would have more than 64 bits (`no_room`).
 abbrev pub ProgressRepresents : StoreTyping → execution.MachineProgress → Progress → Type 0
 ProgressRepresents typing execution.no_room q = Unit {0}
 ProgressRepresents typing (execution.running low) (running s) = Represents typing low s
@@ -53,14 +54,15 @@ argument_addresses typing (place_argument p ∷ args) =
     address typing p ∷ argument_addresses typing args
 argument_addresses typing (value_argument v ∷ args) = argument_addresses typing args
 
--- The target of a call: the index of the procedure, and the number of levels out. `up` counts the
--- levels from the caller's activation to the activation in which the procedure is declared.
+-- The procedure that a call enters. `procedure` is its index in the program. `up` is the number of
+-- levels from the caller's activation out to the activation in which the procedure is declared.
 pub record Target : Type 0 where
   pub procedure : ℕ
   pub up : ℕ
 
--- The facts that don't change while the statements of a body run. These are the types of the store,
--- the meanings of names, the activations that the body can see, and the effects of calls.
+-- The data that stays the same while the statements of a body run: the types of the store, the
+-- meanings of names, and the activations that the body can see. `enters` is the effect of the
+-- module's calls, and `lowered_enters` is the effect of lowered calls.
 pub record Body (N : Type 0) : Type 0 where
   pub typing : StoreTyping
   pub active : Meanings N Place (List Mode)
@@ -68,7 +70,8 @@ pub record Body (N : Type 0) : Type 0 where
   pub enters : CallFunction N
   pub lowered_enters : execution.CallEffect
 
--- states that lowered calls have the effect of the module's calls, if both have the same arguments
+-- States that each lowered call has the effect of the module's call of the same procedure, if both
+-- have the same arguments and begin in states that represent each other.
 abbrev pub CallsRepresent : {N : Type 0} → TypeMeanings N → (N → Target) → Body N → Type 0
 CallsRepresent {N} checked targets b =
     (x : N) (signature : Signature)
@@ -83,8 +86,8 @@ CallsRepresent {N} checked targets b =
     { cells = p.cells }) (b.enters x args s)
 
 -- States that a body belongs to a checked module. Its variables are in their slots, and its store
--- has fewer than 2^64 cells. A call that enters a procedure's target has the effect of a call of
--- the procedure.
+-- has fewer than 2^64 cells. A lowered call of a procedure's target has the effect of a call of the
+-- procedure.
 pub record IsBodyOfModule {N : Type 0} (checked : TypeMeanings N) (slots : N → Slot) (targets : N → Target)
     (b : Body N) : Type 0 where
   pub names_fit : RunMeaningsAgree b.typing checked b.active
@@ -94,8 +97,8 @@ pub record IsBodyOfModule {N : Type 0} (checked : TypeMeanings N) (slots : N →
   pub has_addresses : store_size b.typing < 2 ^ 64
   pub calls_represent : CallsRepresent checked targets b
 
--- states that a lowered step has the effect of a step of the module, in each body and for each
--- bound `t` on the iterations of a loop
+-- states that a lowered step has the effect of a step of the module, in each body that belongs to
+-- the checked module, and for each bound `t` on the iterations of a loop
 abbrev pub StepRepresents : {N : Type 0}
     → TypeMeanings N
     → (N → Slot)
@@ -110,7 +113,7 @@ StepRepresents {N} checked slots targets low_step step =
     → Represents b.typing low s
     → ProgressRepresents b.typing (low_step b t low) (step b t s)
 
--- states that an instruction has the effect of a statement
+-- states that an instruction is correct code for a statement: it has the statement's effect
 abbrev pub CodeMeansStatement : {N : Type 0}
     → TypeMeanings N
     → (N → Slot)
@@ -122,7 +125,7 @@ CodeMeansStatement checked slots targets c a =
     StepRepresents checked slots targets (λ b t. execution.execute b.lowered_enters t b.levels c)
     (λ b t. execute b.active b.enters t a)
 
--- states that instructions have the effect of a sequence of statements
+-- states that instructions are correct code for a sequence of statements: they have its effect
 abbrev pub CodeMeansSequence : {N : Type 0}
     → TypeMeanings N
     → (N → Slot)
@@ -134,7 +137,7 @@ CodeMeansSequence checked slots targets cs a =
     StepRepresents checked slots targets (λ b t. execution.execute_sequence b.lowered_enters t b.levels cs)
     (λ b t. execute_sequence b.active b.enters t a)
 
--- States that instructions have the effect of the statements after the first one of a sequence.
+-- States that instructions are correct code for the statements after the first one of a sequence.
 abbrev pub CodeMeansFurtherStatements : {N : Type 0}
     → TypeMeanings N
     → (N → Slot)
@@ -146,7 +149,7 @@ CodeMeansFurtherStatements checked slots targets cs rest =
     StepRepresents checked slots targets (λ b t. execution.execute_sequence b.lowered_enters t b.levels cs)
     (λ b t. execute_further_statements b.active b.enters t rest)
 
--- States that instructions have the effect of an ELSE part. If there is no ELSE part, the
+-- States that instructions are correct code for an ELSE part. If there is no ELSE part, the
 -- instructions have no effect.
 abbrev pub CodeMeansElse : {N : Type 0}
     → TypeMeanings N
@@ -159,8 +162,8 @@ CodeMeansElse checked slots targets cs last =
     StepRepresents checked slots targets (λ b t. execution.execute_sequence b.lowered_enters t b.levels cs)
     (λ b t. execute_else b.active b.enters t last)
 
--- States that branches have the effect of ELSIF parts, followed by an ELSE part. The instructions
--- `cs` run if no condition is TRUE.
+-- States that branches are correct code for ELSIF parts, and that the instructions `cs`, which run
+-- if no condition is TRUE, are correct code for the ELSE part after them.
 abbrev pub CodeMeansElsifs : {N : Type 0}
     → TypeMeanings N
     → (N → Slot)
@@ -175,8 +178,8 @@ CodeMeansElsifs checked slots targets bs cs rest last =
     (execution.execute_sequence b.lowered_enters t b.levels cs))
     (λ b t. execute_elsifs b.active b.enters t rest (execute_else b.active b.enters t last))
 
--- States that an expression is only a designator of a variable, and that a place of lowered code
--- means the place of this designator.
+-- States that an expression is only a designator of a variable, and that the lowered place `q`
+-- finds the place of this designator.
 pub record IsLoneDesignatorAt {N : Type 0} (checked : TypeMeanings N) (slots : N → Slot) (q : lowered.Place) (s : Shape)
     (e : Tree N expression) : Type 0 where
   pub name : N
@@ -186,9 +189,9 @@ pub record IsLoneDesignatorAt {N : Type 0} (checked : TypeMeanings N) (slots : N
   pub is_variable : checked.object_for name ≡ Some (a_variable shape)
   pub place_means : PlaceMeans checked slots q s (place_of_designator name path)
 
--- States that a lowered argument means an argument for a parameter. For a VAR parameter, the
--- lowered argument is a place. For any other parameter, it is a number, a truth, or the cells of an
--- array or a record.
+-- States that a lowered argument is correct code for an argument, given its parameter. For a VAR
+-- parameter, the lowered argument is a place. For any other parameter, it is a number, a truth, or
+-- the cells of an array or a record.
 abbrev pub CodeMeansArgument : {N : Type 0}
     → TypeMeanings N
     → (N → Slot)
@@ -211,8 +214,8 @@ CodeMeansArgument checked slots f (lowered.by_block q n) e =
     × (n ≡ size f.shape)
     × HoldsValue checked slots q f.shape (value_of_expression e)
 
--- States that lowered arguments mean the arguments of a call, one by one. The numbers of
--- parameters, of lowered arguments and of arguments have to be the same.
+-- States that each lowered argument is correct code for the argument at the same index. The numbers
+-- of parameters, of lowered arguments and of arguments have to be the same.
 abbrev pub CodeMeansArguments : {N : Type 0}
     → TypeMeanings N
     → (N → Slot)

@@ -1,7 +1,7 @@
--- States the meaning of lowered places, numbers and truths: they have the same outcome as the
--- module's designators and expressions, at each moment of a run (`Moment`). A meaning is a relation
--- between lowered code and a function from moments to outcomes (`OutcomeByMoment`), for example
--- `NumberMeans`. This relation doesn't mention the tree of an expression, so operators need no
+-- States when lowered places, numbers and truths are correct: they have the same outcome as the
+-- module's designators and expressions, at each moment of a run (`Moment`). Each such fact, for
+-- example `NumberMeans`, relates lowered code to a function from moments to outcomes
+-- (`OutcomeByMoment`). The fact doesn't mention the tree of an expression, so operators need no
 -- types. Only places and variables need types. The value of an array or a record is in the cells at
 -- a place (`HoldsValue`), even if its expression is in parentheses. A moment may be one at which
 -- arguments are passed. The cells of these arguments then follow the cells of the store
@@ -20,9 +20,9 @@ use Rattle.ob0_run_machine.specs.Evaluation.{Levels, level_at}
 use Rattle.ob0_run_machine.specs.Lowered as lowered
 use Rattle.ob0_run_cells.specs.Cells.{address, all_cells, store_size}
 
--- The slot of a variable: an offset in the cells of the module or of the activation `up` levels
--- out. The slot of a VAR parameter has the number of levels out and the parameter's index among the
--- VAR parameters.
+-- The slot of a variable: where running code finds the variable. A variable is at an offset in the
+-- cells of the module or of the activation `up` levels out. A VAR parameter is found by the number
+-- of levels out and its index among the VAR parameters.
 pub data Slot : Type 0 where
   of_module : (offset : ℕ) → Slot
   in_activation : (up offset : ℕ) → Slot
@@ -34,7 +34,7 @@ slot_address ls (of_module offset) = offset
 slot_address ls (in_activation up offset) = (level_at ls up).base + offset
 slot_address ls (by_reference up index) = slice_index_or (level_at ls up).addresses index 0
 
--- returns the place in lowered code of the variable in a slot
+-- returns the lowered place of the variable in a slot
 abbrev pub slot_place : Slot → lowered.Place
 slot_place (of_module offset) = lowered.in_module offset
 slot_place (in_activation zero offset) = lowered.in_own_activation offset
@@ -50,8 +50,8 @@ part_at (lowered.outside up at) k = lowered.outside up (machine.add_offset at k)
 part_at (lowered.passed up index at) k = lowered.passed up index (machine.add_offset at k)
 part_at (lowered.element q i n s at) k = lowered.element q i n s (machine.add_offset at k)
 
--- A moment of a run. It has the store and its types, the cells of arguments that are being passed,
--- the meanings of names, and the activations that lowered code can see.
+-- A moment of a run: the store and its types, the cells of arguments that are being passed, the
+-- meanings of names, and the activations that lowered code can see.
 pub record Moment (N : Type 0) : Type 0 where
   pub typing : StoreTyping
   pub store : Store
@@ -64,9 +64,9 @@ pub record Moment (N : Type 0) : Type 0 where
 abbrev pub cells_in : {N : Type 0} → Moment N → List ℤ
 cells_in m = all_cells m.store ++ m.passed_cells
 
--- States that a moment belongs to a checked module. The values in its store have the store's types,
--- and its names have the meanings that the checker found. Each variable is in its slot, and the
--- store has fewer than 2^64 cells.
+-- States that a moment belongs to a run of the checked module. The values in its store have the
+-- store's types, and its names have the meanings that the checker found. Each variable is in its
+-- slot, and the store has fewer than 2^64 cells.
 pub record IsMomentOfModule {N : Type 0} (checked : TypeMeanings N) (slots : N → Slot) (m : Moment N) : Type 0 where
   pub store_fits : StoreHasTypes m.typing m.store
   pub names_fit : RunMeaningsAgree m.typing checked m.active
@@ -120,14 +120,14 @@ TruthMeans {N} checked slots t value =
     → IsMomentOfModule checked slots m
     → outcome_of truth (machine.truth m.levels (cells_in m) t) ≡ value m
 
--- States that an outcome is an end of the run, or a place that holds values of a type.
+-- States that an outcome is an end of the run, or a place whose values have the type `s`.
 abbrev pub PlaceOutcomeFits : StoreTyping → Shape → Outcome Place → Type 0
 PlaceOutcomeFits typing s (succeeds_with p) = PlaceHasType typing p s
 PlaceOutcomeFits typing s (ends_run_with e) = Unit {0}
 
--- States that a place of lowered code and the evaluation `value` agree at each moment that belongs
--- to the checked module (`IsMomentOfModule`). Both have the same address, or end the run with the same end.
--- Also states that the place that `value` returns holds values of the type `s`.
+-- States that the lowered place `q` and the evaluation `value` agree at each moment that belongs to
+-- the checked module (`IsMomentOfModule`). Both have the same address, or end the run with the same
+-- end. Also states that the place that `value` returns has values of the type `s`.
 abbrev pub PlaceMeans : {N : Type 0}
     → TypeMeanings N
     → (N → Slot)
@@ -142,8 +142,8 @@ PlaceMeans {N} checked slots q s value =
     × PlaceOutcomeFits m.typing s (value m)
 
 -- States that the evaluation `value` returns the value that is stored at a place, at each moment
--- that belongs to the checked module (`IsMomentOfModule`). The place is the one that the place `q` of lowered
--- code means, and it holds values of the type `s`.
+-- that belongs to the checked module (`IsMomentOfModule`). The lowered place `q` agrees with this
+-- place (`PlaceMeans`), which has values of the type `s`.
 abbrev pub HoldsValue : {N : Type 0}
     → TypeMeanings N
     → (N → Slot)
@@ -178,8 +178,8 @@ value_of_factor e m = evaluate_factor m.active m.store e
 abbrev pub place_of_designator : {N : Type 0} → N → Tree N (items selector) → OutcomeByMoment N Place
 place_of_designator x path m = designated_place m.active m.store x path
 
--- The type of the rest of a chain, which has the remaining operators or selectors. It is a function
--- that returns their outcome, given the moment and the value so far.
+-- The type of the remaining part of a chain of operators or selectors. It is a function that
+-- returns the outcome of this part, given the moment and the value so far.
 abbrev pub RestOfChain : Type 0 → Type 0 → Type 0
 RestOfChain N A = Moment N → A → Outcome A
 
@@ -201,8 +201,8 @@ remaining_selectors rest m p =
     or_stuck (read_place m.store p) >>=
     (λ v. evaluate_selectors m.active m.store v rest >>= (λ steps. succeeds_with (extended_place p steps)))
 
--- States that there is an evaluation `so_far` for which `Means` holds. This evaluation, followed by
--- the rest of a chain, has the outcome of the whole chain.
+-- States that `rest` completes a chain: there is an evaluation `so_far` of the first part, for
+-- which `Means` holds, and `so_far` followed by `rest` has the outcome `whole` of the whole chain.
 abbrev pub StartsChain : {N A : Type 0}
     → TypeMeanings N
     → (N → Slot)
@@ -215,8 +215,8 @@ StartsChain {N} {A} checked slots Means rest whole =
     × Means so_far
     × ((m : Moment N) → IsMomentOfModule checked slots m → (so_far m >>= rest m) ≡ whole m)
 
--- States that a place of lowered code means the first part of a designator. From there, the
--- remaining selectors lead to the place of the whole designator.
+-- States that the lowered place `q` is correct code for the first part of a designator. From there,
+-- the remaining selectors lead to the place of the whole designator.
 abbrev pub PlaceStartsChain : {N : Type 0}
     → TypeMeanings N
     → (N → Slot)
@@ -228,8 +228,8 @@ abbrev pub PlaceStartsChain : {N : Type 0}
 PlaceStartsChain checked slots q s rest =
     StartsChain checked slots (PlaceMeans checked slots q s) (remaining_selectors rest)
 
--- States that a number of lowered code means the first part of a chain. Given this number, the rest
--- of the chain has the value of the whole chain.
+-- States that the lowered number `n` is correct code for the first part of a chain. Given its
+-- value, the rest of the chain has the value of the whole chain.
 abbrev pub NumberStartsChain : {N : Type 0}
     → TypeMeanings N
     → (N → Slot)
@@ -239,8 +239,8 @@ abbrev pub NumberStartsChain : {N : Type 0}
     → Type 0
 NumberStartsChain checked slots n = StartsChain checked slots (NumberMeans checked slots n)
 
--- States that a truth of lowered code means the first part of a chain. Given this truth, the rest
--- of the chain has the value of the whole chain.
+-- States that the lowered truth `t` is correct code for the first part of a chain. Given its value,
+-- the rest of the chain has the value of the whole chain.
 abbrev pub TruthStartsChain : {N : Type 0}
     → TypeMeanings N
     → (N → Slot)

@@ -1,12 +1,12 @@
--- States that each procedure and each block of a well-typed module is lowered to code that means
--- this procedure or block. At its heading, a procedure gets an index in the table of procedures,
--- with a placeholder there. At the procedure's end, its code replaces the placeholder. A clause
--- about code holds for each table that has the procedures that were added together with this code
--- (`HasRoutinesFrom`). So the code keeps its meaning while the table grows, and no clause mentions
--- the final table. `LowersProcedures` is about some procedures of a block, and holds for any
--- procedures and statements that follow in the block. The loop over a block's procedures composes
--- such facts (`goes_then`).
--- Rule: none; for contracts of lowering.
+-- States that each procedure and each block of a well-typed module is lowered to correct code. At
+-- its heading, a procedure gets an index in the table of procedures, with a placeholder there. At
+-- the procedure's end, its code replaces the placeholder. Code calls procedures by their indices,
+-- so code is correct only together with a table. A clause about code holds for each table that has
+-- the procedures that were added together with this code (`HasRoutinesFrom`). So the code stays
+-- correct while the table grows, and no clause mentions the final table. `LowersProcedures` is
+-- about some procedures of a block, and holds for any procedures and statements that follow in the
+-- block. The loop over a block's procedures composes such facts (`goes_then`).
+-- Rule: none; used in contracts of lowering.
 use Rattle.std.specs.Prelude.{◌≡◌, ℕ, ◌≤◌, true, List, length, Some, slice_get}
 use Rattle.ob0_tree.specs.Tree.{Tree, block, body, items, maybe, procedure}
 use Rattle.ob0_language_names.specs.Names.{Label, naming_by_label}
@@ -23,8 +23,8 @@ use Rattle.ob0_run_lowering.specs.PlacedNames.{HidesMoreSites, LocatesAll, IsFra
 use Rattle.ob0_run_lowering.specs.declared.programs.Lowering.{Lowering}
 use Rattle.ob0_run_lowering.specs.declared.visible_sites.Frame.{Frame}
 
--- states that a table has the same procedures as the list `ps`, at each index in `ps` that is at
--- least `n`
+-- states that a table has the code of each procedure in the list `ps` whose index is at least `n`,
+-- at the same index
 abbrev pub HasRoutinesFrom : List lowered.Routine → ℕ → List Routine → Type 0
 HasRoutinesFrom table n ps =
     (i : ℕ) (e : Routine)
@@ -38,15 +38,15 @@ abbrev pub KeepsRoutines : List Routine → List Routine → Type 0
 KeepsRoutines before now = (i : ℕ) (e : Routine) → slice_get before i ≡ Some e → slice_get now i ≡ Some e
 
 -- The state before the remaining procedures of a block are lowered. It has the environment, the
--- placement of the names in scope, and the ordinal of the next ARRAY or RECORD.
+-- places of the names in scope (`placement`), and the ordinal of the next ARRAY or RECORD.
 pub record BlockState : Type 0 where
   pub env : TypeEnvironment Label
   pub placement : Placement Label
   pub next : ℕ
 
--- States that the remaining procedures `ps` and the statements of a block are well-typed in a
--- state. The table of declarations has the object of each name in scope, and of each name that
--- these procedures declare. The table of sites has the place of each name in scope.
+-- States that the remaining procedures `ps` and the statements of a block are well-typed in the
+-- state `s`. The table of declarations has the object of each name in scope, and of each name that
+-- these procedures declare. The table of locations has the place of each name in scope.
 pub record IsReadyToLower (t : Tables) (sites : List Site) (depth : ℕ) (s : BlockState)
     (statements : Tree Label (maybe body)) (ps : Tree Label (items procedure)) : Type 0 where
   pub environment_is_declared : AreDeclared (declared_object_in t) s.env
@@ -55,8 +55,8 @@ pub record IsReadyToLower (t : Tables) (sites : List Site) (depth : ℕ) (s : Bl
   pub fits : procedures_are_well_typed naming_by_label s.env s.next statements ps ≡ true
   pub procedures_are_declared : ProceduresAreDeclared (declared_object_in t) s.env s.next ps
 
--- States that the routines of a table mean the remaining procedures of a block, and that `code`
--- means the block's statements.
+-- States that a table has correct code for the remaining procedures `ps` of a block, and that
+-- `code` is correct for the block's statements. `s` is the state before these procedures.
 abbrev pub RestOfBlockMeans : List lowered.Routine
     → BlockState
     → lowered.Instructions
@@ -66,10 +66,11 @@ abbrev pub RestOfBlockMeans : List lowered.Routine
 RestOfBlockMeans table s code statements ps =
     RoutinesMeanProcedures (label_table table) s.env s.placement s.next code statements ps
 
--- States that lowering starts in the state `s` with the remaining procedures `ps` of a block, and
--- reaches the state `now` with the remaining procedures `left`. `composes_meaning` is about each table that has
--- the routines that were added: if the table and some code mean `left` in the state `now`, they
--- mean `ps` in the state `s`.
+-- States that lowering leads from the state `s` with the remaining procedures `ps` of a block to
+-- the state `now` with the remaining procedures `left`. `w` and `v` are the data of lowering
+-- (`Lowering`) before and after. `composes_meaning` is about each table that has the routines that
+-- were added: if the table and some code are correct for `left` in the state `now`, they are
+-- correct for `ps` in the state `s`.
 pub record LowersFromState (t : Tables) (w v : Lowering) (depth : ℕ) (s : BlockState)
     (statements : Tree Label (maybe body)) (ps left : Tree Label (items procedure)) : Type 0 where
   pub now : BlockState
@@ -80,9 +81,9 @@ pub record LowersFromState (t : Tables) (w v : Lowering) (depth : ℕ) (s : Bloc
       → RestOfBlockMeans table s code statements ps
 
 -- States that lowering starts with the remaining procedures `ps` of a block, and reaches the
--- remaining procedures `left`. This holds for each state in which it starts, and for any statements
--- of the block (`LowersFromState`). Also states that the tables of sites and of procedures only
--- grow.
+-- remaining procedures `left`. This holds for each state in which lowering starts, and for any
+-- statements of the block (`LowersFromState`). Also states that the tables of locations and of
+-- procedures only grow.
 pub record LowersProcedures (t : Tables) (w v : Lowering) (depth : ℕ) (ps left : Tree Label (items procedure))
     : Type 0 where
   pub lowers_from : (s : BlockState) (statements : Tree Label (maybe body))
@@ -92,8 +93,9 @@ pub record LowersProcedures (t : Tables) (w v : Lowering) (depth : ℕ) (ps left
   pub longer : length w.procedures.items ≤ length v.procedures.items
   pub grown : KeepsRoutines w.procedures.items v.procedures.items
 
--- States that the routine `entry` means a block, in each table that has the procedures that were
--- added while the block was lowered.
+-- States that the routine `entry` is correct code for a block, with each table that has the
+-- procedures that were added while the block was lowered. `w` and `v` are the data of lowering
+-- before and after.
 pub record MeansBlock (w v : Lowering) (f : Frame) (b : Tree Label block) (entry : Routine)
     (env : TypeEnvironment Label) (p : PlacementState Label) (k : ℕ) : Type 0 where
   pub means : (table : List lowered.Routine)
@@ -101,9 +103,9 @@ pub record MeansBlock (w v : Lowering) (f : Frame) (b : Tree Label block) (entry
       → CodeMeansBlock (label_table table) (variable_slot f.depth) env p k entry.cells
       (sequence_of entry.body.items) b
 
--- States that the routine `entry` means a block, if the block is well-typed and the names in scope
--- have their places and their objects. Also states that the tables of sites and of procedures only
--- grow.
+-- States that the routine `entry` is correct code for a block, if the block is well-typed and the
+-- names in scope have their places and their objects. Also states that the tables of locations and
+-- of procedures only grow, from `w` to `v`.
 pub record LowersBlock (t : Tables) (w v : Lowering) (f : Frame) (b : Tree Label block)
     (entry : Routine) : Type 0 where
   pub lowers_from : (env : TypeEnvironment Label) (p : PlacementState Label) (k : ℕ)

@@ -1,6 +1,6 @@
--- Defines the code of values (`ExpressionCode`): of constants, of the value at a place, and of
--- operations. Also defines the places of fields and elements (`FoundPlace`).
--- Rule: none; for contracts of lowering.
+-- Defines the code (`ExpressionCode`) of constants, of the value at a place, and of operations.
+-- Also defines the places of fields and elements (`FoundPlace`).
+-- Rule: none; used in contracts of lowering.
 use Rattle.std.specs.Prelude.{◌≡◌, ℕ, ◌*◌, ◌%◌, ◌^◌, pos, Some, None, Option, option_map, if◌then◌else◌, nat_lt}
 use Rattle.ob0_tree.specs.declared.tree.Relation.{Relation}
 use Rattle.ob0_tree.specs.declared.tree.Relation.TheVariants as relation
@@ -26,8 +26,10 @@ pub data ExpressionCode : Type 0 where
   a_block : lowered.Place → (cells : ℕ) → ExpressionCode
   no_code : ExpressionCode
 
--- States that code has the outcome of the evaluation `value`, whose values have a given type. This
--- is never true if the code is for a value of another type, or is `no_code`.
+-- States that code is correct for the evaluation `value`, whose values have the given type. The
+-- code of a number or a truth has the same outcome as `value`. The code of an array or a record has
+-- all the cells of the type, at a place that holds the value. This is never true if the code is for
+-- a value of another type, or is `no_code`.
 abbrev pub CodeMeans : TypeMeanings Label → (Label → Slot) → ExpressionCode → Shape
     → OutcomeByMoment Label Value
     → Type 0
@@ -64,7 +66,7 @@ constant_code (elements vs) = no_code
 constant_code (members k ms) = no_code
 
 -- Returns the code of a designator. For a constant, this is the code of its value. For any other
--- designator (None), it is the code of the value at the place that was found.
+-- designator (None), it is the code of the value at the place `found`.
 abbrev pub designator_code : Option Value → Option FoundPlace → ExpressionCode
 designator_code (Some v) found = constant_code v
 designator_code None found = code_at found
@@ -127,8 +129,8 @@ known_offset (lowered.literal (pos i)) n s =
 known_offset _ n s = None
 
 -- Returns the place of an array's element. If the offset of the element is known, this is the place
--- at this offset in the array. For None, it is the element at an index that is evaluated during the
--- run.
+-- at this offset in the array. If it isn't known (None), this is the element at an index that is
+-- evaluated during the run.
 abbrev pub element_or_part : Option ℕ → lowered.Place → lowered.Number → (length stride : ℕ)
     → lowered.Place
 element_or_part None q i n s = lowered.element q i n s 0

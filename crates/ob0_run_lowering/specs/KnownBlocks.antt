@@ -4,7 +4,7 @@
 -- has at this ordinal. A well-typed module has this property (`module-declared`). In the module's
 -- numbered tree, the ordinals in each environment descend. So each ordinal is bound once, and a
 -- look-up of the ordinal finds its binding. No other fact about the order of ordinals is used.
--- Rule: none; for contracts of lowering.
+-- Rule: none; used in contracts of lowering.
 use Rattle.std.specs.Prelude.{◌≡◌, ℕ, [], ◌∷◌, Some, Option}
 use Rattle.ob0_tree.specs.Tree.{Tree, block, items, procedure}
 use Rattle.ob0_language_names.specs.Names.{Label, declared}

@@ -1,5 +1,6 @@
--- States that layouts have the numbers of cells of types, and the offsets of fields.
--- Rule: none; for contracts of lowering.
+-- States that a computed layout (`Layout`) is right for a type: it has the type's number of cells,
+-- and a record's layout also has the offset of each field.
+-- Rule: none; used in contracts of lowering.
 use Rattle.std.specs.Prelude.{◌≡◌, ℕ, ◌+◌, List, [], ◌∷◌, Some, None, Option}
 use Rattle.std.specs.Borrow.{Bor}
 use Rattle.ob0_types_table.specs.Tables.{faulty_shape}
@@ -21,20 +22,20 @@ pub record AreLaidOut (fs : FieldShapes) (r : RecordLayout) : Type 0 where
   pub cells : r.cells ≡ field_sizes fs
   pub offsets : r.offsets.items ≡ offsets_from 0 fs
 
--- States that a layout is the layout of a type. This is never true for a type that is neither an
--- array nor a record.
+-- States that a layout is right for a type. This is never true for a type that is neither an array
+-- nor a record.
 abbrev pub HasLayout : Shape → Layout → Type 0
 HasLayout (array_shape k n s) (layout.Array cells) = cells ≡ size (array_shape k n s)
 HasLayout (record_shape k fs) (layout.Record r) = AreLaidOut fs r
 HasLayout _ _ = ⊥
 
--- states that layouts are the layouts of a table of types, one for each type, in order
+-- states that a list of layouts has the right layout for each type of a table, in the table's order
 abbrev pub HaveLayouts : List Shape → List Layout → Type 0
 HaveLayouts [] [] = Unit {0}
 HaveLayouts (s ∷ shapes) (l ∷ layouts) = HasLayout s l × HaveLayouts shapes layouts
 HaveLayouts _ _ = ⊥
 
--- States that a layout is the layout of a record type. For None, states that the type is
+-- States that a layout is right for a record type. For None, states that the type is
 -- `faulty_shape`.
 abbrev pub IsLayoutOfRecord : Option (Bor RecordLayout) → Shape → Type 0
 IsLayoutOfRecord None s = s ≡ faulty_shape

@@ -1,11 +1,11 @@
--- States that statements are lowered to code that means them in a scene. A clause about statements
--- covers all checked names, slots and targets that agree with the scene (`SceneAgrees`). It says that the
--- code of a tree means the tree, if the tree is well-typed with these names (`HoldsInScene`). If
--- the tree isn't well-typed, nothing is claimed about its code. The parts of a well-typed tree are
--- well-typed, so each law of `ob0_run_cells` is lifted to this form once (`proofs/HoldsInScene`).
--- Only the clause of `lower_body` has another form (`LowersBody`): it is about each environment and
--- each placement that agree with the scene.
--- Rule: none; for contracts of lowering.
+-- States that statements are lowered to correct code. A scene (`Scene`) is the data with which a
+-- body is lowered. A clause about statements covers all checked names, slots and targets that agree
+-- with the scene (`SceneAgrees`). It says that the code of a tree is correct, if the tree is
+-- well-typed with these names (`HoldsInScene`). If the tree isn't well-typed, nothing is claimed
+-- about its code. The parts of a well-typed tree are well-typed, so each law of `ob0_run_cells` is
+-- lifted to this form once (`proofs/HoldsInScene`). Only the clause of `lower_body` has another
+-- form (`LowersBody`): it is about each environment and each placement that agree with the scene.
+-- Rule: none; used in contracts of lowering.
 use Rattle.std.specs.Prelude.{◌≡◌, ◌&&◌, Bool, List, [], IsTrue, Option, Some, None}
 use Rattle.std.specs.declared.alloc.Global.{Global}
 use Rattle.std.specs.declared.vec.Vec.{Vec}
@@ -22,7 +22,8 @@ use Rattle.ob0_run_lowering.specs.declared.scene.Scene.{Scene}
 use Rattle.ob0_run_lowering.specs.Scenes.{SceneAgrees}
 
 -- States that `Means` holds for all checked names, slots and targets that agree with a scene
--- (`SceneAgrees`), if `fits` is true for these names.
+-- (`SceneAgrees`) and for which `fits` is true. In each use, `fits` says that a tree is well-typed
+-- with the checked names, and `Means` that its code is correct.
 abbrev pub HoldsInScene : Scene
     → (TypeMeanings Label → Bool)
     → (TypeMeanings Label → (Label → Slot) → (Label → Target) → Type 0)
@@ -33,14 +34,15 @@ HoldsInScene scene fits Means =
     → IsTrue (fits checked)
     → Means checked slots targets
 
--- States that a truth of lowered code means a condition in a scene, if the condition is BOOLEAN.
+-- States that a truth is correct code for a condition, lowered with the data in `scene`. Claims
+-- nothing if the condition isn't BOOLEAN.
 abbrev pub LowersCondition : Scene → lowered.Truth → Tree Label expression → Type 0
 LowersCondition scene t e =
     HoldsInScene scene (λ checked. condition_is_boolean checked e)
     (λ checked slots targets. TruthMeans checked slots t (value_of_expression e))
 
--- States that lowered arguments mean the arguments of a call in a scene, if the arguments match the
--- parameters.
+-- States that the lowered arguments `cs` are correct code for the arguments `es` of a call, lowered
+-- with the data in `scene`. Claims nothing if the arguments don't match the parameters.
 abbrev pub LowersArguments : Scene
     → Signature
     → List lowered.LoweredArgument
@@ -50,7 +52,8 @@ LowersArguments scene signature cs es =
     HoldsInScene scene (λ checked. arguments_match checked signature es)
     (λ checked slots targets. CodeMeansArguments checked slots signature cs es)
 
--- States that an instruction means a statement in a scene, if the statement is well-typed.
+-- States that an instruction is correct code for a statement, lowered with the data in `scene`.
+-- Claims nothing if the statement isn't well-typed.
 abbrev pub LowersStatement : Scene → lowered.Instruction → Tree Label statement → Type 0
 LowersStatement scene c a =
     HoldsInScene scene (λ checked. statement_is_well_typed checked a)
@@ -61,35 +64,38 @@ abbrev pub given_arguments : Option (Vec Expression Global) → List Expression
 given_arguments None = []
 given_arguments (Some es) = es.items
 
--- States that an instruction means a statement in a scene, if the statement is well-typed. For None,
--- states that the statement is empty.
+-- States that an instruction is correct code for a statement, as `LowersStatement` does. For None
+-- instead of an instruction, states that the statement is empty.
 abbrev pub LowersOptionalStatement : Scene → Option lowered.Instruction → Tree Label statement → Type 0
 LowersOptionalStatement scene None a = a ≡ empty
 LowersOptionalStatement scene (Some c) a = LowersStatement scene c a
 
--- States that instructions mean a sequence of statements in a scene, if the sequence is well-typed.
+-- States that the instructions are correct code for a sequence of statements, lowered with the data
+-- in `scene`. Claims nothing if the sequence isn't well-typed.
 abbrev pub LowersSequence : Scene → lowered.Instructions → Tree Label sequence → Type 0
 LowersSequence scene cs a =
     HoldsInScene scene (λ checked. sequence_is_well_typed checked a)
     (λ checked slots targets. CodeMeansSequence checked slots targets cs a)
 
--- States that instructions mean the statements after the first one of a sequence in a scene, if
--- these statements are well-typed.
+-- States that the instructions are correct code for the statements after the first one of a
+-- sequence, lowered with the data in `scene`. Claims nothing if these statements aren't well-typed.
 abbrev pub LowersFurtherStatements : Scene → lowered.Instructions → Tree Label (items further_statement)
     → Type 0
 LowersFurtherStatements scene cs rest =
     HoldsInScene scene (λ checked. further_statements_are_well_typed checked rest)
     (λ checked slots targets. CodeMeansFurtherStatements checked slots targets cs rest)
 
--- States that instructions mean an ELSE part in a scene, if the ELSE part is well-typed. If there
--- is no ELSE part, states that the instructions have no effect.
+-- States that the instructions are correct code for an ELSE part, lowered with the data in `scene`.
+-- If there is no ELSE part, states that the instructions have no effect. Claims nothing if the ELSE
+-- part isn't well-typed.
 abbrev pub LowersElse : Scene → lowered.Instructions → Tree Label (maybe else_part) → Type 0
 LowersElse scene cs last =
     HoldsInScene scene (λ checked. else_is_well_typed checked last)
     (λ checked slots targets. CodeMeansElse checked slots targets cs last)
 
--- States that branches mean ELSIF parts in a scene, and that instructions mean the ELSE part after
--- them, if all these parts are well-typed.
+-- States that the branches `bs` are correct code for ELSIF parts, and the instructions `cs` for the
+-- ELSE part after them. All are lowered with the data in `scene`. Claims nothing if one of these
+-- parts isn't well-typed.
 abbrev pub LowersElsifs : Scene
     → lowered.Branches
     → lowered.Instructions
@@ -100,8 +106,9 @@ LowersElsifs scene bs cs rest last =
     HoldsInScene scene (λ checked. elsifs_are_well_typed checked rest && else_is_well_typed checked last)
     (λ checked slots targets. CodeMeansElsifs checked slots targets bs cs rest last)
 
--- States that instructions mean a body in each environment and each placement that agree with the
--- scene (`SceneAgrees`), if the body is well-typed in the environment.
+-- States that the instructions are correct code for a body, in each environment and each placement
+-- that agree with the scene (`SceneAgrees`). Claims nothing if the body isn't well-typed in the
+-- environment.
 abbrev pub LowersBody : Scene → lowered.Instructions → Tree Label (maybe body) → Type 0
 LowersBody scene cs b =
     (env : TypeEnvironment Label) (placement : Placement Label)

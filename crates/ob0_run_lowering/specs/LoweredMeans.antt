@@ -1,6 +1,7 @@
--- States that expressions, designators and arguments are lowered to code that means them. This
--- holds for all checked names and slots that agree with the scene (`SceneAgrees`).
--- Rule: none; for contracts of lowering.
+-- States that expressions, designators and arguments are lowered to correct code. This holds for
+-- all checked names and slots that agree with the scene (`SceneAgrees`), which is the data with
+-- which a body is lowered.
+-- Rule: none; used in contracts of lowering.
 use Rattle.std.specs.Prelude.{◌≡◌, ℕ, true, Some}
 use Rattle.ob0_tree.specs.Tree.{Tree, expression, items, selector}
 use Rattle.ob0_language_names.specs.Names.{Label}
@@ -24,8 +25,8 @@ use Rattle.ob0_run_lowering.specs.declared.lowered.TypedPlace.{TypedPlace}
 use Rattle.ob0_run_lowering.specs.declared.lowered.LoweredExpression.{LoweredExpression}
 use Rattle.ob0_run_lowering.specs.declared.scene.Scene.{Scene}
 
--- States that the code `l` has the outcome of the evaluation `value`, whose values have the type
--- `s`.
+-- States that the code `l` is correct for the evaluation `value`, whose values have the type `s`
+-- (`CodeMeans`).
 abbrev pub LoweredMeans : TypeMeanings Label → (Label → Slot) → LoweredExpression → Shape → OutcomeByMoment Label Value → Type 0
 LoweredMeans checked slots l s value = CodeMeans checked slots (code_of l) s value
 
@@ -36,16 +37,16 @@ ForAllSeen scene P =
     → SceneAgrees scene checked slots targets
     → P checked slots
 
--- States that code means an expression in a scene. If the expression has no type, nothing is
--- claimed.
+-- States that `l` is correct code for an expression, lowered with the data in `scene`. Claims
+-- nothing if the expression has no type.
 abbrev pub LowersExpression : Scene → Tree ℕ expression → LoweredExpression → Type 0
 LowersExpression scene e l =
     ForAllSeen scene (λ checked slots. (s : Shape)
     → type_of checked (tree_with_labels scene.resolved.now e) ≡ Some s
     → LoweredMeans checked slots l s (value_of_expression (tree_with_labels scene.resolved.now e)))
 
--- States that a number means an expression in a scene. If the expression isn't of type INTEGER,
--- nothing is claimed.
+-- States that the number `n` is correct code for an expression, lowered with the data in `scene`.
+-- Claims nothing if the expression isn't of type INTEGER.
 abbrev pub LowersNumber : Scene → Tree ℕ expression → Number → Type 0
 LowersNumber scene e n =
     ForAllSeen scene (λ checked slots. type_of checked (tree_with_labels scene.resolved.now e)
@@ -53,8 +54,8 @@ LowersNumber scene e n =
     → NumberMeans checked slots (number_of n)
     (value_of_expression (tree_with_labels scene.resolved.now e)))
 
--- States that a truth means an expression in a scene. If the expression isn't of type BOOLEAN,
--- nothing is claimed.
+-- States that the truth `t` is correct code for an expression, lowered with the data in `scene`.
+-- Claims nothing if the expression isn't of type BOOLEAN.
 abbrev pub LowersTruth : Scene → Tree ℕ expression → Truth → Type 0
 LowersTruth scene e t =
     ForAllSeen scene (λ checked slots. type_of checked (tree_with_labels scene.resolved.now e)
@@ -62,8 +63,9 @@ LowersTruth scene e t =
     → TruthMeans checked slots (truth_of t)
     (value_of_expression (tree_with_labels scene.resolved.now e)))
 
--- States that `l` is the place and the type of a designator: the variable at the token `x` with the
--- selectors `path`. If the designator isn't a variable with a type, nothing is claimed.
+-- States that `l` is the place and the type of a designator, lowered with the data in `scene`. The
+-- designator is the variable at the token `x` with the selectors `path`. Claims nothing if it isn't
+-- a variable with a type.
 abbrev pub LocatesDesignator : Scene → ℕ → Tree ℕ (items selector) → TypedPlace → Type 0
 LocatesDesignator scene x path l =
     ForAllSeen scene (λ checked slots. (s : Shape)
@@ -73,8 +75,8 @@ LocatesDesignator scene x path l =
     × PlaceMeans checked slots (place_of l.place) s
     (place_of_designator (label_at_token scene.resolved.now x) (tree_with_labels scene.resolved.now path)))
 
--- States that `l` is the place and the type of an expression that is only a designator. For other
--- expressions, nothing is claimed.
+-- States that `l` is the place and the type of an expression that is only a designator, lowered
+-- with the data in `scene`. Claims nothing about other expressions.
 abbrev pub LocatesLoneDesignator : Scene → Tree ℕ expression → TypedPlace → Type 0
 LocatesLoneDesignator scene e l =
     ForAllSeen scene (λ checked slots. (s : Shape)
@@ -82,8 +84,8 @@ LocatesLoneDesignator scene e l =
     → (type_shape (shapes_of scene.types.now) l.type_id ≡ s)
     × IsLoneDesignatorAt checked slots (place_of l.place) s (tree_with_labels scene.resolved.now e))
 
--- States that a lowered argument means an argument in a scene. If the argument doesn't fit its
--- parameter, nothing is claimed.
+-- States that the lowered argument `a` is correct code for the argument `e`, lowered with the data
+-- in `scene`. Claims nothing if `e` doesn't match its parameter `f`.
 abbrev pub LowersArgument : Scene → FormalParameter → Tree ℕ expression → Argument → Type 0
 LowersArgument scene f e a =
     ForAllSeen scene (λ checked slots. argument_matches checked

@@ -1,7 +1,8 @@
 -- Defines the object, the slot and the target that a scene has for a name. A scene (`Scene`) is the
--- data that is needed to lower a body. Also states that a scene is right for the checked names of a
--- body (`SceneAgrees`).
--- Rule: none; for contracts of lowering.
+-- data that is needed to lower a body. A slot is the location of a variable as seen from the body,
+-- and a target is the procedure that a call enters. Also states that a scene is right for the
+-- checked names of a body (`SceneAgrees`).
+-- Rule: none; used in contracts of lowering.
 use Rattle.std.specs.Prelude.{◌≡◌, ℕ, ◌-◌, List, slice_index_or, Some, None, Option}
 use Rattle.ob0_language_names.specs.Names.{Label, as_written, declared, label_text}
 use Rattle.ob0_types_table.specs.KnownTables.{Tables, declared_object_in}
@@ -15,7 +16,7 @@ use Rattle.ob0_run_lowering.specs.declared.scene.Scene.{Scene}
 use Rattle.ob0_run_lowering.specs.declared.scene.Site.{Site}
 use Rattle.ob0_run_lowering.specs.declared.scene.Site.TheVariants as site
 
--- returns the place of a declaration with this site, as seen from an activation of this depth
+-- returns the place of a declaration with this location, as seen from an activation of this depth
 abbrev pub place_seen_from : ℕ → Site → BindingPlace
 place_seen_from depth site.Nowhere = nowhere
 place_seen_from depth (site.Module offset) = in_slot (of_module offset)
@@ -24,24 +25,24 @@ place_seen_from depth (site.ByReference at index) = in_slot (by_reference (depth
 place_seen_from depth (site.Procedure at index) =
     at_target (record { procedure = index; up = depth - at })
 
--- returns the site of an ordinal in a table of sites, or `Nowhere` if the table has no entry for
--- the ordinal
+-- returns the location of an ordinal in a table of locations, or `Nowhere` if the table has no
+-- entry for the ordinal
 abbrev pub site_at : List Site → ℕ → Site
 site_at sites k = slice_index_or sites k site.Nowhere
 
--- Returns the place of the declaration that a label refers to, as seen from a scene. Returns
--- `nowhere` if the label isn't bound.
+-- Returns the place of the declaration that a label refers to, as seen from the scene's body.
+-- Returns `nowhere` if the label isn't bound.
 abbrev pub binding_place : Scene → Label → BindingPlace
 binding_place scene (declared k) = place_seen_from scene.depth (site_at scene.sites.now k)
 binding_place scene (as_written x) = nowhere
 
--- Returns the slot of the variable that a label refers to, as seen from a scene. If the label
--- refers to no variable, this is the module's first cell.
+-- Returns the slot of the variable that a label refers to, as seen from the scene's body. If the
+-- label refers to no variable, this is the module's first cell.
 abbrev pub slot_at : Scene → Label → Slot
 slot_at scene x = slot_of (binding_place scene x)
 
--- Returns the target of the procedure that a label refers to, as seen from a scene. If the label
--- refers to no procedure, this is index 0, and 0 levels out.
+-- Returns the target of the procedure that a label refers to, as seen from the scene's body. If the
+-- label refers to no procedure, this is index 0, and 0 levels out.
 abbrev pub target_at : Scene → Label → Target
 target_at scene x = target_of (binding_place scene x)
 
@@ -51,9 +52,9 @@ abbrev pub object_at : Tables → Label → Option (Object Shape Signature)
 object_at t (declared k) = declared_object_in t k
 object_at t (as_written x) = None
 
--- States that a scene is right for the checked names of a body, their slots and their targets. The
--- scene has the object of each bound name, the slot of each variable, and the target of each
--- procedure.
+-- States that a scene agrees with the checker about the names of a body. The scene has the object
+-- that the checker found for each bound name (`checked`), the slot of each variable (`slots`), and
+-- the target of each procedure (`targets`).
 pub record SceneAgrees (scene : Scene) (checked : TypeMeanings Label) (slots : Label → Slot)
     (targets : Label → Target) : Type 0 where
   pub bound : (x : Label) (o : Object Shape Signature)

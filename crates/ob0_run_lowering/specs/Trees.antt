@@ -1,6 +1,6 @@
--- Defines the code of designators and expressions. The code depends on a scene, which has the
--- object and the site of each declaration.
--- Rule: none; for contracts of lowering.
+-- Defines the code of designators and expressions. The code depends on a scene (`Scene`), which has
+-- the object and the location of each declaration.
+-- Rule: none; used in contracts of lowering.
 use Rattle.std.specs.Prelude.{List, pos, Some, None, Option, option_and_then}
 use Rattle.ob0_tree.specs.Tree.{Tree, addend, adds, compares, designator, end, expression, factor, field, index, integer, item, items, more, multiplier, multiplies, negation, none, one, parenthesised, product, relates, selector, simple, sum, term}
 use Rattle.ob0_language_names.specs.Names.{Label, label_text}
@@ -35,7 +35,7 @@ abbrev pub variable_place : lowered.Place → Option (Object Shape Signature) �
 variable_place q (Some (a_variable s)) = Some (record { place = q; shape = s })
 variable_place q _ = None
 
--- Returns the place and the type of the variable or parameter that a label refers to, before any
+-- Returns the place and the type of the variable or parameter that a label refers to, without any
 -- selectors. Returns None if the label is unbound, or refers to another kind of object.
 abbrev pub base_place : Scene → Label → Option FoundPlace
 base_place scene x = variable_place (slot_place (slot_at scene x)) (object_at scene.types.now x)

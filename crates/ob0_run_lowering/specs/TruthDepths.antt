@@ -1,6 +1,6 @@
 -- Counts how deep conjunctions, and how deep disjunctions, are nested in the left operands of a
 -- truth.
--- Rule: none; for contracts of lowering.
+-- Rule: none; used in contracts of lowering.
 use Rattle.std.specs.Prelude.{◌≤◌, ℕ, suc, max}
 use Rattle.ob0_run_machine.specs.declared.code.Truth as truth
 use Rattle.ob0_run_machine.specs.declared.code.Truth.{Truth}

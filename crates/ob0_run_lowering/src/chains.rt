@@ -6,12 +6,12 @@
 //! to distinguish chains from nested pairs. The same holds for the forms of places, negations and
 //! assignments that the machine evaluates in fewer steps.
 //!
-//! Chains and nested pairs have the same meaning, so separate clauses state how deep the code is
-//! nested (`specs/TruthDepths`). One more operand makes a conjunction no deeper on the left
-//! (`IsNoDeeper`). If a truth isn't a conjunction, one more operand makes it a conjunction of depth
-//! 1. So the first operand of a conjunction isn't a conjunction (`IsFlat`). The same holds for
-//! disjunctions. `conjunction_of_two` and `disjunction_of_two` list each case of the left operand,
-//! since a proof knows nothing about an operand in a wildcard arm.
+//! Clauses about meaning don't tell chains from nested pairs. So separate clauses bound how deep
+//! conjunctions and disjunctions are nested in left operands (`specs/TruthDepths`). Adding an
+//! operand makes a conjunction no deeper (`IsNoDeeper`). If the left operand isn't a conjunction,
+//! the result has depth 1. So the first operand of a conjunction is never a conjunction (`IsFlat`).
+//! The same holds for disjunctions. `conjunction_of_two` and `disjunction_of_two` list each case of
+//! the left operand, since a proof knows nothing about an operand in a wildcard arm.
 
 ghost use Rattle.std.specs.Prelude.{◌≡◌, ◌≤◌, IfOk, IfSome, max, suc};
 ghost use Rattle.ob0_run_machine.specs.Lowered as machine;
@@ -101,8 +101,8 @@ fn extended_chain(alloc: Global, chain: Chain, link: Link) -> Result<Number, All
     Ok(Number::Chain(Box::new(alloc, Chain { first, rest })?))
 }
 
-/// Returns the operation on a variable and the number `right`. The result is a single operation,
-/// even if `right` is a chain.
+/// Returns the operation with a variable as the left operand and the number `right` as the right
+/// operand. The result is a single operation, even if `right` is a chain.
 fn plain_operation(
     alloc: Global,
     operator: Operator,
@@ -119,10 +119,11 @@ fn plain_operation(
     )
 }
 
-/// Returns the operation on a variable and the number `right`. If `right` is an operation or a
-/// chain, the result is one chain, which evaluates the variable last. Its value is the same then,
-/// since the evaluation of `right` changes no variable. For a quotient or a remainder, the result
-/// is a single operation.
+/// Returns the operation with a variable as the left operand and the number `right` as the right
+/// operand. For a sum, a difference or a product whose right operand is an operation or a chain,
+/// the result is one chain, which evaluates the variable last. The variable has the same value
+/// then, since the evaluation of `right` changes no variable. In all other cases, the result is a
+/// single operation.
 fn operation_on_variable(
     alloc: Global,
     operator: Operator,
@@ -143,7 +144,7 @@ fn operation_on_variable(
 }
 
 /// Returns the operation on two numbers. If the left number is an operation or a chain, the result
-/// is one chain.
+/// is one chain. If it is a variable, see `operation_on_variable`.
 pub(crate) fn operation_on_numbers(
     alloc: Global,
     operator: Operator,

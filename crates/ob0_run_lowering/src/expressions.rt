@@ -63,8 +63,8 @@ fn unknown_place() -> TypedPlace {
     }
 }
 
-/// Returns the place that was found. For None, returns the module's first cell, with an unknown
-/// type.
+/// Returns the place in `found`. For None, which means that no place was found, returns the
+/// module's first cell, with an unknown type.
 fn found_or_unknown_place(found: Option<TypedPlace>) -> TypedPlace
     ensures { KeepsFoundPlace found result }
 {

@@ -2,13 +2,14 @@
 //!
 //! There are three layers. The first lowers designators, expressions and arguments, the second the
 //! statements of a body, and the third declarations, blocks and procedures. The first two layers
-//! lower with a scene (`Scene`), which says where lowered code finds each name in a body. A
-//! variable has a slot (`Slot`), which is its place. A procedure has a target (`Target`), which a
-//! call enters. The contracts of the first two layers hold if the scene has the object, the slot or
-//! the target of each checked name (`SceneAgrees`), so they mention no environments, placements or
-//! blocks. The third layer proves `SceneAgrees` for each body. If an expression has a type, its
-//! code means the expression (`LowersExpression`). If an expression has no type, nothing is claimed
-//! about its code. So every tree is accepted and lowered.
+//! lower one body with a scene (`Scene`), which has the location in lowered code of each
+//! declaration. For code in the body, a variable has a slot (`Slot`), from which its place is
+//! computed. A procedure has a target (`Target`), which a call enters. The contracts of the first
+//! two layers hold if the scene has the object, the slot or the target of each checked name
+//! (`SceneAgrees`), so they mention no environments, placements or blocks. The third layer proves
+//! `SceneAgrees` for each body. If an expression has a type, its code is correct
+//! (`LowersExpression`). If an expression has no type, nothing is claimed about its code. So every
+//! tree is accepted and lowered.
 #![tactic(auto)]
 
 mod chains;

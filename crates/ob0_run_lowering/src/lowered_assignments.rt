@@ -108,7 +108,8 @@ fn truth_assignment(place: Place, t: Truth) -> Instruction
     }
 }
 
-/// Returns the code of an assignment of a number, a truth, or the cells of an array or a record.
+/// Returns the code of the assignment `a`. The assigned value is a number, a truth, or the cells of
+/// an array or a record.
 pub(crate) fn lower_assignment(
     alloc: Global,
     scene: &Scene<'_, '_, '_>,

@@ -27,7 +27,8 @@ use ob0_tree::{Call, Expression};
 use ob0_types_table::{FormalParameter, Object, StandardProcedure};
 use std::alloc::{AllocError, Global};
 
-/// Returns the code of a statement that calls a declared procedure or a standard procedure.
+/// Returns the code of a statement that calls a declared procedure or a standard procedure. If the
+/// called name is neither, the code is `WriteLine`.
 pub(crate) fn lower_call_statement(
     alloc: Global,
     scene: &Scene<'_, '_, '_>,
@@ -54,7 +55,7 @@ pub(crate) fn lower_call_statement(
     }
 }
 
-/// Returns the code of a call of a declared procedure with these parameters.
+/// Returns the code of a call of a declared procedure with the parameters `formals`.
 fn lower_procedure_call(
     alloc: Global,
     scene: &Scene<'_, '_, '_>,

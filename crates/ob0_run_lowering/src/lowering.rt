@@ -3,9 +3,9 @@
 //!
 //! Code and meaning are separate. `specs/Codes` and `specs/Trees` define the code of a tree by
 //! functions that compute it (`expression_code`), and each function here returns this code. An
-//! induction over trees (`proofs/TreesMean`) shows that the code means the tree, by the laws of
-//! `ob0_run_cells`. No proof about a function mentions moments of a run (`Moment`) or cells. The
-//! types of places come from the table of declarations. Only the field `bound` of `SceneAgrees`
+//! induction over trees (`proofs/TreesMean`) shows by the laws of `ob0_run_cells` that this code is
+//! correct for the tree. No proof about a function mentions moments of a run (`Moment`) or cells.
+//! The types of places come from the table of declarations. Only the field `bound` of `SceneAgrees`
 //! relates these types to the types that the checker found. The table also has types of variables
 //! that aren't in scope, and nothing is claimed about these types.
 

@@ -87,8 +87,8 @@ pub(crate) fn reference(
     Ok(Place::Passed(Box::new(alloc, reference)?))
 }
 
-/// Returns the place `row` with `offset` added to its own offset. `row` is a place in an element
-/// whose array and index are variables.
+/// Returns the place `row` with `offset` added to its field `offset`. `row` is a place in an
+/// element whose array and index are variables.
 fn part_of_variable_element(
     alloc: Global,
     row: VariableElement,
@@ -103,8 +103,8 @@ fn part_of_variable_element(
     Ok(Place::VariableElement(Box::new(alloc, row)?))
 }
 
-/// Returns the place `element` with `offset` added to its own offset. `element` is a place in an
-/// element of an array.
+/// Returns the place `element` with `offset` added to its field `offset`. `element` is a place in
+/// an element of an array.
 fn part_of_element(alloc: Global, element: Element, offset: usize) -> Result<Place, AllocError>
     ensures { IfOk result (λ p. place_of p ≡ part_at (element_of element) offset) }
 {
@@ -222,8 +222,8 @@ fn computed_element(
     }
 }
 
-/// Returns the place of an array's element, if the array is a variable. The place is a
-/// `VariableElement` if the index is also a variable.
+/// Returns the place of an element of the array in a variable. The place is a `VariableElement` if
+/// the index is also a variable.
 fn variable_element(
     alloc: Global,
     array: Variable,

@@ -23,9 +23,8 @@ use ob0_tree::{Block, Procedure};
 use ob0_types_table::DeclarationTable;
 use std::alloc::{AllocError, Global};
 
-/// The state while a module is lowered. `visible` has the site of each declaration in scope
-/// (`Site`), which says where lowered code finds the declaration. `procedures` has the code of the
-/// procedures so far.
+/// The state while a module is lowered. `visible` has the location in lowered code of each
+/// declaration in scope (`Site`). `procedures` has the code of the procedures so far.
 #[derive(Drop)]
 pub(crate) struct Lowering {
     pub(crate) visible: VisibleSites,
@@ -89,9 +88,9 @@ impl Lowering {
         Ok(index)
     }
 
-    /// Lowers a procedure that is declared in an activation of this depth. The procedure's name is
-    /// bound before its body is lowered, so the body can call the procedure. Its parameters and
-    /// declarations are in scope up to its end.
+    /// Lowers a procedure that is declared in an activation with the depth `depth`. The procedure's
+    /// name is bound before its body is lowered, so the body can call the procedure. Its parameters
+    /// and declarations are in scope up to its end.
     #[cycle(blocks)]
     fn lower_procedure(
         &mut self,
@@ -120,8 +119,9 @@ impl Lowering {
         Ok(())
     }
 
-    /// Lowers a block: places its variables, lowers its procedures, and then its statements.
-    /// Returns the number of cells of the block's variables, and the code of its statements.
+    /// Lowers a block: gives its variables their cells, lowers its procedures, and then its
+    /// statements. Returns the number of cells of the block's variables, and the code of its
+    /// statements.
     #[cycle(blocks)]
     fn lower_block(
         &mut self,
@@ -153,7 +153,7 @@ impl Lowering {
 }
 
 /// Returns the lowered program of a module. `known` has to be the table of the module's
-/// declarations.
+/// declarations. Nothing is claimed about the program if the module isn't well-typed.
 ///
 /// # Errors
 ///

@@ -1,5 +1,5 @@
-//! Defines `Scene`, the data that is needed to lower a body, and `Site`, which says where lowered
-//! code finds a declaration.
+//! Defines `Scene`, the data that is needed to lower a body, and `Site`, the location of
+//! a declaration in lowered code.
 
 ghost use Rattle.std.specs.Prelude.{◌≡◌, IfOk};
 ghost use Rattle.ob0_run_machine.specs.View.{place_of};
@@ -13,8 +13,8 @@ use ob0_scope_table::Resolved;
 use ob0_types_table::Object;
 use std::alloc::{AllocError, Global};
 
-/// The site of a declaration, which says where lowered code finds the declaration. `depth` is the
-/// depth of an activation: 0 for the module, 1 for the procedures that the module declares.
+/// The location of a declaration in lowered code. `depth` is the depth of an activation: 0 for the
+/// module, 1 for the procedures that the module declares, 2 for the procedures inside these.
 #[derive(Clone, Copy, PartialEq, Eq)]
 pub enum Site {
     /// The declaration isn't in lowered code, for example because it is a constant or a type.
@@ -50,9 +50,9 @@ impl CallTarget {
     }
 }
 
-/// The data that is needed to lower a body: the module, the layouts of its types, the sites of
-/// declarations, and the depth of the body's activation. `sites` has the site of each declaration
-/// at the declaration's ordinal. The depth of the module is 0.
+/// The data that is needed to lower a body: the module, the layouts of its types, the locations of
+/// declarations in lowered code, and the depth of the body's activation. `sites` has the location
+/// of each declaration at the declaration's ordinal. The depth of the module is 0.
 #[derive(Clone, Copy)]
 pub struct Scene<'s, 'k, 't> {
     pub resolved: &'s Resolved<'t>,
@@ -78,8 +78,8 @@ impl<'s, 'k, 't> Scene<'s, 'k, 't> {
         self.types.declarations().object(ordinal)
     }
 
-    /// Returns the site of the declaration that the name at a token refers to, or `Nowhere` if the
-    /// name refers to no declaration with a site.
+    /// Returns the location of the declaration that the name at a token refers to. Returns
+    /// `Nowhere` if the name is unbound, or if its declaration has no location.
     fn site(&self, name: usize) -> Site
         ensures { place_seen_from self.now.depth result
             ≡ binding_place self.now (label_at_token self.now.resolved.now name) }
@@ -93,8 +93,8 @@ impl<'s, 'k, 't> Scene<'s, 'k, 't> {
         }
     }
 
-    /// Returns the target of a call of the procedure that the name at a token refers to, as seen
-    /// from the body. For any other name, the target is index 0, and 0 levels out.
+    /// Returns the target of a call of the procedure that the name at a token refers to. The call
+    /// is in the scene's body. For any other name, the target is index 0, and 0 levels out.
     pub fn target(&self, name: usize) -> CallTarget
         ensures { record { procedure = result.procedure; up = result.up }
             ≡ target_at self.now (label_at_token self.now.resolved.now name) }
@@ -111,8 +111,8 @@ impl<'s, 'k, 't> Scene<'s, 'k, 't> {
         }
     }
 
-    /// Returns the place of the variable that the name at a token refers to, as seen from the body.
-    /// For any other name, this is the module's first cell.
+    /// Returns the place by which code in the scene's body finds the variable that the name at a
+    /// token refers to. For any other name, this is the module's first cell.
     pub(crate) fn variable(&self, alloc: Global, name: usize) -> Result<Place, AllocError>
         ensures { IfOk result (λ p. place_of p
             ≡ slot_place (slot_at self.now (label_at_token self.now.resolved.now name))) }

@@ -1,9 +1,10 @@
 //! Lowers statements.
 //!
-//! The invariant of each loop is about the code so far, followed by any code that means the
-//! remaining parts. The invariant says that both together mean the whole (`SequenceMade`,
-//! `BranchesMade`, `ArgumentsMade`). At the end of the loop no part remains. An empty statement has
-//! no code, so there may be fewer instructions than statements.
+//! The invariant of each loop is about any code for the remaining parts: statements, branches or
+//! arguments. If this code is correct for these parts, the code so far followed by this code is
+//! correct for the whole (`SequenceMade`, `BranchesMade`, `ArgumentsMade`). At the end of the loop
+//! no part remains. An empty statement has no code, so there may be fewer instructions than
+//! statements.
 
 ghost use Rattle.std.specs.Prelude.{◌≡◌, ◌++◌, IfOk, OnOk, option_map, option_to_list};
 ghost use Rattle.ob0_tree.specs.View as view;

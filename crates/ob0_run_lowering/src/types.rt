@@ -62,7 +62,7 @@ fn cell_product(count: usize, cells: usize) -> Result<usize, AllocError>
 }
 
 /// Returns the number of cells of the array type at the index `place` of the table of types.
-/// Returns 0 if the table has no array type at this index.
+/// `layouts` has the layouts of this table. Returns 0 if the table has no array type at this index.
 fn array_cells(layouts: &[Layout], place: usize) -> usize
     ensures { (shapes : List values.Shape)
         → HaveLayouts shapes layouts.now
@@ -77,8 +77,8 @@ fn array_cells(layouts: &[Layout], place: usize) -> usize
     }
 }
 
-/// Returns the layout of the record type at the index `place` of the table of types. Returns None
-/// if the table has no record type at this index.
+/// Returns the layout of the record type at the index `place` of the table of types. `layouts` has
+/// the layouts of this table. Returns None if the table has no record type at this index.
 fn record_at(layouts: &[Layout], place: usize) -> Option<&RecordLayout>
     ensures { (shapes : List values.Shape)
         → HaveLayouts shapes layouts.now

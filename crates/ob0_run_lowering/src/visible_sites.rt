@@ -1,12 +1,11 @@
-//! Places the names of a block or a heading: gives each variable its cells, and each VAR parameter
-//! its index. Keeps the site of each declaration in scope (`Site`), which says where lowered code
-//! finds the declaration.
+//! Gives each variable of a block or a heading its cells, and each VAR parameter its index. Stores
+//! the location in lowered code of each declaration in scope (`Site`).
 //!
-//! Each declaration of a module has an ordinal, which is its index in the table of sites. A
-//! declaration comes into scope when its site is stored at its ordinal. This is a binding. It hides
-//! the site that the ordinal had before, which is recorded (`HiddenSite`), and restored at the end
-//! of the procedure. So one table is enough, and a procedure takes time only for the names that it
-//! declares.
+//! Each declaration of a module has an ordinal, which is its index in the table of locations. A
+//! declaration comes into scope when its location is stored at its ordinal. This is a binding. It
+//! hides the location that the ordinal had before, which is recorded (`HiddenSite`), and
+//! restored at the end of the procedure. So one table is enough, and a procedure takes time only
+//! for the names that it declares.
 
 ghost use Rattle.std.specs.Prelude.{◌≡◌, ◌≤◌, ◌+◌, ◌^◌, ℕ, suc, IfOk, OnOk, MatchOption, length, slice_set};
 ghost use Rattle.ob0_run_lowering.specs.Scenes.{site_at};
@@ -17,24 +16,25 @@ use crate::contexts::LoweringContext;
 use ob0_tree::{Names as NameList, ParameterSection, VariableDeclaration};
 use std::alloc::{AllocError, Global};
 
-/// A site that a binding has hidden: the ordinal of the declaration that was bound, and the site of
-/// this ordinal before the binding.
+/// A location that a binding has hidden: the ordinal of the declaration that was bound, and the
+/// location of this ordinal before the binding.
 #[derive(Drop, Clone, Copy)]
 pub(crate) struct HiddenSite {
     pub(crate) ordinal: usize,
     pub(crate) earlier_site: Site,
 }
 
-/// The sites of the declarations in scope. `sites` has the site of each declaration, at the
-/// declaration's ordinal. `hidden` lists the sites that bindings have hidden, the oldest first.
+/// The locations of the declarations in scope. `sites` has the location of each declaration, at the
+/// declaration's ordinal. `hidden` lists the locations that bindings have hidden, the oldest first.
 #[derive(Drop)]
 pub(crate) struct VisibleSites {
     pub(crate) sites: Vec<Site>,
     pub(crate) hidden: Vec<HiddenSite>,
 }
 
-/// The state of an activation while its names are placed: its depth, the number of its cells so
-/// far, and the number of its VAR parameters so far. The depth of the module is 0.
+/// The state of an activation while its variables and parameters get their locations: its depth,
+/// the number of its cells so far, and the number of its VAR parameters so far. The depth of the
+/// module is 0.
 #[derive(Clone, Copy)]
 pub(crate) struct Frame {
     pub(crate) depth: usize,
@@ -42,7 +42,7 @@ pub(crate) struct Frame {
     pub(crate) var_parameter_count: usize,
 }
 
-/// Returns the site of the next variable of an activation, which comes after the cells so far.
+/// Returns the location of the next variable of an activation, which comes after the cells so far.
 fn next_site(frame: Frame) -> Site
     ensures { IsNextSite frame result }
 {
@@ -92,8 +92,8 @@ impl VisibleSites {
         }
     }
 
-    /// Extends the list of sites with entries `Nowhere`, until it has an entry for an ordinal. Does
-    /// nothing if it has one already.
+    /// Extends the table of locations with entries `Nowhere`, until it has an entry for an ordinal.
+    /// Does nothing if it has one already.
     fn make_room_for(&mut self, ordinal: usize) -> Result<(), AllocError>
         ensures same { OnOk result
             ((k : ℕ) → site_at self.new.sites.items k ≡ site_at self.old.sites.items k) }
@@ -107,8 +107,8 @@ impl VisibleSites {
         Ok(())
     }
 
-    /// Sets the site of an ordinal. Does nothing if the list of sites has no entry for this
-    /// ordinal.
+    /// Sets the location of an ordinal. Does nothing if the table of locations has no entry for
+    /// this ordinal.
     fn set_site(&mut self, ordinal: usize, site: Site)
         ensures sites { self.new.sites.items ≡ slice_set self.old.sites.items ordinal site }
         ensures hidden { self.new.hidden.items ≡ self.old.hidden.items }
@@ -118,8 +118,8 @@ impl VisibleSites {
         }
     }
 
-    /// Returns the site of an ordinal, or `Nowhere` if the list of sites has no entry for this
-    /// ordinal.
+    /// Returns the location of an ordinal, or `Nowhere` if the table of locations has no entry for
+    /// this ordinal.
     fn site_of_ordinal(&self, ordinal: usize) -> Site
         ensures { result ≡ site_at self.now.sites.items ordinal }
     {
@@ -129,8 +129,8 @@ impl VisibleSites {
         }
     }
 
-    /// Brings the declaration with an ordinal into scope: sets its site, and records the site that
-    /// this ordinal had before.
+    /// Brings the declaration with an ordinal into scope: sets its location, and records the
+    /// location that this ordinal had before.
     fn bind_ordinal(&mut self, ordinal: usize, site: Site) -> Result<(), AllocError>
         ensures sites { OnOk result ((k : ℕ)
             → site_at self.new.sites.items k
@@ -147,8 +147,8 @@ impl VisibleSites {
         Ok(())
     }
 
-    /// Brings the declaration with an ordinal into scope, as `bind_ordinal` does. Does nothing for
-    /// None.
+    /// Brings the declaration with an ordinal into scope at the location `site`, as `bind_ordinal`
+    /// does. Does nothing if the ordinal is None.
     pub(crate) fn bind(&mut self, ordinal: Option<usize>, site: Site) -> Result<(), AllocError>
         ensures sites { OnOk result ((k : ℕ)
             → site_at self.new.sites.items k
@@ -161,16 +161,16 @@ impl VisibleSites {
         }
     }
 
-    /// Returns the number of hidden sites. Given this number, `restore_hidden` restores all the
-    /// sites that were hidden after this call.
+    /// Returns the number of hidden locations. Given this number, `restore_hidden` restores all
+    /// locations that are hidden after this call.
     pub(crate) fn hidden_count(&self) -> usize
         ensures { result ≡ length self.now.hidden.items }
     {
         self.hidden.len()
     }
 
-    /// Restores all hidden sites except the first `hidden_count` ones, and removes them from the
-    /// list of hidden sites. The site that was hidden last is restored first.
+    /// Restores all hidden locations except the first `hidden_count` ones, and removes them from
+    /// the list of hidden locations. The location that was hidden last is restored first.
     pub(crate) fn restore_hidden(&mut self, hidden_count: usize)
         ensures { (w : VisibleSites)
             → HidesMoreSites w self.old
@@ -185,10 +185,10 @@ impl VisibleSites {
         }
     }
 
-    /// Places the name that is declared at the token `name` in an activation. A VAR parameter
-    /// (`by_place`) gets the next index among the VAR parameters, a variable or a value parameter
-    /// gets cells. Returns the frame with this name added. Fails if an allocation fails, or if a
-    /// count of the frame would have more than 64 bits.
+    /// Gives the name that is declared at the token `name` its location in an activation. A VAR
+    /// parameter (`by_place`) gets the next index among the VAR parameters, a variable or a value
+    /// parameter gets cells. Returns the frame with this name added. Fails if an allocation fails,
+    /// or if a count of the frame would have more than 64 bits.
     fn place_declared_name(
         &mut self,
         context: &LoweringContext<'_, '_, '_>,
@@ -223,8 +223,8 @@ impl VisibleSites {
         Ok(next)
     }
 
-    /// Places the names of one declaration in an activation, one after the other. Returns the frame
-    /// with these names added.
+    /// Gives the names of one declaration their locations in an activation, one after the other.
+    /// Returns the frame with these names added.
     fn place_names(
         &mut self,
         context: &LoweringContext<'_, '_, '_>,
@@ -260,8 +260,8 @@ impl VisibleSites {
         Ok(now)
     }
 
-    /// Places the variables of a block in its activation, one after the other. Returns the frame
-    /// with these variables added.
+    /// Gives the variables of a block their cells in its activation, one after the other. Returns
+    /// the frame with these variables added.
     pub(crate) fn place_block_variables(
         &mut self,
         context: &LoweringContext<'_, '_, '_>,
@@ -295,8 +295,8 @@ impl VisibleSites {
         Ok(now)
     }
 
-    /// Places the parameters of a procedure in its activation, one after the other. Returns the
-    /// frame with these parameters added.
+    /// Gives the parameters of a procedure their locations in its activation, one after the other.
+    /// Returns the frame with these parameters added.
     pub(crate) fn place_formals(
         &mut self,
         context: &LoweringContext<'_, '_, '_>,

@@ -1,6 +1,6 @@
 -- Converts the results that the machine's functions return (`Result`, `FlatOutcome`, `Stop`) to the
 -- outcomes and ends of a run by which the meaning of code is defined (`StepResult`, `Halt`).
--- Rule: none; for contracts of the machine's steps.
+-- Rule: none; used in contracts of the machine's steps.
 use Rattle.std.specs.Prelude.{ℤ, List, Option, Some, None, Ok, Err, Result}
 use Rattle.ob0_run_machine.specs.declared.ending.EvaluationFault.{EvaluationFault}
 use Rattle.ob0_run_machine.specs.declared.ending.EvaluationFault.TheVariants as ending
@@ -31,13 +31,14 @@ end_of_stop stop.CallBound = Some evaluation.CallBound
 end_of_stop stop.TurnBound = Some evaluation.TurnBound
 end_of_stop stop.Memory = None
 
--- converts the result of an evaluation, a `Result`, to an outcome: a value or an end of the run
+-- converts the result of an evaluation, a `Result`, to a value or the end of the run that the fault
+-- causes
 abbrev pub outcome_of_result : {A : Type 0} → Result A EvaluationFault → StepResult A
 outcome_of_result (Ok a) = gives a
 outcome_of_result (Err e) = ends (end_of e)
 
--- converts the result of an evaluation, a `FlatOutcome`, to an outcome: a value or an end of the
--- run
+-- converts the result of an evaluation, a `FlatOutcome`, to a value or the end of the run that the
+-- fault causes
 abbrev pub outcome_of : {A : Type 0} → FlatOutcome A → StepResult A
 outcome_of (flat_outcome.Value a) = gives a
 outcome_of flat_outcome.Overflow = ends evaluation.Overflow

@@ -12,7 +12,7 @@ infixl 20 ◌>>=◌
 pub data Halt : Type 0 where
   Done Overflow Divisor Index InputEnd CallBound TurnBound : Halt
 
--- The outcome of an evaluation: a value, or an end of the run.
+-- The outcome of an evaluation: a value, or the end of the run that the evaluation causes.
 pub data StepResult (A : Type 0) : Type 0 where
   gives : A → StepResult A
   ends : Halt → StepResult A

@@ -19,22 +19,23 @@ pub record MachineState : Type 0 where
   pub input : List ℤ
   pub output : List OutputItem
 
--- The progress of a run. The run continues in a state, or has ended with an end and an output, or
--- has no room. It has no room if the cells of an activation would need addresses of more than 64
--- bits.
+-- The progress of a run. The run continues in a state (`running`), or it has ended, with an end and
+-- an output (`stopped`). If the number of cells would have more than 64 bits, the progress is
+-- `no_room`.
 pub data MachineProgress : Type 0 where
   running : MachineState → MachineProgress
   stopped : Halt → List OutputItem → MachineProgress
   no_room : MachineProgress
 
 -- Continues a run by applying `next` to the value of an evaluation. If the evaluation ends the run,
--- the run ends, and `next` is skipped.
+-- `next` is skipped, and the run ends with the output of the state `s`.
 abbrev pub use_result : {A : Type 0} → MachineState → StepResult A → (A → MachineProgress)
     → MachineProgress
 use_result s (gives a) next = next a
 use_result s (ends e) next = stopped e s.output
 
--- Applies the step `next` to the state of a run. A run that has ended or has no room is unchanged.
+-- Applies the step `next` to the state of a run. Changes nothing if the run has ended or is
+-- `no_room`.
 abbrev pub continue_with : MachineProgress → (MachineState → MachineProgress) → MachineProgress
 continue_with (running s) next = next s
 continue_with (stopped e out) next = stopped e out
@@ -90,7 +91,7 @@ pub record CallArguments : Type 0 where
   pub cells : List ℤ
   pub addresses : List ℕ
 
--- returns the passed arguments with more cells at the end
+-- returns the passed arguments `p` with the cells `more` added at the end of their cells
 abbrev pub pass_cells : CallArguments → List ℤ → CallArguments
 pass_cells p more = record p { cells = p.cells ++ more }
 
@@ -143,9 +144,9 @@ execute_repeat (suc t) condition turn s =
 abbrev pub CallEffect : Type 0
 CallEffect = ℕ → Levels → MachineState → MachineProgress
 
--- returns the activations that a called procedure can see: its own, with this base and the
--- addresses that were passed, then the activations `ls` that the caller can see, without the first
--- `up`
+-- Returns the activations that a called procedure can see. The procedure's activation is first,
+-- with this base and the addresses in `p`. The caller's activations `ls` follow, without the first
+-- `up`.
 abbrev pub levels_in_call : Levels → (base up : ℕ) → CallArguments → Levels
 levels_in_call ls base up p = record { base = base; addresses = p.addresses } ∷ drop up ls
 
@@ -195,23 +196,23 @@ unfoldable mutual
       choose_by_truth s (truth ls s.cells c) (execute_sequence enter t ls body)
       (execute_branches enter t ls rest otherwise)
 
--- Drops all cells of a run's state except the first `n`. A run that has ended or has no room is
--- unchanged.
+-- Drops all cells of a run's state except the first `n`. Changes nothing if the run has ended or is
+-- `no_room`.
 abbrev pub drop_variables : ℕ → MachineProgress → MachineProgress
 drop_variables n (running s) = running record s { cells = take n s.cells }
 drop_variables n (stopped e out) = stopped e out
 drop_variables n no_room = no_room
 
--- Adds `n` cells with the value 0 at the end, and continues the run with `next`. If the number of
--- cells then has more than 64 bits, the run has no room.
+-- Adds `n` cells with the value 0 after all other cells, and continues the run with `next`. Returns
+-- `no_room` if the number of cells would have more than 64 bits.
 abbrev pub run_with_cells : ℕ → (MachineState → MachineProgress) → MachineState → MachineProgress
 run_with_cells n next s =
     if nat_lt (length s.cells + n) (2 ^ 64)
     then next record s { cells = s.cells ++ zeros n }
     else no_room
 
--- Returns the run of a procedure's body. Before the body runs, the cells of the procedure's own
--- variables are added at the end. If there is no procedure (None), the state is unchanged.
+-- Returns the run of a procedure's body, after the cells of the variables that the procedure
+-- declares were added. If there is no procedure (None), the state is unchanged.
 unfoldable pub activate : CallEffect → ℕ → Levels → Option Routine → MachineState → MachineProgress
 unfolding execute_sequence
 activate enter t ls None s = running s
@@ -227,13 +228,13 @@ call procedures (suc c) t k ls s =
     drop_variables (innermost_level ls).base
     (activate (call procedures c t) t ls (slice_get procedures k) s)
 
--- The result of a whole run: its output and its end.
+-- The result of a whole run: its output, and how it ended.
 pub record MachineRun : Type 0 where
   pub output : List OutputItem
   pub ending : Halt
 
 -- Returns the output and the end of a run. The end is Done if the run reached the end of the
--- program. Returns None if the run had no room.
+-- program. Returns None for `no_room`.
 abbrev pub run_result : MachineProgress → Option MachineRun
 run_result (running s) = Some (record { output = s.output; ending = Done })
 run_result (stopped e out) = Some (record { output = out; ending = e })
@@ -244,7 +245,8 @@ abbrev pub module_levels : Levels
 module_levels = record { base = 0; addresses = [] } ∷ []
 
 -- Returns the run of a program on an input, with the bounds `c` on open calls and `t` on the
--- iterations of each execution of a loop. Returns None if the run has no room for its cells.
+-- iterations of each execution of a loop. Returns None if the number of cells would have more than
+-- 64 bits.
 unfoldable pub run : LoweredCode → List ℤ → ℕ → ℕ → Option MachineRun
 unfolding execute_sequence call
 run program input c t =

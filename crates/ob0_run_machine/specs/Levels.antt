@@ -1,6 +1,6 @@
 -- Converts the machine's activations (`Level`), and the addresses that it passes for VAR parameters
--- (`VarAddresses`), to the lists that the definitions use.
--- Rule: none; for contracts of the machine.
+-- (`VarAddresses`), to the lists by which runs are defined.
+-- Rule: none; used in contracts of the machine.
 use Rattle.std.specs.Prelude.{ℕ, List, Option, Some, None, [], ◌∷◌}
 use denote.Ref.{Bor}
 use Rattle.ob0_run_machine.specs.declared.addresses.VarAddresses.{VarAddresses}
@@ -9,7 +9,8 @@ use Rattle.ob0_run_machine.specs.declared.level.Level as code
 use Rattle.ob0_run_machine.specs.Evaluation.{Levels}
 
 abbrev mutual
-  -- returns the activations that a `Level` can see: itself, then the activations around it
+  -- returns the activations that code in a `Level` can see: the activation itself, then the
+  -- enclosing ones, the nearest first
   pub levels_of : code.Level → Levels
   levels_of (code.Level' base addresses enclosing) =
       record { base = base; addresses = addresses.now } ∷ enclosing_levels enclosing

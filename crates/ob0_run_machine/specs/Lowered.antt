@@ -8,15 +8,15 @@
 -- does nothing. An activation that doesn't exist has base 0 and no addresses. Addresses wrap at 64
 -- bits. Arguments are added one by one at the end of the cells, and each argument is evaluated over
 -- the cells so far (`pass_all`).
--- Rule: none; for contracts of the machine: lowered code.
+-- Rule: none; used in contracts of the machine.
 use Rattle.std.specs.Prelude.{ℕ, Bool, List, ℤ}
 
--- An operator on two numbers.
+-- An arithmetic operator on two numbers.
 pub data Operator : Type 0 where
   sum difference product quotient remainder : Operator
 
 mutual
-  -- The place of a variable or of a part of one.
+  -- Code that finds a variable, or an element or a field in a variable.
   pub data Place : Type 0 where
     -- a place at an offset in the cells of the module
     in_module : (offset : ℕ) → Place
@@ -87,13 +87,14 @@ mutual
     no_branch : Branches
     branch : Truth → Instructions → Branches → Branches
 
--- A procedure. Its own variables have `cells` cells, in addition to the cells of its parameters.
+-- Code of a procedure. `cells` is the number of cells of the variables that the procedure declares.
+-- The cells of its parameters aren't counted.
 pub record Routine : Type 0 where
   pub cells : ℕ
   pub body : Instructions
 
--- A module. Its own variables have `cells` cells. Calls refer to procedures by their indices in
--- `procedures`.
+-- Code of a module. `cells` is the number of cells of the variables that the module declares
+-- outside its procedures. Calls refer to procedures by their indices in `procedures`.
 pub record LoweredCode : Type 0 where
   pub cells : ℕ
   pub body : Instructions

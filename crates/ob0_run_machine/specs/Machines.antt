@@ -2,11 +2,11 @@
 -- `Execution` defines. The state has only cells, input and output, since the functions get the
 -- bound on iterations as a parameter. The contract of a step that allocates nothing is an equation
 -- (`progress_after_step`). The contract of any other step has a case for each result
--- (`IsProgressAfterStep`, `IsOutcomeOfPassing`). `StepHasEffect` is a record, so lemmas about it can have implicit
--- arguments. The same holds for the invariants of loops in `proofs/Executing` (`InSequence`,
--- `InBranches`, `InWhile`, `InRepeat`). There is a lemma for each way to continue a loop or to
--- leave it.
--- Rule: none; for contracts of the machine.
+-- (`IsProgressAfterStep`, `IsOutcomeOfPassing`). `StepHasEffect` is a record, so lemmas about it
+-- can have implicit arguments. The invariants of loops in `proofs/Executing` (`InSequence`,
+-- `InBranches`, `InWhile`, `InRepeat`) are records for the same reason. There is a lemma for each
+-- way to continue a loop or to leave it.
+-- Rule: none; used in contracts of the machine.
 use Rattle.std.specs.Prelude.{◌≡◌, ℕ, ℤ, List, map, Ok, Err, None, Option, Some, Result, true}
 use denote.MutBor.{MutBor}
 use denote.Ref.{Bor}
@@ -47,8 +47,9 @@ abbrev pub progress_after_step : Result (Unit {0}) EvaluationFault → Machine �
 progress_after_step (Ok done) m = running (state_of m)
 progress_after_step (Err e) m = stopped (end_of e) (output_items m.output.items)
 
--- States that a run has ended with a given end and the machine's output. Given None instead of an
--- end, states that an allocation has failed, and claims nothing about the progress.
+-- States that the progress `p` is a run that has ended with the given end and the output of the
+-- machine `m`. For None, states instead that an allocation has failed, and claims nothing about
+-- `p`.
 abbrev pub StopsRun : Option Halt → Machine → MachineProgress → Type 0
 StopsRun (Some e) m p = p ≡ stopped e (output_items m.output.items)
 StopsRun None m p = has_failed m.memory ≡ true
@@ -94,7 +95,8 @@ elsifs_effect t ls bs otherwise enters s =
     execute_branches enters t ls bs (execute_sequence enters t ls otherwise) s
 
 -- States that a step from the machine `m` to the machine `m'` with the result `r` has the effect
--- `doing`. This has to hold for each effect of calls that agrees with the postcondition `post`.
+-- `doing`. This has to hold for each effect of calls that agrees with `post`, the postcondition of
+-- the closure that performs calls (`PerformsCalls`).
 pub record StepHasEffect (post : CallPostcondition) (r : Result (Unit {0}) Stop) (m m' : Machine) (doing : CodeEffect)
     : Type 0 where
   pub has_effect : (enters : CallEffect)
@@ -107,14 +109,14 @@ abbrev pub passed_arguments : List ℤ → List ℕ → CallArguments
 passed_arguments cells addresses = record { cells = cells; addresses = addresses }
 
 -- Returns the effect of entering the procedure with the index `k`. The procedure is declared `up`
--- levels out from the caller's activation, which is the first of `ls`. The procedure's activation
--- has this base and these addresses of VAR parameters.
+-- levels out from the caller's activation, which is the first of `ls`. `base` and `addresses` are
+-- the address of the first cell and the VAR parameters' addresses of the procedure's activation.
 abbrev pub entry_effect : ℕ → ℕ → Levels → ℕ → List ℕ → CodeEffect
 entry_effect k up ls base addresses enters s =
     enters k (levels_in_call ls base up (passed_arguments s.cells addresses)) s
 
--- States that the evaluation of arguments ends the run with a given end. Given None instead of an
--- end, states that an allocation has failed, and claims nothing about the evaluation.
+-- States that the outcome `o` of evaluating arguments is the given end of the run. For None, states
+-- instead that an allocation has failed, and claims nothing about `o`.
 abbrev pub StopsPassing : Option Halt → Memory → StepResult CallArguments → Type 0
 StopsPassing (Some e) memory o = o ≡ ends e
 StopsPassing None memory o = has_failed memory ≡ true
@@ -125,8 +127,8 @@ abbrev pub IsOutcomeOfPassing : Result (Unit {0}) Stop → Memory → List ℤ �
 IsOutcomeOfPassing (Ok done) memory cells addresses o = o ≡ gives (passed_arguments cells addresses)
 IsOutcomeOfPassing (Err s) memory cells addresses o = StopsPassing (end_of_stop s) memory o
 
--- Returns the effect of a procedure's activation: the cells of the procedure's own variables are
--- added, and then its body runs. If there is no procedure (None), nothing happens.
+-- Returns the effect of a procedure's activation: the cells of the variables that the procedure
+-- declares are added, and then its body runs. If there is no procedure (None), nothing happens.
 abbrev pub activation_effect : Option Routine → ℕ → Levels → CodeEffect
 activation_effect o t ls enters s = activate enters t ls o s
 

@@ -1,6 +1,6 @@
 -- Converts the values that the machine returns at the end of a run (`End`, `Outcome`) to the values
 -- by which runs are defined (`Halt`, `MachineRun`).
--- Rule: none; for contracts: what values of the code mean.
+-- Rule: none; used in contracts to give values of the code a meaning.
 use Rattle.std.specs.Prelude.{◌≡◌, ℕ, IsErr, Ok, Err, None, Option, Result, Some}
 use Rattle.std.specs.declared.alloc.AllocError.{AllocError}
 use Rattle.ob0_run_machine.specs.declared.running.End.{End}
@@ -23,15 +23,15 @@ meaning_of_end code.InputEnd = InputEnd
 meaning_of_end code.CallBound = CallBound
 meaning_of_end code.TurnBound = TurnBound
 
--- States that a result is a given end of the run. Given None instead of an end, states that the
--- result is an error.
+-- States that the result `r` is Ok with the given end of the run. For None, states that `r` is an
+-- error.
 abbrev pub ReturnsEnd : Option Halt → Result End AllocError → Type 0
 ReturnsEnd (Some e) r = (x : End) × (r ≡ Ok x) × (meaning_of_end x ≡ e)
 ReturnsEnd None r = IsErr r
 
--- States which end of the run is returned for the result of a program's statements. This is Done if
--- the statements returned normally, an error if an allocation failed, otherwise the end for their
--- `Stop`.
+-- States that the second result follows from the first one, which is the result of a program's
+-- statements. It is Done if the statements returned normally, an error if an allocation failed,
+-- otherwise the end for their `Stop`.
 abbrev pub IsEndOf : Result (Unit {0}) Stop → Result End AllocError → Type 0
 IsEndOf (Ok done) r = r ≡ Ok code.Done
 IsEndOf (Err s) r = ReturnsEnd (end_of_stop s) r
@@ -41,7 +41,7 @@ IsEndOf (Err s) r = ReturnsEnd (end_of_stop s) r
 abbrev pub run_of : Outcome → MachineRun
 run_of o = record { output = output_items o.output.items; ending = meaning_of_end o.end }
 
--- returns the run of the statements of a program's body from the state `s`, with the bounds `c` on
--- open calls and `t` on iterations
+-- returns the progress of a run after a program's body, starting in the state `s`, with the bounds
+-- `c` on open calls and `t` on the iterations of each execution of a loop
 abbrev pub body_run : LoweredCode → ℕ → ℕ → MachineState → MachineProgress
 body_run program c t s = execute_sequence (call program.procedures c t) t module_levels program.body s

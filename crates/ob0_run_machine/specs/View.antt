@@ -1,7 +1,7 @@
 -- Converts values of the machine's types (`src/code.rt`) to lowered code (`Lowered`), which defines
 -- their meaning. A row (`Row_of-Link`, ..) is a list inside a recursive type, in the form over which
 -- definitions can recurse. So some conversions have two forms, one for a row and one for a list.
--- Rule: none; for contracts: what values of the code mean.
+-- Rule: none; used in contracts to give values of the code a meaning.
 use Rattle.std.specs.Prelude.{List, [], ◌∷◌, ℤ, map}
 use Rattle.ob0_run_machine.specs.declared.code.Place as place
 use Rattle.ob0_run_machine.specs.declared.code.Place.{Place}

@@ -18,7 +18,8 @@ pub(crate) enum VarAddresses {
     More(Vec<usize>),
 }
 
-/// Returns a `VarAddresses` with three addresses, which are in a list.
+/// Returns the addresses `a`, `b` and `c`, in this order, in a list (`VarAddresses::More`). Fails
+/// only if an allocation fails.
 fn three_addresses(
     memory: &mut Memory,
     a: usize,
@@ -36,8 +37,8 @@ fn three_addresses(
 }
 
 impl VarAddresses {
-    /// Adds `address` after the addresses that were added before. Fails only if an allocation
-    /// fails. No allocation is needed for the first two addresses.
+    /// Adds `address` at the end of the addresses. Allocates no memory for the first two addresses.
+    /// Fails only if an allocation fails.
     #[inline(always)]
     pub(crate) fn push(&mut self, memory: &mut Memory, address: usize) -> Result<(), AllocError>
         ensures items { OnOk result

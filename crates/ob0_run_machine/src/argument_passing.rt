@@ -1,5 +1,5 @@
-//! Passes the arguments of a call. A value is added as cells at the end of all cells. For a VAR
-//! parameter, the address of the argument's place is passed.
+//! Evaluates and passes the arguments of a call. A value is stored in new cells, after all other
+//! cells. For a VAR parameter, the address of the argument is added to a list of addresses.
 
 ghost use Rattle.std.specs.Prelude.{map};
 ghost use Rattle.ob0_run_machine.specs.Execution.{pass_argument, pass_all};
@@ -15,8 +15,9 @@ use crate::level::Level;
 use crate::memory::Memory;
 use crate::operators::as_cell;
 
-/// Evaluates an argument and passes it: adds its value at the end of `cells`, or the address of its
-/// place at the end of `addresses`. Fails if the evaluation has a fault or an allocation fails.
+/// Evaluates an argument and passes it. Adds the address of an argument for a VAR parameter at the
+/// end of `addresses`, and any other argument's value at the end of `cells`. Fails if the
+/// evaluation has a fault or an allocation fails.
 #[inline(always)]
 fn pass_argument(
     memory: &mut Memory,
@@ -50,8 +51,8 @@ fn pass_argument(
     Ok(())
 }
 
-/// Evaluates and passes arguments, one after another, from left to right. Stops at the first
-/// argument that fails.
+/// Evaluates the arguments from left to right, and adds each of them to `cells` or to `addresses`,
+/// as `pass_argument` does. Stops at the first argument that fails.
 #[inline(always)]
 pub(crate) fn pass_all(
     memory: &mut Memory,

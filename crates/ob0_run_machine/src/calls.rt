@@ -1,4 +1,5 @@
-//! Calls procedures. The cells of a call are dropped when the call returns.
+//! Calls procedures. When a call returns, the cells of the procedure's parameters and variables are
+//! dropped.
 
 ghost use Rattle.std.specs.Prelude.{◌≡◌, map, option_map, slice_get, take};
 ghost use Rattle.ob0_run_machine.specs.Evaluation.{innermost_level};
@@ -12,7 +13,8 @@ use crate::level::Level;
 use crate::machine::Machine;
 use crate::statements::run_sequence_inline;
 
-/// Returns the procedure at an index, or None if there is no such procedure.
+/// Returns the procedure at the index `procedure` of the list, or None if the list has no such
+/// index.
 #[inline(always)]
 fn procedure_at<'p>(procedures: &'p [Routine], procedure: usize) -> Option<&'p Routine>
     ensures { option_map (λ p. procedure_of p.now) result
@@ -24,8 +26,9 @@ fn procedure_at<'p>(procedures: &'p [Routine], procedure: usize) -> Option<&'p R
     Some(&procedures[procedure])
 }
 
-/// Adds the cells of a procedure's own variables at the end of all cells, and then runs the
-/// procedure's body. Does nothing if there is no procedure (None).
+/// Runs a procedure whose arguments have been passed: adds the cells of the variables that it
+/// declares, with the value 0, and then runs its body. Does nothing if `procedure` is None. The
+/// closure `enter` performs the calls in the body.
 fn activate<F: Fn(&mut Machine<'_>, usize, &Level<'_>) -> Result<(), Stop>>(
     procedure: Option<&Routine>,
     level: &Level<'_>,
@@ -49,7 +52,8 @@ fn activate<F: Fn(&mut Machine<'_>, usize, &Level<'_>) -> Result<(), Stop>>(
     }
 }
 
-/// Drops the cells of an activation: all cells from its base to the end.
+/// Drops the cells of the activation `level`: the cell at the address `level.base` and all cells
+/// after it.
 fn drop_variables(machine: &mut Machine<'_>, level: &Level<'_>)
     ensures { state_of machine.new
         ≡ record (state_of machine.old)
@@ -58,9 +62,9 @@ fn drop_variables(machine: &mut Machine<'_>, level: &Level<'_>)
     machine.cells.truncate(level.base);
 }
 
-/// Calls the procedure at an index after its arguments have been passed. Drops the cells of the
-/// call when the call returns. `calls` is the number of calls that may still be opened, including
-/// this call. If `calls` is 0, the call ends the run with CallBound.
+/// Runs the procedure at the index `procedure`, whose arguments have been passed. Drops the cells
+/// of its activation, `level`, when it returns. `calls` is the number of calls that may still be
+/// opened, including this call. If `calls` is 0, the call ends the run with CallBound.
 #[inline(never)]
 pub(crate) fn call(
     program: &LoweredCode,

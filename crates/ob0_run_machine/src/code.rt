@@ -30,7 +30,7 @@
 //! chain needs no more stack. A chain begins with a `FirstOperand`, which can't be an operation. So
 //! the first operand of a chain is never a chain.
 
-/// An operator on two numbers.
+/// An arithmetic operator on two numbers.
 #[derive(Clone, Copy, PartialEq, Eq, Debug)]
 pub enum Operator {
     Sum,
@@ -40,10 +40,10 @@ pub enum Operator {
     Remainder,
 }
 
-/// A variable, or a part of one, that is found without evaluating an index. `Module` is at an
-/// offset in the cells of the module, `InOwnActivation` at an offset in the cells of the running
-/// activation. `ByReference` is at an offset from the address that was passed for a VAR parameter
-/// of the running activation. An offset is a number of cells.
+/// The place of a variable or of its part, if no index has to be evaluated to find it. `Module` is
+/// at an offset in the cells of the module, `InOwnActivation` at an offset in the cells of the
+/// running activation. `ByReference` is at an offset from the address that was passed for a VAR
+/// parameter of the running activation. An offset is a number of cells.
 #[derive(Clone, Copy, PartialEq, Eq, Debug)]
 pub enum Variable {
     Module(usize),
@@ -54,12 +54,14 @@ pub enum Variable {
     ByReference { index: u32, offset: u32 },
 }
 
-/// The place of a variable or of a part of one.
+/// Code that finds a variable, or an element or a field in a variable. Its evaluation results in an
+/// address, or in a fault if the evaluation of an index fails or the index is outside its array.
 #[cycle(numbers)]
 #[derive(Drop)]
 pub enum Place {
     Variable(Variable),
-    /// A place at an offset in the cells of the activation that is `up` levels out.
+    /// A place at an offset in the cells of an enclosing activation, which is `up` levels out from
+    /// the running activation.
     Outside { up: usize, offset: usize },
     Passed(Box<Reference>),
     /// A place in an element whose array and index are variables. It is a special form of `Element`
@@ -101,7 +103,7 @@ pub struct Element {
     pub offset: usize,
 }
 
-/// An expression whose value is a number of 32 bits.
+/// Code of an expression of type INTEGER. Its value is a number of 32 bits.
 #[cycle(numbers)]
 #[derive(Drop)]
 pub enum Number {
@@ -110,9 +112,10 @@ pub enum Number {
     /// The number in the cell at a place that isn't just a variable.
     Cell(Place),
     Negative(Box<Number>),
-    /// One operation.
+    /// A single operation on two numbers.
     Operation(Box<Operation>),
-    /// Two operations or more in a row, from left to right.
+    /// Two or more operations from left to right. Each is applied to the result of the operation
+    /// before it.
     Chain(Box<Chain>),
 }
 
@@ -176,27 +179,27 @@ pub enum Comparator {
     GreaterEqual,
 }
 
-/// The two sides of a relation.
+/// The two numbers that a relation compares.
 #[derive(Drop)]
 pub struct Operands {
     pub left: Number,
     pub right: Number,
 }
 
-/// An expression whose value is a truth value.
+/// Code of an expression of type BOOLEAN. Its value is a truth value.
 #[cycle(truths)]
 #[derive(Drop)]
 pub enum Truth {
     Constant(bool),
     Flag(Place),
-    /// The negation of a flag, in one step.
+    /// The negation of a flag (`~flag`), which is evaluated in one step.
     Unset(Place),
     Negation(Box<Truth>),
     Both(Box<TruthPair>),
     Either(Box<TruthPair>),
-    /// Many truths joined by `&`.
+    /// A conjunction (`&`) of several truths, which a loop evaluates.
     All(Box<TruthList>),
-    /// Many truths joined by `OR`.
+    /// A disjunction (OR) of several truths, which a loop evaluates.
     Any(Box<TruthList>),
     Related(Comparator, Box<Operands>),
     /// The relation that a variable is less than a literal. This case and the next three are
@@ -205,7 +208,7 @@ pub enum Truth {
     /// A variable compared with a literal.
     ComparedToLiteral(Comparator, Variable, i32),
     ComparedToVariable(Comparator, Variable, Variable),
-    /// An element compared with a variable.
+    /// A comparison of an array's element with a variable. The array and the index are variables.
     ElementToVariable(Comparator, Box<VariableElement>, Variable),
     Same(Box<TruthPair>),
     Different(Box<TruthPair>),
@@ -237,7 +240,7 @@ pub enum Argument {
     Block(Place, usize),
 }
 
-/// A statement. An empty statement has no code.
+/// Code of a statement. An empty statement has no code.
 #[cycle(statements)]
 #[derive(Drop)]
 pub enum Instruction {
@@ -251,7 +254,7 @@ pub enum Instruction {
     /// Adds a literal to a variable, as in `x := x + 1`.
     Increase(Variable, i32),
     StoreTruth(Place, Truth),
-    /// Assigns TRUE or FALSE to an element.
+    /// Assigns TRUE or FALSE to an array's element whose array and index are variables.
     StoreConstant(Box<VariableElement>, bool),
     /// Copies cells from the second place to the first. The last field is the number of cells.
     Copy(Place, Place, usize),
@@ -309,23 +312,25 @@ pub struct ProcedureCall {
     pub arguments: Vec<Argument>,
 }
 
-/// A procedure. Its own variables have `cells` cells, in addition to the cells of its parameters.
+/// Code of a procedure. `cells` is the number of cells of the variables that the procedure
+/// declares. The cells of its parameters aren't counted.
 #[derive(Drop)]
 pub struct Routine {
     pub cells: usize,
     pub body: Vec<Instruction>,
 }
 
-/// A module. Its own variables have `cells` cells. `procedures` has the procedures of all levels,
-/// and calls refer to them by their indices in this list.
+/// Code of a module. `cells` is the number of cells of the variables that the module declares
+/// outside its procedures. `procedures` has the procedures of all levels, and calls refer to them
+/// by their indices in this list.
 pub struct LoweredCode {
     pub cells: usize,
     pub body: Vec<Instruction>,
     pub procedures: Vec<Routine>,
 }
 
-// `Drop` is written out because a derived `Drop` is proved again in each crate that drops such a
-// value.
+// `Drop` is written out because a derived `Drop` is proved again in each crate that drops a
+// `LoweredCode`.
 impl Drop for LoweredCode {
     fn drop(self) {
         let LoweredCode {

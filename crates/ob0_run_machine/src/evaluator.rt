@@ -57,7 +57,7 @@ fn value_of(variable: Variable, level: &Level<'_>, cells: &[i32]) -> i32
     cell_at(cells, variable_address(variable, level))
 }
 
-/// Returns the address of a place in an array's element, if the array and the index are variables.
+/// Returns the address of a place in an array's element whose array and index are variables.
 /// Returns the fault Index if the array has no element at this index.
 #[inline(always)]
 pub(crate) fn variable_element_address(
@@ -170,9 +170,9 @@ fn evaluate_negative(operand: &Number, level: &Level<'_>, cells: &[i32]) -> Flat
     }
 }
 
-/// Returns the value of an operation, or the fault that ends its evaluation. In most operations the
-/// first operand is a variable. All others are left to `evaluate_general_operation`, so this
-/// function has no registers to save.
+/// Returns the value of an operation, or the fault that ends its evaluation. This function handles
+/// the most frequent case, in which the first operand is a variable. It leaves all other cases to
+/// `evaluate_general_operation`, so it has no registers to save.
 #[inline(never)]
 #[cycle(evaluation)]
 fn evaluate_operation(o: &Operation, level: &Level<'_>, cells: &[i32]) -> FlatOutcome<i32>
@@ -208,8 +208,8 @@ fn evaluate_chain_flat(c: &Chain, level: &Level<'_>, cells: &[i32]) -> FlatOutco
     into_flat(evaluate_chain(c, level, cells))
 }
 
-/// Returns the value of a chain of operations, which are evaluated from left to right. Returns the
-/// first fault that occurs.
+/// Returns the value of a chain of operations, or the first fault that occurs. The operations are
+/// evaluated from left to right.
 #[inline(always)]
 #[cycle(evaluation)]
 pub(crate) fn evaluate_chain(
@@ -226,9 +226,9 @@ pub(crate) fn evaluate_chain(
     Ok(left)
 }
 
-/// Applies a link, which is an operator with one operand, to the number `left`. Returns the result
-/// or the fault. If the link's own operand is neither a literal nor a variable, a called function
-/// evaluates this operand. So `apply` is small enough to be inlined.
+/// Applies a link, which is an operator with one operand, to the number `left`. Returns the result,
+/// or the fault that ends the evaluation. If the link's operand is neither a literal nor a
+/// variable, `apply_to_expression` evaluates it. So `apply` is small enough to be inlined.
 #[inline(always)]
 #[cycle(evaluation)]
 fn apply(link: &Link, left: i32, level: &Level<'_>, cells: &[i32]) -> Result<i32, EvaluationFault>

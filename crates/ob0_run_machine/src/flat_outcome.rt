@@ -3,8 +3,8 @@
 //! A `Result` with a number or an address is returned through memory. A `FlatOutcome` has a payload
 //! in only one case, and is therefore returned in registers. The functions of the evaluator that
 //! are marked `#[inline(never)]` (`evaluate_operation`, `evaluate_truth_flat`, ..) return a
-//! `FlatOutcome`. The inlined functions that can fail return a `Result` and use `?`. `into_flat`
-//! and `into_result` convert between the two types.
+//! `FlatOutcome`. The inlined functions that can fail return a `Result` and use `?`.
+//! `into_flat` and `into_result` convert between the two types.
 //!
 //! The functions that run statements return a `Result<(), Stop>`. A `Stop` has no payload, so this
 //! result is also returned in registers. `end_of_stop` gives the end of the run for a `Stop`, or

@@ -1,8 +1,9 @@
 //! Represents the activations that running code can see, as a linked list.
 //!
-//! The list is the static chain. Each `Level` is a local variable of the function that makes the
-//! call, and refers to the level in which its procedure is declared. `levels_of` reads the list by
-//! structural recursion, so no invariant about a table of frames is needed.
+//! The list is the static chain. Each `Level` is a local variable of the Rust function that makes
+//! the call, and refers to the level of the activation in which the called procedure is declared.
+//! `levels_of` reads the list by structural recursion, so no invariant about a table of frames is
+//! needed.
 //!
 //! A call's addresses of VAR parameters are in a `VarAddresses`, which stores up to two addresses
 //! without allocating memory. Only the cells, the output and more than two such addresses are in
@@ -13,7 +14,8 @@ ghost use Rattle.ob0_run_machine.specs.Evaluation.{innermost_level, level_at};
 ghost use Rattle.ob0_run_machine.specs.Levels.{levels_of, levels_of_option};
 
 /// An activation: the address of its first cell, the addresses of its VAR parameters, and the
-/// activation in which its procedure is declared. The module's activation has no enclosing one.
+/// activation in which its procedure is declared (`enclosing`). `enclosing` is None for the
+/// module's activation.
 #[derive(Clone, Copy)]
 pub(crate) struct Level<'l> {
     pub base: usize,
@@ -65,8 +67,8 @@ pub(crate) fn base_at(level: &Level<'_>, up: usize) -> usize
     }
 }
 
-/// Returns the address that was passed for a VAR parameter of an activation. `index` is the
-/// parameter's index among the VAR parameters. Returns 0 if there is no such parameter.
+/// Returns the address that was passed for a VAR parameter of the activation `level`. `index` is
+/// the parameter's index among the VAR parameters. Returns 0 if there is no such parameter.
 #[inline(always)]
 pub(crate) fn var_parameter_at(level: &Level<'_>, index: usize) -> usize
     ensures { result ≡ slice_index_or (innermost_level (levels_of level.now)).addresses index 0 }
@@ -77,9 +79,9 @@ pub(crate) fn var_parameter_at(level: &Level<'_>, index: usize) -> usize
     }
 }
 
-/// Returns the address that was passed for a VAR parameter of the activation `up` levels out.
-/// `index` is the parameter's index among the VAR parameters. Returns 0 if there is no such
-/// parameter.
+/// Returns the address that was passed for a VAR parameter of the activation that is `up` levels
+/// out from `level`. `index` is the parameter's index among the VAR parameters. Returns 0 if there
+/// is no such parameter.
 pub(crate) fn outer_var_parameter_at(level: &Level<'_>, up: usize, index: usize) -> usize
     ensures { result ≡ slice_index_or (level_at (levels_of level.now) up).addresses index 0 }
 {

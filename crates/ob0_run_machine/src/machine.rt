@@ -1,5 +1,5 @@
-//! Defines the machine's state (`Machine`), and the steps that change its cells, its input and its
-//! output.
+//! Defines the state of a run (`Machine`), and functions that change the cells, the input and the
+//! output in this state.
 
 ghost use Rattle.std.specs.Prelude.{◌≡◌, ◌≤◌, OnErr, OnOk, length, slice_set, true, vec_capacity, vec_len};
 ghost use Rattle.ob0_run_machine.specs.Execution.{cells_after_copy, append_output, read_number};
@@ -18,11 +18,12 @@ pub enum Item {
     Line,
 }
 
-/// The state of a run: its cells, the rest of the input, and the output so far.
+/// The state of a run: the allocator of its lists (`memory`), the cells, the rest of the input, and
+/// the output so far.
 #[derive(Drop)]
 pub(crate) struct Machine<'i> {
     pub memory: Memory,
-    /// The cells of all variables, the module's first.
+    /// The cells of all variables and value parameters. The cells of the module are first.
     pub cells: Vec<i32>,
     /// The numbers that haven't been read yet.
     pub input: &'i [i32],
@@ -65,8 +66,8 @@ impl<'i> Machine<'i> {
         self.cells.len()
     }
 
-    /// Removes the next number from the input and stores it in the cell at an address. Returns
-    /// `Stop::InputEnd` if no input is left.
+    /// Removes the next number from the input and stores it in the cell at an address. The number
+    /// is lost if there is no such cell. Returns `Stop::InputEnd` if no input is left.
     pub(crate) fn read_number(&mut self, address: usize) -> Result<(), Stop>
         ensures { IsProgressAfterStep result self.new
             (read_number (state_of self.old) address (state_of self.old).input) }

@@ -1,10 +1,10 @@
-//! Defines the memory of a run (`Memory`). The lists of a run grow only by functions in this file,
-//! so the memory knows whether an allocation has failed.
+//! Defines `Memory`, the allocator of a run with a flag for a failed allocation. The lists of a run
+//! grow only by functions in this file, so the flag shows whether an allocation has failed.
 //!
 //! A step may report a failed allocation only if `Memory::fail` was called (`IsProgressAfterStep`,
 //! `IsOutcomeOfPassing`). So a fault or a bound can't be reported as a failed allocation. A
 //! function that grows a list fails only if the list had too little capacity (`full`). No contract
-//! states that the run needed the memory, or that the allocator refused the memory.
+//! states that the run needed a larger list, or that the allocator refused the request.
 
 ghost use Rattle.std.specs.Prelude.{◌≡◌, ◌+◌, ◌++◌, ◌∷◌, ◌<◌, ◌≤◌, ◌^◌, [], OnErr, OnOk, false, length, true, vec_capacity, vec_len};
 ghost use Rattle.ob0_run_machine.specs.Execution.{block_at, zeros};
@@ -16,7 +16,7 @@ use std::alloc::{AllocError, Global};
 /// The largest number of cells that `push_zeros` adds one by one.
 const MAX_INLINE_ZEROS: usize = 8;
 
-/// The allocator, and whether `fail` was called.
+/// The allocator of a run's lists, and whether an allocation has failed (`has_failed`).
 #[derive(Clone, Copy)]
 pub(crate) struct Memory {
     alloc: Global,
@@ -24,7 +24,8 @@ pub(crate) struct Memory {
 }
 
 impl Memory {
-    /// Returns the memory of a new run, in which no allocation has failed.
+    /// Returns a `Memory` for a run that is about to begin. Its flag for a failed allocation isn't
+    /// set.
     pub(crate) fn new(alloc: Global) -> Memory
         ensures { has_failed result ≡ false }
     {
@@ -34,14 +35,15 @@ impl Memory {
         }
     }
 
-    /// Returns an empty list.
+    /// Returns an empty list that uses the run's allocator.
     pub(crate) fn new_list<T>(&self) -> Vec<T>
         ensures { result.items ≡ [] }
     {
         Vec::new(self.alloc)
     }
 
-    /// Adds an item at the end of a list.
+    /// Adds an item at the end of a list. If the allocation fails, records this (`fail`) and
+    /// returns an error.
     #[inline(always)]
     pub(crate) fn push<T: Copy>(&mut self, list: &mut Vec<T>, item: T) -> Result<(), AllocError>
         ensures items { OnOk result (list.new.items ≡ list.old.items ++ item ∷ []) }

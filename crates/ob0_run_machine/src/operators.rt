@@ -10,8 +10,8 @@ ghost use Rattle.ob0_run_machine.specs.View.{operator_of, relation_of};
 use crate::code::{Comparator, Operator};
 use crate::ending::EvaluationFault;
 
-/// Returns the number, or the fault Overflow for None. None means that the result of an operation
-/// has more than 32 bits.
+/// Returns the number, or the fault Overflow for None. `number` is the result of an operation, and
+/// None means that this result has more than 32 bits.
 #[inline(always)]
 fn checked_number(number: Option<i32>) -> Result<i32, EvaluationFault>
     ensures { outcome_of_result result ≡ number_or_overflow number }
@@ -22,8 +22,8 @@ fn checked_number(number: Option<i32>) -> Result<i32, EvaluationFault>
     }
 }
 
-/// Returns the number, or the fault Divisor for None. None means that the divisor of a division is
-/// below 1.
+/// Returns the number, or the fault Divisor for None. `number` is the result of a division, and
+/// None means that its divisor is below 1.
 #[inline(always)]
 fn number_or_divisor_fault(number: Option<i32>) -> Result<i32, EvaluationFault>
     ensures { outcome_of_result result ≡ division_outcome number }

@@ -15,7 +15,7 @@ use crate::memory::Memory;
 use crate::statements::run_sequence;
 use std::alloc::{AllocError, Global};
 
-/// The end of a run.
+/// How a run ended: normally (`Done`), or by which fault or bound.
 #[derive(Clone, Copy, PartialEq, Eq, Debug)]
 pub enum End {
     /// The end of the program was reached.
@@ -28,20 +28,20 @@ pub enum End {
     Index,
     /// A number was to be read, and no input was left.
     InputEnd,
-    /// One more call than allowed would have been open.
+    /// A call was made while the allowed number of calls was already open.
     CallBound,
     /// A loop would have made one more iteration than allowed.
     TurnBound,
 }
 
-/// The output of a run, and its end.
+/// The result of a run: its output, and how it ended.
 #[derive(Debug, Drop)]
 pub struct Outcome {
     pub output: Vec<Item>,
     pub end: End,
 }
 
-/// Runs the statements of a program's body, beginning in the machine's state. Returns an error if
+/// Runs the statements of a program's body, starting in the state `machine`. Returns a `Stop` if
 /// the run ended before the end of the program.
 fn execute(
     program: &LoweredCode,
@@ -63,8 +63,8 @@ fn execute(
     run_sequence(&program.body, &level, turns, machine, &enter)
 }
 
-/// Returns the end of a run from the result of the program's statements: Done if they returned
-/// normally, otherwise the end for their `Stop`. Returns an error exactly if an allocation failed
+/// Converts the result of a program's statements to the end of the run: Done for Ok, otherwise the
+/// end with the same name as the `Stop`. Returns an error exactly if an allocation failed
 /// (`Stop::Memory`).
 fn end_of(executed: Result<(), Stop>) -> Result<End, AllocError>
     ensures { IsEndOf executed result }

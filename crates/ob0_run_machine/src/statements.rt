@@ -27,8 +27,9 @@ use crate::level::{Level, enclosing_level};
 use crate::machine::{Item, Machine, copy, store};
 use crate::operators::{add, as_cell, compare};
 
-/// Assigns a number to a place of any form. This function isn't inlined, so `run_statement` is
-/// small enough to be inlined.
+/// Assigns the value of `n` to a place of any form. Returns a fault if the evaluation of the place
+/// or of `n` has one. This function isn't inlined, so `run_statement` is small enough to be
+/// inlined.
 #[tactic(auto, unfolding(crate::specs::Execution::execute))]
 #[inline(never)]
 fn store_number(
@@ -48,7 +49,7 @@ fn store_number(
     Ok(())
 }
 
-/// Assigns a number to a variable.
+/// Assigns the value of `n` to a variable. Returns a fault if the evaluation of `n` has one.
 #[tactic(auto, unfolding(crate::specs::Execution::execute))]
 #[inline(always)]
 fn store_variable(
@@ -67,8 +68,8 @@ fn store_variable(
     Ok(())
 }
 
-/// Assigns the result of a chain of operations to a variable. Like `store_number`, this function
-/// isn't inlined.
+/// Assigns the result of a chain of operations to a variable. Returns the first fault that occurs
+/// in the chain. Like `store_number`, this function isn't inlined.
 #[tactic(auto, unfolding(crate::specs::Execution::execute))]
 #[inline(never)]
 fn store_chain(
@@ -117,8 +118,8 @@ fn increase(
     increase_at(variable_address(variable, level), by, machine)
 }
 
-/// Assigns to a variable the result of an operation on this variable. Like `store_number`, this
-/// function isn't inlined.
+/// Assigns to a variable the result of an operation on this variable, or returns the operation's
+/// fault. Like `store_number`, this function isn't inlined.
 #[tactic(auto, unfolding(crate::specs::Execution::execute))]
 #[inline(never)]
 fn update(
@@ -137,7 +138,8 @@ fn update(
     Ok(())
 }
 
-/// Assigns a truth value to a place. Like `store_number`, this function isn't inlined.
+/// Assigns the value of `t` to a place. Returns a fault if the evaluation of the place or of `t`
+/// has one. Like `store_number`, this function isn't inlined.
 #[tactic(auto, unfolding(crate::specs::Execution::execute))]
 #[inline(never)]
 fn store_truth(
@@ -157,7 +159,8 @@ fn store_truth(
     Ok(())
 }
 
-/// Assigns TRUE or FALSE to an array's element, if the array and the index are variables.
+/// Assigns TRUE or FALSE to an array's element whose array and index are variables. Returns the
+/// fault Index if the array has no such element.
 #[tactic(auto, unfolding(crate::specs::Execution::execute))]
 #[inline(never)]
 fn store_constant(

@@ -1,5 +1,5 @@
 -- Defines the states of a scan of a changed text that reuses tokens and comments of the old text.
--- Rule: none; for private contracts of the scanner.
+-- Rule: none; used in private contracts about the scanner.
 use Rattle.std.specs.Prelude.{◌≡◌, ℕ, ◌+◌, ◌-◌, ◌<◌, ◌≤◌, ◌^◌, ◌==◌, ◌||◌, ◌⊎◌, Bool, false, List, [], ◌∷◌, ◌++◌, Option, Some, None, IsTrue, length, map, take, drop, max}
 use Rattle.std.specs.List.{All, slice_get}
 use Rattle.std.specs.List.Sorted.{IsNonDecreasingBy}
@@ -54,9 +54,9 @@ pub record IsMovable (removed added : ℕ) (span : Span) : Type 0 where
   pub ordered : span.start ≤ span.end
   pub small : span.end + added < 2 ^ 32
 
--- States that the scanner `t` has the tokens and comments of the scanner `s`, and that one lexeme,
--- which begins at `s.at`, is added if it is a token or a comment. White space adds nothing. The
--- scanner `s` has found no fault.
+-- States that one lexeme, which begins at the byte offset `s.at`, turns the scanner `s` into the
+-- scanner `t`. `t` has the tokens and comments of `s`, and also this lexeme if it is a token or a
+-- comment. White space adds nothing. The scanner `s` has found no fault.
 pub record AddsOneLexeme (s t : Scanner) : Type 0 where
   pub kind : LexemeKind
   pub len : ℕ
@@ -65,8 +65,9 @@ pub record AddsOneLexeme (s t : Scanner) : Type 0 where
   pub comments : t.comments.items ≡ s.comments.items ++ comment_at kind (span_from s.at len)
 
 -- States that the scanner `t` has the tokens and comments of the scanner `s`, followed by newly
--- read ones. If a newly read one begins behind the change, no old token or comment begins at the
--- same place in the old text.
+-- read ones. If a newly read token or comment begins behind the change, no old token or comment
+-- begins at the same place in the old text. The change replaces `removed` bytes at the byte offset
+-- `from` by `added` bytes.
 pub record AddsNewLexemes (old : TextWithTokens) (from removed added : ℕ) (s t : Scanner) : Type 0 where
   pub tokens : List Token
   pub comments : List Span
@@ -75,10 +76,10 @@ pub record AddsNewLexemes (old : TextWithTokens) (from removed added : ℕ) (s t
   pub tokens_new : All (λ (t : Token). IsNewBehindChange old from removed added t.span) tokens
   pub comments_new : All (λ (c : Span). IsNewBehindChange old from removed added c) comments
 
--- States that a scan of the new text can stop at the byte offset `at`. This offset is behind the
--- change. Either the new text ends there (`end` is its length in bytes), or an old token or comment
--- begins at the same place in the old text. `tokens` and `comments` are the old ones that begin at
--- this place or later.
+-- States that a scan of the new text can stop at the byte offset `at`, which is behind the change.
+-- Either the new text ends there (`end` is its length in bytes), or an old token or comment begins
+-- at the same place in the old text. `tokens` and `comments` are the old tokens and comments that
+-- begin at this place or later.
 pub record CanStopAt (old : TextWithTokens) (end from removed added at : ℕ) (tokens : List Token)
     (comments : List Span) : Type 0 where
   pub behind_change : from + added ≤ at
@@ -88,8 +89,8 @@ pub record CanStopAt (old : TextWithTokens) (end from removed added at : ℕ) (t
       ⊎ IsTrue
       (first_token_begins_at (at + removed - added) tokens || first_comment_begins_at (at + removed - added) comments)
 
--- Returns the scan of the new text `new`: the old tokens and comments in front of the change, the
--- newly read ones (in `b`), and the old ones behind the change, with shifted spans.
+-- Returns the scan of the new text `new` in three parts: the old tokens and comments in front of
+-- the change, the newly read ones in `b`, and the old ones behind the change with shifted spans.
 abbrev pub scan_with_new_middle : TextWithTokens → List ℕ → ℕ → ℕ → RescannedMiddle → TextWithTokens
 scan_with_new_middle old new removed added b = record {
   text = new;
@@ -102,8 +103,10 @@ scan_with_new_middle old new removed added b = record {
       ++ map (span_after_shift removed added) (drop b.old_end.comments old.comments));
 }
 
--- States that `b` has the newly read tokens and comments of the new text, and the indexes of the
--- old ones that they replace.
+-- States that `b` is a right middle part of the scan of the new text. If the tokens and comments in
+-- `b` replace the old ones with the indexes in `b`, and the spans of the later old ones are
+-- shifted, the result is the scan of the new text. The old tokens and comments that are kept are
+-- the ones that `Reuses` describes.
 pub record IsRescannedMiddle (old : TextWithTokens) (new : List ℕ) (from removed added : ℕ) (b : RescannedMiddle)
     : Type 0 where
   pub tokens_ordered : b.old_start.tokens ≤ b.old_end.tokens

@@ -1,15 +1,16 @@
 -- Defines the result of turning the tokens of an old text into the tokens of a changed text.
--- Rule: none; for contracts of `rescan_in_place`.
+-- Rule: none; used in contracts of `rescan_in_place`.
 use Rattle.std.specs.Prelude.{◌≡◌, ℕ, List, true}
 use Rattle.ob0_scan.specs.declared.tokens.RescanInPlace.{RescanInPlace}
 use Rattle.ob0_scan.specs.TextWithTokens.{TextWithTokens, IsScanOf}
 use Rattle.ob0_scan.specs.Reused.{Reuses, kinds, names_in, words_of_tokens}
 use Rattle.ob0_scan.specs.SameKinds.{HasSameKinds, HasSameWords}
 
--- States that `r` has the scan of the new text, and compares this scan correctly with the old one.
--- If `same_kinds` is true, all tokens have the same kinds as the old tokens. If `same_names` is true,
--- the identifiers have the same spellings. If `same_words` is true, all tokens have the same kinds
--- and spellings.
+-- States that `r` has the scan of the new text, reuses old tokens as `Reuses` says, and compares
+-- the tokens rightly with the old ones. If `same_kinds` is true, all tokens have the same kinds as
+-- the old tokens. If `same_names` is true, the identifiers have the same spellings. If `same_words`
+-- is true, all tokens have the same kinds and spellings. The tokens in the two parts that `same`
+-- describes always have the same kinds and spellings.
 pub record IsRescanOf (old : TextWithTokens) (new : List ℕ) (from removed added : ℕ) (r : RescanInPlace)
     : Type 0 where
   pub scan : IsScanOf new r.rescan.tokens

@@ -1,5 +1,5 @@
 -- Defines which tokens and comments a scan of a changed text reuses from the previous scan.
--- Rule: none; for contracts of `rescan`.
+-- Rule: none; used in contracts of `rescan`.
 use Rattle.std.specs.Prelude.{◌≡◌, ◌≢◌, ℕ, ◌+◌, ◌-◌, ◌≤◌, List, [], ◌++◌, length, map, take, drop, nat_lt}
 use Rattle.std.specs.List.{All, prefix_len}
 use Rattle.ob0_scan.specs.declared.lexeme.Span.{Span}
@@ -8,9 +8,9 @@ use Rattle.ob0_scan.specs.declared.lexeme.TokenKind.{TokenKind}
 use Rattle.ob0_scan.specs.declared.lexeme.TokenKind.TheVariants as kind
 use Rattle.ob0_scan.specs.TextWithTokens.{TextWithTokens, Word, word_of_token, text_in_span}
 
--- States that the new text has `added` bytes in place of the `removed` bytes of the old text that
--- start at the byte offset `from`. In front of these bytes and behind them, the two texts are
--- equal.
+-- States that the new text is the old text with one change: the `removed` bytes that start at the
+-- byte offset `from` are replaced by `added` bytes. In front of these bytes and behind them, the
+-- two texts are equal.
 pub record ReplacesRange (old new : List ℕ) (from removed added : ℕ) : Type 0 where
   pub inside_old : from + removed ≤ length old
   pub inside_new : from + added ≤ length new
@@ -40,17 +40,18 @@ name_or_empty (kind.Symbol symbol) text = []
 abbrev pub names_in : List ℕ → List Token → List (List ℕ)
 names_in text tokens = map (λ (t : Token). name_or_empty t.kind (text_in_span text t.span)) tokens
 
--- Returns the tokens of a text as the grammar sees them: their kinds and spellings.
+-- Returns the tokens of a text as words: their kinds and spellings, without their spans.
 abbrev pub words_of_tokens : List ℕ → List Token → List Word
 words_of_tokens text tokens = map (word_of_token text) tokens
 
--- Returns a span that lies behind the change, with `added - removed` added to its start and end.
+-- Returns the span of the new text that corresponds to a span of the old text behind the change.
+-- The start and the end are shifted by `added - removed` bytes.
 abbrev pub span_after_shift : ℕ → ℕ → Span → Span
 span_after_shift removed added span =
     record { start = span.start + added - removed; end = span.end + added - removed }
 
--- Returns a token that lies behind the change, with `added - removed` added to the start and end of
--- the token's span.
+-- Returns the token of the new text that corresponds to a token of the old text behind the change.
+-- Its span is shifted by `added - removed` bytes.
 abbrev pub token_after_shift : ℕ → ℕ → Token → Token
 token_after_shift removed added token =
     record { kind = token.kind; span = span_after_shift removed added token.span }

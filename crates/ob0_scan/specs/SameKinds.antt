@@ -1,5 +1,5 @@
 -- Defines which tokens of a changed text have the same kinds and spellings as in the old text.
--- Rule: none; for contracts of `rescan_in_place`.
+-- Rule: none; used in contracts of `rescan_in_place`.
 use Rattle.std.specs.Prelude.{◌≡◌, ◌≤◌, List, length, take, drop}
 use Rattle.ob0_scan.specs.declared.lexeme.Token.{Token}
 use Rattle.ob0_scan.specs.declared.tokens.SameParts.{SameParts}

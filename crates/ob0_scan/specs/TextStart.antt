@@ -1,4 +1,5 @@
--- Defines the first lexeme of a text, and the longest symbol at its beginning.
+-- Defines when a text begins with a lexeme of a given kind and length, and when it begins with a
+-- symbol.
 -- Rule: docs/LANGUAGE.md, Lexemes 1, 7.
 use Rattle.std.specs.Prelude.{◌≡◌, ◌≢◌, ℕ, ◌≤◌, List, ◌++◌, length, take, drop}
 use Rattle.ob0_scan.specs.declared.lexeme.LexemeKind.{LexemeKind}

@@ -95,7 +95,8 @@ pub record IsScan (s : TextWithTokens) : Type 0 where
   pub tokens : s.tokens ≡ tokens_from 0 lexemes
   pub comments : s.comments ≡ comments_from 0 lexemes
 
--- States that the span's start and end are in the text, in order and at character borders.
+-- States that the span is a range of the text. Its start isn't after its end, and both are in the
+-- text and at character borders.
 pub record IsRangeOf (text : List ℕ) (span : Span) : Type 0 where
   pub ordered : span.start ≤ span.end
   pub start : IsCharBoundary text span.start

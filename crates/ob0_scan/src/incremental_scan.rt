@@ -2,8 +2,8 @@
 //! scan found in front of the change and behind it.
 //!
 //! `rescan_in_place` takes the tokens of the old text and turns them into the tokens of the new
-//! text. If the new text has faults, the function returns the old tokens with them. `rescan` does
-//! the same with a copy of the old tokens. Both functions return the tokens and comments that
+//! text. If the new text has faults, the function returns the faults and the old tokens. `rescan`
+//! does the same with a copy of the old tokens. Both functions return the tokens and comments that
 //! `scan` of the new text returns. `Reuses` (`specs/Reused`) says which of these are old:
 //! - In front of the change: each token and comment that ends before the change. (A token that ends
 //!   right at the change may continue with the inserted text.)
@@ -16,21 +16,22 @@
 //! tokens have the same kinds and spellings.
 //!
 //! Binary search finds the old tokens and comments in front of the change
-//! (`LexemeSlices::front_before`). A scanner continues at the end of the last of them. White space
-//! isn't kept, so the white space there is read again. Once the scanner is behind the change, it
-//! tests before each step whether an old token or comment begins at the scanner's place. Binary
-//! search also finds the first old tokens and comments behind the change (`rest_from`). Before each
-//! step, `skip_to` skips the old ones that begin before the scanner's place. So all these tests
-//! together visit each old token at most once. The spans of a scan are in order (`AreInOrder`), so
-//! binary search finds the same number as visiting them one by one (`proofs/Halved`).
+//! (`LexemeSlices::front_before`). A scanner continues at the end of the last of them.
+//! White space isn't kept, so the white space there is read again. Once the scanner is behind the
+//! change, it tests before each step whether an old token or comment begins at the scanner's place.
+//! Binary search also finds the first old tokens and comments behind the change
+//! (`rest_from`). Before each step, `skip_to` skips the old ones that
+//! begin before the scanner's place. So all these tests together visit each old token at most once.
+//! The spans of a scan are in order (`AreInOrder`), so binary search finds the same number as
+//! visiting them one by one (`proofs/Halved`).
 //!
 //! The newly read tokens and comments are placed between the two reused parts
 //! (`IsRescannedMiddle`). When reading is complete, the second reused part is moved within its
 //! list, and the newly read tokens are inserted in front of it (`splice_tokens`,
-//! `splice_comments`). So memory holds the tokens of only one text. Two lists would leave holes of
-//! their size in the heap. Only the changed bytes of the text are replaced, and the bytes behind
-//! them are moved (`ReplacedRange::replace`). If a change begins or ends inside a character, the
-//! new text is written over the old text.
+//! `splice_comments`). So memory holds the tokens of only one text at a time, and the heap isn't
+//! fragmented by a second list. Only the changed bytes of the text are replaced, and the bytes
+//! behind them are moved (`ReplacedRange::replace`). If a change begins or ends inside a character,
+//! the new text is written over the old text.
 //!
 //! The change needn't begin and end between characters: a lexeme's last byte is ASCII, so the scan
 //! begins and stops at character borders anyway. After a fault, the scanner doesn't look for
@@ -67,7 +68,8 @@ use crate::tokens::{Rescan, RescanInPlace, SameParts, Tokens};
 use std::alloc::{AllocError, Global};
 use thiserror::Error;
 
-/// A number of tokens and a number of comments.
+/// Two counts. As a place in a scan, they are the numbers of the tokens and of the comments in
+/// front of this place.
 #[derive(Clone, Copy)]
 pub(crate) struct LexemeCounts {
     pub(crate) tokens: usize,
@@ -100,8 +102,8 @@ impl RescannedMiddle {
         )
     }
 
-    /// Returns whether the new tokens and the old tokens that they replace are equally many, with
-    /// the same identifiers at the same places in the two lists.
+    /// Returns whether the new tokens have the same names as the old tokens that they replace. Both
+    /// lists must have the same length, and the same identifiers at the same indexes.
     fn has_names_of(&self, new_text: &str, old: &Tokens) -> bool
         requires ordered { self.now.old_start.tokens ≤ self.now.old_end.tokens }
         requires inside { self.now.old_end.tokens ≤ length old.now.tokens }
@@ -137,7 +139,8 @@ impl RescannedMiddle {
     }
 }
 
-/// Returns whether the tokens of two texts have the same kinds and spellings, one by one.
+/// Returns whether two lists of tokens of two texts are equally long and have the same kinds and
+/// spellings at the same indexes.
 fn have_same_words(new_text: &[u8], new: &[Token], old_text: &[u8], old: &[Token]) -> bool
     ensures { result ≡ true → words_of_tokens new_text.now new.now ≡ words_of_tokens old_text.now old.now }
 {
@@ -213,8 +216,8 @@ fn is_same_spelling(a: &[u8], in_a: Span, b: &[u8], in_b: Span) -> bool
         && a[in_a.start as usize..in_a.end as usize] == b[in_b.start as usize..in_b.end as usize]
 }
 
-/// Returns whether two lists of tokens have the same kinds, one by one. The values of integers may
-/// differ.
+/// Returns whether two lists of tokens are equally long and have the same kinds at the same
+/// indexes. The values of integers may differ.
 fn have_same_kinds(new: &[Token], old: &[Token]) -> bool
     ensures { result ≡ true → kinds new.now ≡ kinds old.now }
 {
@@ -274,11 +277,11 @@ impl From<AllocError> for RescanRefusal {
     }
 }
 
-/// Returns the tokens and comments of `new_text`, or its faults. `new_text` is the text of `old`
-/// with the `removed` bytes that start at the byte offset `from` replaced by `added` bytes. The old
-/// tokens and comments in front of the change are reused. The scan ends at the first place behind
-/// the change at which a token or comment begins in both texts. The old tokens and comments that
-/// begin there or later are also reused.
+/// Returns the tokens and comments of `new_text`, or the faults of `new_text` if there are any.
+/// `new_text` is the text of `old` with the `removed` bytes that start at the byte offset `from`
+/// replaced by `added` bytes. The old tokens and comments that end before the change are reused.
+/// The scan ends at the first place behind the change at which a token or comment begins in both
+/// texts. The old tokens and comments that begin there or later are also reused.
 pub fn rescan(
     alloc: Global,
     old: &Tokens,
@@ -362,8 +365,8 @@ pub fn rescan_in_place(
     }
 }
 
-/// Returns the error for a changed text that wasn't scanned. If the text has faults, the error also
-/// has the old tokens.
+/// Returns `refusal`, the reason why a changed text wasn't scanned, as a `RescanRefusal`. If the
+/// text has faults, the error also has the old tokens.
 fn rescan_refusal(
     old: Tokens,
     new_text: &str,
@@ -426,9 +429,10 @@ fn scan_changed_part(
     })
 }
 
-/// Scans up to the first place behind the change at which an old token or comment begins. If there
-/// is no such place or a fault is found, scans to the end of the text. Returns the old tokens and
-/// comments that begin at that place or later, or none at the end of the text.
+/// Moves the scanner, lexeme by lexeme, to the first place behind the change at which an old token
+/// or comment also begins. Returns the old tokens and comments that begin at this place or later.
+/// If there is no such place or a fault is found, moves the scanner to the end of the text and
+/// returns no tokens or comments.
 fn continue_scan<'o>(
     scanner: &mut Scanner,
     old: &'o Tokens,

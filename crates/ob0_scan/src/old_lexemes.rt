@@ -58,8 +58,8 @@ impl ReplacedRange {
         old.push_str(new)
     }
 
-    /// Returns a span of the old text that lies behind the change, shifted to its place in the new
-    /// text.
+    /// Returns the span in the new text that corresponds to `span`, a span of the old text behind
+    /// the change.
     fn span_after_shift(self, span: Span) -> Span
         requires { IsMovable self.removed self.added span }
         ensures { result ≡ span_after_shift self.removed self.added span }
@@ -244,8 +244,8 @@ fn count_comments_before_linearly(comments: &[Span], offset: usize) -> usize
         .count()
 }
 
-/// Replaces the tokens with the indexes `old_start..old_end` by `between`. Shifts the spans of
-/// all later tokens to their places in the changed text.
+/// Replaces the tokens with the indexes `old_start..old_end` by the tokens in `between`. Shifts the
+/// spans of all later tokens to their places in the changed text.
 pub(crate) fn splice_tokens(
     tokens: &mut Vec<Token>,
     old_start: usize,
@@ -267,8 +267,8 @@ pub(crate) fn splice_tokens(
     Ok(())
 }
 
-/// Replaces the comments with the indexes `old_start..old_end` by `between`. Shifts the spans of
-/// all later comments to their places in the changed text.
+/// Replaces the comments with the indexes `old_start..old_end` by the comments in `between`. Shifts
+/// the spans of all later comments to their places in the changed text.
 pub(crate) fn splice_comments(
     comments: &mut Vec<Span>,
     old_start: usize,

@@ -1,6 +1,6 @@
 -- Searches the block of a declaration for another declaration with a given name. The names of a
 -- block are given by the indexes of their tokens.
--- Rule: none; for private contracts: the search for another declaration.
+-- Rule: none; used in private contracts of the search for another declaration (`name_conflicts.rt`).
 use Rattle.std.specs.Prelude.{ℕ, Bool, not, ◌&&◌, if◌then◌else◌, List, [], ◌∷◌, ◌++◌, Option, None}
 use Rattle.std.specs.List.{list_any}
 use Rattle.std.specs.Option.{option_or}
@@ -46,11 +46,11 @@ last_namesake s found (i ∷ is) = last_namesake s (if has_name_and_other_bindin
 abbrev pub namesake_among : BlockSearch → List ℕ → Option ℕ
 namesake_among s is = if list_any (is_bound_to_declaration s) is then last_namesake s None is else None
 
--- Returns the ordinal of the declaration that the search `s` finds in a block itself, otherwise in the blocks inside
--- it. Returns None if the search finds no declaration.
+-- Searches a block and then the blocks inside it. Returns the ordinal of another declaration with the sought name in
+-- the block that declares `s.declaration`. Returns None if there is no such declaration.
 abbrev mutual
-  -- returns the ordinal found among the parameters `own` and the names that a block declares,
-  -- otherwise the ordinal found in the blocks inside it; None if there is none
+  -- returns the ordinal found among the parameters `own` and the names that a block declares (`namesake_among`),
+  -- otherwise the ordinal found in the blocks inside it; None if neither is found
   pub namesake_in_block : BlockSearch → List ℕ → Tree ℕ block → Option ℕ
   namesake_in_block s own (forms_block (declares cs ts vs ps) statements) =
       option_or (namesake_among s (own ++ block_names (forms_block (declares cs ts vs ps) statements)))

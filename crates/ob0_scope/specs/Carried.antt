@@ -1,6 +1,6 @@
 -- The data about a module's names that is kept when the statements of one body are replaced: the
 -- data about the tokens before that body, and about the tokens after it, which have moved.
--- Rule: none; for private contracts about bindings that are kept when one body is replaced.
+-- Rule: none; used in private contracts about bindings that are kept when one body is replaced (`body_range.rt`).
 use Rattle.std.specs.Prelude.{◌≡◌, ℕ, ◌+◌, ◌-◌, ◌^◌, min, nat_lt, List, [], ◌∷◌, ◌++◌, Option, Some, None, if◌then◌else◌, is_some, length, take, drop, replicate}
 use Rattle.ob0_scan.specs.declared.tokens.SameParts.{SameParts}
 use Rattle.ob0_tree.specs.declared.tree.Role.{Role}
@@ -13,7 +13,8 @@ use Rattle.ob0_scope_table.specs.declared.resolved.Bindings.{Bindings}
 use Rattle.ob0_scope.specs.NewBody.{WasBoundBeforeNewBody}
 use Rattle.ob0_scope.specs.declared.body_range.BodyRange.{BodyRange}
 
--- the identifiers seen so far while a body is walked: the first one, if any, and all occurrences
+-- the token indexes of the identifiers seen so far while a body is walked: the first identifier, or None before it, and
+-- all occurrences of names (identifiers with the role `LookedUp`)
 pub record NamesInBody : Type 0 where
   pub first : Option ℕ
   pub uses : List ℕ
@@ -26,11 +27,11 @@ no_names = record { first = None; uses = [] }
 abbrev pub first_identifier_or : Option ℕ → ℕ → Option ℕ
 first_identifier_or first i = if is_some first then first else Some i
 
--- adds an occurrence to the names of a body
+-- adds the token `i` of an occurrence to the names seen in a body
 abbrev pub with_occurrence : ℕ → NamesInBody → NamesInBody
 with_occurrence i names = record names { uses = names.uses ++ (i ∷ []) }
 
--- adds an identifier with its role to the names of a body; the identifier is an occurrence only if its role is
+-- adds the identifier at token `i` to the names seen in a body; the identifier is an occurrence only if its role is
 -- `LookedUp`
 abbrev pub with_identifier : Role → ℕ → NamesInBody → NamesInBody
 with_identifier role.LookedUp i names =

@@ -1,5 +1,5 @@
 -- The identifiers of a module that a table of ordinals binds to a declaration.
--- Rule: none; for private contracts of `naming.rt`.
+-- Rule: none; used in private contracts of `naming.rt`.
 use Rattle.std.specs.Prelude.{ℕ, ◌+◌, ◌<◌, ◌≤◌, Bool, true, false, not, ◌&&◌, if◌then◌else◌, List, [], ◌∷◌, Option, Some, None, drop}
 use Rattle.ob0_scan.specs.declared.lexeme.Token.{Token}
 use Rattle.ob0_scan.specs.declared.lexeme.TokenKind.{TokenKind}

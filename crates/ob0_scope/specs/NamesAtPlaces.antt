@@ -1,4 +1,4 @@
--- The name at a place of a module's text, and the tokens that are bound to a declaration.
+-- The name at an offset of a module's text, and the tokens that are bound to a declaration.
 -- Rule: docs/PROTOCOL.md, Requests on documents 3 to 6.
 use Rattle.std.specs.Prelude.{ℕ, Bool, true, false, not, ◌&&◌, ◌||◌, ◌==◌, ◌≡◌, if◌then◌else◌, List, [], ◌∷◌, Option, map, option_map, option_and_then}
 use Rattle.std.specs.List.{filter, find, zip}

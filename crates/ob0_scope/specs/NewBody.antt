@@ -1,5 +1,5 @@
 -- The bindings of a module before the statements of one body were replaced.
--- Rule: none; for contracts of `rebind_new_body`.
+-- Rule: none; used in contracts of `rebind_new_body`.
 use Rattle.ob0_scan.specs.declared.tokens.SameParts.{SameParts}
 use Rattle.ob0_tree.specs.ParsedModule.{ParsedModule}
 use Rattle.ob0_scope_table.specs.Bindings.{resolution_with}
@@ -8,7 +8,7 @@ use Rattle.ob0_scope_table.specs.Resolution.{IsResolution}
 use Rattle.ob0_scope_table.specs.declared.resolved.Bindings.{Bindings}
 
 -- States that `b` has the bindings of an older module, and that `m` is that module with the statements of one body
--- replaced. `s` states which tokens at the start and at the end are the same in both modules.
+-- replaced. `s` gives the unchanged tokens at the start and at the end of the text.
 pub record WasBoundBeforeNewBody (m : ParsedModule) (b : Bindings) (s : SameParts) : Type 0 where
   pub old : ParsedModule
   pub path : PathToBody

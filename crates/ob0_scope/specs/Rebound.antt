@@ -1,5 +1,5 @@
 -- The bindings of a module before the tokens of one body changed.
--- Rule: none; for contracts of `rebind_body`.
+-- Rule: none; used in contracts of `rebind_body`.
 use Rattle.ob0_scan.specs.TextWithTokens.{TextWithTokens}
 use Rattle.ob0_tree.specs.ParsedModule.{IsParsed, ParsedModule}
 use Rattle.ob0_scope_table.specs.Bindings.{resolution_with}

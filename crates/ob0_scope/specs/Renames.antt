@@ -23,9 +23,9 @@ other_with_name [] d new = None
 other_with_name (b ∷ own) d new =
     if same_name b.0 new && not (b.1 == d) then Some b.1 else other_with_name own d new
 
--- Searches a list of scopes, each with the declarations of one block. The first scope counts that has both the
--- declaration with ordinal `d` and another declaration with the name `new`. Returns the ordinal of this other
--- declaration, or None if there is no such scope.
+-- Finds the first scope in a list that has both the declaration with ordinal `d` and another declaration with the name
+-- `new`. Each scope has the declarations of one block. Returns the ordinal of this other declaration, or None if there
+-- is no such scope.
 abbrev pub namesake_in : List (Scope Name) → ℕ → Name → Option ℕ
 namesake_in [] d new = None
 namesake_in (own ∷ others) d new =
@@ -42,8 +42,8 @@ abbrev pub conflict_of : reported.FirstConflict → NameConflict
 conflict_of (reports.Duplicate other) = at_declaration
 conflict_of (reports.Occurrence k) = at_occurrence k
 
--- returns the ordinal of the other declaration if a conflict is with another declaration of the
--- block, otherwise None
+-- returns the ordinal of the other declaration if the conflict is with another declaration of the same block;
+-- otherwise, and for no conflict, None
 abbrev pub other_declaration : Option reported.FirstConflict → Option ℕ
 other_declaration None = None
 other_declaration (Some (reports.Duplicate other)) = Some other

@@ -1,4 +1,5 @@
-//! Reuses the bindings of a module after the statements of one body were replaced.
+//! Finds the body whose statements were replaced, and moves the bindings of all other tokens to the
+//! tokens' new indexes.
 
 ghost use Rattle.std.specs.Prelude.{◌≡◌, ◌++◌, ◌∷◌, [], IfOk, OnOk};
 ghost use Rattle.ob0_tree.specs.View.{block_of, body_of, procedure_of};
@@ -29,7 +30,8 @@ pub(crate) struct ReplacedBody<'t> {
     pub(crate) closing: usize,
 }
 
-/// The identifiers seen so far while a body is walked: the first one, if any, and all occurrences.
+/// The token indexes of the identifiers seen so far while a body is walked: the first identifier,
+/// or None before it, and all occurrences of names (identifiers with the role `LookedUp`).
 #[derive(Drop)]
 pub(crate) struct BodyNames {
     pub(crate) first: Option<usize>,
@@ -64,7 +66,7 @@ impl Visitor for BodyNames {
 }
 
 impl BodyNames {
-    /// Appends an occurrence to the body's occurrences.
+    /// Appends the token of an occurrence to `uses`.
     fn append_use(&mut self, token: usize) -> Result<(), AllocError>
         ensures { OnOk result (self.new ≡ with_occurrence token self.old) }
     {
@@ -73,10 +75,11 @@ impl BodyNames {
     }
 }
 
-/// Searches a block for the body that contains the token `low`. The result is in the block's first
-/// procedure whose closing name isn't before `low`. If there is no such procedure, the result is
-/// the block's own body. If no body contains `low`, the result may be any body of the block. `own`
-/// is the token of the block's closing name.
+/// Searches a block for the body that contains the token `low`, which is the body of the block or
+/// of a procedure inside it. If no body contains `low`, the result may be any of these bodies. The
+/// search continues in the block's first procedure whose closing name isn't before `low`. If there
+/// is no such procedure, the result is the block's own body. `own` is the token of the block's
+/// closing name.
 #[cycle(blocks)]
 pub(crate) fn find_body_in_block<'t>(inner: &'t Block, own: usize, low: usize) -> ReplacedBody<'t>
     ensures statements { body_of result.statements.now

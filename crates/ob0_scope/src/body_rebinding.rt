@@ -21,7 +21,8 @@ use std::alloc::{AllocError, Global};
 
 /// Returns the bindings of a module after tokens of one body changed. `old` has the bindings before
 /// the change. The changed tokens have the indexes from `low` up to, but not including,
-/// `_changed_end`, which only the contract uses. Only the changed body is numbered again.
+/// `_changed_end`, which only the contract uses. Only the names in the changed body are bound
+/// again.
 pub fn rebind_body(
     alloc: Global,
     read: &Module<'_>,
@@ -54,9 +55,9 @@ pub fn rebind_body(
 }
 
 /// Returns the bindings of a module after the statements of one body were replaced. `old` has the
-/// bindings before the replacement. `same` gives the tokens before and after the replaced
-/// statements. Only the new body is numbered again. If it has no identifiers, all names are bound
-/// from scratch.
+/// bindings before the replacement. `same` gives the unchanged tokens at the start and at the end
+/// of the text. Only the names in the new body are bound again. If the new body has no identifiers,
+/// all names of the module are bound again.
 pub fn rebind_new_body(
     alloc: Global,
     read: &Module<'_>,

@@ -1,6 +1,8 @@
-//! Finds the duplicate declarations and wrong closing names of a module.
+//! Finds the duplicate declarations and wrong closing names of a module. A declaration is a
+//! duplicate if an earlier name in its block has the same spelling. A field is a duplicate if an
+//! earlier field of its record does.
 //!
-//! `FoundFaults` has the faults found so far, and each check appends its own faults. If a block or
+//! `FoundFaults` has the faults found so far, and each check appends more faults. If a block or
 //! record has at most 16 names, each name is compared with all names before it. If there are more,
 //! the names are inserted into a set.
 
@@ -29,7 +31,7 @@ use std::marker::Model;
 /// are more names, they are inserted into a set.
 const MAX_PAIRWISE: usize = 16;
 
-/// The duplicate declarations and wrong closing names that were found so far.
+/// The duplicate declarations, duplicate fields and wrong closing names found so far.
 #[derive(Drop)]
 struct FoundFaults {
     alloc: Global,
@@ -45,7 +47,7 @@ impl Model for FoundFaults {
     ghost view = { λ c. c.faults.items };
 }
 
-/// Returns the duplicate declarations and wrong closing names of a module.
+/// Returns the duplicate declarations, duplicate fields and wrong closing names of a module.
 pub(crate) fn check_declarations<'t>(
     alloc: Global,
     read: &'t Module<'t>,
@@ -61,10 +63,10 @@ pub(crate) fn check_declarations<'t>(
     Ok(checks.into_faults())
 }
 
-/// Returns the duplicate declarations and wrong closing names of a module after a change. `known`
-/// has the faults from before the change. It must contain a duplicate declaration or wrong closing
-/// name exactly if the changed module has one. If `known` contains no such fault, the module isn't
-/// walked.
+/// Returns the same faults of a changed module as `check_declarations`: the duplicate declarations,
+/// duplicate fields and wrong closing names. `known` has the faults from before the change. It must
+/// contain such a fault exactly if the changed module has one. If `known` contains no such fault,
+/// the module isn't walked and the result is an empty list.
 pub(crate) fn recheck_declarations<'t>(
     alloc: Global,
     read: &'t Module<'t>,
@@ -80,7 +82,7 @@ pub(crate) fn recheck_declarations<'t>(
     Ok(Vec::new(alloc))
 }
 
-/// Returns whether one of the faults is a duplicate declaration or a wrong closing name.
+/// Returns whether one of the faults is a duplicate declaration or field, or a wrong closing name.
 fn has_duplicate_or_end_name(faults: &[Fault]) -> bool
     ensures { result ≡ list_any is_duplicate_or_end_name faults.now }
 {
@@ -92,7 +94,7 @@ fn has_duplicate_or_end_name(faults: &[Fault]) -> bool
     false
 }
 
-/// Returns whether the fault is a duplicate declaration or a wrong closing name.
+/// Returns whether the fault is a duplicate declaration or field, or a wrong closing name.
 fn is_duplicate_or_end_name(fault: &Fault) -> bool
     ensures { result ≡ is_duplicate_or_end_name fault.now }
 {
@@ -128,7 +130,7 @@ fn contains_spelling(tokens: &Tokens, names: &[usize], text: &str) -> bool
     false
 }
 
-/// Appends the tokens of the names in a list.
+/// Appends to `out` the tokens of the names in a list.
 fn append_names(out: &mut Vec<usize>, ns: &Names) -> Result<(), AllocError>
     ensures { OnOk result (out.new.items ≡ out.old.items ++ names_in_list (names_of ns.now)) }
 {
@@ -139,7 +141,7 @@ fn append_names(out: &mut Vec<usize>, ns: &Names) -> Result<(), AllocError>
     Ok(())
 }
 
-/// Appends the tokens of the names in a group of fields.
+/// Appends to `out` the tokens of the names in a group of fields.
 fn append_field_names(out: &mut Vec<usize>, group: &Fields) -> Result<(), AllocError>
     ensures { OnOk result (out.new.items ≡ out.old.items ++ group_field_names (fields_of group.now)) }
 {
@@ -214,7 +216,7 @@ pub(crate) fn append_formal_names(
     Ok(())
 }
 
-/// Appends the tokens of the procedures' names.
+/// Appends to `out` the token of each procedure's name.
 fn append_procedure_names(out: &mut Vec<usize>, procedures: &[Procedure]) -> Result<(), AllocError>
     ensures { OnOk result
         (out.new.items ≡ out.old.items ++ procedure_names (items_of procedure_of procedures.now)) }
@@ -225,7 +227,8 @@ fn append_procedure_names(out: &mut Vec<usize>, procedures: &[Procedure]) -> Res
     Ok(())
 }
 
-/// Appends the tokens of the names that a block declares, without its procedure's parameters.
+/// Appends to `out` the tokens of the names that a block declares: constants, types, variables and
+/// procedures. The parameters of the block's procedure aren't included.
 pub(crate) fn append_block_names(out: &mut Vec<usize>, b: &Block) -> Result<(), AllocError>
     ensures { OnOk result (out.new.items ≡ out.old.items ++ block_names (block_of b.now)) }
 {
@@ -318,7 +321,7 @@ impl FoundFaults {
         Ok(())
     }
 
-    /// Reports the duplicate fields of the records in a written type.
+    /// Reports the duplicate fields of all records in a type that is written in the text.
     #[cycle(types)]
     fn check_type_fields(&mut self, tokens: &Tokens, t: &WrittenType) -> Result<(), AllocError>
         ensures { OnOk result (self.new ≡ self.old ++ duplicate_field_faults tokens.now (type_of t.now)) }
@@ -330,7 +333,8 @@ impl FoundFaults {
         }
     }
 
-    /// Reports the duplicate fields of a record, and of the records in it.
+    /// Reports the duplicate fields of a record, and then the duplicate fields of the records
+    /// inside it.
     #[cycle(types)]
     fn check_record_fields(&mut self, tokens: &Tokens, r: &RecordType) -> Result<(), AllocError>
         ensures { OnOk result (self.new ≡ self.old ++ duplicate_field_faults tokens.now (record_type_of r.now)) }
@@ -357,7 +361,7 @@ impl FoundFaults {
         }
     }
 
-    /// Reports the duplicate fields of the records in a TYPE section.
+    /// Reports the duplicate fields of the records in the types of a TYPE section.
     fn check_type_section_fields(
         &mut self,
         tokens: &Tokens,
@@ -409,8 +413,8 @@ impl FoundFaults {
         Ok(())
     }
 
-    /// Reports the wrong closing name and the duplicate declarations of a procedure and of the
-    /// blocks inside it.
+    /// Reports the wrong closing name of a procedure, and the duplicate fields in its parameters'
+    /// types. Then reports all such faults in the procedure's block (`check_block`).
     #[cycle(blocks)]
     fn check_procedure(&mut self, tokens: &Tokens, p: &Procedure) -> Result<(), AllocError>
         ensures { OnOk result
@@ -423,8 +427,9 @@ impl FoundFaults {
         self.check_block(tokens, own, &p.block)
     }
 
-    /// Reports the duplicate declarations of a block and of the blocks inside it. `own` has the
-    /// tokens of the parameters, which count as declared in the block.
+    /// Reports the duplicate declarations of a block, the duplicate fields in its types and
+    /// variables, and then all faults of its procedures (`check_procedure`). `own` has the tokens
+    /// of the parameters, which count as declared in the block.
     #[cycle(blocks)]
     fn check_block(&mut self, tokens: &Tokens, own: Vec<usize>, b: &Block) -> Result<(), AllocError>
         ensures { OnOk result

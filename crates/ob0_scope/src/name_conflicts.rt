@@ -1,4 +1,4 @@
-//! Finds the first conflict of a new name for a declaration.
+//! Finds the first conflict that arises if a declaration is renamed to a given new name.
 //!
 //! If no token of the text has the new name, and the declaration isn't predeclared, the name is
 //! free and no walk is needed. Otherwise two walks are needed. The first walk searches the block of
@@ -25,21 +25,21 @@ use ob0_tree::{Block, Procedure, token_text_at};
 use std::alloc::{AllocError, Global};
 use std::marker::Model;
 
-/// The first conflict of a new name for a declaration. A conflict with another declaration precedes
-/// all conflicts at occurrences, which are in text order.
+/// The first conflict that arises if a declaration is renamed to a new name. A conflict with
+/// another declaration precedes all conflicts at occurrences, which are in text order.
 #[derive(Clone, Copy, Debug, PartialEq, Eq)]
 pub enum FirstConflict {
-    /// Another declaration of the same block has the name. The number is that declaration's
-    /// ordinal.
+    /// Another declaration of the same block already has the new name. The number is that
+    /// declaration's ordinal.
     Duplicate(usize),
     /// An occurrence would be bound to another declaration. The number is the occurrence's index in
     /// the list of all occurrences in text order, from 0.
     Occurrence(usize),
 }
 
-/// Returns the first conflict of a new name for a declaration. Either another declaration of the
-/// same block has the name, or an occurrence would be bound to another declaration. Returns None if
-/// the name is free.
+/// Returns the first conflict that arises if the declaration with the ordinal `declaration` is
+/// renamed to `new`. Either another declaration of the same block has this name, or an occurrence
+/// would be bound to another declaration. Returns None if the name is free.
 pub fn captures(
     alloc: Global,
     names: &Resolved,
@@ -206,9 +206,10 @@ impl<'t> NamesakeSearch<'t> {
         if is_here { found } else { None }
     }
 
-    /// Searches a block, then the blocks inside it, for the other declaration with the sought name.
-    /// Returns its ordinal, or None if no such declaration is found. `own` has the tokens of the
-    /// parameters, which count as declared in the block.
+    /// Searches a block and then the blocks inside it. In the block that declares
+    /// `self.declaration`, finds another declaration with the sought name and returns its ordinal.
+    /// Returns None if there is no such declaration. `own` has the tokens of the parameters, which
+    /// count as declared in the block.
     #[cycle(blocks)]
     fn find_in_block(
         &self,
@@ -228,9 +229,9 @@ impl<'t> NamesakeSearch<'t> {
         Ok(found)
     }
 
-    /// Searches the block of a procedure, and the blocks inside it, for the other declaration with
-    /// the sought name. Returns its ordinal, or None if no such declaration is found. The
-    /// procedure's parameters count as declared in the block.
+    /// Searches the block of a procedure in the same way as `find_in_block`, including the blocks
+    /// inside it. Returns the ordinal of the declaration found, or None. The procedure's parameters
+    /// count as declared in the block.
     #[cycle(blocks)]
     fn find_in_procedure(&self, alloc: Global, p: &Procedure) -> Result<Option<usize>, AllocError>
         ensures { IfOk result (λ other. other ≡ namesake_in_procedure self.now (procedure_of p.now)) }

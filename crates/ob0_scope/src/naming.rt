@@ -1,9 +1,9 @@
-//! Finds the name at a place of a module's text, and the tokens that refer to a declaration.
+//! Finds the name at an offset of a module's text, and the tokens that are bound to a declaration.
 //!
-//! In the definitions, each identifier of the tree has a role, a token, and a label from the
-//! numbered tree. The definitions don't use a table of ordinals. The code doesn't walk the tree. It
-//! reads the tokens that are bound to a declaration from the table of ordinals, starting at the
-//! declaring token.
+//! In the definitions, each identifier of the tree has a role, a token, and a label: the ordinal to
+//! which the identifier is bound, or else its spelling. The definitions don't use a table of
+//! ordinals. The code doesn't walk the tree. It reads the tokens that are bound to a declaration
+//! from the table of ordinals, starting at the declaring token.
 
 ghost use Rattle.std.specs.Prelude.{◌≡◌, ◌≤◌, IfOk, false, length, nat_lt, true};
 ghost use Rattle.std.specs.List.{position_from};
@@ -17,7 +17,7 @@ use ob0_scan::{Token, TokenKind};
 use ob0_scope_table::{OrdinalEntry, Resolved, same_ordinal};
 use std::alloc::{AllocError, Global};
 
-/// An identifier that is bound to a declaration: its token, and the declaration's ordinal.
+/// An identifier that is bound to a declaration: its token index, and the declaration's ordinal.
 #[derive(Clone, Copy, PartialEq, Eq)]
 pub struct Named {
     pub token: usize,
@@ -25,8 +25,8 @@ pub struct Named {
 }
 
 /// Returns the name that contains the byte offset `offset` or ends there. The name may be
-/// predeclared. A closing name of a procedure counts as the procedure's name. Returns None at a
-/// field, at the module's name, at an unbound name, and if there is no name.
+/// predeclared. A closing name of a procedure counts as the procedure's name. Returns None if there
+/// is no identifier at `offset`, and at a field, the module's name or an unbound name.
 pub fn name_at(names: &Resolved, offset: usize) -> Option<Named>
     ensures { result ≡ name_at_offset names.now.module_read offset }
 {

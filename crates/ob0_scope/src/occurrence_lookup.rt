@@ -28,7 +28,8 @@ pub fn resolve_at_occurrences(
     ordinals_at(alloc, &ordinals, names.occurrences())
 }
 
-/// Returns the table of ordinals, by token, of the module in which `name` replaces each occurrence.
+/// Returns the table of ordinals of a changed module, in which `name` replaces each occurrence. For
+/// each token, the table has the ordinal to which the token is bound, or None.
 fn number_with_replacement(
     alloc: Global,
     names: &Resolved,
@@ -49,7 +50,8 @@ fn number_with_replacement(
     Ok(ordinals)
 }
 
-/// Returns a table that has ordinal 0 at each occurrence and None at every other token.
+/// Returns a table that has ordinal 0 at each occurrence and None at every other token. So a
+/// renaming of the declaration 0 replaces each occurrence.
 fn occurrence_marks(alloc: Global, names: &Resolved) -> Result<Vec<OrdinalEntry>, AllocError>
     ensures { IfOk result (λ t. t.items
         ≡ with_marks (replicate (length names.now.module_read.source.tokens) None)

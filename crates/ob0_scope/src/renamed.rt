@@ -29,8 +29,9 @@ pub fn resolve_renamed(
     ordinals_at(alloc, &ordinals, names.occurrences())
 }
 
-/// Returns the table of ordinals, by token, after the declaration with the ordinal `declaration` is
-/// renamed to `new`.
+/// Returns the table of ordinals of the module in which the declaration with the ordinal
+/// `declaration` is renamed to `new`. For each token, the table has the ordinal to which the token
+/// is bound, or None.
 pub(crate) fn ordinals_after_rename(
     alloc: Global,
     names: &Resolved,
@@ -52,8 +53,8 @@ pub(crate) fn ordinals_after_rename(
     Ok(ordinals)
 }
 
-/// Returns the ordinal that a table has at each of these tokens. An entry is None if the table has
-/// no ordinal at the token.
+/// Returns, for each token in the list `tokens`, the ordinal that the table `ordinals` has for it.
+/// The entry is None if the table has no ordinal at the token.
 pub(crate) fn ordinals_at(
     alloc: Global,
     ordinals: &[OrdinalEntry],

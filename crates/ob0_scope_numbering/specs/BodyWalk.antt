@@ -1,6 +1,7 @@
--- Defines the walk over a module's identifiers to the body that contains a token. The walk visits
--- the declarations on the way to the body, and the body's statements.
--- Rule: none; for contracts of the walk over identifiers.
+-- Defines the walk over a module's identifiers that goes only to the body that contains a token. In each
+-- block around the body, the walk visits the constants, types and variables. The procedures that come
+-- before the body only get visible names. The walk ends with the body's statements.
+-- Rule: none; used in contracts of the walk over identifiers.
 use Rattle.std.specs.Prelude.{ℕ, ◌+◌, nat_lt, List, [], ◌∷◌, ◌++◌, Option, length, drop, if◌then◌else◌}
 use Rattle.ob0_tree.specs.Tree.{Tree, block, body, declares, declares_procedure, end, forms_block, is_module, item, items, maybe, module_text, more, procedure}
 use Rattle.ob0_language_names.specs.Names.{naming_by_spelling}

@@ -1,7 +1,7 @@
 -- Defines the walk over a module's identifiers in text order, by the state after each part of the
 -- module. The walk gives each identifier the ordinal of its declaration, which is the declaration's
 -- number in text order. The parameter `put_ordinal` says how the ordinals are collected.
--- Rule: none; for contracts of the walk over identifiers.
+-- Rule: none; used in contracts of the walk over identifiers.
 use Rattle.std.specs.Prelude.{ℕ, ◌+◌, ◌-◌, List, [], ◌∷◌, ◌++◌, Option, Some, None, map, length, drop}
 use Rattle.ob0_tree.specs.declared.tree.Role.{Role}
 use Rattle.ob0_tree.specs.declared.tree.Role.TheVariants as role
@@ -12,10 +12,10 @@ use Rattle.ob0_language_names.specs.Names.{Name, naming_by_spelling}
 use Rattle.ob0_language_names.specs.Parts.{names_in_list}
 use Rattle.ob0_language_names.specs.Scopes.{Scope, declare_names, ordinal_of, predeclared_count}
 
--- The state of the walk. `writing` has the spellings of all identifiers, and `scope` the visible
--- names. The other fields are about the identifiers visited so far. `declaration_tokens` has the tokens
--- of declaring names, `uses` the tokens of looked-up names, and `marks` the ordinals of all
--- identifiers.
+-- The state of the walk over a module's identifiers. `writing` has the spellings of all identifiers, and
+-- `scope` the names that are visible at the next identifier. The other fields are about the identifiers
+-- visited so far: `declaration_tokens` has the tokens of declaring names, `uses` the tokens of looked-up
+-- names, and `marks` the ordinals of all these identifiers.
 pub record WalkState (M : Type 0) : Type 0 where
   pub writing : Spellings
   pub scope : Scope Name
@@ -47,7 +47,8 @@ abbrev pub state_after_heading : {M : Type 0} → ℕ → ℕ → WalkState M �
 state_after_heading own outside v = with_visible_names_from own (truncate_scope outside v)
 
 -- Returns the state after the block of the procedure whose name is at the token `x`. Only the
--- `outside` oldest bindings are kept, and then the procedure's name is bound to `ordinal`.
+-- `outside` oldest bindings are kept: the bindings that existed before the procedure. Then the
+-- procedure's name is bound to `ordinal`, so that it's visible after the procedure.
 abbrev pub leave_block : {M : Type 0} → ℕ → ℕ → ℕ → WalkState M → WalkState M
 leave_block x ordinal outside v = with_visible_name x ordinal (truncate_scope outside v)
 

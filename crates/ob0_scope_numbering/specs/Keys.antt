@@ -1,6 +1,6 @@
 -- Defines the keys of names in a map. A key is a name preceded by a number made of the name's last
 -- eight bytes, which distinguish most names.
--- Rule: none; for private contracts: keys of a map.
+-- Rule: none; used in private contracts about the map from names to their positions.
 use Rattle.std.specs.Prelude.{ℕ, ◌+◌, ◌-◌, ◌*◌, ◌%◌, ◌^◌, List, [], ◌∷◌, drop, length}
 use Rattle.std.specs.Borrow.{Bor}
 use Rattle.std.specs.declared.cmp.Ordering.{Ordering}

@@ -1,6 +1,6 @@
 -- Defines the walk over a module's identifiers in text order that collects their ordinals in a list
 -- of marks. The order of the visits is defined in `IdentifierWalk`.
--- Rule: none; for contracts of the walk over identifiers.
+-- Rule: none; used in contracts of the walk over identifiers.
 use Rattle.std.specs.Prelude.{ℕ, List, [], ◌∷◌, ◌++◌, Option}
 use Rattle.ob0_scope_numbering.specs.Marks.{OrdinalMark}
 use Rattle.ob0_tree.specs.declared.tree.Role.{Role}
@@ -14,7 +14,7 @@ use Rattle.ob0_scope_numbering.specs.Written.{Spellings}
 abbrev pub WalkState : Type 0
 WalkState = visit.WalkState (List OrdinalMark)
 
--- appends to a list the mark that gives the token `i` this ordinal
+-- appends to a list the mark that gives the token `i` this ordinal, or no ordinal (None)
 abbrev pub put_ordinal : ℕ → Option ℕ → List OrdinalMark → List OrdinalMark
 put_ordinal i ordinal ms = ms ++ (record { token = i; ordinal = ordinal } ∷ [])
 
@@ -117,13 +117,13 @@ visit_module = visit.visit_module put_ordinal
 abbrev pub with_visible_names_from : ℕ → WalkState → WalkState
 with_visible_names_from = visit.with_visible_names_from
 
--- returns the state after removing all bindings except this many of the oldest ones, in the walk
--- that collects marks
+-- Returns the state after removing bindings from the scope, in the walk that collects marks. The number
+-- says how many of the oldest bindings are kept.
 abbrev pub truncate_scope : ℕ → WalkState → WalkState
 truncate_scope = visit.truncate_scope
 
--- Returns the state after the heading of a procedure, in the walk that collects marks. The two numbers are the
--- declarations and the bindings before the procedure.
+-- Returns the state after the heading of a procedure, in the walk that collects marks. The arguments are the
+-- number of declarations before the procedure, and the number of bindings before it.
 abbrev pub state_after_heading : ℕ → ℕ → WalkState → WalkState
 state_after_heading = visit.state_after_heading
 

@@ -1,6 +1,7 @@
--- Defines marks. A mark is the token of an identifier with the ordinal of the identifier's
--- declaration, which is the declaration's number in text order.
--- Rule: none; for contracts of the walk over identifiers.
+-- Defines marks. A mark has the token of an identifier and the ordinal of the identifier's
+-- declaration. An ordinal is a declaration's number: 0 to 6 for the predeclared names, then 7 upwards
+-- for the text's declarations in text order.
+-- Rule: none; used in contracts of the walk over identifiers.
 use Rattle.std.specs.Prelude.{ℕ, List, [], ◌∷◌, Option, Some, slice_set}
 
 -- the token of an identifier, with the ordinal of the identifier's declaration, or None if there is
@@ -15,7 +16,7 @@ abbrev pub with_marks : List (Option ℕ) → List OrdinalMark → List (Option 
 with_marks table [] = table
 with_marks table (m ∷ ms) = with_marks (slice_set table m.token m.ordinal) ms
 
--- returns a mark that gives this token the ordinal 0, for tables that only record which tokens are
--- looked-up names
+-- Returns a mark that gives this token the ordinal 0. Such marks are used in tables that record only
+-- which tokens are looked-up names, so the ordinal has no meaning.
 abbrev pub zero_mark_at : ℕ → OrdinalMark
 zero_mark_at token = record { token = token; ordinal = Some 0 }

@@ -1,6 +1,6 @@
--- Defines the list of names that the code keeps: each name once, with the index of its newest
--- binding.
--- Rule: none; for private contracts: the map of visible names.
+-- Defines look-ups and changes in the list of names that a scope keeps. The list has each name once,
+-- with the index of its newest binding.
+-- Rule: none; used in private contracts about this list.
 use Rattle.std.specs.Prelude.{◌≡◌, ◌<◌, ℕ, suc, List, [], ◌∷◌, Option, Some, None, if◌then◌else◌, length, option_map, slice_index_or}
 use Rattle.std.specs.BTreeMap.{BTreeMap, get_by}
 use Rattle.ob0_scope_numbering.specs.declared.newest.NameEntry.{NameEntry}

@@ -1,6 +1,6 @@
 -- Defines a scope as the code stores it: bindings, oldest first, each with the index of the binding
 -- that it hides.
--- Rule: none; for contracts: a scope as it is stored.
+-- Rule: none; used in contracts about stored scopes.
 use Rattle.std.specs.Prelude.{◌≡◌, ℕ, List, [], ◌∷◌, Option, Some, None, if◌then◌else◌, map, length, reverse}
 use Rattle.ob0_scope_numbering.specs.declared.visible.Binding.{Binding}
 use Rattle.ob0_scope_numbering.specs.declared.newest.NameEntry.{NameEntry}

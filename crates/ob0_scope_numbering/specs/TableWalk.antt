@@ -1,6 +1,6 @@
 -- Defines the walk over a module's identifiers in text order that enters their ordinals into a
 -- table by token index. The order of the visits is defined in `IdentifierWalk`.
--- Rule: none; for contracts of the walk over identifiers.
+-- Rule: none; used in contracts of the walk over identifiers.
 use Rattle.std.specs.Prelude.{ℕ, List, [], Option, None, length, replicate, slice_set}
 use Rattle.ob0_tree.specs.declared.tree.Role.{Role}
 use Rattle.ob0_tree.specs.Tree.{Sort, Tree, block, constant, constants, formals, further_section, item, items, maybe, module_text, procedure, section, type_definition, type_definitions, variable, variables}
@@ -113,7 +113,7 @@ visit_procedure = visit.visit_procedure put_ordinal
 abbrev pub visit_module : Tree ℕ module_text → WalkState → WalkState
 visit_module = visit.visit_module put_ordinal
 
--- Returns the state after making the name of a declaration visible, in the walk that fills a table. The two numbers are
+-- Returns the state after making the name of a declaration visible, in the walk that fills a table. The arguments are
 -- the declaring token and the declaration's ordinal.
 abbrev pub with_visible_name : ℕ → ℕ → WalkState → WalkState
 with_visible_name = visit.with_visible_name
@@ -123,13 +123,13 @@ with_visible_name = visit.with_visible_name
 abbrev pub with_visible_names_from : ℕ → WalkState → WalkState
 with_visible_names_from = visit.with_visible_names_from
 
--- returns the state after removing all bindings except this many of the oldest ones, in the walk
--- that fills a table
+-- Returns the state after removing bindings from the scope, in the walk that fills a table. The number
+-- says how many of the oldest bindings are kept.
 abbrev pub truncate_scope : ℕ → WalkState → WalkState
 truncate_scope = visit.truncate_scope
 
--- Returns the state after the heading of a procedure, in the walk that fills a table. The two numbers are the
--- declarations and the bindings before the procedure.
+-- Returns the state after the heading of a procedure, in the walk that fills a table. The arguments are the
+-- number of declarations before the procedure, and the number of bindings before it.
 abbrev pub state_after_heading : ℕ → ℕ → WalkState → WalkState
 state_after_heading = visit.state_after_heading
 
@@ -162,7 +162,8 @@ enter_marks table v =
       marks = with_marks table v.marks;
     }
 
--- returns the state after a module, with the ordinals of the module's identifiers in the table
+-- Returns the state after the walk over a module whose identifiers have the spellings `writing`. The
+-- walk collects marks, which are then entered into a table that has None for each token.
 abbrev pub number_module : Tree ℕ module_text → Spellings → WalkState
 number_module m writing =
     enter_marks (replicate (length writing.source.tokens) None)

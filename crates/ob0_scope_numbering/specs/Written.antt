@@ -1,6 +1,6 @@
 -- Defines the spellings of identifiers, as they are in the text or as they are after a renaming of
 -- one declaration.
--- Rule: none; for contracts: identifiers as they are written.
+-- Rule: none; used in contracts about the spellings of identifiers.
 use Rattle.std.specs.Prelude.{ℕ, Bool, false, if◌then◌else◌, List, [], Option, Some, None}
 use Rattle.ob0_scan.specs.TextWithTokens.{TextWithTokens}
 use Rattle.ob0_tree.specs.Tree.{Sort, Tree, mapped_tree}

@@ -64,7 +64,8 @@ fn append_byte(number: u64, byte: u8) -> u64
 }
 
 /// Returns the length of a name and a few of its bytes in one number, enough to distinguish most
-/// names. If the name has four bytes or more, the first byte and the last three are used.
+/// names. If the name has four bytes or more, the first byte and the last three are used. A shorter
+/// name is represented by its first, last and middle byte, and the empty name by 0.
 fn name_fingerprint(name: &str) -> u64 {
     let bytes = name.as_bytes();
     let len = bytes.len();
@@ -80,8 +81,9 @@ fn name_fingerprint(name: &str) -> u64 {
     ends << 16 | u64::from(bytes[len - 2]) << 8 | u64::from(bytes[len - 3])
 }
 
-/// Returns the slot of a name in the table of recent names. The slot is the ten highest bits of a
-/// product with `name_fingerprint`, because these bits depend on all bits of the fingerprint.
+/// Returns the slot of a name in the table of recent names: the ten highest bits of the product of
+/// the name's fingerprint (`name_fingerprint`) and a large constant. These bits depend on all bits
+/// of the fingerprint.
 fn slot_of(name: &str) -> usize {
     (name_fingerprint(name).wrapping_mul(0x9E37_79B9_7F4A_7C15) >> 54) as usize
 }
@@ -125,8 +127,9 @@ impl<'t> Model for NewestBindings<'t> {
 }
 
 impl<'t> NewestBindings<'t> {
-    /// Returns a list with only the name `first`, which has position 0 and no binding. The binding
-    /// of this name is found without reading the name.
+    /// Returns a list with only the name `first`, which has position 0 and no binding. So the
+    /// newest binding of this name can be found without reading the name
+    /// (`newest_binding_of_first_name`).
     pub(crate) fn new(alloc: Global, first: &'t str) -> Result<NewestBindings<'t>, AllocError>
         ensures none { IfOk result (λ t. (x : Name) → newest_binding_in t x ≡ None) }
         ensures first { IfOk result (λ t. position_of_name t first.now ≡ Some 0) }
@@ -147,8 +150,8 @@ impl<'t> NewestBindings<'t> {
         })
     }
 
-    /// Returns the index of the newest binding of the name at the first position. Returns None if
-    /// that name has no binding.
+    /// Returns the index of the newest binding of the name at position 0. Returns None if that name
+    /// has no binding, or if the list is empty.
     pub(crate) fn newest_binding_of_first_name(&self) -> Option<usize>
         ensures { (x : Name) → position_of_name self.now x ≡ Some 0 → result ≡ newest_binding_in self.now x }
     {
@@ -158,8 +161,8 @@ impl<'t> NewestBindings<'t> {
         self.entries[0].newest
     }
 
-    /// Returns the position of `name` in the list if the slot `slot` of the table of recent names
-    /// has this position. Otherwise returns None.
+    /// Returns the position in the slot `slot` of the table of recent names, if `name` is at this
+    /// position of the list. Otherwise returns None.
     #[inline(always)]
     fn find_in_recent(&self, slot: usize, name: &'t str) -> Option<usize>
         ensures { IfSome result (λ name_position. position_of_name self.now name.now ≡ Some name_position) }

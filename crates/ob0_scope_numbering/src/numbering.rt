@@ -16,13 +16,13 @@
 //! soon as the ordinal is known. The entries of fields and of the module's name are None. The
 //! definition of the walk (`IdentifierWalk`) leaves open how ordinals are kept. `TableWalk` keeps
 //! them in a table, like the code, and `MarkWalk` in a list of marks (token, ordinal). The contract
-//! says that the table results from entering the marks into an empty table. So all other proofs are
-//! about the marks, which are in the order of their tokens.
+//! of `number_identifiers` says that the table results from entering the marks into an empty table.
+//! So all other proofs are about the marks, which are in the order of their tokens.
 //!
 //! An entry of the table has 32 bits (`OrdinalEntry`). An ordinal that is too large for an entry is
 //! stored as the greatest one, so no function of the walk requires that ordinals are small. A text
-//! has no more tokens than bytes, and each declaration has a different token. So entries can hold
-//! the ordinals of all marks.
+//! has at most 2^20 bytes and no more tokens than bytes, and each declaration has a different
+//! token. So entries can hold the ordinals of all marks.
 
 ghost use Rattle.std.specs.Prelude.{◌≡◌, ◌+◌, ◌<◌, ◌^◌, [], OnOk, IfOk, length, Some, None};
 ghost use Rattle.ob0_tree.specs.declared.tree.Role.TheVariants as roles;
@@ -49,12 +49,13 @@ use ob0_tree::{
 use std::alloc::{AllocError, Global};
 use std::marker::Model;
 
-/// The state of the walk inside a module. `table` has the ordinal of each identifier visited so
-/// far, at the index of its token. `visible` has the names that are visible at the present place.
-/// `declaration_tokens` has the tokens of the declaring names so far, and `occurrences` the tokens of
-/// the looked-up names. `declaration` is the ordinal of a renamed declaration, or None if nothing
-/// is renamed. `ordinals` has each token's ordinal before the renaming: an identifier whose ordinal
-/// in this list is `declaration` gets the name that the renaming introduces.
+/// The state of the walk over a module's identifiers. `table` has the ordinal of each identifier
+/// visited so far, at the index of its token. `visible` has the names that are visible at the next
+/// identifier. `declaration_tokens` has the tokens of the declaring names so far, and `occurrences`
+/// the tokens of the looked-up names so far. `declaration` is the ordinal of a renamed declaration,
+/// or None if nothing is renamed. `ordinals` has each token's ordinal before the renaming: an
+/// identifier whose ordinal in this list is `declaration` gets the name that the renaming
+/// introduces.
 #[derive(Drop)]
 pub struct Numbering<'t> {
     tokens: &'t Tokens,
@@ -113,8 +114,8 @@ fn ordinal_at_index(index: usize) -> usize
 }
 
 /// Returns a scope in which only the predeclared names are bound, to the ordinals 0 to 6. The scope
-/// also keeps `new`, the name that a renaming introduces. This name isn't bound to the renamed
-/// declaration yet.
+/// also stores `new`, the name that a renaming introduces, without binding it to the renamed
+/// declaration.
 fn scope_with_predeclared_names<'t>(
     alloc: Global,
     new: &'t str,
@@ -196,8 +197,8 @@ pub fn renumber_body(
 }
 
 /// Gives the identifiers of a module, spelled as in `writing`, their ordinals, and returns the
-/// state after the visit. The table can hold every ordinal, because a text has no more declarations
-/// than bytes.
+/// state after the visit. An entry of the table can hold every ordinal, because a text has at most
+/// 2^20 bytes and no more declarations than bytes.
 pub fn number_identifiers<'t>(
     alloc: Global,
     read: &'t Module<'t>,
@@ -289,7 +290,7 @@ impl<'t> Numbering<'t> {
         Ok(())
     }
 
-    /// Drops the newest bindings until at most `len` bindings are left.
+    /// Removes the newest bindings from the scope until at most `len` bindings are left.
     fn truncate_bindings(&mut self, len: usize)
         ensures { self.new ≡ truncate_scope len self.old }
     {

@@ -1,5 +1,5 @@
-//! Keeps the names that are visible at a place of a module, with the declarations to which they are
-//! bound.
+//! Defines a scope: the names that are visible at a place of a module, with the ordinals of the
+//! declarations to which they are bound.
 
 ghost use Rattle.std.specs.Prelude.{◌≡◌, [], ◌∷◌, OnErr, OnOk, IfOk, length, drop, ◌-◌};
 ghost use Rattle.ob0_scope_numbering.specs.StoredScopes.{with_scope};
@@ -11,8 +11,8 @@ use std::alloc::{AllocError, Global};
 use std::marker::Model;
 
 /// A binding of a name to an ordinal. `name_position` is the name's position in the list of names
-/// (`NewestBindings`). `hidden_index` is the index of the older binding that this binding hides,
-/// or None if it hides no binding.
+/// (`NewestBindings`). `hidden_index` is the index of the older binding that this binding
+/// hides, or None if this binding hides no other.
 #[derive(Drop)]
 pub(crate) struct Binding<'t> {
     name: &'t str,
@@ -21,10 +21,10 @@ pub(crate) struct Binding<'t> {
     hidden_index: Option<usize>,
 }
 
-/// The bindings at a place, oldest first. `newest` has the index of the newest binding of each
-/// name. `new_name` is the name that a renaming introduces. Callers pass the empty name if nothing
-/// is renamed. `new_name` may be far longer than the names of the text, so its binding is found
-/// without reading the name.
+/// The bindings of names at a place of a module, oldest first, including the hidden ones. `newest`
+/// has the index of the newest binding of each name. `new_name` is the name that a renaming
+/// introduces, or the empty name if nothing is renamed. `new_name` may be far longer than the names
+/// of the text, so its binding is found without reading the name.
 #[derive(Drop)]
 pub(crate) struct VisibleBindings<'t> {
     new_name: &'t str,
@@ -117,7 +117,7 @@ impl<'t> VisibleBindings<'t> {
         Ok(())
     }
 
-    /// Drops the newest bindings until at most `len` bindings are left.
+    /// Removes the newest bindings until at most `len` bindings are left.
     pub(crate) fn truncate_bindings(&mut self, len: usize)
         ensures { self.new
             ≡ with_scope self.old (drop (length self.old.scope - len) self.old.scope) }

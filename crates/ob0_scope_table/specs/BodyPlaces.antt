@@ -1,5 +1,5 @@
 -- Defines the place of a body: its first identifier, and the closing name of its block.
--- Rule: none; for contracts: the body in which a range of tokens lies.
+-- Rule: none; used in contracts about the body in which a range of tokens lies.
 use Rattle.std.specs.Prelude.{ℕ, Bool, Option, None, if◌then◌else◌, option_map}
 use Rattle.ob0_tree.specs.FirstIdentifier.{first_identifier}
 use Rattle.ob0_tree.specs.Tree.{Tree, block, body, is_module, item, maybe, module_text, procedure}
@@ -14,8 +14,8 @@ use Rattle.ob0_scope_table.specs.declared.one_body.BodyPlace.{BodyPlace}
 abbrev pub module_tree_of : ModuleTree → Tree ℕ module_text
 module_tree_of t = is_module t.name (block_of t.block) t.closing
 
--- Returns the place of a body with these statements, in a block with this closing name. Returns None
--- if `condition` is false, or if the statements have no identifier.
+-- Returns the place of a body with these statements, in a block with the closing name at the token
+-- `closing`. Returns None if `condition` is false, or if the statements have no identifier.
 abbrev pub body_place_of_statements_if : Bool → Tree ℕ (maybe body) → ℕ → Option BodyPlace
 body_place_of_statements_if condition statements closing =
     if condition

@@ -1,7 +1,7 @@
 -- Defines a module in which the statements of one body were replaced, so that the module may have
 -- more or fewer tokens than before. Also defines the path to that body in the tree, the module
 -- without the body, and the body's closing name.
--- Rule: none; for contracts: a replacement of the tokens of one body.
+-- Rule: none; used in contracts about a replacement of the tokens of one body.
 use Rattle.std.specs.Prelude.{◌≡◌, ◌<◌, ◌≤◌, ◌+◌, ◌-◌, ℕ, zero, suc, true, nat_lt, List, [], ◌∷◌, Option, Some, None, if◌then◌else◌, slice_get}
 use Rattle.ob0_scan.specs.Reused.{words_of_tokens}
 use Rattle.ob0_scan.specs.TextWithTokens.{IsScan}
@@ -11,21 +11,21 @@ use Rattle.ob0_tree.specs.ParsedModule.{IsParsed, ParsedModule, tree_of}
 use Rattle.ob0_tree.specs.Tree.{Tree, block, body, declares, declares_procedure, end, forms_block, is_module, item, items, mapped_tree, maybe, module_text, more, none, procedure}
 use Rattle.ob0_scope_table.specs.OneBody.{closing_name, is_in_body, is_outside}
 
--- A path to a body in the tree: in each block, the number of the procedure to enter, from the
--- module inwards. The procedures of a block are counted from 0. The path leads to the body of the
--- procedure that is entered last. An empty path leads to the module's own body.
+-- A path to a body in the tree. It lists, from the outermost block inwards, the procedure to enter
+-- in each block, counted from 0. The path leads to the body of the procedure that is entered last. An
+-- empty path leads to the body of the block in which the path starts.
 abbrev pub PathToBody : Type 0
 PathToBody = List ℕ
 
--- returns the path to the same body once another procedure is inserted before all procedures of the
--- first block on the path
+-- Returns the path to the same body once another procedure is inserted before all procedures of the
+-- first block on the path. So the first number of the path is increased by 1.
 abbrev pub shift_path : PathToBody → PathToBody
 shift_path [] = []
 shift_path (k ∷ path) = suc k ∷ path
 
--- Returns the path to the body around the token `low`.
+-- Returns the path to the body that contains the token `low`, if a body contains it.
 abbrev mutual
-  -- returns the path from a block to the body around the token `low`
+  -- returns the path from a block to the body that contains the token `low`, if a body contains it
   pub path_to_body_in_block : ℕ → Tree ℕ block → PathToBody
   path_to_body_in_block low (forms_block (declares cs ts vs ps) statements) = path_to_body_in_procedures low ps
 
@@ -38,11 +38,11 @@ abbrev mutual
       if nat_lt (closing_name p) low then shift_path (path_to_body_in_procedures low ps)
       else zero ∷ path_to_body_in_procedure low p
 
-  -- returns the path from a procedure to the body around the token `low`
+  -- returns the path from a procedure to the body that contains the token `low`, if a body contains it
   pub path_to_body_in_procedure : ℕ → Tree ℕ (item procedure) → PathToBody
   path_to_body_in_procedure low (declares_procedure x fs b closing) = path_to_body_in_block low b
 
--- returns the path from a module to the body around the token `low`
+-- returns the path from a module to the body that contains the token `low`, if a body contains it
 abbrev pub path_to_body_in_module : ℕ → Tree ℕ module_text → PathToBody
 path_to_body_in_module low (is_module x b closing) = path_to_body_in_block low b
 
@@ -127,9 +127,9 @@ moved_token_index s i = if nat_lt i s.prefix then i else s.new_suffix + (i - s.o
 
 -- States that two modules are the same except for the statements of one body, to which `path` leads.
 -- In these statements, the tokens `s.prefix..s.new_suffix` of the module `new` replace the tokens
--- `s.prefix..s.old_suffix` of the module `old`. All other tokens have the same spellings, and the
--- later ones may have other indexes. In both modules, the body's first identifier is before the
--- replaced tokens, and the closing name of its block is after them.
+-- `s.prefix..s.old_suffix` of the module `old`. All other tokens have the same spellings. The tokens
+-- after the replaced ones may have other indexes. In both modules, the body's first identifier is
+-- before the replaced tokens, and the closing name of its block is after them.
 pub record IsBodyReplaced (old new : ParsedModule) (path : PathToBody) (s : SameParts) : Type 0 where
   pub old_range : s.prefix ≤ s.old_suffix
   pub new_range : s.prefix ≤ s.new_suffix

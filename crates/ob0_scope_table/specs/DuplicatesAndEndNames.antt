@@ -1,5 +1,5 @@
--- Defines the faults of duplicate declarations and wrong closing names, in the order in which they
--- are reported. The trees have token indexes in place of names.
+-- Defines the faults of duplicate declarations (including fields) and wrong closing names, in the order
+-- in which they are reported. The trees have token indexes in place of names.
 -- Rule: docs/LANGUAGE.md, Faults of scopes and types, `Duplicate`, `EndName`.
 use Rattle.std.specs.Prelude.{ℕ, Bool, not, List, [], ◌∷◌, ◌++◌, if◌then◌else◌}
 use Rattle.ob0_scan.specs.declared.fault.FaultCode.TheVariants as code
@@ -33,8 +33,8 @@ duplicate_faults source before (x ∷ xs) =
     fault_unless (not (is_among (token_text_at source x) before)) (duplicate_fault source x)
     ++ duplicate_faults source (token_text_at source x ∷ before) xs
 
--- returns a list with only the fault `EndName` if a closing name differs from its opening name,
--- otherwise an empty list
+-- returns a list with only the fault `EndName` if the closing name of a module or procedure (at the token
+-- `closing`) differs from its name (at the token `x`), otherwise an empty list
 abbrev pub closing_name_faults : TextWithTokens → ℕ → ℕ → List Fault
 closing_name_faults source x closing =
     fault_unless (same_name (token_text_at source x) (token_text_at source closing)) (end_name_fault source closing)
@@ -78,11 +78,12 @@ duplicate_field_faults_in_formals source end = []
 duplicate_field_faults_in_formals source (more (then_section s) fs) =
     duplicate_field_faults source (section_type s) ++ duplicate_field_faults_in_formals source fs
 
--- Returns the faults of a block's duplicate names, followed by the faults of its types, variables
--- and procedures.
+-- Returns the faults of duplicate declarations and wrong closing names in a block, in procedures, or in
+-- one procedure.
 abbrev mutual
-  -- Returns the faults of a block. If it is a procedure's block, `own` has the tokens of the names of
-  -- the procedure's parameters, which count as declared in the block.
+  -- Returns the faults of a block: first of duplicate names in the block, then of duplicate fields in its
+  -- types and variables, then of its procedures. In a procedure's block, `own` has the tokens of the
+  -- names of the procedure's parameters, which count as declared in the block.
   pub block_declaration_faults : TextWithTokens → List ℕ → Tree ℕ block → List Fault
   block_declaration_faults source own (forms_block (declares cs ts vs ps) statements) =
       duplicate_faults source [] (own ++ block_names (forms_block (declares cs ts vs ps) statements))
@@ -94,18 +95,20 @@ abbrev mutual
   procedures_declaration_faults source end = []
   procedures_declaration_faults source (more p rest) = procedure_declaration_faults source p ++ procedures_declaration_faults source rest
 
-  -- returns the faults of a procedure: of its closing name, its parameters' types, and its block
+  -- returns the faults of a procedure: first of its closing name, then of duplicate fields in its
+  -- parameters' types, then of its block
   pub procedure_declaration_faults : TextWithTokens → Tree ℕ (item procedure) → List Fault
   procedure_declaration_faults source (declares_procedure x fs b closing) =
       closing_name_faults source x closing
       ++ (duplicate_field_faults_in_formals source (formal_sections fs)
       ++ block_declaration_faults source (formal_names (formal_sections fs)) b)
 
--- returns the faults of all duplicate declarations and wrong closing names of a module's tree
+-- returns the faults of all duplicate declarations (including fields) and wrong closing names in a
+-- module's tree
 abbrev pub tree_declaration_faults : TextWithTokens → Tree ℕ module_text → List Fault
 tree_declaration_faults source (is_module x b closing) =
     closing_name_faults source x closing ++ block_declaration_faults source [] b
 
--- returns the faults of all duplicate declarations and wrong closing names of a module
+-- returns the faults of all duplicate declarations (including fields) and wrong closing names in a module
 abbrev pub declaration_faults : ParsedModule → List Fault
 declaration_faults m = tree_declaration_faults m.source (tree_of m)

@@ -1,14 +1,14 @@
 -- Defines how an entry of a table of ordinals is stored as a number of 32 bits. An ordinal is a
 -- declaration's number.
--- Rule: none; for contracts: ordinals in 32 bits.
+-- Rule: none; used in contracts about tables of ordinals.
 use Rattle.std.specs.Prelude.{ℕ, zero, suc, min, Option, Some, None, option_map}
 
 -- the greatest ordinal that an entry can have
 abbrev pub greatest_ordinal : ℕ
 greatest_ordinal = 4294967294
 
--- Returns an optional ordinal as an entry stores it. An ordinal above the greatest one is stored as
--- the greatest one.
+-- Returns an optional ordinal as an entry stores it. An ordinal above the greatest one that an entry can
+-- have (`greatest_ordinal`) is stored as the greatest one.
 abbrev pub stored_ordinal : Option ℕ → Option ℕ
 stored_ordinal ordinal = option_map (λ n. min n greatest_ordinal) ordinal
 

@@ -1,6 +1,6 @@
 -- Defines faults with the tokens at which they begin and end, so that they can be moved to another
 -- text whose tokens have the same spellings.
--- Rule: none; for contracts: the results that stay the same if all tokens keep their spellings.
+-- Rule: none; used in contracts about results that stay the same if all tokens keep their spellings.
 use Rattle.std.specs.Prelude.{◌≡◌, ◌==◌, ℕ, nat_lt, List, length, map, if◌then◌else◌}
 use Rattle.std.specs.List.{prefix_len}
 use Rattle.ob0_scan.specs.declared.fault.Fault.{Fault}
@@ -23,8 +23,8 @@ pub record AreWrittenAlike (old new : TextWithTokens) : Type 0 where
   pub same_words : words_of_tokens new.text new.tokens ≡ words_of_tokens old.text old.tokens
   pub same_front : (first_token_start new == 0) ≡ (first_token_start old == 0)
 
--- returns a fault with its span, which goes from the start of its first token to the end of its
--- last token
+-- returns a fault with its span in the text `source`, which goes from the start of the fault's first
+-- token to the end of its last token
 abbrev pub fault_at : TextWithTokens → FaultByTokens → Fault
 fault_at source f =
     record {
@@ -34,8 +34,9 @@ fault_at source f =
     }
 
 -- Returns the index of the first token that begins at or after the byte offset `byte_offset`. Returns
--- the number of tokens if there is no such token, and for the offset 0. No token has the index that
--- is returned for the offset 0. So `span_at` turns this index back into a span at the offset 0.
+-- the number of tokens if there is no such token. Also returns the number of tokens for the offset 0,
+-- even if a token begins there. No token has this index, so `span_at` returns the empty span at the
+-- offset 0 for it.
 abbrev pub index_starting_at : List Token → ℕ → ℕ
 index_starting_at tokens byte_offset =
     if byte_offset == 0 then length tokens
@@ -49,7 +50,7 @@ index_ending_at tokens byte_offset =
     if byte_offset == 0 then length tokens
     else prefix_len (λ (t : Token). nat_lt t.span.end byte_offset) tokens
 
--- returns a fault with the tokens at which it begins and ends instead of its span
+-- returns a fault with the indexes of the tokens at which it begins and ends, instead of its span
 abbrev pub fault_by_tokens : List Token → Fault → FaultByTokens
 fault_by_tokens tokens f =
     record {
@@ -58,12 +59,13 @@ fault_by_tokens tokens f =
       last = index_ending_at tokens f.span.end;
     }
 
--- returns the faults of the text `old`, moved to the same tokens of the text `new`
+-- returns the faults of the text `old` with spans in the text `new`: each fault goes from the same first
+-- token to the same last token (by index) as in `old`
 abbrev pub moved_faults : TextWithTokens → TextWithTokens → List Fault → List Fault
 moved_faults old new faults = map (fault_at new) (map (fault_by_tokens old.tokens) faults)
 
 -- States that the faults `before` of the text `old` match the faults `after` of the text `new`, one
--- by one. Two faults match if they have the same code and are at the same tokens.
+-- by one. Two faults match if they have the same code, and the same first and last token by index.
 pub record AreAtSameTokens (old new : TextWithTokens) (before after : List Fault) : Type 0 where
   pub tokens : List FaultByTokens
   pub in_old : before ≡ map (fault_at old) tokens

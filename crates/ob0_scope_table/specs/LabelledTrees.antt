@@ -1,6 +1,6 @@
--- Defines trees with labels in place of their tokens. A label is the ordinal of a name's
--- declaration, or the spelling of an identifier without an ordinal.
--- Rule: none; for contracts: trees with labels.
+-- Defines trees that have a label in place of each identifier's token. A label is the ordinal of a
+-- name's declaration, or the spelling of an identifier without an ordinal.
+-- Rule: none; used in contracts about trees with labels.
 use Rattle.std.specs.Prelude.{ℕ}
 use Rattle.ob0_tree.specs.Tree.{Sort, Tree, mapped_tree}
 use Rattle.ob0_tree.specs.Places.{token_value_at}

@@ -1,6 +1,6 @@
--- Defines a change of tokens inside the statements of one block. The tokens outside the changed
--- range keep their spellings.
--- Rule: none; for contracts: a change of the spellings in one body.
+-- Defines a change of the spellings of tokens inside one body (the statements of one block). The tokens
+-- outside the changed range keep their spellings.
+-- Rule: none; used in contracts about a change of spellings in one body.
 use Rattle.std.specs.Prelude.{◌≡◌, ℕ, Bool, true, false, ◌&&◌, ◌||◌, nat_le, nat_lt, List, [], ◌∷◌, if◌then◌else◌, slice_get}
 use Rattle.ob0_scan.specs.Reused.{kinds, words_of_tokens}
 use Rattle.ob0_scan.specs.TextWithTokens.{IsScan, TextWithTokens}
@@ -33,10 +33,11 @@ abbrev mutual
   is_in_block low high (forms_block (declares cs ts vs ps) statements) =
       is_in_procedures low high ps statements
 
-  -- Skips the procedures that end before the token `low` (their closing names are before it). If
-  -- the list has another procedure, returns whether the tokens from `low` up to, but not including,
-  -- `high` are in the statements of that procedure's block, or of a block inside it. Otherwise,
-  -- returns whether `low` is at or after the first identifier of the block's own statements.
+  -- Returns whether the tokens from `low` up to, but not including, `high` are in one body of a block
+  -- that has these procedures and these statements. If a procedure's closing name is at or after
+  -- `low`, the body must be in the first such procedure. Otherwise, `low` must be at or after the
+  -- first identifier of the statements. The caller checks that `high` is at or before the closing name
+  -- of the block.
   pub is_in_procedures : ℕ → ℕ → Tree ℕ (items procedure) → Tree ℕ (maybe body) → Bool
   is_in_procedures low high end statements = begins_at_or_before low (identifiers role.Declaring statements)
   is_in_procedures low high (more p ps) statements =

@@ -1,5 +1,6 @@
--- Defines a resolved module: the ordinal (the number) of the declaration to which each name is
--- bound, and the faults of names.
+-- Defines a resolved module: a module with the declaration to which each name is bound, and the faults of
+-- names. An ordinal is a declaration's number: 0 to 6 for the predeclared names, then 7 upwards for the
+-- text's declarations in text order.
 -- Rule: docs/LANGUAGE.md, Scopes, Faults of scopes and types, `Undeclared`.
 use Rattle.std.specs.Prelude.{◌≡◌, ℕ, ◌-◌, nat_lt, Bool, true, false, not, ◌==◌, List, [], ◌∷◌, ◌++◌, Option, None, slice_get, slice_index_or, if◌then◌else◌, is_some}
 use Rattle.std.specs.List.{filter, list_any}
@@ -68,8 +69,8 @@ is_undeclared_fault fault = elim (fault.code) [ code.Undeclared ↦ true | _ ↦
 abbrev pub span_at : TextWithTokens → ℕ → Span
 span_at source token = spans.span_at source token
 
--- returns a fault `Undeclared` for each of these looked-up names (given by their tokens) that has no
--- ordinal in the table
+-- Returns a fault `Undeclared` for each looked-up name that has no ordinal in the table `ordinals`. The
+-- looked-up names are given by their tokens.
 abbrev pub undeclared_faults_by_table : TextWithTokens → List (Option ℕ) → List ℕ → List Fault
 undeclared_faults_by_table source ordinals [] = []
 undeclared_faults_by_table source ordinals (token ∷ tokens) =
@@ -88,10 +89,10 @@ pub record Resolution : Type 0 where
   pub uses : List ℕ
   pub faults : List Fault
 
--- States that the table of ordinals gives each identifier the label that the scope rules give it.
--- Replacing each identifier of the module's tree by its label in the table (`label_at`) must result
--- in the numbered tree (`numbered`), in which each bound name is replaced by its declaration's
--- ordinal.
+-- States that the table of ordinals gives each identifier the label that the scope rules give it. A
+-- label is the ordinal of a name's declaration, or an identifier's spelling. The tree with the labels
+-- according to the table (`label_at`) must equal the tree with the labels according to the scope rules
+-- (`numbered`).
 abbrev pub IsNumberingTable : ParsedModule → List (Option ℕ) → Type 0
 IsNumberingTable m ordinals =
     numbered (named_tree_of m) ≡ mapped_tree (label_at m.source ordinals) (token_value_at m.source) (tree_of m)
@@ -113,9 +114,9 @@ IsBindingTable m ordinals =
     relabel_module naming_by_spelling ordinal_and_spelling (named_tree_of m)
     ≡ mapped_tree (binding_at m.source ordinals) (token_value_at m.source) (tree_of m)
 
--- Returns a fault `Undeclared` for each of these looked-up names that is unbound according to its
--- label (`is_unbound`). The lists have the tokens of the looked-up names and their labels, in the
--- same order.
+-- Returns a fault `Undeclared` for each looked-up name whose label says that it is unbound
+-- (`is_unbound`). The first list has the tokens of the looked-up names, and the second list has the
+-- names' labels in the same order.
 abbrev pub undeclared_faults_by_labels : TextWithTokens → List ℕ → List Label → List Fault
 undeclared_faults_by_labels source [] labels = []
 undeclared_faults_by_labels source (token ∷ tokens) [] = []
@@ -131,7 +132,7 @@ undeclared_faults m = undeclared_faults_by_labels m.source (occurrences (tree_of
 
 -- States that these are the faults of a module's names. Duplicate declarations and wrong closing
 -- names come first (`declaration_faults`). A fault for each undeclared name follows, in text order.
--- The list has no fault of the first two kinds exactly if no name is declared twice in a block or
+-- The list has no fault `Duplicate` or `EndName` exactly if no name is declared twice in a block or
 -- record, and all closing names are right.
 pub record AreNameFaultsOf (m : ParsedModule) (faults : List Fault) : Type 0 where
   pub by_kind : faults ≡ declaration_faults m ++ undeclared_faults m

@@ -1,5 +1,5 @@
--- Defines the spans of tokens.
--- Rule: none; for contracts: places of tokens.
+-- Defines the spans of tokens, in bytes.
+-- Rule: none; used in contracts about the places of tokens in a text.
 use Rattle.std.specs.Prelude.{ℕ, Bool, nat_le, ◌&&◌, Option, Some, None, slice_get}
 use Rattle.ob0_scan.specs.declared.lexeme.Span.{Span}
 use Rattle.ob0_scan.specs.declared.lexeme.Token.{Token}

@@ -1,4 +1,4 @@
-//! Describes faults by the first and the last token of their ranges instead of by bytes. So the
+//! Converts faults from spans in bytes to the first and last token of each span, and back. So the
 //! faults of a text can be moved to another text whose tokens have the same spellings.
 
 ghost use Rattle.std.specs.Prelude.{◌≡◌, ◌≤◌, IfOk, length, map, nat_lt};
@@ -10,7 +10,8 @@ use crate::table::token_span;
 use ob0_scan::{Fault, FaultCode, Span, Token, Tokens};
 use std::alloc::{AllocError, Global};
 
-/// A fault, with the indexes of the first and the last token of its range instead of its span.
+/// A fault, with the indexes of the first and the last token of its span instead of the span in
+/// bytes.
 #[derive(Clone, Copy)]
 pub struct FaultByTokens {
     pub code: FaultCode,
@@ -18,7 +19,8 @@ pub struct FaultByTokens {
     pub last: usize,
 }
 
-/// Returns each of these faults with the tokens at which it begins and ends, in the same order.
+/// Returns each of these faults with the indexes of the tokens at which it begins and ends, instead
+/// of its span. The faults keep their order.
 pub fn faults_by_tokens(
     alloc: Global,
     tokens: &Tokens,
@@ -33,7 +35,7 @@ pub fn faults_by_tokens(
     Ok(found)
 }
 
-/// Returns a fault with the tokens at which it begins and ends.
+/// Returns a fault with the indexes of the tokens at which it begins and ends, instead of its span.
 fn find_fault_tokens(tokens: &Tokens, fault: &Fault) -> FaultByTokens
     ensures { result ≡ fault_by_tokens tokens.now.tokens fault.now }
 {
@@ -81,9 +83,9 @@ fn fault_from_tokens(tokens: &Tokens, fault: &FaultByTokens) -> Fault
 }
 
 /// Returns the index of the first token that begins at or after the offset `byte_offset`, found by
-/// binary search. Returns the number of tokens if there is no such token, and for the offset 0. No
-/// token has the index that is returned for the offset 0. So `token_span` turns this index back
-/// into a span at the offset 0.
+/// binary search. Returns the number of tokens if there is no such token. Also returns the number
+/// of tokens for the offset 0, even if a token begins there. No token has this index, so
+/// `token_span` returns the empty span at the offset 0 for it.
 fn find_token_starting_at(tokens: &[Token], byte_offset: usize) -> usize
     ensures { IsNonDecreasingBy (λ (t : token.Token). t.span.start) tokens.now
         → result ≡ index_starting_at tokens.now byte_offset }

@@ -1,6 +1,6 @@
-//! Finds the body (the statements of one block) that contains a range of tokens, if there is one.
-//! A body contains the range if the range begins at or after the body's first identifier and ends
-//! before the closing name of the body's block.
+//! Finds the body (the statements of one block) that contains a range of tokens, if there is one. A
+//! body contains the tokens from `low` up to, but not including, `high` if `low` is at or after the
+//! body's first identifier, and `high` is at or before the closing name of the body's block.
 
 ghost use Rattle.std.specs.Prelude.{◌≡◌};
 ghost use Rattle.ob0_tree.specs.ParsedModule.{tree_of};
@@ -80,9 +80,9 @@ fn body_place_in_procedure(p: &Procedure, low: usize, high: usize) -> Option<Bod
     body_place_in_block(&p.block, p.closing, low, high)
 }
 
-/// Returns the place of a body with these statements, in a block with this closing name. Returns
-/// None if the statements have no identifier, or if their first identifier is after the token
-/// `low`.
+/// Returns the place of a body with these statements, in a block with the closing name at the token
+/// `closing`. Returns None if the statements have no identifier, or if their first identifier is
+/// after the token `low`.
 fn body_place_of_statements(
     statements: &Option<Vec<Statement>>,
     closing: usize,

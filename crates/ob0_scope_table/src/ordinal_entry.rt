@@ -27,8 +27,8 @@ impl Model for OrdinalEntry {
 }
 
 impl OrdinalEntry {
-    /// Returns the entry for an ordinal, or for None. An ordinal above the greatest one is stored
-    /// as the greatest one.
+    /// Returns the entry for an optional ordinal. An ordinal above the greatest one that an entry
+    /// can have is stored as the greatest one.
     pub fn new(ordinal: Option<usize>) -> OrdinalEntry
         ensures { result ≡ stored_ordinal ordinal }
     {

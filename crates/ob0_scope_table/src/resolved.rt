@@ -1,4 +1,4 @@
-//! Keeps a module together with the bindings of its names.
+//! Defines a resolved module: a module with the bindings of its names to declarations.
 
 ghost use Rattle.std.specs.Prelude.{◌≡◌, ◌-◌, ◌<◌, slice_get, Some, None};
 ghost use Rattle.ob0_tree.specs.ParsedModule.{named_tree_of};
@@ -16,7 +16,8 @@ use std::marker::Model;
 /// The bindings of a module's names, as token indexes and ordinals (the numbers of declarations).
 /// `ordinals` has an entry for each token: the ordinal of the identifier's declaration, or None.
 /// `declaration_tokens` has the tokens of the declaring names, and `occurrences` the tokens of the
-/// looked-up names. `faults` has the faults of names. Bindings borrow nothing.
+/// looked-up names, both in text order. `faults` has the faults of names: duplicate declarations,
+/// wrong closing names and undeclared names. Bindings borrow nothing.
 #[derive(Drop)]
 pub struct Bindings {
     pub ordinals: Vec<OrdinalEntry>,
@@ -126,10 +127,10 @@ impl<'t> Resolved<'t> {
         self.bindings().occurrences.get(occurrence).copied()
     }
 
-    /// Returns the ordinal of the declaration of the identifier at a token. A looked-up name has
-    /// the ordinal to which it is bound. A declaring name has its own ordinal, and a procedure's
-    /// closing name has the procedure's. Returns None at a field, at the module's name, at an
-    /// unbound name and at any other token.
+    /// Returns the ordinal of the declaration to which the identifier at a token refers. At a
+    /// declaring name, this is the ordinal of the name that is declared there. At a procedure's
+    /// closing name, it is the procedure's ordinal. Returns None at a field, at the module's name,
+    /// at an unbound name and at a token that isn't an identifier.
     pub fn ordinal_at(&self, token: usize) -> Option<usize>
         ensures { result ≡ ordinal_in self.now.ordinals token }
     {

@@ -1,9 +1,9 @@
 -- Defines the counts of a device's reads.
--- Rule: none; for the contracts of functions that read from a device.
+-- Rule: none; used in the contracts of functions that read from a device.
 use Rattle.std.specs.Prelude.{◌+◌, ◌-◌, ◌^◌, ℕ, min, max}
 
--- The number of reads that were made, and the length in bytes of the longest buffer that was passed
--- to a read.
+-- The number of reads of a device, and the length in bytes of the longest buffer that was passed to
+-- a read.
 pub record ReadCounts : Type 0 where
   pub count : ℕ
   pub longest_buffer : ℕ
@@ -12,7 +12,8 @@ pub record ReadCounts : Type 0 where
 abbrev pub no_reads : ReadCounts
 no_reads = record { count = 0; longest_buffer = 0 }
 
--- Returns the counts after one more read into a buffer of `len` bytes. `count` stops at 2^64 - 1.
+-- Returns the counts `reads`, updated for one more read into a buffer of `len` bytes. `count` stops
+-- at 2^64 - 1.
 abbrev pub counts_after_read : ℕ → ReadCounts → ReadCounts
 counts_after_read len reads =
     record { count = min (reads.count + 1) (2 ^ 64 - 1); longest_buffer = max reads.longest_buffer len }

@@ -24,7 +24,7 @@ pub trait InputDevice {
     // Returns the number of reads, and the length in bytes of the longest buffer passed to a read.
     ghost reads: { Self → ReadCounts };
 
-    // Returns whether a call has failed.
+    // Returns whether a call of `read` has failed.
     ghost has_failed: { Self → Bool };
 
     /// Reads bytes into the buffer, and returns the number of bytes read. Returns 0 only at the end
@@ -45,7 +45,7 @@ pub trait OutputDevice {
     // since the last write.
     ghost is_flushed: { Self → Bool };
 
-    // Returns whether a call has failed.
+    // Returns whether a call of `write` or `flush` has failed.
     ghost has_failed: { Self → Bool };
 
     /// Writes a prefix of the bytes, and returns the number of bytes written. If `buf` isn't empty,

@@ -91,7 +91,7 @@ abbrev pub code_action_of : RequestedActions → Inlining → List Edit → Data
 code_action_of requested how edits =
     action_value (workspace_edit requested.client requested.uri requested.version edits) (title how)
 
--- Returns a list with the JSON value of one code action, which applies these edits. If the edits
+-- Returns a list of at most one JSON value: the code action that applies these edits. If the edits
 -- are None, the inlining is refused, and the list is empty.
 abbrev pub action_values : RequestedActions → Inlining → Option (Vec Edit Global) → List Data
 action_values requested how (Some edits) = code_action_of requested how edits.items ∷ []
@@ -107,8 +107,10 @@ actions_array requested here everywhere =
     array (items_of
     (action_values requested OneUse here ++ action_values requested Everywhere everywhere))
 
--- States that the request includes inlining and that the text is a well-typed module. The value
--- lists the actions that are offered at the offset `actions_offset` of the request's range.
+-- States that the request asks for inlining (`wants_inlining`), that the text is a well-typed
+-- module, and that the JSON value lists the actions that are offered at the offset `actions_offset`
+-- of the request's range. `here` and `everywhere` are the edits of the two actions, or None if an
+-- action isn't offered.
 pub record ListsInlinings (unit : Unit) (requested : RequestedActions) (text : List ℕ)
     (value : Data) : Type 0 where
   pub here : Option (Vec Edit Global)
@@ -120,7 +122,7 @@ pub record ListsInlinings (unit : Unit) (requested : RequestedActions) (text : L
   pub listed : value ≡ actions_array requested here everywhere
 
 -- States that the JSON value is the list of the offered actions. The list is empty if the request
--- doesn't include inlining, or if the text isn't a well-typed module.
+-- doesn't ask for inlining (`wants_inlining` is false), or if the text isn't a well-typed module.
 abbrev pub ListsActions : Unit → RequestedActions → List ℕ → Data → Type 0
 ListsActions unit requested text value =
     ListsInlinings unit requested text value

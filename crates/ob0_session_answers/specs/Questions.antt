@@ -24,7 +24,7 @@ use Rattle.ob0_session_json.specs.Shapes.{hover_value, range_location}
 pub data NameQuestion : Type 0 where
   hover_question : NameQuestion
   definition_question : NameQuestion
-  -- A question for references. The Bool says whether the declaration is included.
+  -- A question for references. The Bool is true if the declaration is included.
   references_question : Bool → NameQuestion
   prepare_rename_question : NameQuestion
 
@@ -53,7 +53,7 @@ abbrev pub offset_in : Unit → List ℕ → DocumentPlace → ℕ
 offset_in unit text at = offset_of (width_of unit) text at.position
 
 -- States that the JSON value lists, in text order, the locations of all references to the name or
--- field at the position. `include` says whether the list contains the declaration.
+-- field at the position. The list contains the declaration if `include` is true.
 abbrev pub AnswersReferences : Unit → List ℕ → DocumentPlace → Bool → Resolution → Data → Type 0
 AnswersReferences unit text at include names value =
     (spans : List Span)

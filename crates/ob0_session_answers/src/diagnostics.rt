@@ -20,8 +20,8 @@ use ob0_session_json::publication::{Diagnostic, publication};
 use ob0_text::{Position, Range, TextStore};
 use std::alloc::{AllocError, Global};
 
-/// A request to publish a document's diagnostics. The server makes such a request itself, when a
-/// document was opened or changed.
+/// A request to publish a document's diagnostics. The server makes such a request itself, after a
+/// document is opened or changed.
 #[derive(Drop)]
 pub struct PublishRequest<'a> {
     pub uri: &'a str,
@@ -58,8 +58,8 @@ pub fn diagnostics<T: TextStore>(
     locate_diagnostics(alloc, store, reported)
 }
 
-/// Turns each diagnosis, which has byte offsets, into a diagnostic with positions. One pass over
-/// the text finds the positions of all starts and ends.
+/// Turns each diagnosis in `reported`, which has byte offsets, into a diagnostic with positions, in
+/// the same order. One pass over the text finds the positions of all starts and ends.
 fn locate_diagnostics<T: TextStore>(
     alloc: Global,
     store: &T,

@@ -279,7 +279,8 @@ fn range_answer<T: TextStore>(
 }
 
 /// Returns the answer to a references request: the locations of these spans in the document with
-/// this uri. If the spans are in text order, their positions are found in one pass over the text.
+/// this uri. If the spans are in text order, one pass over the text suffices to compute their
+/// positions.
 fn locations_answer<T: TextStore>(
     alloc: Global,
     id: &Id,

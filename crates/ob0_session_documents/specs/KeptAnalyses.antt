@@ -1,5 +1,5 @@
--- Defines which analyses are kept, and for which texts.
--- Rule: none; for the contracts of functions that keep or drop analyses.
+-- Defines which analyses the server keeps in its cache, and for which texts.
+-- Rule: none; used in the contracts of functions that keep or drop analyses.
 use Rattle.std.specs.Prelude.{◌≡◌, ◌⊎◌, ℕ, ℤ, List, Contains, Option, Some, None, String, string_bytes}
 use Rattle.std.specs.Str.{chars}
 use Rattle.std.specs.declared.alloc.Global.{Global}
@@ -15,7 +15,8 @@ CacheContains None uri text = ⊥
 CacheContains (Some cache) uri text =
     (key : String Global) × Contains cache.entries (key, text) × (string_bytes key ≡ uri)
 
--- States that an analysis of this text is kept for the document with this uri.
+-- States that the cache of `analyses` contains an analysis of this text for the document with this
+-- uri.
 abbrev pub KeepsAnalysis : Analyses → List ℕ → List ℕ → Type 0
 KeepsAnalysis analyses = CacheContains analyses.by_uri
 
@@ -44,7 +45,7 @@ abbrev pub HasDocumentText : OpenDocuments → List ℕ → List ℕ → Type 0
 HasDocumentText documents uri text =
     (version : ℤ) × (document_at documents uri ≡ Some (InStep version (chars text)))
 
--- States that each kept analysis is the analysis of its document's current text.
+-- States that each analysis in the cache is the analysis of its document's current text.
 abbrev pub AnalysesMatchTexts : OpenDocuments → Analyses → Type 0
 AnalysesMatchTexts documents analyses =
     (uri text : List ℕ) → KeepsAnalysis analyses uri text → HasDocumentText documents uri text

@@ -44,7 +44,7 @@ impl<T: TextStore> Model for AnalysedDocuments<T> {
 }
 
 impl<T: TextStore> AnalysedDocuments<T> {
-    /// Returns these documents without any kept analysis.
+    /// Returns these documents, with no analysis of them yet.
     pub fn new(alloc: Global, documents: Documents<T>) -> AnalysedDocuments<T>
         ensures { result ≡ documents }
     {
@@ -115,9 +115,9 @@ impl<T: TextStore> AnalysedDocuments<T> {
         self.documents.did_close(uri)
     }
 
-    /// Answers a request about the document with this uri. If an analysis of the document's text is
-    /// kept, it is used. Otherwise an analysis is made and kept. If the document isn't open or is
-    /// out of step, returns `Unopened` or `OutOfStep`.
+    /// Answers a request about the document with this uri. If the cache contains an analysis of the
+    /// document's text, uses that analysis. Otherwise analyses the text and adds the analysis to
+    /// the cache. If the document isn't open or is out of step, returns `Unopened` or `OutOfStep`.
     pub fn answer_request<Q: DocumentRequest<T>>(
         &mut self,
         uri: &str,
@@ -144,8 +144,8 @@ impl<T: TextStore> AnalysedDocuments<T> {
     }
 
     /// Analyses the text of a document and keeps the analysis. `before` is the analysis of the
-    /// previous text, which is reused, or None. Does nothing if the document isn't open or is out
-    /// of step.
+    /// document's previous text, parts of which are reused, or None if there is none. Does nothing
+    /// if the document isn't open or is out of step.
     fn analyse_and_keep(&mut self, uri: &str, before: Option<Analysis>) -> Result<(), AllocError>
         ensures { self.new ≡ self.old }
     {
@@ -159,8 +159,8 @@ impl<T: TextStore> AnalysedDocuments<T> {
     }
 }
 
-/// Returns the analysis of a text. `before` is the analysis of an earlier text, which is reused, or
-/// None.
+/// Returns the analysis of a text. `before` is the analysis of an earlier text, parts of which are
+/// reused. If `before` is None, the text is analysed from scratch.
 fn analyse_or_reanalyse(
     alloc: Global,
     before: Option<Analysis>,

@@ -16,20 +16,22 @@ use ob0_analysis::Analysis;
 use std::alloc::{AllocError, Global};
 
 /// The greatest total size in bytes of the kept analyses, enough for about four analyses of the
-/// longest texts. An analysis that is larger on its own is also kept, but then it is the only one.
+/// longest texts. An analysis that by itself is larger than this is also kept, but then no other
+/// analysis is kept.
 const MAX_BYTES: usize = 4_198_400;
 
 /// The number of bytes that each analysis counts for, in addition to the sizes of its uri and its
 /// data. This number also limits how many analyses of empty texts are kept.
 const BYTES_PER_ANALYSIS: usize = 1_024;
 
-/// The kept analyses, by the uris of their documents. Adding an analysis may drop others.
+/// A cache of analyses, by the uris of their documents. Adding an analysis may drop others.
 #[derive(Drop)]
 pub struct Analyses {
     alloc: Global,
     /// The cache, or None until the first analysis is kept, because making a cache allocates.
     by_uri: Option<LruCache<String, Analysis>>,
-    /// The total number of bytes that the kept analyses count for.
+    /// The sum of `counted_bytes_of` for all analyses in the cache. It may be higher after a failed
+    /// allocation.
     size_in_bytes: usize,
 }
 
@@ -69,7 +71,8 @@ impl Analyses {
         by_uri.peek(uri)
     }
 
-    /// Marks the analysis of a document, if one is kept, as the most recently used.
+    /// Marks the analysis of a document as the most recently used. If no analysis of the document
+    /// is kept, does nothing.
     pub fn promote(&mut self, uri: &str)
         ensures { AddsNoAnalysis self.old self.new }
     {
@@ -79,8 +82,8 @@ impl Analyses {
     }
 
     /// Keeps the analysis of a document. If the total size is too large, the least recently used
-    /// analyses are dropped. An analysis that is too large on its own is kept, and all others are
-    /// dropped.
+    /// analyses are dropped. If `analysis` by itself is larger than [`MAX_BYTES`], it is kept, and
+    /// all others are dropped.
     pub fn put(&mut self, uri: &str, analysis: Analysis) -> Result<(), AllocError>
         ensures { AddsOnlyAnalysis self.old uri.now analysis self.new }
     {

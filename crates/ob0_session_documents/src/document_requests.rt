@@ -8,7 +8,8 @@ use ob0_analysis::Analysis;
 use ob0_text::TextStore;
 use std::alloc::{AllocError, Global};
 
-/// A request about an open document that is in step: the server knows the document's text.
+/// A request about an open document that is in step, which means that the server knows the
+/// document's text.
 pub trait DocumentRequest<T: TextStore> {
     /// States that these bytes answer the request for a document with this version, this unit of
     /// positions and this text (in characters).

@@ -1,6 +1,6 @@
 -- Translates the code's edits, code actions and diagnostics into JSON values and diagnostics of the
 -- specs.
--- Rule: none; for the contracts of functions that make or write these values.
+-- Rule: none; used in the contracts of functions that make or write these values.
 use Rattle.std.specs.Prelude.{◌≡◌, List, map, string_bytes}
 use Rattle.serde_json.specs.Data.{Data}
 use Rattle.ob0_session_json.specs.Shapes as shapes

@@ -159,8 +159,8 @@ publication_params uri None ds =
     object (member (codes "diagnostics") (diagnostics_value ds)
     (member (codes "uri") (text uri) no_members))
 
--- Returns the notification `textDocument/publishDiagnostics`. The version is None if the document
--- was closed.
+-- Returns the notification `textDocument/publishDiagnostics`, which publishes the diagnostics `ds`
+-- of the document with this uri. The version is None if the document was closed.
 abbrev pub publication : List ℕ → Option ℤ → List Diagnostic → Data
 publication uri version ds =
     notification_message (codes "textDocument/publishDiagnostics")

@@ -11,7 +11,8 @@ use ob0_rpc::{
 };
 use std::alloc::{AllocError, Global};
 
-/// Returns the text of the answer to `initialize` for a client with these capabilities.
+/// Returns the JSON text of the answer to `initialize`, with the server's capabilities for a client
+/// with the capabilities `client`.
 pub fn initialize_answer(
     alloc: Global,
     id: &Id,

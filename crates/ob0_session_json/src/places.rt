@@ -16,7 +16,8 @@ use ob0_text::Range;
 use std::alloc::{AllocError, Global};
 
 /// The size in bytes of the free space at the start of the buffer in which a location is built. The
-/// space has room for a comma and for the location's text up to and including its member `range`.
+/// space is large enough for a comma and the location's text up to and including its member
+/// `range`.
 const PREFIX_CAPACITY: usize = 192;
 
 /// An estimate of the length in bytes of a location's text before its member `uri`. The estimate is
@@ -91,8 +92,9 @@ fn location_buffer(alloc: Global, uri: &str) -> Result<Vec<u8>, AllocError>
 }
 
 /// Writes a comma and the start of a location's text, up to and including the member `range`, into
-/// the free space of the buffer. These bytes end right before the index 192. The rest of the
-/// location's text begins at that index. Returns the index of the comma.
+/// the free space of the buffer. These bytes end right before the index 192. The end of the
+/// location's text, which the buffer already contains, begins at that index. Returns the index of
+/// the comma.
 fn write_location_before(buffer: &mut [u8], range: Range) -> usize
     requires { 192 ≤ length buffer.old }
     ensures within { result < 192 }
@@ -123,7 +125,7 @@ impl<'a> WriteJson for HoverResult<'a> {
     }
 }
 
-/// A text that is displayed unchanged, as plain text.
+/// The contents of a hover: a text that the editor displays unchanged, as plain text.
 #[derive(Drop)]
 pub struct MarkupContent<'a> {
     pub value: &'a str,

@@ -58,8 +58,8 @@ impl<'a> WriteJson for PublishDiagnosticsParams<'a> {
     }
 }
 
-/// Returns the text of the notification that publishes these diagnostics for the document with this
-/// uri. The version is None if the document was closed.
+/// Returns the JSON text of the notification that publishes the diagnostics `list` for the document
+/// with this uri. The version is None if the document was closed.
 pub fn publication(
     alloc: Global,
     uri: &str,

@@ -55,8 +55,9 @@ start = record { phase = Starting; client = no_client_features; held = no_open_d
 
 -- ---- the reply to one message
 
--- The reply to one message: nothing, a given message, or a message that depends on a document's
--- text. Such a message contains the text's diagnostics, or answers a request about the text.
+-- The reply to one message: nothing, one particular message, or a message that is computed from a
+-- document's text. A computed message contains the text's diagnostics, or answers a request about
+-- the text.
 pub data Reply : Type 0 where
   nothing : Reply
   -- Exactly this message.
@@ -76,12 +77,13 @@ pub data Reply : Type 0 where
   -- The offered code actions. Arguments: the unit of positions, the request and the characters of the text.
   offers_actions : Unit → RequestedActions → List ℕ → Reply
 
--- States that `sent` consists of exactly one content, which is the text of this message.
+-- States that the list `sent` has exactly one item: the JSON text of this message.
 abbrev pub Sends : Data → List (List ℕ) → Type 0
 Sends message sent = (bytes : List ℕ) × (sent ≡ bytes ∷ []) × Writes message bytes
 
--- States that these contents are this reply: no content for `nothing`, otherwise exactly one. That
--- content is the given message, the text's diagnostics, or the answer about the text.
+-- States that sending the contents `sent` is this reply. A content is the bytes of one message
+-- without the header. For `nothing`, `sent` is empty. For any other reply, `sent` is exactly one
+-- content: the text of a message that this reply allows.
 abbrev pub AreContentsOfReply : Reply → List (List ℕ) → Type 0
 AreContentsOfReply nothing sent = sent ≡ []
 AreContentsOfReply (says message) sent = Sends message sent
@@ -247,7 +249,8 @@ react_to_notification phase s method params =
 
 -- ---- the replies to the content of one message, and to the contents of a conversation
 
--- Returns the reaction of a server in this state to a content with this meaning.
+-- Returns the reaction of a server in the state `s` to received bytes with this meaning: a message,
+-- or the reason why they aren't a message.
 abbrev pub react : ServerState → MessageMeaning → Reaction
 react s not_json = react_with_fault s null NotJson
 react s not_a_message = react_with_fault s null NotAMessage
@@ -255,29 +258,30 @@ react s response = reaction_without_change s nothing
 react s (request id method params) = react_to_request s.phase s id method params
 react s (notice method params) = react_to_notification s.phase s method params
 
--- States that a server in the state `before` may reply to this content with the messages `sent`.
--- The server is then in the state `after`. This is the case of `AnswersInPhase` in which the
--- session has neither ended nor failed.
+-- States that a server in the state `before` may reply to this content (the bytes of one message)
+-- with the messages `sent`, and is in the state `after` once it has replied. This is the case of
+-- `AnswersInPhase` in which the session has neither ended nor failed.
 abbrev pub AnswersBeforeEnd : ServerState → List ℕ → List (List ℕ) → ServerState → Type 0
 AnswersBeforeEnd before content sent after =
     (json : Option Data) × ReadsContent content json
     × (let r = react before (meaning_of_content json) in (after ≡ r.after) × AreContentsOfReply r.reply sent)
 
--- States that a server in this phase may answer this content with these messages. `after` is the
--- server's next state. If the session has ended, nothing is sent and the state is unchanged. In the
--- phase `Failed` (after a failed allocation) this never holds.
+-- States that a server in this phase and in the state `before` may reply to this content with the
+-- messages `sent`. `after` is the server's state after the reply. If the session has ended, nothing
+-- is sent and the state is unchanged. In the phase `Failed` (after a failed allocation) this never
+-- holds.
 abbrev pub AnswersInPhase : Phase → ServerState → List ℕ → List (List ℕ) → ServerState → Type 0
 AnswersInPhase (Ended status) before content sent after = (sent ≡ []) × (after ≡ before)
 AnswersInPhase Failed before content sent after = ⊥
 AnswersInPhase phase before content sent after = AnswersBeforeEnd before content sent after
 
--- States that a server in the state `before` may reply to this content with these messages. The
--- server is then in the state `after`.
+-- States that a server in the state `before` may reply to this content (the bytes of one message)
+-- with the messages `sent`, and is in the state `after` once it has replied.
 abbrev pub Answers : ServerState → List ℕ → List (List ℕ) → ServerState → Type 0
 Answers before content sent after = AnswersInPhase before.phase before content sent after
 
--- States that the messages `sent` begin with the messages that reply to this content. `Follows` must
--- hold for the state after that reply and for the remaining messages of `sent`.
+-- States that the messages `sent` are the messages `first`, which reply to this content, followed by the messages
+-- `later`. The fact `Follows` holds for `between`, the state after the reply, and for `later`.
 pub record AnswersFirst (before : ServerState) (content : List ℕ) (sent : List (List ℕ))
     (Follows : ServerState → List (List ℕ) → Type 0) : Type 0 where
   pub between : ServerState
@@ -287,8 +291,9 @@ pub record AnswersFirst (before : ServerState) (content : List ℕ) (sent : List
   pub follows : Follows between later
   pub all : sent ≡ first ++ later
 
--- States that a server in the state `before` may reply to these contents, one after another, with
--- these messages in order. The server is then in the state `after`.
+-- States that a server in the state `before` may reply to these message contents, one after
+-- another, with the messages `sent`, in order. The server is in the state `after` once it has
+-- replied to all of them.
 abbrev pub Conversation : ServerState → List (List ℕ) → List (List ℕ) → ServerState → Type 0
 Conversation before [] sent after = (sent ≡ []) × (after ≡ before)
 Conversation before (content ∷ contents) sent after =

@@ -1,5 +1,5 @@
 -- States which messages and outcomes of the code are the replies and reactions of `Answers`.
--- Rule: none; for the contracts of functions that answer messages.
+-- Rule: none; used in the contracts of functions that answer messages.
 use Rattle.std.specs.Prelude.{◌≡◌, ℕ, ℤ, List, Option, Some, None, Vec, option_map, codes}
 use Rattle.std.specs.Option.{option_to_list}
 use Rattle.std.specs.declared.alloc.Global.{Global}
@@ -11,13 +11,13 @@ use Rattle.ob0_session_documents.specs.declared.document_requests.RequestOutcome
 use Rattle.ob0_session_json.specs.Shapes.{edit_refusal}
 use Rattle.ob0_session_server.specs.Answers.{ServerState, Reaction, Reply, AreContentsOfReply, says}
 
--- States that the code's message is exactly this reply. For None, states that the reply is no
--- message.
+-- States that the code's message `sent` is a message that this reply allows. If `sent` is None,
+-- states that the reply is `nothing`.
 abbrev pub SendsReply : Reply → Option (Vec ℕ Global) → Type 0
 SendsReply reply sent = AreContentsOfReply reply (option_to_list (option_map (λ v. v.items) sent))
 
--- States that the code's message is the reply of the reaction, and that `new` is the session's
--- state after the reaction. None means no message.
+-- States that `sent`, the code's message, is the reply of the reaction `r`, and that `new` is the
+-- session's state after the reaction. If `sent` is None, there is no message.
 abbrev pub Reacts : Reaction → Option (Vec ℕ Global) → ServerState → Type 0
 Reacts r sent new = (new ≡ r.after) × SendsReply r.reply sent
 
@@ -29,7 +29,8 @@ RepliesForOutcome id (Answered message) sent = sent ≡ Some message
 RepliesForOutcome id OutOfStep sent = SendsReply (says (edit_refusal id (codes "out of step"))) sent
 RepliesForOutcome id Unopened sent = SendsReply (says (edit_refusal id (codes "unopened"))) sent
 
--- Returns the message of an outcome. Returns None if the document is out of step or isn't open.
+-- Returns the message of an outcome (`Answered`). Returns None if the document is out of step or
+-- isn't open.
 abbrev pub message_of_outcome : RequestOutcome → Option (Vec ℕ Global)
 message_of_outcome (Answered message) = Some message
 message_of_outcome OutOfStep = None

@@ -15,12 +15,13 @@ abbrev pub next_in_phase : Phase → Next
 next_in_phase (phases.Ended status) = End status
 next_in_phase phase = Continue
 
--- States that a session in this phase hasn't ended.
+-- States that a session in this phase hasn't ended. A session that has failed (`Failed`) counts as
+-- not ended.
 abbrev pub HasNotEnded : Phase → Type 0
 HasNotEnded phase = next_in_phase phase ≡ Continue
 
--- States that a step succeeds: the session replies to the content, and reports whether it
--- continues.
+-- States that `step` is the result of a successful step: the session replies to the content with
+-- the messages `step.send`, and `step.next` reports whether the session continues.
 pub record SessionSteps (before : ServerState) (content : List ℕ) (step : Step)
     (after : ServerState) : Type 0 where
   pub answers : Answers before content (map (λ v. v.items) step.send.items) after

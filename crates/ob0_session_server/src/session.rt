@@ -24,7 +24,8 @@ use std::alloc::{AllocError, Global};
 use std::marker::Model;
 use thiserror::Error;
 
-/// The phase of a session's lifecycle.
+/// The phase of a session's lifecycle: before `initialize` (`Starting`), initialized (`Running`),
+/// after `shutdown` (`ShutDown`), after `exit` (`Ended`), or after a failed allocation (`Failed`).
 #[derive(Clone, Copy, Debug, Drop, PartialEq, Eq)]
 pub enum Phase {
     Starting,
@@ -43,7 +44,8 @@ pub enum Next {
     End(u8),
 }
 
-/// The result of a step: the contents of the messages to send, and whether the session continues.
+/// The result of a step: the contents of the messages to send (their bytes without headers), and
+/// whether the session continues.
 #[derive(Drop)]
 pub struct Step {
     pub send: Vec<Vec<u8>>,
@@ -111,18 +113,18 @@ impl<T: TextStore> Session<T> {
         }
     }
 
-    /// Returns the documents that the client has open. After a failed allocation they may differ
-    /// from the client's.
+    /// Returns the open documents, as the server knows them. After a failed allocation, they may
+    /// differ from the documents that the client has open.
     pub fn documents(&self) -> &Documents<T>
         ensures { result.now ≡ self.now.held }
     {
         self.documents.documents()
     }
 
-    /// Performs one step: reads the content of one message, and returns the contents of the
-    /// messages to send in reply. If an allocation fails, returns `Memory`, and every later step
-    /// returns `Failed`. If the session has ended before, nothing is sent, and `next` is `End` with
-    /// the exit status.
+    /// Performs one step: reads the content of one message (its bytes without the header), and
+    /// returns the contents of the messages to send in reply. If an allocation fails, returns
+    /// `Memory`, and every step after this one returns `Failed`. If the session ended before this
+    /// step, nothing is sent, and the step's `next` is `End` with the exit status.
     pub fn step(&mut self, content: &[u8]) -> Result<Step, SessionFault>
         ensures ok { IfOk result (λ step. SessionSteps self.old content.now step self.new) }
         ensures err { IfErr result (λ fault. SessionFails self.old fault self.new) }
@@ -194,8 +196,9 @@ impl<T: TextStore> Session<T> {
         }
     }
 
-    /// Returns the message that refuses a request with this error code and this text. `id` is None
-    /// if the refused content isn't a message. The result is never None.
+    /// Returns the error response with this error code and this text (`said`). `id` is the id of
+    /// the refused request, or None if the received bytes aren't a message. The result is never
+    /// None.
     fn refusal_message(
         &self,
         id: Option<&Id>,
@@ -209,8 +212,9 @@ impl<T: TextStore> Session<T> {
         Ok(Some(error(self.alloc, id, code, said)?))
     }
 
-    /// Returns the message that reports a fault of a request or of a content. If the fault is
-    /// `Memory`, returns the error `AllocError` instead. The result is never None.
+    /// Returns the error response that reports a fault of the request with this id. If `id` is
+    /// None, the fault is that the received bytes aren't a message. If the fault is `Memory`,
+    /// returns the error `AllocError` instead. The result is never None.
     fn fault_message(&self, id: Option<&Id>, fault: RpcFault) -> Result<Option<Vec<u8>>, AllocError>
         ensures { IfOk result (λ sent. (fault ≢ RpcFault.Memory) × Reacts
             (react_with_fault self.now (id_or_null (option_map (λ i. i.now) id.entry)) fault) sent
@@ -321,7 +325,8 @@ impl<T: TextStore> Session<T> {
         }
     }
 
-    /// Answers a request for the references to the name or field at a place.
+    /// Answers a request for the references to the name or field at a position in a document
+    /// (`place`).
     fn reply_to_references(
         &mut self,
         id: &Id,
@@ -340,7 +345,8 @@ impl<T: TextStore> Session<T> {
         self.reply_about_document(id, place.uri.as_str(), &request)
     }
 
-    /// Answers a request to rename the name or field at a place.
+    /// Answers a request to rename the name or field at a position in a document (`place`) to
+    /// `new`.
     fn reply_to_rename(
         &mut self,
         id: &Id,
@@ -396,7 +402,7 @@ impl<T: TextStore> Session<T> {
         reply_for_outcome(self.alloc, id, outcome)
     }
 
-    /// Starts the session for a client with these capabilities. No document is open then.
+    /// Starts the session for a client with these capabilities, without open documents.
     fn begin_session(&mut self, client: ClientFeatures)
         ensures { self.new ≡ state_after_initialize client }
     {
@@ -405,8 +411,9 @@ impl<T: TextStore> Session<T> {
         self.documents = AnalysedDocuments::new(self.alloc, empty_documents(self.alloc, client));
     }
 
-    /// Applies a notification if the phase of the lifecycle allows the notification. Returns the
-    /// message to send, or None if there is none.
+    /// Applies a notification while the session runs. In any other phase, `exit` ends the session,
+    /// and every other notification is ignored. Returns the message to send, or None if there is
+    /// none.
     fn react_to_notification(
         &mut self,
         method: &str,
@@ -486,7 +493,8 @@ impl<T: TextStore> Session<T> {
         }
     }
 
-    /// Opens a document, and returns the message that publishes the diagnostics of its text.
+    /// Opens a document, and returns the message that publishes the diagnostics of its text. The
+    /// result is never None.
     fn open_and_publish(
         &mut self,
         uri: &str,
@@ -558,7 +566,8 @@ fn reply_for_outcome(
     }
 }
 
-/// Returns the message of an outcome. Returns None if the document is out of step or isn't open.
+/// Returns the message of an outcome (`Answered`). Returns None if the document is out of step or
+/// isn't open.
 fn message_of_outcome(outcome: RequestOutcome) -> Option<Vec<u8>>
     ensures { result ≡ spec_message_of outcome }
 {

@@ -1,5 +1,5 @@
 //! Defines the questions in the tests' tables, such as the type of a declaration or the text after
-//! a renaming, and asks them about texts.
+//! a renaming, and finds their answers for texts.
 
 ghost use Rattle.std.specs.Prelude.{⊤};
 
@@ -21,16 +21,16 @@ pub enum TestQuestion {
     Faults,
     /// The type of the declaration with this ordinal.
     TypeOf(usize),
-    /// The bytes at which a new name for the declaration with this ordinal has its first conflict.
-    /// The answer is `free` if the name has no conflict.
+    /// The byte range of the first conflict that this new name has as the name of the declaration
+    /// with this ordinal. The answer is `free` if the new name has no conflict.
     Free(usize, &'static str),
-    /// The ordinal to which each occurrence is bound once the declaration with this ordinal has
-    /// this new name.
+    /// The ordinal to which each occurrence of a name is bound once the declaration with this
+    /// ordinal is renamed to this new name.
     Bound(usize, &'static str),
     /// The declaration or field that the name at this byte offset refers to, its uses, and its
     /// hover text.
     NameAt(usize),
-    /// The hover text of each name, followed by a bar.
+    /// The hover text of each name, in text order, each followed by a bar.
     Shown,
     /// The output and the end of a run on an input. The run has a bound on open calls, and a bound
     /// on the iterations of a loop.
@@ -56,11 +56,12 @@ macro_rules! rows {
 
 pub(crate) use rows;
 
-/// The way in which a table is checked.
+/// The way in which the rows of a table are checked.
 #[derive(Clone, Copy, PartialEq, Eq)]
 pub enum Walk {
     Asking,
-    /// Each question is asked, but a row may have no answer if an allocation fails.
+    /// Each question is asked, and an allocation may fail. A row whose answer isn't found because
+    /// of such a failure is accepted.
     Refused,
     /// Each row is a renaming, which is made by a function that takes the analysis
     /// (`rename_edits`).
@@ -115,8 +116,9 @@ fn push_answer(
     }
 }
 
-/// Returns the answer to a row's question, or the faults of the row's text. (A function that owns
-/// an analysis is expensive to prove at each of its steps, so this one only passes it on.)
+/// Returns the answer to a row's question, or the faults of the row's text. (The proof of a
+/// function that owns an analysis takes long for each statement. So this function only passes the
+/// analysis on.)
 fn answer_for_row(alloc: Global, row: &QuestionCase, walk: Walk) -> Result<String, AllocError> {
     let analysis = Analysis::analyse_text(alloc, row.0)?;
     answer_or_faults(alloc, &analysis, &row.1, walk)
@@ -167,8 +169,8 @@ pub fn at(line: u64, character: u64) -> Position {
     Position { line, character }
 }
 
-/// Returns the faults of an analysed text, one after another, in words (`push_fault`). The string
-/// is empty if the text has no faults.
+/// Returns the faults of an analysed text, one after another, each as `push_fault` writes it. The
+/// string is empty if the text has no faults.
 pub fn faults_of(alloc: Global, analysis: &Analysis) -> Result<String, AllocError> {
     let faults = analysis.diagnoses(alloc)?;
     reported_faults(alloc, faults.as_slice())
@@ -194,12 +196,12 @@ fn push_fault(out: &mut String, fault: &Diagnosis) -> Result<(), AllocError> {
     write!(out, "{code} {start}-{end}; {expected}")
 }
 
-/// Appends a text and a number.
+/// Appends the text `before`, and then a number.
 pub fn push_number(out: &mut String, before: &str, number: usize) -> Result<(), AllocError> {
     write!(out, "{before}{number}")
 }
 
-/// Appends a text, and then the start and end of a span in bytes.
+/// Appends the text `before`, and then the start and end of a span in bytes.
 pub fn push_span(out: &mut String, before: &str, span: Span) -> Result<(), AllocError> {
     let (start, end) = (span.start, span.end);
     write!(out, "{before}{start}-{end}")

@@ -1,5 +1,6 @@
-//! Tests the nodes that statements are lowered to. No contract distinguishes a fused node from the
-//! nodes that it replaces. Without the fusion, programs would only be slower.
+//! Tests the nodes that statements are lowered to. A fused node replaces several nodes and has the
+//! same effect, so no contract distinguishes them. Without fused nodes, programs would only be
+//! slower.
 
 use crate::asking::TestQuestion::Code;
 use crate::asking::{QuestionCase, Walk, first_wrong, rows};

@@ -21,7 +21,7 @@ pub fn push_type(
     }
 }
 
-/// Appends a type, with at most two levels of arrays.
+/// Appends a type: the array levels from the outside, at most two, and then the element type.
 fn push_shape(out: &mut String, shape: Shape<'_>) -> Result<(), AllocError> {
     let mut level = shape;
     for _ in 0..3 {
@@ -56,8 +56,8 @@ fn push_record(out: &mut String, record: &RecordShape) -> Result<(), AllocError>
     write!(out, "RECORD {ordinal} with {fields}")
 }
 
-/// Appends the bytes at which a new name for the declaration with this ordinal has its first
-/// conflict, or `free` if it has no conflict.
+/// Appends the byte range of the first conflict that the name `new` has as the name of the
+/// declaration with this ordinal. Appends `free` if there is no conflict.
 pub fn push_capture(
     alloc: Global,
     out: &mut String,
@@ -71,8 +71,8 @@ pub fn push_capture(
     }
 }
 
-/// Appends the ordinal to which each occurrence is bound once the declaration with this ordinal has
-/// this new name.
+/// Appends the ordinal to which each occurrence of a name is bound once the declaration with this
+/// ordinal is renamed to `new`.
 pub fn push_bound(
     alloc: Global,
     out: &mut String,
@@ -84,7 +84,7 @@ pub fn push_bound(
     push_ordinals(out, bound.as_slice())
 }
 
-/// Appends each ordinal, or `none` for an unbound occurrence.
+/// Appends each of these ordinals, or `none` for an occurrence that isn't bound.
 fn push_ordinals(out: &mut String, ordinals: &[Option<usize>]) -> Result<(), AllocError> {
     for ordinal in ordinals {
         match ordinal {

@@ -64,8 +64,8 @@ fn apply_or_refuse(
     }
 }
 
-/// Returns an analysed text after a renaming, or the refusal. If the text has faults, returns the
-/// faults. If the question isn't a renaming, the string is empty.
+/// Returns the text of an analysis after the renaming in the question `asked`, or the refusal. If
+/// the text has faults, returns the faults. If the question isn't a renaming, the string is empty.
 pub fn rename_or_faults(
     alloc: Global,
     analysis: &Analysis,
@@ -168,8 +168,8 @@ const COMMENTED: &str = "MODULE M; CONST c (* five *) = 5; (* on *) BEGIN Write(
 const SEVERAL: &str =
     "MODULE M; CONST a = 9; c = -5; d = c; BEGIN Write(a - c); Write(c DIV 3) END M.";
 
-/// A module that is nested as deep as allowed. If its constant is inlined, the value is written in
-/// parentheses, which nest one level deeper.
+/// A module that is nested as deep as allowed. Inlining its constant writes the value in
+/// parentheses, which would nest one level too deep.
 const DEEP: &str = "MODULE M; CONST c = -1; VAR x: INTEGER; BEGIN x := \
     ((((((((((((((((((((((((((((((((((((((((((((((((((\
     ((((((((((((((((((((((((((((((((((((((((((((((((((c\

@@ -13,7 +13,7 @@ static ROWS: &[QuestionCase] = rows![
     "MODULE M; VAR n: INTEGER; BEGIN Read(n); REPEAT Write(n); n := n - 1 UNTIL n <= 0 END M." => "";
     // Lexemes.
     "MODULE M; BEGIN 12ab $ END M." => "NumberJoinsLetter 16-20; BadChar 21-22; ";
-    // Syntax: the place of the unexpected token, and the expected one.
+    // Syntax: the byte range of the unexpected token, and the expected token.
     "MODULE M; BEGIN x = 1 END M." => "Syntax 18-19; expected END";
     "MODULE M; BEGIN x[0] END M." => "Syntax 21-24; expected :=";
     "MODULE M; VAR x INTEGER; END M." => "Syntax 16-23; expected :";
@@ -110,20 +110,21 @@ static CHANGES: &[(&str, u64, u64, &str)] = changes![
     // A name that is replaced by another one, and by one that is already declared.
     TWO_VARIABLES, 17, 18, "z";
     TWO_VARIABLES, 17, 18, "x";
-    // One more statement in a procedure that another procedure follows, and half a statement in the second procedure.
+    // One more statement in the first of two procedures, and a statement of the second procedure
+    // that loses its value.
     "MODULE M; VAR x: INTEGER; PROCEDURE P; BEGIN x := 1 END P; PROCEDURE Q; BEGIN P; y := 1 END Q; BEGIN Q END M.",
         51, 51, "; x := TRUE";
     "MODULE M; VAR x: INTEGER; PROCEDURE P; BEGIN x := z END P; PROCEDURE Q; BEGIN P; y := 1 END Q; BEGIN Q END M.", 86, 88, "";
-    // One more statement in a body of a valid module: a well-typed one, one with an error, one with
-    // an undeclared name, and one that selects fields before others do.
+    // One more statement in a body of a valid module: a well-typed one, one with a type error, one
+    // with an undeclared name, and one that selects fields.
     TWO_VARIABLES, 41, 41, "; y := x + 1";
     TWO_VARIABLES, 41, 41, "; y := TRUE";
     TWO_VARIABLES, 41, 41, "; z := 1";
     "MODULE M; TYPE T = RECORD f, g: INTEGER END; VAR t: T; PROCEDURE P(a, b: T); BEGIN a := b; a.f := t.g END P; \
         BEGIN P(t, t); t := t END M.", 101, 101, "; a.g := b.f";
     // A name in the body of a nested procedure: a local one, a parameter, one of an enclosing
-    // block, a later one, its own name, and an undeclared one. There are undeclared names before
-    // it, in it and after it.
+    // block, a later one, the procedure's name, and an undeclared one. There are undeclared names
+    // before the procedure, in it and after it.
     "MODULE M; VAR x, u: INTEGER; PROCEDURE P(a: INTEGER); VAR y: BOOLEAN; PROCEDURE Q(x: BOOLEAN); BEGIN x := y \
         END Q; PROCEDURE R; BEGIN q := 1 END R; BEGIN x := a END P; BEGIN P(x); v := u END M.", 106, 107, "R";
     "MODULE M; VAR x, u: INTEGER; PROCEDURE P(a: INTEGER); VAR y: BOOLEAN; PROCEDURE Q(x: BOOLEAN); BEGIN x := y \
@@ -143,7 +144,8 @@ static CHANGES: &[(&str, u64, u64, &str)] = changes![
     RECORDS, 100, 101, "h";
 ];
 
-/// Returns the faults of a text, from an analysis that reuses the analysis of the previous text.
+/// Returns the faults of the text `new`, from an analysis that reuses the analysis of the text
+/// `old`.
 fn faults_after_change(alloc: Global, old: &str, new: &str) -> Result<String, AllocError> {
     let analysis = Analysis::analyse_text(alloc, old)?.reanalyse(alloc, new)?;
     faults_of(alloc, &analysis)
@@ -155,16 +157,16 @@ fn faults_from_scratch(alloc: Global, text: &str) -> Result<String, AllocError> 
     faults_of(alloc, &analysis)
 }
 
-/// Returns whether the text `new` has the faults that an analysis from scratch finds, if its
-/// analysis reuses the analysis of the text `old`.
+/// Returns whether an analysis of the text `new` that reuses the analysis of the text `old` finds
+/// the same faults as an analysis from scratch.
 fn has_faults_from_scratch(alloc: Global, old: &str, new: &str) -> Result<bool, AllocError> {
     let found = faults_after_change(alloc, old, new)?;
     let wanted = faults_from_scratch(alloc, new)?;
     Ok(found.as_str() == wanted.as_str())
 }
 
-/// Changes a text, and then changes it back. Returns whether each result has the faults that an
-/// analysis from scratch finds.
+/// Makes the row's change in the row's text, and then undoes the change. Returns whether reanalysis
+/// finds the same faults as an analysis from scratch each time.
 fn changes_have_faults_from_scratch(
     alloc: Global,
     row: &(&str, u64, u64, &str),
@@ -179,8 +181,9 @@ fn changes_have_faults_from_scratch(
     )
 }
 
-/// Returns the index, from 0, of the first change after which a text has other faults than an
-/// analysis from scratch finds. Returns None if there is no such change.
+/// Returns the index, from 0, of the first change after which reanalysis finds other faults than an
+/// analysis from scratch, or after which an allocation fails. Returns None if there is no such
+/// change.
 fn first_wrong_change(alloc: Global, changes: &[(&str, u64, u64, &str)]) -> Option<usize> {
     for i in 0..changes.len() {
         if changes_have_faults_from_scratch(alloc, &changes[i]) != Ok(true) {

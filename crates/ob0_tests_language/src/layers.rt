@@ -1,5 +1,5 @@
-//! Tests a module that passes through the layers one by one: scan, parse, resolve and check. Each
-//! layer's function is imported from its own crate.
+//! Tests a module that passes through the layers one by one: scan, parse, resolve and check. The
+//! function of each layer is imported from the layer's crate.
 //!
 //! An ordinal is the number of a declaration. The predeclared names have the ordinals 0 to 6, and
 //! the declarations of the module follow in text order.
@@ -46,7 +46,8 @@ fn has_types(typed: &WellTyped<'_>) -> bool {
         && typed.checked().faults().is_empty()
 }
 
-/// Returns whether the module has no faults and has the expected types.
+/// Returns whether the module has no faults and is well-typed, with the expected types
+/// (`has_types`).
 fn is_typed(checked: &Checked<'_>) -> bool {
     if !checked.faults().is_empty() || !checked.resolved().faults().is_empty() {
         return false;
@@ -57,7 +58,7 @@ fn is_typed(checked: &Checked<'_>) -> bool {
     }
 }
 
-/// Returns whether the module is well-typed, with the expected types.
+/// Checks the module's types. Returns whether the module is well-typed, with the expected types.
 fn is_well_typed(alloc: Global, names: &Resolved<'_>) -> bool {
     match check(alloc, names) {
         Ok(checked) => is_typed(&checked),
@@ -65,7 +66,8 @@ fn is_well_typed(alloc: Global, names: &Resolved<'_>) -> bool {
     }
 }
 
-/// Returns whether the names are bound as expected and the module is well-typed.
+/// Resolves the module's names. Returns whether the names are bound as expected and the module is
+/// well-typed.
 fn is_resolved(alloc: Global, module: &Module<'_>) -> bool {
     match resolve(alloc, module) {
         Ok(names) => has_expected_bindings(&names) && is_well_typed(alloc, &names),
@@ -81,7 +83,8 @@ fn is_shaped(alloc: Global, module: &Module<'_>, nesting: u32, count: usize) -> 
     }
 }
 
-/// Returns whether the tokens are a module with the expected shape, names and types.
+/// Parses the tokens. Returns whether they are a module with the expected nesting, identifiers,
+/// bindings and types.
 fn is_parsable(alloc: Global, tokens: &Tokens) -> bool {
     match parse(alloc, tokens) {
         Ok(module) => is_shaped(alloc, &module, 1, 11) && is_resolved(alloc, &module),

@@ -10,9 +10,9 @@ use ob0_types::WellTyped;
 use std::alloc::{AllocError, Global};
 use std::process::Abort;
 
-/// Appends facts about the name at a byte offset: the declaration or field that it refers to, the
-/// byte ranges of the declaration and of the uses, and the hover text. Appends nothing if there is
-/// no name at the offset.
+/// Appends a description of the name at a byte offset: the declaration or field that the name
+/// refers to, the byte ranges of the declaration and of the uses, and the hover text. Appends
+/// nothing if there is no name at the offset.
 pub fn push_name(
     alloc: Global,
     out: &mut String,
@@ -51,7 +51,7 @@ fn push_uses(
     push_spans(out, named.as_slice())
 }
 
-/// Appends these byte ranges.
+/// Appends `, at` and these byte ranges.
 fn push_spans(out: &mut String, spans: &[Span]) -> Result<(), AllocError> {
     out.push_str(", at")?;
     for span in spans {
@@ -126,7 +126,7 @@ pub fn push_all_hovers(
     Ok(())
 }
 
-/// Appends the hover text of the name at a span, and returns whether there is one.
+/// Appends the hover text of the name at `span`, and returns whether there is such a text.
 fn push_if_shown(
     alloc: Global,
     out: &mut String,
@@ -164,7 +164,8 @@ const KINDS_SHOWN: &str =
     VAR a: ARRAY 3 OF ARRAY 2 OF RECORD with 2 fields | VAR a: ARRAY 3 OF ARRAY 2 OF RECORD with 2 fields | \
     CONST c = -3 | VAR r: RECORD with 2 fields | FIELD x: BOOLEAN | PROCEDURE Q() | PROCEDURE Q() | ";
 
-// Records within arrays, records and parameters, and a type that is declared again.
+// A module with records within arrays, within records and in parameters, and with a type whose name
+// is declared again in a procedure.
 const PARTS: &str =
     "MODULE M; TYPE A = ARRAY 2 OF RECORD x: BOOLEAN END; PROCEDURE P(VAR p, q: RECORD x: A; \
     y, z: RECORD x: INTEGER END END); TYPE A = INTEGER; VAR v: RECORD x: A END; BEGIN p.y.x := v.x END P; \

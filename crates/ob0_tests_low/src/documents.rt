@@ -1,5 +1,5 @@
-//! Tests the state of documents while they are opened, changed, lost (put out of step) and closed,
-//! in both text stores. Also tests documents and a text after an allocation failed.
+//! Tests the state of documents while they are opened, changed, lost (their text becomes unknown)
+//! and closed, in both text stores. Also tests documents and a text after an allocation failed.
 
 use crate::cases::{Case, first_wrong};
 use crate::documents::Act::{Close, Lose, Note, Open};
@@ -167,8 +167,8 @@ fn a_document_is_held_until_it_is_closed_or_lost(rt: HostRuntime) {
     assert!(rt; wrong.is_none(), "row {wrong:?}");
 }
 
-/// Opens a document, and tries again if an allocation fails. Returns whether a failure left the
-/// document closed and the document is open in the end.
+/// Opens a document, and tries once more if an allocation fails. Returns whether the document is
+/// open in the end, and was still closed after a failure.
 fn open_with_retry(documents: &mut Documents<Lines>, uri: &str) -> bool {
     if documents.did_open(uri, 1, OPENED).is_err() {
         if documents.get(uri).is_some() || documents.did_open(uri, 1, OPENED).is_err() {
@@ -209,8 +209,8 @@ fn replaces_or_leaves_text(alloc: Global) -> Result<bool, AllocError> {
     }
 }
 
-// `make test` runs this test once for each allocation, and lets that allocation fail. (If an
-// allocation of the test itself fails, the test makes it again.)
+// `make test` runs this test once for each allocation, and lets that allocation fail. (If the
+// failing allocation is made by the test itself and not by `Documents`, the test runs once more.)
 #[test]
 fn a_refused_note_leaves_its_document_alone_out_of_step(rt: HostRuntime) {
     let held = change_one_of_two(rt.alloc());

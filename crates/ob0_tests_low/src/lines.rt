@@ -1,5 +1,5 @@
-//! Tests stores of lines by comparing them with whole texts: after each change of short texts, and
-//! in long lines.
+//! Tests the store of lines (`Lines`) by comparing it with the store of a whole text (`Whole`):
+//! after many changes of short texts, and in long lines.
 
 use crate::cases::{Case, first_wrong};
 use crate::lines::LinesCase::{Changed, Cut, Long};
@@ -56,9 +56,8 @@ fn stores_of(alloc: Global, text: &str, unit: Unit) -> Result<Stores, AllocError
 }
 
 impl Stores {
-    /// Returns whether both stores have the same text and agree on places. They must have the same
-    /// offset for each position whose line and character are below these numbers, and the same
-    /// position for each offset below 20.
+    /// Returns whether both stores have the same text, the same offset for each position whose line
+    /// and character are below these numbers, and the same position for each offset below 20.
     fn have_same_places(&self, lines: u64, characters: u64) -> bool {
         for line in 0..lines {
             for character in 0..characters {
@@ -117,8 +116,8 @@ fn is_as_new(alloc: Global, lines: &Lines, unit: Unit) -> Result<bool, AllocErro
     Ok(lines.as_str() == again.as_str())
 }
 
-/// Makes one change in both stores of a text. Returns whether both have the same text and places,
-/// and the store of lines has the lines of a new store.
+/// Makes one change in both stores of a text. Returns whether both stores have the same text and
+/// convert positions and offsets alike. The store of lines must also have the lines of a new store.
 fn agree_after_change(
     alloc: Global,
     text: &str,
@@ -181,8 +180,8 @@ static COLUMNS: &[&[u64]] = &[
     &[10, 120, 60, 64, 128, 1, 90, 89],
 ];
 
-/// Returns whether the stores of a text agree far to the right in its lines, and also after the
-/// lines are changed at each list of columns (`COLUMNS`).
+/// Returns whether both stores of a text agree on positions far to the right in its lines, and
+/// after the lines are changed at each list of columns (`COLUMNS`).
 fn agree_in_long_lines(alloc: Global, text: &str, unit: Unit) -> Result<bool, AllocError> {
     if !stores_of(alloc, text, unit)?.have_same_places(4, 160) {
         return Ok(false);

@@ -27,8 +27,8 @@ enum Outcome {
     Different,
 }
 
-/// A text in four parts: the text in front of the change, the text that is replaced, the new text,
-/// and the text behind the change.
+/// A change of a text, in four parts: the text in front of the change, the text that is replaced,
+/// the new text, and the text behind the change.
 type Parts = (&'static str, &'static str, &'static str, &'static str);
 
 enum RescanCase {
@@ -57,8 +57,9 @@ fn are_same(a: &Tokens, b: &Tokens) -> bool {
     a.text() == b.text() && a.tokens() == b.tokens() && a.comments() == b.comments()
 }
 
-/// Returns the outcome of a scan in place, compared with a scan from scratch. If the new text has
-/// faults, the scan in place must return the old tokens.
+/// Returns the outcome of a scan in place (`placed`), compared with a scan from scratch
+/// (`scanned`). If the new text has faults, the scan in place must return the old tokens, whose
+/// text is `old_text`.
 fn outcome_in_place(
     placed: &Result<RescanInPlace, RescanRefusal>,
     scanned: &Result<Tokens, ScanRefusal>,
@@ -74,9 +75,8 @@ fn outcome_in_place(
     }
 }
 
-/// Returns whether a scan that keeps the old tokens, with the result `found`, has the outcome
-/// `outcome`. To find this out, `found` is compared with `scanned`, the result of a scan from
-/// scratch.
+/// Returns whether `found`, the result of a scan that keeps the old tokens, has the outcome
+/// `outcome`. The function compares `found` with `scanned`, the result of a scan from scratch.
 fn has_outcome(
     found: &Result<Rescan, ScanRefusal>,
     scanned: &Result<Tokens, ScanRefusal>,
@@ -93,8 +93,8 @@ fn has_outcome(
     }
 }
 
-/// The place of a change, in bytes: the offset at which it begins, and the numbers of removed and
-/// of added bytes.
+/// A change, in bytes: the offset at which it begins, and the numbers of bytes that it removes and
+/// adds.
 #[derive(Clone, Copy)]
 struct ChangedRange {
     from: usize,
@@ -192,11 +192,11 @@ static LONG: &[RescanCase] = rows![
 ];
 
 static SHORT: &[RescanCase] = rows![
-    // A comment is opened at the front.
+    // A comment is opened at the beginning of the text.
     Short(("", "", "(*", "MODULE M; END M."), Refused);
     Short(("", "", "(*", "x *)"), Read(1, false));
     Short(("", "", "(*", "$"), Unscanned);
-    // The tokens keep their kinds, or don't.
+    // In some of these changes, all tokens keep their kinds.
     Short(("x := ", "1", "21", " + y"), Read(1, true));
     Short(("x := ", "1", "(* one *) 1", " + y"), Read(2, true));
     Short(("x := ", "1", "z", " + y"), Read(1, false));
@@ -227,14 +227,14 @@ fn a_changed_text_is_read_as_from_nothing(rt: HostRuntime) {
     assert!(rt; wrong.is_none(), "row {wrong:?}");
 }
 
-/// A sequence of numbers that look random.
+/// A generator of pseudorandom numbers.
 #[derive(Drop)]
 struct Numbers {
     seed: u64,
 }
 
 impl Numbers {
-    /// Returns the next number, which is less than `most`. If `most` is 0, returns 0.
+    /// Returns the next pseudorandom number. It is less than `most`, or 0 if `most` is 0.
     fn below(&mut self, most: usize) -> usize {
         self.seed = self
             .seed
@@ -249,7 +249,7 @@ static PIECES: &[&str] = &[
     "(* a *)", "(**)", "1a", "$", "  ", "7", "é", "a1", ".",
 ];
 
-/// Appends fewer than `most` random pieces.
+/// Appends a random number of random pieces (`PIECES`) to a text: fewer than `most`.
 fn push_pieces(text: &mut String, numbers: &mut Numbers, most: usize) -> Result<(), AllocError> {
     for _i in 0..numbers.below(most) {
         if let Some(piece) = PIECES.get(numbers.below(25)) {
@@ -294,8 +294,8 @@ fn random_change(alloc: Global, numbers: &mut Numbers) -> Result<Outcome, AllocE
     }
 }
 
-/// Returns whether 10,000 random changes are scanned as if from scratch. At least 3,000 of the
-/// changed texts must be accepted and 500 refused.
+/// Makes 10,000 random changes of random texts. Returns whether each changed text is scanned as if
+/// from scratch. At least 3,000 of the changed texts must be accepted and 500 refused.
 fn are_random_changes_read(alloc: Global) -> bool {
     let mut numbers = Numbers { seed: 1 };
     let mut read: usize = 0;

@@ -158,7 +158,7 @@ fn word_of_message(message: &Incoming) -> &'static str {
     }
 }
 
-/// Returns a client's capabilities, in words.
+/// Returns the features of a client, as the server reads them in `initialize`, in words.
 fn client_in_words(client: ClientFeatures) -> &'static str {
     let ClientFeatures {
         offers_utf8: utf8,
@@ -193,7 +193,7 @@ fn actions_in_words(only: &Option<Vec<String>>) -> &'static str {
     }
 }
 
-/// Returns the meaning of a request, in a word.
+/// Returns a word or two for the meaning of a request.
 fn word_of(call: &Call) -> &'static str {
     match call {
         Call::Initialize(client) => client_in_words(*client),
@@ -220,7 +220,7 @@ fn request_in_words(alloc: Global, method: &str, params: &Value) -> &'static str
     }
 }
 
-/// Returns the meaning of a notification, in a word.
+/// Returns a word or two for the meaning of a notification.
 fn word_of_note(note: &Note) -> &'static str {
     match note {
         Note::Unreadable { uri: None } => "unreadable",

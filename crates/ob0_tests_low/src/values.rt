@@ -38,7 +38,7 @@ static ROWS: &[ComputationCase] = rows![
     Relate(Relation::Less, Truth(true), Truth(false)) => Err(OperatorFault::Operand);
 ];
 
-/// Returns the result of an operator on its operands.
+/// Applies an operator to its operands, and returns the result or the operator's fault.
 fn compute(reckoned: Computation) -> Result<Scalar, OperatorFault> {
     match reckoned {
         Multiply(operator, left, right) => multiply(operator, Number(left), Number(right)),

@@ -41,9 +41,9 @@ const RENAME_WORD: CommandLine<'static> = CommandLine::Rename {
 /// A command line, the bytes of its file and the bytes of the standard input.
 type Call = (CommandLine<'static>, &'static [u8], &'static [u8]);
 
-/// Performs a call with a writer whose first `flushes` flushes succeed, and no others. Returns the
-/// status, and the number of bytes that the writer passed on. A command line without a file isn't
-/// performed; its status is 2.
+/// Performs a call with a writer whose first `flushes` flushes succeed, and whose later flushes
+/// fail. Returns the status, and the number of bytes that the writer passed on. A command line
+/// without a file isn't performed; its status is 2.
 fn outcome_of(alloc: Global, call: Call, flushes: u32) -> (u8, usize) {
     let (line, file, bytes) = call;
     let Some(_path) = line.file() else {
@@ -98,8 +98,8 @@ fn commands_print_what_they_flush(rt: HostRuntime) {
     assert!(rt; number.is_none(), "call {number:?}");
 }
 
-/// Returns the kind of a command line, such as `serve`. A run of the file `m` with the default
-/// bounds is `run m`.
+/// Returns the command of a command line in words, such as `serve`. A run of the file `m` with the
+/// default bounds is `run m`.
 fn word_of(line: &CommandLine<'_>) -> &'static str {
     match line {
         CommandLine::Serve => "serve",
@@ -114,8 +114,8 @@ fn word_of(line: &CommandLine<'_>) -> &'static str {
     }
 }
 
-/// Returns the kind of the command line that `words` spell. Returns `refused` if the words are
-/// refused, and `out of memory` if an allocation fails.
+/// Returns the command that the arguments `words` spell, in words (`word_of`). Returns `refused` if
+/// the words are refused, and `out of memory` if an allocation fails.
 fn line_of(alloc: Global, words: &[&str]) -> &'static str {
     match command(alloc, words) {
         Ok(line) => word_of(&line),

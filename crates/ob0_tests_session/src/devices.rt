@@ -3,8 +3,8 @@
 
 use std::io::{self, Read, Write};
 
-/// A reader of these bytes, which returns at most `most` bytes in each call. A call fails when no
-/// calls are left.
+/// A reader of `bytes`, which returns at most `most` bytes in each call. The next `calls_left`
+/// calls succeed, and later calls fail.
 #[derive(Drop)]
 pub struct Source<'a> {
     pub bytes: &'a [u8],

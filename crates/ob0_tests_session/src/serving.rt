@@ -20,8 +20,9 @@ const BAD_HEAD: &[u8] = b"Content-Length: 75\r\n\r\n\
     {\"id\":1,\"jsonrpc\":\"2.0\",\"method\":\"initialize\",\"params\":{\"capabilities\":{}}}\
     Content-Length: x\r\n\r\n";
 
-/// A conversation and its expected end. The first `len` bytes are read, by at most `reads` reads of
-/// at most `given` bytes each. The writer accepts `capacity` bytes and `flushes` flushes.
+/// A conversation and its expected result. The input is the first `len` bytes of `bytes`, and at
+/// most `reads` reads of at most `given` bytes each succeed. The writer accepts `capacity` bytes.
+/// The conversation needs exactly `flushes` flushes.
 struct ServeEnd {
     bytes: &'static [u8],
     len: usize,
@@ -52,8 +53,8 @@ static ENDS: &[ServeEnd] = ends![
     BAD_HEAD to 118, 40, u32::MAX; 512, 3 => Err(ServeFault::BadHead);
 ];
 
-/// The end of a conversation, with each device's recorded failure, and whether everything
-/// was flushed.
+/// The end of a conversation: the result of `serve`, whether a read or a write failed, and whether
+/// everything was flushed.
 #[derive(Clone, Copy)]
 struct ConversationEnd {
     result: Result<u8, ServeFault>,
@@ -62,8 +63,8 @@ struct ConversationEnd {
     flushed: bool,
 }
 
-/// Holds a conversation with a writer that has these counts, and returns how the conversation
-/// ended.
+/// Calls `serve` for this conversation, with a writer that has these counts, and returns how the
+/// conversation ended.
 fn converse(alloc: Global, end: &ServeEnd, count: &mut Count) -> ConversationEnd {
     let mut reader = Noted::new(Source {
         bytes: &end.bytes[..end.len.min(end.bytes.len())],
@@ -80,8 +81,9 @@ fn converse(alloc: Global, end: &ServeEnd, count: &mut Count) -> ConversationEnd
     }
 }
 
-/// Returns whether everything was flushed, and each device recorded a failure exactly if the result
-/// says that the device failed.
+/// Returns whether everything was flushed, and the recorded failures agree with the result: a
+/// failed read exactly if the result is `Read`, and a failed write exactly if the result is
+/// `Write`.
 fn is_reported(found: ConversationEnd) -> bool {
     found.read_failed == (found.result == Err(ServeFault::Read))
         && found.write_failed == (found.result == Err(ServeFault::Write))

@@ -1,7 +1,8 @@
-//! Defines short forms of events and of reports, for tables, and makes the events.
+//! Defines short forms of events and of reports, for the tests' tables. Builds the events from their
+//! short forms, and makes them happen in a world.
 //!
-//! If an allocation for the events themselves fails, the events are made a second time. The second
-//! time succeeds, because only one allocation of a run fails.
+//! If an allocation fails while a story's list of events is built, the list is built a second time.
+//! The second time succeeds, because only one allocation of a test's run fails.
 
 use ob0_text::{Change, Indent, Position, Range, TextStore};
 use ob0_world::{Ask, Event, Seen, World, WorldFault};
@@ -42,23 +43,24 @@ pub enum ShortReport {
     Published(bool),
     /// The editor took the diagnostics of `v`. The Bool says whether the list is empty.
     PublishedOther(bool),
-    /// The editor took the answer to the ask with this number. The Bool says whether the answer has
-    /// edits.
+    /// The editor took the answer to the request with this number. The Bool says whether the answer
+    /// has edits.
     Answered(u64, bool),
     Applied(u64),
     Dropped(u64),
 }
 
-/// A list of events in a world that counts positions in this unit, with the expected reports and
+/// A list of events in a world that counts positions in `unit`, with the expected reports and
 /// results.
 pub struct Story {
     pub name: &'static str,
     pub unit: ob0_text::Unit,
     /// Each event with its expected report.
     pub moments: &'static [(Act, ShortReport)],
-    /// The text before and the text after each edit that is applied.
+    /// The text before and the text after each applied edit, in order.
     pub applied: &'static [(&'static str, &'static str)],
-    /// The version and text of each published list of diagnostics, and whether the list is empty.
+    /// The version and text of each published list of diagnostics, in order, and whether the list
+    /// is empty.
     pub made: &'static [(i64, &'static str, bool)],
 }
 
@@ -66,8 +68,8 @@ pub struct Story {
 #[derive(Clone, Copy, PartialEq, Eq)]
 pub enum StepsResult {
     AsExpected,
-    /// The steps are as expected up to an allocation that fails. Each step after that returns that
-    /// the world or the session has ended.
+    /// An allocation failed. The steps before the failure are as expected, and each step after the
+    /// failure returns that the world or the session has ended.
     Refused,
     Ended,
     Unexpected,
@@ -98,14 +100,14 @@ fn changes(alloc: Global, range: Range, text: &str) -> Result<Vec<Change>, Alloc
     Ok(changes)
 }
 
-/// Returns the ask for renaming at a position.
+/// Returns the request for renaming the name at a position to `name`.
 fn rename_ask(alloc: Global, position: Position, name: &str) -> Result<Ask, AllocError> {
     let name = String::from_str(alloc, name)?;
     Ok(Ask::Rename { position, name })
 }
 
-/// Returns the ask that an act describes. Any act other than a rename or an inlining gives the ask
-/// for a formatting.
+/// Returns the request for edits that an act describes. For any act other than a rename or an
+/// inlining, returns the request for a formatting.
 fn ask_of(alloc: Global, act: Act) -> Result<Ask, AllocError> {
     match act {
         Act::Rename(line, character, name) => rename_ask(alloc, at(line, character), name),
@@ -121,8 +123,8 @@ fn ask_of(alloc: Global, act: Act) -> Result<Ask, AllocError> {
     }
 }
 
-/// Returns the event that an act describes, about the document with this uri. An act that isn't an
-/// open, a change or a close gives an ask.
+/// Returns the event that an act describes, about the document with this uri. For any act other
+/// than an opening, a change or a closing, the event is a request for edits.
 fn event_about(alloc: Global, uri: String, act: Act) -> Result<Event, AllocError> {
     match act {
         Act::Open(text) => {
@@ -167,7 +169,7 @@ fn events_of(alloc: Global, moments: &[(Act, ShortReport)]) -> Result<Vec<Event>
     Ok(events)
 }
 
-/// Returns the events of a story. If an allocation fails, the events are made once more.
+/// Returns the events of a story. If an allocation fails, the list of events is built once more.
 pub fn events_with_retry(alloc: Global, story: &Story) -> Result<Vec<Event>, AllocError> {
     match events_of(alloc, story.moments) {
         Ok(events) => Ok(events),

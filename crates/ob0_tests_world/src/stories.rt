@@ -1,5 +1,6 @@
-//! Lists the stories: events of an editor and a server with renames, inlined constants,
-//! formattings, and discarded answers.
+//! Lists the stories. A story is a list of events of an editor and a server, with the expected
+//! results. The events are renames, inlinings of constants, formattings, and discarded answers,
+//! among others.
 
 use crate::acts::Act::*;
 use crate::acts::ShortReport::*;
@@ -38,7 +39,8 @@ const INLINED_HERE: &str = "MODULE M;\nCONST c = -2147483647 - 1;\nVAR x: INTEGE
 const INLINED_EVERYWHERE: &str =
     "MODULE M;\nCONST \nVAR x: INTEGER;\nBEGIN x := 0 + (-2147483647 - 1); Write(x) END M.\n";
 
-/// If the constant `on` were inlined, its value `TRUE` would be bound to the variable of that name.
+/// In this module, inlining the constant `on` is refused: its value `TRUE` would be bound to the
+/// variable `TRUE`.
 const SHADOWED: &str =
     "MODULE M;\nCONST on = TRUE;\nPROCEDURE P; VAR TRUE, b: BOOLEAN; BEGIN b := on END P;\nBEGIN P END M.\n";
 
@@ -49,7 +51,8 @@ const WIDE_RENAMED: &str = "MODULE M;\nVAR (* 😀 *) k: INTEGER;\nBEGIN (* 😀
 /// The text `WIDE` with `k` written over the declared name, so that `n` is undeclared.
 const WIDE_WRITTEN: &str = "MODULE M;\nVAR (* 😀 *) k: INTEGER;\nBEGIN (* 😀 *) n := 1 END M.\n";
 
-/// Builds a list of moments, each written `ACT => REPORT` and separated by commas.
+/// Builds a list of moments. A moment is an act with its expected report, written `ACT => REPORT`.
+/// Moments are separated by commas.
 macro_rules! moments {
     ($($act:expr => $sight:expr),*) => { &[$(($act, $sight)),*] };
 }

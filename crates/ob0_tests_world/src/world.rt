@@ -1,5 +1,5 @@
-//! Tests whole lists of events, step by step and by `play`, in both units of positions and over
-//! both text stores.
+//! Tests whole lists of events, both step by step and by `play`, with positions in UTF-16 units and
+//! in bytes, and over both text stores.
 
 use crate::acts::{StepsResult, Story, events_with_retry, join_results, make_event};
 use crate::stories::stories;
@@ -25,7 +25,8 @@ struct Outcome(StepsResult, u64, usize, usize);
 /// The outcome of a story that doesn't run as expected. Its numbers have no meaning.
 const UNEXPECTED_OUTCOME: Outcome = Outcome(StepsResult::Unexpected, 0, 0, 0);
 
-/// Returns whether the edits found are the first of the expected edits, in order.
+/// Returns whether the edits in `found` are the first ones in `wanted`, the expected edits, in
+/// order.
 fn are_first_edits(found: &[Applied], wanted: &[(&str, &str)]) -> bool {
     if found.len() > wanted.len() {
         return false;
@@ -39,7 +40,8 @@ fn are_first_edits(found: &[Applied], wanted: &[(&str, &str)]) -> bool {
     true
 }
 
-/// Returns whether the publications found are the first of the expected publications, in order.
+/// Returns whether the publications in `found` are the first ones in `wanted`, the expected
+/// publications, in order.
 fn are_first_publications(found: &[Made], wanted: &[(i64, &str, bool)]) -> bool {
     if found.len() > wanted.len() {
         return false;
@@ -74,7 +76,8 @@ fn begin_world<T: TextStore>(alloc: Global, unit: Unit) -> Result<World<T>, Worl
     }
 }
 
-/// Makes the events of a story in a world, and returns their common result.
+/// Makes the events of a story in a world, and returns the common result of all steps
+/// (`join_results`).
 fn make_events<T: TextStore>(world: &mut World<T>, story: &Story, events: &[Event]) -> StepsResult {
     let mut result = StepsResult::AsExpected;
     for i in 0..events.len().min(story.moments.len()) {

@@ -18,8 +18,9 @@ pub record IsChangedAt (old new : List ℕ) (r : ReplacedBytes) : Type 0 where
       ≡ drop (r.from + r.added) (encode_utf8_all new)
 
 -- States that the replaced bytes (third argument) contain every change from the old text (first
--- argument) to the new text (second argument). If the old text isn't known, the replaced bytes are
--- None. Otherwise None means that the text is unchanged.
+-- argument) to the new text (second argument). A text that isn't known is None. If the old text
+-- isn't known, the replaced bytes are None. If the old text is known, the new text is also known,
+-- and None as the replaced bytes means that the text is unchanged.
 abbrev pub CoversAllChanges : Option (List ℕ) → Option (List ℕ) → Option ReplacedBytes → Type 0
 CoversAllChanges None new covering_change = covering_change ≡ None
 CoversAllChanges (Some old) new None = new ≡ Some old

@@ -2,10 +2,11 @@
 -- Rule: docs/PROTOCOL.md, Requests on documents 8.
 use Rattle.std.specs.Prelude.{ℕ, max, min}
 
--- The greatest number of spaces in a level.
+-- The greatest number of spaces in one level of indentation.
 abbrev pub max_indent : ℕ
 max_indent = 16
 
--- Returns the number of spaces in a level if `n` are requested: at least 1 and at most 16.
+-- Returns the number of spaces in one level of indentation if a client requests `n` spaces. The
+-- result is `n`, but at least 1 and at most 16.
 abbrev pub level_spaces : ℕ → ℕ
 level_spaces n = max 1 (min n max_indent)

@@ -1,11 +1,12 @@
--- Defines the invariants of passes over a text: what a pass at a place knows about the rest of the
--- text. `CanCountPositions` says that the position of each later offset can be counted from the
--- place. `CanFindOffsets` says that the offset of the sought position, and of each later position,
--- can be found in the rest. For each kind of step a lemma shows that the step preserves the
--- invariant (`PositionSteps`, `PlaceSteps`). So stopping and resuming a pass needs no separate
--- case. A pass towards a position doesn't count the characters of earlier lines, so
--- `CanFindOffsets` covers only positions at or after the sought one.
--- Rule: none; for private contracts of passes over a text.
+-- Defines the invariants of passes over a text. A pass advances through the text to a byte offset
+-- or to a position, and keeps track of its place. `CanCountPositions` says that the position of
+-- each later offset can be counted from the place. `CanFindOffsets` says that the offsets of the
+-- sought position and of each later position can be found from the place. For each kind of step a
+-- lemma shows that the step preserves the invariant (`PositionSteps`, `PlaceSteps`). So stopping
+-- and resuming a pass needs no separate case. A pass towards a position doesn't count the
+-- characters of earlier lines, so `CanFindOffsets` covers only positions at or after the sought
+-- one.
+-- Rule: none; used in private contracts about passes over a text.
 use Rattle.std.specs.Prelude.{◌≡◌, ℕ, ◌+◌, ◌-◌, ◌<◌, ◌≤◌, ◌⊎◌, if◌then◌else◌, ◌==◌, List, ◌++◌, length, drop}
 use Rattle.std.specs.Str.{IsUtf8, chars}
 use Rattle.ob0_text.specs.declared.passes.PlaceInText.{PlaceInText}

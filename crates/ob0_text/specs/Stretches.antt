@@ -1,6 +1,6 @@
--- Defines pieces of a line: consecutive characters other than LF and CR, whose units are counted
--- together.
--- Rule: none; for private contracts of passes over a text.
+-- Defines pieces of a line and stretches. A piece is a run of characters other than LF and CR. A
+-- stretch is a piece with at least one character.
+-- Rule: none; used in private contracts about passes over a text.
 use Rattle.std.specs.Prelude.{◌≡◌, ℕ, ◌+◌, ◌-◌, ◌<◌, ◌≤◌, false, ◌||◌, ◌==◌, if◌then◌else◌, nat_lt, nat_le, List, length, take, drop, sum_by}
 use Rattle.std.specs.List.{All}
 use Rattle.std.specs.Str.{IsUtf8, chars}

@@ -105,8 +105,8 @@ fn unsorted_cuts<'e, T: TextStore>(
     Ok(cuts)
 }
 
-/// Returns the byte offset of each position. The list of positions is dropped here, so the caller
-/// owns one list instead of two.
+/// Returns the byte offset of each position, in the order of the list. Takes the list of positions
+/// by value and drops it, so the caller doesn't hold two lists at once.
 fn offsets_of_positions<T: TextStore>(
     alloc: Global,
     store: &T,

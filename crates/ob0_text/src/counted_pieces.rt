@@ -3,13 +3,13 @@
 //!
 //! `Lines` keeps the counted part of the line of the last change: from the line's start to a place
 //! shortly before the change. The search for the start of the next change begins at the end of this
-//! part. Short runs of characters (`stretches.rt`) are removed there or added there (`shorten_to`,
-//! `extend_to`). So replacing all occurrences in one long line passes only over the text between
-//! the changes, whether they are made forwards or backwards. The part contains only text in front
-//! of the change (`kept_if_before`). So it remains a piece of a line (`IsPieceOfLine`), even if the
-//! change adds or removes lines. `place_after_counted` tests whether a line still starts at the
-//! part's start. If changes alternate between two places of one long line, each change passes over
-//! the text between these places.
+//! part. Short runs of characters (`stretches.rt`) are removed from the end of the part or added to
+//! it (`shorten_to`, `extend_to`). So if an editor replaces all occurrences of a word
+//! in one long line, forwards or backwards, only the text between two changes is passed over. The
+//! part contains only text in front of the change (`kept_if_before`). So it remains a piece
+//! of a line (`IsPieceOfLine`), even if the change adds or removes lines. `place_after_counted`
+//! tests whether a line still starts at the part's start. If changes alternate between two places
+//! of one long line, each change passes over the text between these places.
 
 ghost use Rattle.std.specs.Prelude.{◌≡◌, ◌+◌, ◌-◌, ◌<◌, ◌≤◌, ◌++◌, ℕ, List, IfSome, length, take};
 ghost use Rattle.ob0_text.specs.Units.{width_of};
@@ -41,9 +41,9 @@ pub fn empty_counted_piece() -> CountedPiece
 
 impl CountedPiece {
     /// Returns this piece if it ends at or before the byte offset `offset`, otherwise an empty
-    /// piece. So the result is also correct after a change of the text behind `offset`: if this piece is a
-    /// piece of a line of some text, the result is a piece of a line of every text with the same
-    /// first `offset` bytes.
+    /// piece. The result remains right if the text behind `offset` changes. More precisely: if this
+    /// piece is a piece of a line of some text, the result is a piece of a line of every text with
+    /// the same first `offset` bytes.
     pub fn kept_if_before(self, offset: usize) -> CountedPiece
         ensures { (width : ℕ → ℕ) (text rest : List ℕ)
             → IsPieceOfLine width text self.start self.end_and_units
@@ -77,9 +77,9 @@ pub fn count_up_to(text: &str, unit: Unit, start: usize, last: CountedPiece, uni
     extend_to(text, unit, start, nothing, units)
 }
 
-/// Returns the piece `from`, which begins at the byte offset `start`, without its last characters,
-/// so that at most `units` units are left. A piece with at most `units` units is returned
-/// unchanged. The characters are removed from the end in steps of at most 64 bytes.
+/// Returns the piece `from`, which begins at the byte offset `start`, shortened to at most `units`
+/// units. Characters are removed from its end in steps of at most 64 bytes. A piece with at most
+/// `units` units is returned unchanged.
 fn shorten_to(text: &str, unit: Unit, start: usize, from: Stretch, units: u64) -> Stretch
     requires start { start ≤ length text.now }
     requires is { IsPieceOfLine (width_of unit) text.now start from }
@@ -125,8 +125,9 @@ fn without_last_bytes(text: &str, unit: Unit, start: usize, piece: Stretch) -> O
     })
 }
 
-/// Returns the piece `from`, which begins at the byte offset `start`, extended by the stretches
-/// after it. It is extended as long as the result has at most `units` units.
+/// Returns the piece `from`, which begins at the byte offset `start`, extended by whole stretches
+/// (`Stretch`) of the same line. The extension stops before the result might have more than `units`
+/// units.
 fn extend_to(text: &str, unit: Unit, start: usize, from: Stretch, units: u64) -> Stretch
     requires few { from.units ≤ units }
     requires is { IsPieceOfLine (width_of unit) text.now start from }

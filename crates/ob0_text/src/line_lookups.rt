@@ -2,19 +2,19 @@
 //!
 //! `count_starts_before` is a binary search. Its contract covers each split of the table into
 //! offsets below a bound and offsets at or above it: the result is the length of the first part.
-//! The loop keeps this length between `low` and `high` (`in_front`, `not_in_front` in `Halving`). A
-//! pass may begin at the start of any line that starts at or before the offset or position that is
-//! looked up (`line_counted`, `line_sought` in `LinePlaces`). So the result is correct whichever of
-//! these lines the pass begins at. The nearest line only saves time.
+//! The loop keeps this length between `low` and `high` (`in_front`, `not_in_front` in `Halving`).
+//! The pass that looks up an offset or a position may begin at the start of any line that starts at
+//! or before it (`line_counted`, `line_sought` in `LinePlaces`). The result is the same for each of
+//! these lines. Beginning at the nearest line only saves time.
 //!
-//! The offsets or positions of a list are looked up in the order of the list. The pass to an entry
-//! continues at the previous entry's place if this place is in the same line and not after the
-//! entry. The pass to an offset also continues if the offset is less than 32 bytes further on.
-//! Otherwise the pass begins at the start of the entry's line, which the table gives
-//! (`nearest_place_before`, `place_from_last`). So ascending entries in one long line take a single
-//! pass over that line, as in the plain store `Whole`. An offset that isn't near takes a binary
-//! search for its line. If both ends of a changed range are in one line, one pass finds both ends
-//! (`range_offsets`).
+//! The offsets or positions of a list are looked up in the order of the list. The pass to an offset
+//! or position continues at the place of the previous one if this place is in the same line and not
+//! further on. The pass to an offset also continues there if the offset is less than 32 bytes
+//! further on, even in another line. Otherwise the pass begins at the start of the line, which the
+//! table gives (`nearest_place_before`, `place_from_last`). So ascending offsets or positions in
+//! one long line take a single pass over that line, as in the plain store `Whole`. An offset that
+//! isn't near takes a binary search for its line. If both ends of a changed range are in one line,
+//! one pass finds both ends (`range_offsets`).
 
 ghost use Rattle.std.specs.Prelude.{◌≡◌, ◌+◌, ◌-◌, ◌<◌, ◌≤◌, IfOk, length, map, min, slice_get, slice_index};
 ghost use Rattle.std.specs.Option.{option_map};

@@ -1,10 +1,10 @@
 //! Defines the store `Lines`: a text as one `String`, with a table of the offsets at which its
 //! lines start.
 //!
-//! The model is the text and the unit. The invariant says that the table belongs to the text
-//! (`IsLineTableOf`). Functions over a text and its table implement all of `TextStore`
-//! (`line_lookups.rt`, `line_table.rt`). The session, `serve` and the commands use this store.
-//! Tests compare it with the plain store `Whole`.
+//! The model is the text and the unit. The invariant says that the table and the counted piece
+//! match the text (`TableAndPieceMatchText`). Functions over a text and its table implement all of
+//! `TextStore` (`line_lookups.rt`, `line_table.rt`). The session, `serve` and the commands use this
+//! store. Tests compare it with the plain store `Whole`.
 
 ghost use Rattle.std.specs.Prelude.{◌≡◌, slice_get};
 ghost use Rattle.std.specs.Option.{option_map};
@@ -25,8 +25,8 @@ use std::alloc::{AllocError, Global};
 use std::marker::Model;
 
 /// A text with the table of its lines. A look-up counts only the characters of one line. If a
-/// change starts in the same line as the previous change, the search for its start passes only over
-/// the text between the two changes.
+/// change starts in the same line as the previous change, finding its start passes only over the
+/// text between the two changes.
 #[derive(Drop)]
 pub struct Lines {
     text: String,

@@ -2,13 +2,13 @@
 //!
 //! There are two kinds of passes: to a byte offset (`advance_to_offset`) and to a position
 //! (`advance_to_position`). Both first advance by stretches of a line: runs of up to 64 bytes
-//! (`stretches.rt`). Then the pass to an offset advances over ASCII bytes (`skip_ascii`). It
-//! continues even across lines, because the next offset is usually only a few lines further on.
-//! This pass decodes only CR and characters outside ASCII. The pass to a position decodes each
-//! remaining character. If the pass began in the position's line, fewer than 64 characters remain
-//! to be decoded. The pass to an offset preserves the invariant `CanCountFrom`, and the pass to a
-//! position preserves `CanSeekFrom`. `StretchSteps` proves that a step over a whole stretch
-//! preserves both, because a step over one character does.
+//! (`stretches.rt`). Then the pass to an offset advances over ASCII bytes (`skip_ascii`), even
+//! across lines, because the offset is usually only a few lines further on. This pass decodes only
+//! CR and characters outside ASCII. The pass to a position decodes each remaining character. If the
+//! pass began in the position's line, fewer than 64 characters remain to be decoded. The pass to an
+//! offset preserves the invariant `CanCountFrom`, and the pass to a position preserves
+//! `CanSeekFrom`. `StretchSteps` proves that a step over a whole stretch preserves both, because a
+//! step over one character does.
 
 ghost use Rattle.std.specs.Prelude.{◌≡◌, ◌↔◌, ◌==◌, ◌||◌, ◌+◌, ◌-◌, ◌<◌, ◌≤◌, IfOk, IfSome, IsTrue, None, map};
 ghost use Rattle.std.specs.Str.{IsCharBoundary, chars};

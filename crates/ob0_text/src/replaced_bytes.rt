@@ -3,18 +3,19 @@
 //! The changes in one notification are merged into one range of bytes that contains every change.
 //! The bytes in front of this range and behind it are unchanged (`CoversAllChanges`,
 //! `IsChangedAt`). `rescan` of `ob0_scan` requires this (`ReplacesRange`). `replace_at` of a store
-//! returns the bytes that one change replaces. `merged_with` joins the ranges of two changes. It
-//! compares them in the text between the two changes, in which the first range has the bytes that
-//! were added and the second range has the bytes that are removed. The bytes behind both ranges are
-//! unchanged. A change of the whole text replaces all bytes. `CoversAllChanges` allows a range with
-//! more bytes than necessary, because a smaller range only saves time. If the text before the
-//! changes wasn't known, the result is None, because no part of that text is known to be unchanged.
+//! returns the bytes that one change replaces. `merged_with` joins two changes, of which the second
+//! is made to the result of the first. It compares their ranges in this result, which has the added
+//! bytes of the first change and still has the removed bytes of the second. The bytes behind both
+//! ranges are unchanged. A change of the whole text replaces all bytes. `CoversAllChanges` allows a
+//! range with more bytes than necessary, because a smaller range only saves time. If the text
+//! before the changes wasn't known, the result is None, because no part of that text is known to be
+//! unchanged.
 
 ghost use Rattle.std.specs.Prelude.{◌≡◌, ℕ, List, Option, is_some};
 ghost use Rattle.ob0_text.specs.ChangedBytes.{CoversAllChanges, IsChangedAt};
 
-/// A change of a text: at the byte offset `from`, `removed` bytes of the old text were replaced by
-/// `added` bytes of the changed text.
+/// A change of a text: the `removed` bytes of the old text that start at the byte offset `from`
+/// were replaced by `added` other bytes.
 #[derive(Clone, Copy, Debug, PartialEq, Eq)]
 pub struct ReplacedBytes {
     pub from: usize,

@@ -1,10 +1,11 @@
 //! Releases spare memory.
 //!
 //! A list keeps its capacity when it gets shorter. `trim_list` and `trim_text` release most of the
-//! capacity if the used part and `MAX_SPARE` together are less than a quarter of the capacity. So
-//! an open document occupies a few times its own length, however long it was before. Room for twice
-//! the length is kept, so a list can grow by its own length before memory is moved again. No clause
-//! bounds the capacity, because std's `shrink_to` keeps it if a smaller block can't be allocated.
+//! capacity if the used part and `MAX_SPARE` together are less than a quarter of the
+//! capacity. So an open document occupies at most a few times its present length, even if it was
+//! much longer before. Room for twice the length is kept, so a list can grow by its own length
+//! before memory is moved again. No contract bounds the capacity, because std's `shrink_to` leaves
+//! the capacity unchanged if it can't allocate a smaller block.
 
 ghost use Rattle.std.specs.Prelude.{◌≡◌, string_bytes};
 

@@ -1,4 +1,5 @@
-//! Counts stretches of a line: short runs of characters that are counted without decoding them.
+//! Counts the units of stretches: short runs of characters of one line, which are counted without
+//! decoding them.
 //!
 //! A stretch has at most 64 bytes of whole characters, and no character in it is LF or CR. One loop
 //! counts the bytes that are LF or CR. If the unit is UTF-16, another loop counts the first byte of

@@ -1,5 +1,5 @@
 -- Defines the first identifier in a part of a module.
--- Rule: none; for contracts on the beginning of a block's statements.
+-- Rule: none; used in contracts about the first identifier of a block's statements.
 use Rattle.std.specs.Prelude.{ℕ, List, [], ◌∷◌, Option, Some, None}
 use Rattle.ob0_tree.specs.declared.tree.Role.{Role}
 use Rattle.ob0_tree.specs.declared.tree.Role.TheVariants as role

@@ -1,5 +1,5 @@
 -- Defines the token indexes of a tree's identifiers, and states when such indexes ascend.
--- Rule: none; for contracts: identifiers by their places.
+-- Rule: none; used in contracts about the token indexes of identifiers.
 use Rattle.std.specs.Prelude.{◌≡◌, ℕ, ◌+◌, ◌≤◌, ◌<◌, List, [], ◌∷◌, ◌++◌, map, length}
 use Rattle.std.specs.List.{HoldsAt}
 use Rattle.ob0_scan.specs.declared.lexeme.TokenKind.{TokenKind}

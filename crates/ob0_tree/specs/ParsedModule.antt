@@ -1,6 +1,6 @@
--- Defines a parsed module: a text and the tree that the code made of it. Also states when this tree
--- is right (`IsParsed`).
--- Rule: none; for contracts: a module that was read from a text.
+-- Defines a parsed module: a text and a syntax tree of the code. Also states when the tree is the
+-- right one for the text (`IsParsed`).
+-- Rule: none; used in contracts about parsed modules.
 use Rattle.std.specs.Prelude.{◌≡◌, ℕ, List, [], ◌∷◌, ◌++◌}
 use Rattle.ob0_scan.specs.TextWithTokens.{TextWithTokens}
 use Rattle.ob0_tree.specs.declared.tree.Block.{Block}

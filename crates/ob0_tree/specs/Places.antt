@@ -1,6 +1,6 @@
 -- Defines how a tree whose leaves are token indexes spells tokens. Also defines how these indexes
 -- are replaced by the tokens' texts and values.
--- Rule: none; for contracts: trees over indexes of tokens.
+-- Rule: none; used in contracts about trees whose leaves are token indexes.
 use Rattle.std.specs.Prelude.{ℕ, ◌+◌, Option, Some, None, List, [], ◌∷◌, slice_get}
 use Rattle.ob0_scan.specs.declared.lexeme.TokenKind.{TokenKind}
 use Rattle.ob0_scan.specs.declared.lexeme.TokenKind.TheVariants as kind

@@ -406,8 +406,8 @@ identifiers r (forms_block ds b) = identifiers r ds ++ identifiers r b
 identifiers r (is_module name b closing) =
     (role.ModuleName, name) ∷ (identifiers r b ++ ((role.ModuleName, closing) ∷ []))
 
--- Returns the names of a tree that refer to a declaration, in text order. The list has no declaring
--- names, closing names, names of fields or names of the module.
+-- Returns the occurrences in a tree, in text order: the names that refer to a declaration.
+-- Declaring names, closing names, names of fields and the module's name aren't occurrences.
 abbrev pub occurrences : {N : Type 0} {s : Sort} → Tree N s → List N
 occurrences none = []
 occurrences (one t) = occurrences t

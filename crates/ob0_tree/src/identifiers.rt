@@ -10,8 +10,8 @@ use crate::walk::Visitor;
 use std::alloc::{AllocError, Global};
 use std::marker::Model;
 
-/// A visitor that collects the identifiers visited so far, in text order. Each identifier has its
-/// role and the index of its token.
+/// A visitor that collects the identifiers which the walk has visited, in text order. Each
+/// identifier is stored with its role and the index of its token.
 #[derive(Drop)]
 struct IdentifierCollector {
     listed: Vec<(Role, usize)>,

@@ -1,8 +1,8 @@
 //! Computes the nesting depth of a module.
 //!
-//! The private functions add with saturation, so they need no precondition that bounds the depth:
-//! their contracts promise `capped_to_u32 (nesting ..)`. `Module::nesting` promises the exact
-//! depth, because a module has at most 100 levels by its invariant.
+//! The private functions add with saturation, so they need no precondition that bounds the depth.
+//! Their contracts promise the depth capped at 2^32 - 1 (`capped_to_u32`). `Module::nesting`
+//! promises the exact depth, because a module's invariant allows at most 100 levels.
 
 ghost use Rattle.std.specs.Prelude.{◌≡◌, ◌+◌};
 ghost use Rattle.ob0_tree.specs.Tree.{nesting};

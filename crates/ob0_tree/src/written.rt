@@ -1,4 +1,4 @@
-//! Returns the text of a token.
+//! Looks up the text of a token by the token's index.
 
 ghost use Rattle.std.specs.Prelude.{◌≡◌};
 ghost use Rattle.ob0_tree.specs.Places.{token_text_at};

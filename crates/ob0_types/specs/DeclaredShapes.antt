@@ -1,4 +1,4 @@
--- The type of a declaration.
+-- The type of a declaration, as a shape of the definitions.
 -- Rule: docs/LANGUAGE.md, Types 1.
 use Rattle.ob0_types_table.specs.KnownTables.{shapes_of}
 use Rattle.ob0_types_table.specs.Tables.{type_shape}

@@ -1,4 +1,4 @@
--- The order in which faults are reported.
+-- The order in which faults are reported, and the limit of 100 faults.
 -- Rule: docs/LANGUAGE.md, Faults of scopes and types 1.
 use Rattle.std.specs.Prelude.{◌≡◌, ℕ, List, ◌++◌, take}
 use Rattle.std.specs.List.{filter}
@@ -43,7 +43,8 @@ place_cmp x y = ordering_then (nat_cmp x.span.start y.span.start) (nat_cmp x.spa
 abbrev pub fault_cmp : Fault → Fault → Ordering
 fault_cmp x y = ordering_then (place_cmp x y) (nat_cmp (code_number x.code) (code_number y.code))
 
--- states that `faults` has the first 100 faults of the list `found` once this list is sorted by `fault_cmp`
+-- states that `faults` has the first 100 faults of the list `all`, which has the faults of the list `found` sorted by
+-- `fault_cmp`
 pub record AreFirstOf (found faults : List Fault) : Type 0 where
   pub all : List Fault
   pub joined : IsPermutation found all

@@ -8,7 +8,8 @@ use Rattle.ob0_types.specs.CheckedModules.{AreTypesOf}
 use Rattle.ob0_types.specs.declared.checked.ModuleTypes.{ModuleTypes}
 
 -- States that `types` is the result of checking an older module, and that `r` is that module with the statements of one
--- body replaced. All other tokens have the same spellings in both modules. `s` gives the ranges of these tokens.
+-- body replaced. All other tokens have the same spellings in both modules. `s` gives the ranges of these unchanged
+-- tokens in both modules.
 pub record WereTypesBeforeNewBody (r : Resolution) (types : ModuleTypes) (s : SameParts) : Type 0 where
   pub old : Resolution
   pub path : PathToBody

@@ -6,11 +6,11 @@
 //! that owns the result. `Checked::from_parts` makes a `Checked` that borrows a result kept
 //! elsewhere, without allocating.
 //!
-//! Faults are sorted by (start, end, code). The lists of fields are made only for a module that
-//! has no fault of types (`fields_from_table`). If one body changed, the lists are made from the lists of
-//! the previous text (`fields_after_body_change`). The invariant of `Checked` states that the lists
-//! have the module's fields if the module has no fault. So the value of a `Checked` in contracts
-//! doesn't contain the lists.
+//! Faults are sorted by (start, end, code). The lists of fields are made only for a module that has
+//! no fault of types (`fields_from_table`). If one body changed, the lists are made from the lists
+//! of the previous text (`fields_after_body_change`). In contracts, the value of a `Checked`
+//! doesn't contain the lists. Its invariant states that they have the module's fields if the module
+//! has no fault.
 
 ghost use Rattle.ob0_scope_table.specs.Resolution.{is_duplicate_or_end_name};
 ghost use Rattle.ob0_types.specs.CheckedModules.{AreFieldsIfTyped, AreTypesOf, IsChecked, IsTableIfTyped, checked_module};
@@ -34,9 +34,10 @@ use std::alloc::{AllocError, Global};
 use std::borrow::Cow;
 use std::marker::Model;
 
-/// The limit on faulty bodies in the previous text. Up to this number, only the faulty bodies and
-/// the changed body are checked again. If there are more, all bodies are checked, because searching
-/// a longer list for each body would cost as much as checking all bodies.
+/// The greatest number of faulty bodies for which only some bodies are checked again after a
+/// change. If the previous text had at most this many faulty bodies, only they and the changed body
+/// are checked again. If it had more, all bodies are checked, because searching a longer list for
+/// each body would cost as much as checking all bodies.
 const MAX_FAULTY_BODIES: usize = 32;
 
 /// The result of checking a module. If the module is well-typed, `known` has the table of its
@@ -51,7 +52,8 @@ pub struct ModuleTypes {
     pub bodies_with_faults: Vec<usize>,
 }
 
-/// A module with its bindings and the result of checking it, for example its faults.
+/// A module with its bindings and the result of checking it (`ModuleTypes`), for example its
+/// faults.
 #[derive(Drop)]
 pub struct Checked<'t> {
     resolved: &'t Resolved<'t>,
@@ -276,8 +278,8 @@ fn fields_after_body_change<'t>(
 }
 
 /// Returns the lists of a module's fields after the statements of one body were replaced. The
-/// module must have been valid before. Its old fields are reused if possible. If the module isn't
-/// well-typed after the replacement, the result may be any lists.
+/// module must have been valid before. Its old lists of fields (`before.fields`) are reused if
+/// possible. If the module isn't well-typed after the replacement, the result may be any lists.
 fn fields_with_new_body<'t>(
     alloc: Global,
     resolved: &'t Resolved<'t>,
@@ -310,7 +312,7 @@ fn fields_with_new_body<'t>(
 
 /// Returns the first 100 faults of scopes and types, sorted by start, end and code. `of_types` has
 /// the faults of types and the undeclared names. The other faults of scopes, which are duplicate
-/// declarations and wrong closing names, are added.
+/// declarations and wrong closing names, are added to these.
 fn first_faults<'t>(
     resolved: &'t Resolved<'t>,
     of_types: Vec<Fault>,
@@ -328,7 +330,8 @@ fn first_faults<'t>(
     Ok(faults)
 }
 
-/// Appends the duplicate declarations and wrong closing names among the faults of scopes.
+/// Appends to `faults` the duplicate declarations and wrong closing names among the faults
+/// `scopes`, which were found when the names were bound.
 fn add_duplicates_and_end_names(faults: &mut Vec<Fault>, scopes: &[Fault]) -> Result<(), AllocError>
     ensures { OnOk result
         (faults.new.items ≡ faults.old.items ++ filter is_duplicate_or_end_name scopes.now) }
@@ -341,7 +344,7 @@ fn add_duplicates_and_end_names(faults: &mut Vec<Fault>, scopes: &[Fault]) -> Re
     Ok(())
 }
 
-/// Returns whether the fault is a duplicate declaration or a wrong closing name.
+/// Returns whether the fault is a duplicate declaration or field, or a wrong closing name.
 fn is_duplicate_or_end_name(fault: &Fault) -> bool
     ensures { result ≡ is_duplicate_or_end_name fault.now }
 {
@@ -449,8 +452,8 @@ impl<'t> WellTyped<'t> {
         self.checked.resolved()
     }
 
-    /// Returns the table of the module's declarations. It has the object of each declaration by its
-    /// ordinal (`DeclarationTable::object`), and the parts of types.
+    /// Returns the table of the module's declarations. The table has the object of each declaration
+    /// by the declaration's ordinal (`DeclarationTable::object`), and the parts of types.
     pub fn declarations(&self) -> &'t DeclarationTable
         ensures { HasDeclarations (named_tree_of self.now.module_read) result.now }
     {
@@ -498,8 +501,8 @@ impl<'t> Shape<'t> {
     ghost use Rattle.ob0_types_table.specs.Parts.{PartsHaveSizes, is_not_faulty, is_known_type, parts_shape};
     ghost use Rattle.ob0_types.specs.DeclaredShapes.{shape_of};
 
-    /// Returns the parts of the type. The types of the parts are in the same table. The result is
-    /// `Faulty` exactly if this isn't a type of the module.
+    /// Returns the parts of the type. The types of these parts are in the same table as the type.
+    /// The result is `Faulty` exactly if the type isn't one of the module's types.
     pub fn parts(&self) -> Parts<'t>
         ensures shape { parts_shape (shapes_of self.now.known.now) result ≡ shape_of self.now }
         ensures counted { PartsHaveSizes (shapes_of self.now.known.now) result }

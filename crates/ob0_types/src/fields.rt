@@ -1,4 +1,4 @@
-//! Finds fields in a well-typed module: the field at a place of the text, all identifiers of a
+//! Finds fields in a well-typed module: the field at an offset of the text, all identifiers of a
 //! field, and the identifier that declares a field.
 
 ghost use Rattle.std.specs.Prelude.{◌≡◌, IfOk, IfSome, length};
@@ -22,7 +22,7 @@ pub fn field_at(well_typed: &WellTyped<'_>, offset: usize) -> Option<FieldName>
 
 /// Returns the tokens of the field with this name in a record, in text order. These are the
 /// declaring identifier and all identifiers that select the field. `owner` is the record's ordinal:
-/// the number of words ARRAY and RECORD in the text before its own word.
+/// the number of words ARRAY and RECORD in the text before the record's own word.
 pub fn field_tokens(
     alloc: Global,
     well_typed: &WellTyped<'_>,

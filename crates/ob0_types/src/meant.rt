@@ -1,7 +1,7 @@
-//! Finds the meaning of the identifier at a place of the text: a declaration or a field.
+//! Finds the meaning of the identifier at an offset of the text: a declaration or a field.
 //!
-//! The code for hover, declarations, occurrences and renaming matches on the result of
-//! `identifier_meaning_at`.
+//! The handlers of hover, declarations, occurrences and renaming distinguish names and fields by
+//! the result of `identifier_meaning_at`.
 
 ghost use Rattle.std.specs.Prelude.{◌≡◌, IfSome};
 ghost use Rattle.ob0_tree.specs.Order.{IsIdentifierToken};
@@ -20,7 +20,7 @@ pub enum IdentifierMeaning {
     Field(usize),
 }
 
-/// An identifier with its token and meaning.
+/// An identifier: its token index, and the declaration or field that it means.
 #[derive(Clone, Copy, PartialEq, Eq)]
 pub struct ResolvedIdentifier {
     pub token: usize,
@@ -28,8 +28,8 @@ pub struct ResolvedIdentifier {
 }
 
 /// Returns the identifier that contains the byte offset `offset` or ends there, with its meaning.
-/// The closing name of a procedure means the procedure. Returns None at the module's name, and if
-/// there is no such identifier.
+/// The closing name of a procedure means the procedure. Returns None if there is no identifier at
+/// `offset`, and at the module's name.
 pub fn identifier_meaning_at(
     well_typed: &WellTyped<'_>,
     offset: usize,

@@ -1,4 +1,4 @@
-//! Finds the body that contains a range of tokens.
+//! Finds the body of a module that contains a range of tokens. A body is the statements of a block.
 
 ghost use Rattle.std.specs.Prelude.{◌≡◌};
 ghost use Rattle.ob0_tree.specs.ParsedModule.{tree_of};

@@ -1,6 +1,5 @@
--- States when the checker's facts at a place agree with the definitions. These facts are the types and the meanings of
--- names that the checker has found.
--- Rule: none; for laws about the facts that the checker has found.
+-- States when the types and the meanings of names that the checker has found agree with the definitions.
+-- Rule: none; used in laws about the types and meanings that the checker has found.
 use Rattle.std.specs.Prelude.{◌≡◌, ℕ, Bool, true, false, List, [], ◌∷◌, ◌++◌, Option, Some, None, option_map, option_and_then, is_some, slice_get}
 use Rattle.ob0_language_names.specs.Names.{Name}
 use Rattle.ob0_types_table.specs.declared.types.TypeId.{TypeId}
@@ -94,9 +93,10 @@ abbrev pub KnownMeaningAgrees : {T : Type 0}
 KnownMeaningAgrees shape None o = ⊥
 KnownMeaningAgrees shape (Some m) o = MeaningAgrees shape m o
 
--- States that the identifier at a token agrees with its label, the name in its place in another tree. `label` returns
--- the label of a token. A looked-up name must have a meaning that agrees with the label's object. A field's label must
--- be spelled like the token. An identifier with any other role always agrees.
+-- States that the meaning that `facts` has for the identifier at a token agrees with the identifier's label, which
+-- `label` returns. The label replaces the identifier in another tree. A looked-up name must have a meaning that agrees
+-- with the label's object. A field's label must be spelled like the token. An identifier with any other role always
+-- agrees.
 abbrev pub TokenAgrees : {T N : Type 0}
     → Facts T
     → (T → Option Shape)
@@ -125,8 +125,8 @@ TokensAgree facts shape label meaning [] = Unit {0}
 TokensAgree facts shape label meaning (x ∷ xs) =
     TokenAgrees facts shape label meaning x.0 x.1 × TokensAgree facts shape label meaning xs
 
--- states that the types at a place agree with their shapes, and that the identifiers in the tree `t` agree with their
--- labels
+-- states that the types in `facts` agree with their shapes, and that the meaning that `facts` has for each identifier
+-- in the tree `t` agrees with the identifier's label (`TokensAgree`)
 pub record FactsAgree
     {T N : Type 0} (facts : Facts T) (shape : T → Option Shape) (label : ℕ → N) (meaning : TypeMeanings N)
     {s : Sort} (t : Tree ℕ s) : Type 0 where
@@ -156,7 +156,7 @@ shape_in shapes (type.Array i) = option_and_then as_array (slice_get shapes i)
 shape_in shapes (type.Record i) = option_and_then as_record (slice_get shapes i)
 shape_in shapes type.Unknown = None
 
--- states that the fields found so far have, one by one, the names and shapes of a record's fields
+-- states that the fields in the list have, one by one, the names and shapes of a record's fields
 abbrev pub FieldsAgree : (TypeId → Option Shape) → List KnownField → FieldShapes → Type 0
 FieldsAgree shape [] no_field_shape = Unit {0}
 FieldsAgree shape [] (next_field_shape x s fs) = ⊥
@@ -178,8 +178,8 @@ pub record CompositeAgrees (shape : TypeId → Option Shape) (m : CompositeType)
   pub depth : m.size.depth ≡ typing.depth s
 
 -- States that each array or record type in the second list agrees with the shape at the same index of the third list.
--- The first list has the shapes of the types that precede the second list. The parts of a type may only refer to
--- earlier types.
+-- The first list (`known`) has the shapes of the types that precede the second list in the table. The parts of a type
+-- may only refer to earlier types.
 abbrev pub EntriesAgree : List Shape → List CompositeType → List Shape → Type 0
 EntriesAgree known [] [] = Unit {0}
 EntriesAgree known [] (s ∷ ss) = ⊥

@@ -1,6 +1,6 @@
 -- Converts the state of the code's walk (`CheckerState`) and its parts to values of the
 -- definitions.
--- Rule: none; for contracts of the walk that reports faults.
+-- Rule: none; used in contracts of the walk that reports faults.
 use Rattle.std.specs.Prelude.{◌≡◌, ℕ, ◌-◌, ◌^◌, Bool, List, map, ◌++◌, min, slice_get, slice_index_or, slice_set, string_bytes, Option, Some, None, option_and_then, option_map}
 use Rattle.ob0_scan.specs.declared.fault.Fault.{Fault}
 use Rattle.ob0_language_names.specs.Names.{Name}
@@ -77,8 +77,8 @@ meaning_in_state s token =
     option_and_then (λ k. slice_index_or s.meanings.items k None)
     (ordinal_in s.resolved.now.ordinals token)
 
--- returns the facts at a place, given the state of the code's walk at this place; if the Bool is true, names may only
--- refer to constants
+-- returns the data with which a part of a text is checked (`Facts`), given the code's state before this part; if the
+-- Bool is true, names in this part may only refer to constants
 abbrev pub facts_in : CheckerState → Bool → Facts TypeId
 facts_in s only_constants = record {
   source = s.resolved.now.module_read.source;
@@ -121,7 +121,7 @@ composite_type_of (made.Record r) =
       size = record { scalars = r.scalars; depth = r.depth };
     }
 
--- converts the state of the code's walk to a state of the definitions
+-- converts the code's `CheckerState` to the known declarations of the definitions
 abbrev pub declarations_in_state : CheckerState → KnownDeclarations
 declarations_in_state s = record {
   source = s.resolved.now.module_read.source;
@@ -130,8 +130,8 @@ declarations_in_state s = record {
   made = map composite_type_of s.composites.items;
 }
 
--- converts the parameters of a heading, and the state after them, from values of the code to values
--- of the definitions
+-- converts the parameters of a heading, and the code's state after them, to a heading of the definitions
+-- (`KnownHeading`)
 abbrev pub heading_in_state : CheckerState → List formal.FormalParameter → KnownHeading
 heading_in_state s formals = record { formals = map formal_of formals; following = declarations_in_state s }
 
@@ -139,15 +139,16 @@ heading_in_state s formals = record { formals = map formal_of formals; following
 abbrev pub capped_size : Size → Size
 capped_size z = record { scalars = min z.scalars (2 ^ 64 - 1); depth = min z.depth (2 ^ 64 - 1) }
 
--- States that `now`, a value of the code, has the fields of `g` and their total size, capped at 2^64 - 1. `g` also has
--- the state of the walk after these fields. The code's `s` is this state.
+-- States that the fields `now`, which the code has found, are the fields of `g`, and that their total size is the size
+-- in `g`, capped at 2^64 - 1. Also states that the code's state `s` is the state in `g`, which is the state after these
+-- fields.
 pub record HasKnownFields (g : KnownFields) (s : CheckerState) (now : gathering.KnownFields) : Type 0 where
   pub fields : fields_in now.fields.items ≡ g.fields
   pub size : size_of now.size ≡ capped_size g.size
   pub following : declarations_in_state s ≡ g.following
 
--- States that the code has found the fields of the result `t` and reported its faults. `gathered` has these fields. The
--- list of faults was `before`, and `after` is this list followed by the faults of `t`.
+-- States that the code has found the fields of the result `t` and reported its faults. `gathered` has these fields, and
+-- `s` is the state after them. The list of faults was `before`, and `after` is this list followed by the faults of `t`.
 pub record AddsKnownFields
     (before after : List Fault) (s : CheckerState) (gathered : gathering.KnownFields)
     (t : Reported KnownFields) : Type 0 where
@@ -171,7 +172,7 @@ with_standard_procedures objects =
     (Some (kind.StandardProcedure standards.Write)))
     6 (Some (kind.StandardProcedure standards.WriteLn))
 
--- returns the table that the code makes from its state
+-- returns the table of declarations that the code makes from its state `s` at the end of the walk
 abbrev pub table_in_state : CheckerState → Tables
 table_in_state s =
     record {

@@ -16,16 +16,15 @@ use Rattle.ob0_types_check.specs.StatementFaults.{sequence_faults}
 use Rattle.ob0_types_check.specs.TypeFaults.{reported_constant}
 use Rattle.ob0_types_check.specs.WrittenTypeFaults.{reported_type}
 
--- returns the faults of a constant's declaration, and the state after it, in which the constant's
--- name has a meaning
+-- returns the faults of a constant's declaration, and the known declarations with this constant added
 unfoldable pub reported_constant_declaration : KnownDeclarations → Tree ℕ (item constant) → Reported KnownDeclarations
 unfolding reported_constant
 reported_constant_declaration p (declares_constant x e) = do
   v ← reported_constant (facts_at p true) e
   without_fault (define p (a_constant v) x)
 
--- returns the faults of constant declarations, with the state after them; a constant is known to the declarations after
--- it
+-- returns the faults of constant declarations, and the known declarations with these constants added; each constant is
+-- known to the declarations after it
 unfoldable pub reported_constants : KnownDeclarations → Tree ℕ (items constant) → Reported KnownDeclarations
 unfolding reported_constant_declaration
 reported_constants p end = without_fault p
@@ -33,15 +32,14 @@ reported_constants p (more c rest) = do
   q ← reported_constant_declaration p c
   reported_constants q rest
 
--- returns the faults of a type declaration, and the state after it, in which the type's name has a
--- meaning
+-- returns the faults of a type declaration, and the known declarations with this type added
 unfoldable pub reported_type_declaration : KnownDeclarations → Tree ℕ (item type_definition) → Reported KnownDeclarations
 unfolding reported_type
 reported_type_declaration p (declares_type x t) = do
   u ← reported_type 0 p t
   without_fault (define u.following (a_type u.of) x)
 
--- returns the faults of type declarations, with the state after them; a type is known to the
+-- returns the faults of type declarations, and the known declarations with these types added; each type is known to the
 -- declarations after it
 unfoldable pub reported_types : KnownDeclarations → Tree ℕ (items type_definition) → Reported KnownDeclarations
 unfolding reported_type_declaration
@@ -50,16 +48,15 @@ reported_types p (more d rest) = do
   q ← reported_type_declaration p d
   reported_types q rest
 
--- returns the faults of a group of variables with one type, and the state after it, in which the
--- variables have a meaning
+-- returns the faults of a group of variables with one type, and the known declarations with these variables added
 unfoldable pub reported_variable_group : KnownDeclarations → Tree ℕ (item variable) → Reported KnownDeclarations
 unfolding reported_type
 reported_variable_group p (declares_variable ns t) = do
   u ← reported_type 0 p t
   without_fault (define_all u.following (a_variable u.of) (names_in_list ns))
 
--- returns the faults of variable declarations, with the state after them; a variable is known to the declarations after
--- it
+-- returns the faults of variable declarations, and the known declarations with these variables added; each group of
+-- variables is known to the declarations after it
 unfoldable pub reported_variables : KnownDeclarations → Tree ℕ (items variable) → Reported KnownDeclarations
 unfolding reported_variable_group
 reported_variables p end = without_fault p
@@ -67,13 +64,14 @@ reported_variables p (more g rest) = do
   q ← reported_variable_group p g
   reported_variables q rest
 
--- the parameters found so far in a procedure's heading, and the state after these parameters
+-- the parameters found so far in a procedure's heading (`formals`), and the declarations known after these parameters
+-- (`following`)
 pub record KnownHeading : Type 0 where
   pub formals : List (KnownFormal TypeId)
   pub following : KnownDeclarations
 
--- Returns a heading to which a parameter of one type is added for each of these name tokens. The parameters are also
--- declared as variables of the procedure. If the Bool is true, they are VAR parameters.
+-- Returns the heading `h` with one more parameter for each of these name tokens. All have the type `t.of`. If the Bool
+-- is true, they are VAR parameters. The parameters are also declared as variables of the procedure.
 abbrev pub with_parameters : KnownHeading → Bool → List ℕ → TypeWithState → KnownHeading
 with_parameters h by_place xs t =
     record {
@@ -81,8 +79,8 @@ with_parameters h by_place xs t =
       following = define_all t.following (a_variable t.of) xs;
     }
 
--- Returns the faults of a section of parameters of one type, and the heading with these parameters
--- added. If the Bool is true, the parameters are VAR parameters.
+-- Returns the faults of a section of parameters of one type, and the heading `h` with these parameters added. If the
+-- Bool is true, the parameters are VAR parameters.
 unfoldable pub reported_parameters : KnownHeading
     → Bool
     → Tree ℕ names
@@ -93,7 +91,7 @@ reported_parameters h by_place ns t = do
   u ← reported_type 0 h.following t
   without_fault (with_parameters h by_place (names_in_list ns) u)
 
--- returns the faults of one section of parameters, and the heading with these parameters added
+-- returns the faults of one section of parameters, and the heading `h` with these parameters added
 unfoldable pub reported_section : KnownHeading
     → Tree ℕ (item further_section)
     → Reported KnownHeading
@@ -111,12 +109,12 @@ reported_sections h (more s rest) = do
   g ← reported_section h s
   reported_sections g rest
 
--- returns the state after a heading, in which the procedure `x` itself is declared, so that its own
+-- returns the declarations known after a heading, with the procedure `x` itself added, so that the procedure's own
 -- block knows it
 abbrev pub state_after_heading : ℕ → KnownHeading → KnownDeclarations
 state_after_heading x h = define h.following (a_procedure h.formals) x
 
--- returns the faults of a body's statements, with the state unchanged; a missing body has no faults
+-- returns the faults of a body's statements, and the known declarations unchanged; a missing body has no faults
 unfoldable pub reported_body : KnownDeclarations → Tree ℕ (maybe body) → Reported KnownDeclarations
 unfolding sequence_faults
 reported_body p none = without_fault p
@@ -126,8 +124,8 @@ reported_body p (one (begins statements)) =
 unfoldable mutual
   unfolding reported_constants reported_types reported_variables reported_sections reported_body
 
-  -- returns the faults of a block, with the state after it; constants come first, then types,
-  -- variables, procedures and statements
+  -- returns the faults of a block, and the declarations known after it; constants come first, then types, variables,
+  -- procedures and statements
   pub reported_block : KnownDeclarations → Tree ℕ block → Reported KnownDeclarations
   reported_block p (forms_block (declares cs ts vs ps) statements) = do
     with_constants ← reported_constants p (section_constants cs)
@@ -136,15 +134,16 @@ unfoldable mutual
     with_procedures ← reported_procedures with_variables ps
     reported_body with_procedures statements
 
-  -- returns the faults of procedures, one after another, with the state after them; each procedure can call itself and
-  -- the procedures before it
+  -- returns the faults of procedures, one after another, and the declarations known after them; each procedure can call
+  -- itself and the procedures before it
   pub reported_procedures : KnownDeclarations → Tree ℕ (items procedure) → Reported KnownDeclarations
   reported_procedures p end = without_fault p
   reported_procedures p (more d rest) = do
     q ← reported_procedure p d
     reported_procedures q rest
 
-  -- returns the faults of a procedure's parameters and then of its block, with the state after the procedure
+  -- returns the faults of a procedure's parameters and then of its block, and the declarations known after the
+  -- procedure
   pub reported_procedure : KnownDeclarations → Tree ℕ (item procedure) → Reported KnownDeclarations
   reported_procedure p (declares_procedure x fs b closing) = do
     h ← reported_sections (record { formals = []; following = p }) (formal_sections fs)

@@ -1,6 +1,6 @@
 -- States when two modules have the same tree and the same tokens, except in the statements of
 -- certain bodies.
--- Rule: none; for contracts about a module in which the names and numbers of some bodies changed.
+-- Rule: none; used in contracts about a module in which the names and numbers of some bodies changed.
 use Rattle.std.specs.Prelude.{◌≡◌, ℕ, Bool, true, false, length}
 use Rattle.ob0_tree.specs.ParsedModule.{tree_of}
 use Rattle.ob0_tree.specs.Places.{token_text_at, token_value_at}

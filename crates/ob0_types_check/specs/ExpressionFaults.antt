@@ -24,7 +24,7 @@ unfoldable mutual
     y ← sign_operand facts s x
     reported_addends facts y rest
 
-  -- returns the faults of terms that are added to an operand from left to right, and the resulting operand
+  -- returns the faults of terms that are added to the operand `x` from left to right, and the operand for the whole sum
   pub reported_addends : {T : Type 0}
       → Facts T
       → Operand T
@@ -42,7 +42,8 @@ unfoldable mutual
     x ← reported_factor facts f
     reported_multipliers facts x rest
 
-  -- returns the faults of factors that multiply an operand from left to right, and the resulting operand
+  -- returns the faults of factors that multiply the operand `x` from left to right, and the operand for the whole
+  -- product
   pub reported_multipliers : {T : Type 0}
       → Facts T
       → Operand T
@@ -68,8 +69,8 @@ unfoldable mutual
     x ← reported_factor facts f
     complement_operand facts x
 
-  -- returns the faults of selectors applied one after another to an operand, with the resulting
-  -- operand
+  -- returns the faults of selectors applied one after another to the operand `x` for a designator, and the operand for
+  -- the designator with these selectors
   pub reported_selectors : {T : Type 0}
       → Facts T
       → Operand T
@@ -84,7 +85,8 @@ unfoldable mutual
     y ← element_operand facts x i
     reported_selectors facts y rest
 
--- returns the faults of one selector applied to an operand, with the resulting operand
+-- returns the faults of one selector applied to the operand `x` for a designator, and the operand for the designator
+-- with this selector
 unfoldable pub reported_selector : {T : Type 0}
     → Facts T
     → Operand T

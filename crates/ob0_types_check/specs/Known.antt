@@ -1,5 +1,5 @@
--- The types, names and operands that are known while faults are reported. A type may be unknown, as a whole or in
--- parts.
+-- The representations of types, of the meanings of names and of checked expressions in the definitions of faults. A
+-- type may be unknown, as a whole or in parts.
 -- Rule: docs/LANGUAGE.md, Faults of scopes and types 2.
 use Rattle.std.specs.Prelude.{ℕ, Bool, List, Option}
 use Rattle.ob0_scan.specs.declared.fault.Fault.{Fault}
@@ -37,9 +37,9 @@ pub data Meaning (T : Type 0) : Type 0 where
   a_variable : T → Meaning T
   a_procedure : List (KnownFormal T) → Meaning T
 
--- The facts at a place of a text: the tokens, the types, and the meaning of the name at each token.
--- The meaning is None if it isn't known. If `only_constants` is true, names may only refer to
--- constants.
+-- The data with which a part of a text is checked: the text with its tokens, the types, and the meaning of the name at
+-- each token (`object_for`). The meaning is None if it isn't known. If `only_constants` is true, names may only refer
+-- to constants.
 pub record Facts (T : Type 0) : Type 0 where
   pub source : TextWithTokens
   pub types : Types T

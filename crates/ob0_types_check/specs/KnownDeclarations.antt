@@ -1,5 +1,5 @@
--- The state at a place of a module while its faults are reported: the declarations, and the array and record types,
--- that precede the place.
+-- The state of the walk that reports a module's faults, at one point of the text: the declarations, and the array and
+-- record types, before this point.
 -- Rule: docs/LANGUAGE.md, Scopes 2, Faults of scopes and types 2.
 use Rattle.std.specs.Prelude.{ℕ, nat_le, Bool, true, false, ◌==◌, ◌&&◌, List, [], ◌∷◌, ◌++◌, length, map, slice_get, slice_index_or, slice_set, if◌then◌else◌, Option, Some, None, option_and_then}
 use Rattle.ob0_scan.specs.declared.fault.FaultCode.TheVariants as code
@@ -13,7 +13,8 @@ use Rattle.ob0_language_values.specs.Values.{truth}
 use Rattle.ob0_types_check.specs.Known.{Facts, Form, Meaning, Reported, Types, a_constant, a_procedure, a_record, a_scalar, a_type, an_array, unknown_form}
 use Rattle.ob0_types_check.specs.Operations.{fault_at_token, without_fault}
 
--- the size of a type: the number of its scalars, and the depth to which its arrays and records are nested
+-- the size of a type: the number of INTEGER and BOOLEAN values in it (its scalars), and the depth to which its arrays
+-- and records are nested
 pub record Size : Type 0 where
   pub scalars : ℕ
   pub depth : ℕ
@@ -104,8 +105,8 @@ abbrev pub meaning_at : KnownDeclarations → ℕ → Option (Meaning TypeId)
 meaning_at p token =
     option_and_then (λ k. slice_index_or p.declared k None) (ordinal_in p.ordinals token)
 
--- returns the facts at a place, given the state at this place; if the Bool is true, names may only refer to constants
--- there
+-- returns the data with which a part of a text is checked (`Facts`), given the declarations known before this part; if
+-- the Bool is true, names in this part may only refer to constants
 abbrev pub facts_at : KnownDeclarations → Bool → Facts TypeId
 facts_at p only_constants =
     record {
@@ -115,8 +116,8 @@ facts_at p only_constants =
       only_constants = only_constants;
     }
 
--- returns the state `p` with the meaning of the declaration with this ordinal set to `m`; for None, returns the state
--- unchanged
+-- returns the known declarations `p` with the meaning of the declaration with this ordinal set to `m`; for None,
+-- returns `p` unchanged
 abbrev pub with_meaning : KnownDeclarations → Meaning TypeId → Option ℕ → KnownDeclarations
 with_meaning p m None = p
 with_meaning p m (Some k) =
@@ -127,12 +128,12 @@ with_meaning p m (Some k) =
       made = p.made;
     }
 
--- returns the state `p` with the meaning of the name declared at a token set to `m`; if the token has no ordinal,
--- returns the state unchanged
+-- returns the known declarations `p` with the meaning of the name declared at a token set to `m`; if the token has no
+-- ordinal, returns `p` unchanged
 abbrev pub define : KnownDeclarations → Meaning TypeId → ℕ → KnownDeclarations
 define p m token = with_meaning p m (ordinal_in p.ordinals token)
 
--- returns the state `p` with the meaning of each name declared at one of these tokens set to `m`
+-- returns the known declarations `p` with the meaning of each name declared at one of these tokens set to `m`
 abbrev pub define_all : KnownDeclarations → Meaning TypeId → List ℕ → KnownDeclarations
 define_all p m [] = p
 define_all p m (x ∷ xs) = define_all (define p m x) m xs
@@ -162,7 +163,8 @@ size_at made type.Unknown = empty_size
 abbrev pub is_within_limits : Size → Bool
 is_within_limits z = nat_le z.scalars max_scalars && nat_le z.depth max_depth
 
--- a type that is written in the text (`of`), and the state at the end of its text (`following`)
+-- the checker's type for a type that is written in the text (`of`), and the declarations known after the written type
+-- (`following`)
 pub record TypeWithState : Type 0 where
   pub of : TypeId
   pub following : KnownDeclarations
@@ -172,8 +174,8 @@ abbrev pub type_at_index : PartTypes → ℕ → TypeId
 type_at_index (of_elements n t) k = type.Array k
 type_at_index (of_fields fields) k = type.Record k
 
--- Appends an array or record type with this ordinal, these parts and this size. Returns its `TypeId` with the resulting
--- state.
+-- Appends an array or record type with this ordinal, these parts and this size to the known types `p.made`. Returns the
+-- type's `TypeId` (`of`), and `p` with this type appended (`following`).
 abbrev pub append_composite : KnownDeclarations → ℕ → PartTypes → Size → TypeWithState
 append_composite p ordinal parts size = record {
   of = type_at_index parts (length p.made);
@@ -186,8 +188,8 @@ append_composite p ordinal parts size = record {
       };
 }
 
--- reports `TypeTooLarge` at `word`, the token ARRAY or RECORD of a type; returns the unknown type, with the state
--- unchanged
+-- reports `TypeTooLarge` at `word`, the token ARRAY or RECORD of a type; returns the unknown type, with the known
+-- declarations `p` unchanged
 abbrev pub type_too_large : KnownDeclarations → ℕ → Reported TypeWithState
 type_too_large p word =
     record {
@@ -211,7 +213,7 @@ predeclared_meanings =
     ∷ Some (a_procedure (record { by_place = false; of = type.Integer } ∷ []))
     ∷ Some (a_procedure []) ∷ []
 
--- returns the state at the beginning of a module, in which only the predeclared names are known
+-- returns the known declarations at the beginning of a module, which are only the predeclared names
 abbrev pub state_at_start : Resolution → KnownDeclarations
 state_at_start r =
     record {

@@ -1,6 +1,6 @@
 -- Laws about the report of a module: if nothing is reported, the module passes the type check, and the meaning of each
 -- declaration is known.
--- Rule: none; laws of reported faults.
+-- Rule: none; states laws about the faults that are reported for a module.
 use Rattle.std.specs.Prelude.{◌≡◌, ℕ, ◌<◌, ◌≤◌, true, false, List, [], None, length, slice_index_or}
 use Rattle.ob0_language_names.specs.Names.{Name, naming_by_label, naming_by_spelling}
 use Rattle.ob0_language_names.specs.Parts.{module_block}
@@ -28,8 +28,8 @@ ModulesWithoutFaultPassTypeCheck =
 
 -- States that the state `p`, at the end of a walk over the module `m`, agrees with the declarations of `m`. Each array
 -- or record type in `p` agrees with the shape at the same index of `shapes`. The meaning that `p` has for an ordinal
--- agrees with the object that this ordinal has in `m`. The ordinals below 7 belong to the predeclared names. No other
--- declaration is a standard procedure.
+-- agrees with the object of the declaration with this ordinal in `m`. The ordinals below 7 belong to the predeclared
+-- names. No other declaration is a standard procedure.
 pub record KnowsDeclarations (p : KnownDeclarations) (m : Tree Name module_text) : Type 0 where
   pub shapes : List Shape
   pub table : TableAgrees p.made shapes
@@ -44,7 +44,7 @@ abbrev pub HasDeclarations : Tree Name module_text → Tables → Type 0
 HasDeclarations m t = (k : ℕ) → declared_object_in t k ≡ declared_object m k
 
 -- States that if no fault of types and no undeclared name is reported for a module, the walk over the module has found
--- the meaning of each declaration (`KnowsDeclarations`).
+-- the right meaning of each declaration (`KnowsDeclarations`).
 abbrev pub WalkWithoutFaultFindsMeanings : Type 0
 WalkWithoutFaultFindsMeanings =
     (r : Resolution)

@@ -1,4 +1,4 @@
--- The faults and the resulting operands of operations, names and selectors.
+-- The faults of operators, names and selectors, each with the operand (`Operand`) for the checked expression.
 -- Rule: docs/LANGUAGE.md, Types 2, 3, Faults of scopes and types 3, 5.
 use Rattle.std.specs.Prelude.{◌≡◌, ℕ, ◌+◌, ◌-◌, nat_lt, Bool, true, false, ◌||◌, List, [], ◌∷◌, ◌++◌, length, if◌then◌else◌, Option, Some, None, option_and_then, pos}
 use Rattle.ob0_scan.specs.declared.fault.FaultCode.{FaultCode}
@@ -69,7 +69,7 @@ fault_at_token facts c token = fault_at_tokens facts c token token
 abbrev pub fault_at_operand : {T : Type 0} → Facts T → FaultCode → Operand T → List Fault
 fault_at_operand facts c o = fault_at_tokens facts c o.first o.last
 
--- returns whether two types are equal or one of them is unknown
+-- returns whether two types are equal or one of them is unknown; if not, a type is a mismatch for the other
 abbrev pub may_be_same_type : {T : Type 0} → Types T → T → T → Bool
 may_be_same_type types s t = types.same s t || (types.same s types.unknown || types.same t types.unknown)
 
@@ -130,17 +130,19 @@ operand_type_of_relation types relation.GreaterEqual left = types.integer
 abbrev pub comparison_type : {T : Type 0} → Types T → T → T
 comparison_type types t = if types.same t types.unknown then types.unknown else types.boolean
 
--- returns the result, as an operand, of an operation on the operands `a` and `b`, with the type `of` and this value
+-- returns the operand for the expression that joins the operands `a` and `b` by an operator; it has the type `of` and
+-- this value
 abbrev pub joint_operand : {T : Type 0} → T → Option Value → Operand T → Operand T → Operand T
 joint_operand of value a b =
     record { of = of; value = value; may_be_variable = false; first = a.first; last = b.last }
 
--- returns the result, as an operand, of a sign or `~` before the operand `o`, with the type `of` and this value
+-- returns the operand for a sign or `~` followed by the operand `o`; it has the type `of` and this value
 abbrev pub prefixed_operand : {T : Type 0} → T → Option Value → Operand T → Operand T
 prefixed_operand of value o =
     record { of = of; value = value; may_be_variable = false; first = token_before o.first; last = o.last }
 
--- returns the faults of `+`, `-` or OR between two operands, and the resulting operand
+-- returns the fault if the operands of `+`, `-` or OR don't have the required type, and the operand for the whole
+-- expression
 abbrev pub add_operands : {T : Type 0}
     → Facts T
     → AddOperator
@@ -151,7 +153,8 @@ add_operands facts o a b = do
   t ← required_type_of_both facts (operand_type_of_addition facts.types o) a b
   without_fault (joint_operand t (option_and_then (sum_value o b.value) a.value) a b)
 
--- returns the faults of `*`, DIV, MOD or `&` between two operands, and the resulting operand
+-- returns the fault if the operands of `*`, DIV, MOD or `&` don't have the required type, and the operand for the whole
+-- expression
 abbrev pub multiply_operands : {T : Type 0}
     → Facts T
     → MultiplyOperator
@@ -162,7 +165,8 @@ multiply_operands facts o a b = do
   t ← required_type_of_both facts (operand_type_of_multiplication facts.types o) a b
   without_fault (joint_operand t (option_and_then (product_value o b.value) a.value) a b)
 
--- returns the faults of a relation between two operands, and the resulting operand
+-- returns the fault if the operands of a relation don't have the required type, and the operand for the whole
+-- comparison
 abbrev pub relate_operands : {T : Type 0}
     → Facts T
     → Relation
@@ -174,20 +178,20 @@ relate_operands facts r a b = do
   without_fault (joint_operand (comparison_type facts.types t)
       (apply_to_both (λ x y. outcome_value (apply_relation r x y)) a.value b.value) a b)
 
--- returns the faults of an operand with an optional sign before it, and the resulting operand; a sign requires INTEGER
+-- returns the operand for an optional sign and the operand after it; a sign requires INTEGER, and a mismatch is a fault
 abbrev pub sign_operand : {T : Type 0} → Facts T → Option Sign → Operand T → Reported (Operand T)
 sign_operand facts None o = without_fault o
 sign_operand facts (Some s) o = do
   t ← required_type facts facts.types.integer o
   without_fault (prefixed_operand t (option_and_then (λ x. outcome_value (with_sign (Some s) x)) o.value) o)
 
--- returns the faults of `~` before an operand, which must be BOOLEAN, and the resulting operand
+-- returns the operand for `~` and the operand after it, with a fault if the operand has a known type other than BOOLEAN
 abbrev pub complement_operand : {T : Type 0} → Facts T → Operand T → Reported (Operand T)
 complement_operand facts o = do
   t ← required_type facts facts.types.boolean o
   without_fault (prefixed_operand t (option_and_then (λ x. outcome_value (negate x)) o.value) o)
 
--- returns the operand of a number at this token
+-- returns the operand for a number at this token
 abbrev pub number_operand : {T : Type 0} → Facts T → ℕ → Operand T
 number_operand facts token =
     record {
@@ -198,7 +202,7 @@ number_operand facts token =
       last = token;
     }
 
--- returns the operand of an expression in parentheses, given the operand between the parentheses
+-- returns the operand for an expression in parentheses, given the operand for the expression between the parentheses
 abbrev pub operand_in_parentheses : {T : Type 0} → Facts T → Operand T → Operand T
 operand_in_parentheses facts o =
     record {
@@ -229,9 +233,9 @@ abbrev pub constant_name_operand : {T : Type 0} → Types T → Option Value →
 constant_name_operand types v token =
     record { of = value_type types v; value = v; may_be_variable = false; first = token; last = token }
 
--- Returns the operand of a name that must refer to a value, given the name's token and meaning. The name of a type or
--- procedure is a fault. If only constants are allowed, the name of a variable is also a fault. Undeclared names are
--- reported elsewhere. In all these cases the operand's type is unknown.
+-- Returns the operand for a name that must refer to a value, given the name's token and meaning. The name of a type or
+-- procedure is a fault. If only constants are allowed, the name of a variable is also a fault. In both cases, and for a
+-- name without a known meaning (None), the operand's type is unknown. An undeclared name is reported elsewhere.
 abbrev pub operand_by_meaning : {T : Type 0} → Facts T → ℕ → Option (Meaning T) → Reported (Operand T)
 operand_by_meaning facts token None = without_fault (typed_name_operand facts.types.unknown token)
 operand_by_meaning facts token (Some (a_constant v)) = without_fault (constant_name_operand facts.types v token)
@@ -278,16 +282,15 @@ field_type_in_form facts token (an_array t) =
     record
     { known = facts.types.unknown; faults = fault_at_token facts code.NotRecord (token_before token) }
 
--- returns the faults of selecting the field with the name at a token, with the operand of the whole
--- designator
+-- returns the operand for the field of the record `o` whose name is at a token, and the faults of this selection
 abbrev pub field_operand : {T : Type 0} → Facts T → Operand T → ℕ → Reported (Operand T)
 field_operand facts o token = do
   t ← field_type_in_form facts token (facts.types.form o.of)
   without_fault (extended_operand o t token)
 
--- Returns the type of an element, given the index's operand `i`, the index's type `of`, and the form of the indexed
--- type. The result is the unknown type if the index isn't INTEGER or the indexed type isn't an array. If the indexed
--- type is known and isn't an array, `NotArray` is reported at the `[`.
+-- Returns the type of an element, given the operand `i` for the index, the index's type `of`, and the form of the
+-- indexed type. The result is the unknown type if the index isn't INTEGER or the indexed type isn't an array. If the
+-- indexed type is known and isn't an array, `NotArray` is reported at the `[`.
 abbrev pub element_type_in_form : {T : Type 0} → Facts T → Operand T → T → Form T → Reported T
 element_type_in_form facts i of (an_array t) =
     without_fault (if facts.types.same of facts.types.integer then t else facts.types.unknown)
@@ -299,8 +302,8 @@ element_type_in_form facts i of (a_record fields) =
     record
     { known = facts.types.unknown; faults = fault_at_token facts code.NotArray (token_before i.first) }
 
--- Returns the faults of the index `i` applied to the operand `o`, with the operand of the whole
--- designator. The index must be INTEGER even if `o` isn't an array.
+-- Returns the operand for the element that the index `i` selects in the array `o`, and the faults of this selection.
+-- The index must be INTEGER even if `o` isn't an array.
 abbrev pub element_operand : {T : Type 0} → Facts T → Operand T → Operand T → Reported (Operand T)
 element_operand facts o i = do
   n ← required_type facts facts.types.integer i

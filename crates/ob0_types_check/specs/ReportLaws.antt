@@ -1,6 +1,6 @@
 -- Laws about the reports of expressions and statements: an expression or statement is well-typed if nothing is reported
 -- for it. `N` is the type of the names in a tree.
--- Rule: none; laws of reported faults.
+-- Rule: none; states laws about the faults that are reported for expressions and statements.
 use Rattle.std.specs.Prelude.{◌≡◌, ℕ, Bool, true, false, List, [], Option, Some, is_some}
 use Rattle.ob0_tree.specs.Places.{token_value_at}
 use Rattle.ob0_tree.specs.Tree.{Tree, expression, mapped_tree, sequence}
@@ -16,7 +16,7 @@ use Rattle.ob0_types_check.specs.StatementFaults.{sequence_faults}
 use Rattle.ob0_types_check.specs.TypeFaults.{length_of, reported_constant}
 use Rattle.ob0_types_check.specs.Agreement.{FactsAgree, TableAgrees, TypesAgree, shape_in}
 
--- returns these meanings of names; if the Bool is true, only the meanings of constants are kept
+-- returns the meanings of names in `meaning`; if the Bool is true, returns only the meanings of constants
 abbrev pub allowed_meanings : {N : Type 0} → Bool → TypeMeanings N → TypeMeanings N
 allowed_meanings true meaning = constant_meanings meaning
 allowed_meanings false meaning = meaning
@@ -34,8 +34,8 @@ pub record OperandAgrees
   pub scalar : (v : Value) → o.value ≡ Some v → value_type v ≡ Some of
   pub placed : o.may_be_variable ≡ true → variable_type meaning (lone_designator e) ≡ Some of
 
--- States that if no fault is reported for an expression, the operand found agrees with the expression. The facts known
--- at the expression must be correct (`FactsAgree`).
+-- States that if no fault is reported for an expression, the operand found agrees with the expression. The types and
+-- meanings known for the names in the expression must be correct (`FactsAgree`).
 abbrev pub ExpressionsWithoutFaultAgree : Type 0 → Type 0
 ExpressionsWithoutFaultAgree N =
     (p : KnownDeclarations) (only_constants : Bool) (shapes : List Shape) (label : ℕ → N) (meaning : TypeMeanings N)
@@ -56,7 +56,8 @@ pub record ConstantAgrees
   pub scalar : is_some (value_type value) ≡ true
 
 -- States that if no fault is reported for the right side of a constant's declaration, the value found is the value of
--- the right side. The facts known at the right side must be correct (`FactsAgree`).
+-- the right side. The types and meanings known for the names in the right side must be correct
+-- (`FactsAgree`).
 abbrev pub ConstantsWithoutFaultAgree : Type 0 → Type 0
 ConstantsWithoutFaultAgree N =
     (p : KnownDeclarations) (shapes : List Shape) (label : ℕ → N) (meaning : TypeMeanings N) (e : Tree ℕ expression)
@@ -76,7 +77,7 @@ pub record LengthAgrees
   pub counted : array_length value ≡ Some length
 
 -- States that if no fault is reported for the length in an array type, the length found is the value of its expression.
--- The facts known at that expression must be correct (`FactsAgree`).
+-- The types and meanings known for the names in that expression must be correct (`FactsAgree`).
 abbrev pub LengthsWithoutFaultAgree : Type 0 → Type 0
 LengthsWithoutFaultAgree N =
     (p : KnownDeclarations) (shapes : List Shape) (label : ℕ → N) (meaning : TypeMeanings N) (e : Tree ℕ expression)
@@ -86,8 +87,8 @@ LengthsWithoutFaultAgree N =
     (reported_expression (facts_at p true) e >>= length_of (facts_at p false)).known
     (mapped_tree label (token_value_at p.source) e)
 
--- States that statements are well-typed if no fault is reported for them. The facts known at the statements must be
--- correct (`FactsAgree`).
+-- States that statements are well-typed if no fault is reported for them. The types and meanings known for the names in
+-- the statements must be correct (`FactsAgree`).
 abbrev pub StatementsWithoutFaultAreTyped : Type 0 → Type 0
 StatementsWithoutFaultAreTyped N =
     (p : KnownDeclarations) (shapes : List Shape) (label : ℕ → N) (meaning : TypeMeanings N)
@@ -96,7 +97,8 @@ StatementsWithoutFaultAreTyped N =
     → sequence_faults (facts_at p false) statements ≡ []
     → sequence_is_well_typed meaning (mapped_tree label (token_value_at p.source) statements) ≡ true
 
--- States that every type agrees with its shape if each array and record type of the list `made` does.
+-- States that every type agrees with its shape if each array and record type in the list `made` agrees with the shape
+-- at the same index of `shapes`.
 abbrev pub TableTypesAgree : Type 0
 TableTypesAgree =
     (made : List CompositeType) (shapes : List Shape)

@@ -59,16 +59,16 @@ unfoldable mutual
         reported_procedures_with_bodies wanted (record { so_far = with_variables; bodies_with_faults = w.bodies_with_faults }) ps
     report_body_if_wanted (wanted own) own with_procedures statements
 
-  -- returns the faults of procedures, one after another; a body is walked only if its closing name
-  -- passes `wanted`
+  -- returns the faults of procedures, one after another; a body is walked only if the closing name of its block passes
+  -- the test `wanted`
   pub reported_procedures_with_bodies : (ℕ → Bool) → WalkProgress → Tree ℕ (items procedure) → Reported WalkProgress
   reported_procedures_with_bodies wanted w end = without_fault w
   reported_procedures_with_bodies wanted w (more d rest) = do
     v ← reported_procedure_with_bodies wanted w d
     reported_procedures_with_bodies wanted v rest
 
-  -- returns the faults of a procedure's parameters, and then of its block; a body is walked only if
-  -- its closing name passes `wanted`
+  -- returns the faults of a procedure's parameters, and then of its block; a body is walked only if the closing name of
+  -- its block passes the test `wanted`
   pub reported_procedure_with_bodies : (ℕ → Bool) → WalkProgress → Tree ℕ (item procedure) → Reported WalkProgress
   reported_procedure_with_bodies wanted w (declares_procedure x fs b closing) = do
     h ← reported_sections (record { formals = []; following = w.so_far }) (formal_sections fs)
@@ -89,7 +89,7 @@ every_body closing = true
 abbrev pub faulty_bodies : Resolution → List ℕ
 faulty_bodies r = (reported_module_with_bodies every_body r).known.bodies_with_faults
 
--- returns whether the closing name is in the list
+-- returns whether the closing name `closing` is in the list `bodies`
 abbrev pub is_among : List ℕ → ℕ → Bool
 is_among bodies closing = list_any (λ k. nat_eq k closing) bodies
 

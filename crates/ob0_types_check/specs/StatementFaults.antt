@@ -37,7 +37,7 @@ target_type_by_meaning facts token None = without_fault facts.types.unknown
 abbrev pub target_name_type : {T : Type 0} → Facts T → ℕ → Reported T
 target_name_type facts token = target_type_by_meaning facts token (facts.object_for token)
 
--- returns the operand of an assignment's target, and the faults of the target's name and selectors
+-- returns the operand for an assignment's target, and the faults of the target's name and selectors
 unfoldable pub reported_target : {T : Type 0}
     → Facts T
     → ℕ

@@ -1,6 +1,6 @@
 -- Laws about well-typed modules and well-typed parts of modules: no fault of types is reported for them. `N` is the
 -- type of names.
--- Rule: docs/LANGUAGE.md, Types 8; laws of reported faults.
+-- Rule: docs/LANGUAGE.md, Types 8; states laws about the faults that are reported.
 use Rattle.std.specs.Prelude.{◌≡◌, ℕ, Bool, true, false, [], List, Option, Some, None, option_and_then, is_some, slice_get}
 use Rattle.std.specs.List.{filter}
 use Rattle.ob0_language_names.specs.Names.{naming_by_spelling}
@@ -20,8 +20,8 @@ use Rattle.ob0_types_check.specs.StatementFaults.{sequence_faults, reported_targ
 use Rattle.ob0_types_check.specs.TypeFaults.{length_of, reported_constant}
 use Rattle.ob0_types_check.specs.Agreement.{FactsAgree, shape_in}
 
--- States that no fault is reported for an expression that has a type. The facts known at the expression must be correct
--- (`FactsAgree`).
+-- States that no fault is reported for an expression that has a type. The types and meanings known for the names in the
+-- expression must be correct (`FactsAgree`).
 abbrev pub TypedExpressionsHaveNoFault : Type 0 → Type 0
 TypedExpressionsHaveNoFault N =
     (p : KnownDeclarations) (only_constants : Bool) (shapes : List Shape) (label : ℕ → N) (meaning : TypeMeanings N)
@@ -31,8 +31,8 @@ TypedExpressionsHaveNoFault N =
     ≡ true
     → (reported_expression (facts_at p only_constants) e).faults ≡ []
 
--- States that no fault is reported for a constant expression that has a value. The facts known at the expression must
--- be correct (`FactsAgree`).
+-- States that no fault is reported for a constant expression that has a value. The types and meanings known for the
+-- names in the expression must be correct (`FactsAgree`).
 abbrev pub ValuedConstantsHaveNoFault : Type 0 → Type 0
 ValuedConstantsHaveNoFault N =
     (p : KnownDeclarations) (shapes : List Shape) (label : ℕ → N) (meaning : TypeMeanings N) (e : Tree ℕ expression)
@@ -40,8 +40,8 @@ ValuedConstantsHaveNoFault N =
     → is_some (constant_value meaning (mapped_tree label (token_value_at p.source) e)) ≡ true
     → (reported_constant (facts_at p true) e).faults ≡ []
 
--- States that no fault is reported for a valid array length. The facts known at the length must be correct
--- (`FactsAgree`).
+-- States that no fault is reported for a valid array length. The types and meanings known for the names in the length's
+-- expression must be correct (`FactsAgree`).
 abbrev pub ValidLengthsHaveNoFault : Type 0 → Type 0
 ValidLengthsHaveNoFault N =
     (p : KnownDeclarations) (shapes : List Shape) (label : ℕ → N) (meaning : TypeMeanings N) (e : Tree ℕ expression)
@@ -52,7 +52,7 @@ ValidLengthsHaveNoFault N =
     → (reported_expression (facts_at p true) e >>= length_of (facts_at p false)).faults ≡ []
 
 -- States that no fault is reported for an assignment's target that is a variable or parameter with well-typed
--- selectors. The facts known at the target must be correct (`FactsAgree`).
+-- selectors. The types and meanings known for the names in the target must be correct (`FactsAgree`).
 abbrev pub TypedTargetsHaveNoFault : Type 0 → Type 0
 TypedTargetsHaveNoFault N =
     (p : KnownDeclarations) (shapes : List Shape) (label : ℕ → N) (meaning : TypeMeanings N) (x : ℕ)
@@ -74,8 +74,8 @@ HaveDistinctOrdinals shapes =
     (i j k : ℕ) (s t : Shape) → slice_get shapes i ≡ Some s → slice_get shapes j ≡ Some t
     → ordinal_of_shape s ≡ Some k → ordinal_of_shape t ≡ Some k → i ≡ j
 
--- States that no fault is reported for well-typed statements. The facts known at the statements must be correct
--- (`FactsAgree`), and no two types may be made by the same word ARRAY or RECORD.
+-- States that no fault is reported for well-typed statements. The types and meanings known for the names in the
+-- statements must be correct (`FactsAgree`), and no two types may be made by the same word ARRAY or RECORD.
 abbrev pub TypedStatementsHaveNoFault : Type 0 → Type 0
 TypedStatementsHaveNoFault N =
     (p : KnownDeclarations) (shapes : List Shape) (label : ℕ → N) (meaning : TypeMeanings N)

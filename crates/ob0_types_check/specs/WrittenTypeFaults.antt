@@ -23,9 +23,9 @@ array_size n z = record { scalars = z.scalars * n; depth = z.depth + 1 }
 abbrev pub next_type_ordinal : ℕ → KnownDeclarations → ℕ
 next_type_ordinal around p = length p.made + around
 
--- Makes an array type, given the ordinal of its word, the operand and value of its length, and its
--- element type. If the length has a fault (None), the array's type is unknown, although its element
--- type has been checked. The word ARRAY is the token before the length.
+-- Makes an array type, given the ordinal of its word ARRAY, the operand and value of its length, and its element type.
+-- If the length has a fault (None), the array's type is unknown, although its element type has been checked. The word
+-- ARRAY is the token before the length.
 abbrev pub made_array_type : ℕ → Operand TypeId → Option ℕ → TypeWithState → Reported TypeWithState
 made_array_type ordinal o None element =
     without_fault (record { of = type.Unknown; following = element.following })
@@ -33,13 +33,13 @@ made_array_type ordinal o (Some n) element =
     make_type element.following (token_before o.first) ordinal (of_elements n element.of)
     (array_size n (size_at element.following.made element.of))
 
--- the fields of a record found so far, their total size, and the state after these fields
+-- the fields of a record found so far, their total size, and the declarations known after these fields (`following`)
 pub record KnownFields : Type 0 where
   pub fields : List KnownField
   pub size : Size
   pub following : KnownDeclarations
 
--- returns the state before the first field of a record, with no fields and no scalars
+-- returns the `KnownFields` of a record before its first field: no fields, no scalars, and the known declarations `p`
 abbrev pub no_known_fields : KnownDeclarations → KnownFields
 no_known_fields p = record { fields = []; size = empty_size; following = p }
 
@@ -47,8 +47,8 @@ no_known_fields p = record { fields = []; size = empty_size; following = p }
 abbrev pub sum_of_sizes : Size → Size → Size
 sum_of_sizes z w = record { scalars = z.scalars + w.scalars; depth = max z.depth w.depth }
 
--- Returns the fields found so far with one more field of the type `t`, whose name is at the given token. The size of
--- the field's type is added to the total size.
+-- Returns the fields `g` with one more field of the type `t`, whose name is at the given token. The size of the field's
+-- type is added to the total size.
 abbrev pub with_known_field : TypeId → KnownFields → ℕ → KnownFields
 with_known_field t g token =
     record {
@@ -57,13 +57,13 @@ with_known_field t g token =
       following = g.following;
     }
 
--- Returns the fields found so far with one more field of the type `t` for each of these name tokens.
+-- Returns the fields `g` with one more field of the type `t` for each of these name tokens.
 abbrev pub with_known_fields : TypeId → KnownFields → List ℕ → KnownFields
 with_known_fields t g [] = g
 with_known_fields t g (x ∷ xs) = with_known_fields t (with_known_field t g x) xs
 
--- Returns the fields so far with the fields of one group added. The arguments are the fields so
--- far, the group's name tokens, and the group's type with the state after it.
+-- Returns the fields `g` with one more field of the type `t.of` for each of these name tokens. `t` has the type of a
+-- group of fields, and the declarations known after this type.
 abbrev pub with_field_group : KnownFields → List ℕ → TypeWithState → KnownFields
 with_field_group g xs t =
     with_known_fields t.of (record { fields = g.fields; size = g.size; following = t.following }) xs
@@ -89,8 +89,8 @@ abbrev pub record_keyword : Tree ℕ (items further_fields) → ℕ
 record_keyword end = 0
 record_keyword (more (then_fields g) rest) = token_before_group g (record_keyword rest)
 
--- Makes a record type of the gathered fields, or reports `TypeTooLarge` at the token RECORD
--- (`word`). `ordinal` is the ordinal of that word.
+-- Makes a record type of the gathered fields `g`, or reports `TypeTooLarge` at its token RECORD (`word`). `ordinal` is
+-- the number of words ARRAY and RECORD before this token in the text.
 abbrev pub made_record_type : ℕ → ℕ → KnownFields → Reported TypeWithState
 made_record_type word ordinal g = make_type g.following word ordinal (of_fields g.fields) (record_size g.size)
 
@@ -98,8 +98,8 @@ made_record_type word ordinal g = make_type g.following word ordinal (of_fields 
 unfoldable mutual
   unfolding reported_expression
 
-  -- returns the faults of a type, and the type with the state after it; the parts of an array or a
-  -- record come first
+  -- returns the faults of a type, and the type with the declarations known after it; the faults of the parts of an
+  -- array or record come first
   pub reported_type : ℕ → KnownDeclarations → Tree ℕ written_type → Reported TypeWithState
   reported_type around p (named_type x) = do
     t ← type_named_at (facts_at p false) x

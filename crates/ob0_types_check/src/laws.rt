@@ -1,5 +1,5 @@
-//! States laws about the report of a module. Each function does nothing. The function's contract is
-//! the law.
+//! States laws that connect the faults reported for a module with the definition of a well-typed
+//! module. Each function does nothing. The function's contract is the law.
 
 ghost use Rattle.ob0_types_check.specs.ModuleLaws.{WalkWithoutFaultFindsMeanings, ModulesWithoutFaultPassTypeCheck};
 ghost use Rattle.ob0_types_check.specs.ReportLaws.{ConstantsWithoutFaultAgree, ExpressionsWithoutFaultAgree, LengthsWithoutFaultAgree, StatementsWithoutFaultAreTyped, TableTypesAgree};
@@ -7,34 +7,36 @@ ghost use Rattle.ob0_types_check.specs.SomeBodies.{SomeBodiesSuffice};
 ghost use Rattle.ob0_types_check.specs.WellTypedLaws.{TypedModulesHaveBoundNames, ValuedConstantsHaveNoFault, TypedExpressionsHaveNoFault, ValidLengthsHaveNoFault, TypedModulesHaveNoFault, TypedStatementsHaveNoFault, TypedTargetsHaveNoFault};
 ghost use Rattle.ob0_language_names.specs.Names.{Name};
 
-/// Proves that if no fault is reported for an expression, the type and value found for it are
-/// correct. The law assumes that the facts known at the expression are correct (`FactsAgree`).
+/// Proves that if no fault is reported for an expression, the type and value found for the
+/// expression are correct. The law assumes that the types and meanings found for the names in the
+/// expression are correct (`FactsAgree`).
 pub fn expressions_without_fault_agree()
     ensures { ExpressionsWithoutFaultAgree Name }
 {}
 
 /// Proves that if no fault is reported for the right side of a constant's declaration, the value
-/// found is the value of the right side. The law assumes that the facts known at the right side are
-/// correct (`FactsAgree`).
+/// found is the value of the right side. The law assumes that the types and meanings found for the
+/// names in the right side are correct (`FactsAgree`).
 pub fn constants_without_fault_agree()
     ensures { ConstantsWithoutFaultAgree Name }
 {}
 
 /// Proves that if no fault is reported for the length in an array type, the length found is the
-/// value of its expression. The law assumes that the facts known at that expression are correct
-/// (`FactsAgree`).
+/// value of its expression. The law assumes that the types and meanings found for the names in that
+/// expression are correct (`FactsAgree`).
 pub fn lengths_without_fault_agree()
     ensures { LengthsWithoutFaultAgree Name }
 {}
 
 /// Proves that statements are well-typed if no fault is reported for them. The law assumes that the
-/// facts known at the statements are correct (`FactsAgree`).
+/// types and meanings found for the names in the statements are correct (`FactsAgree`).
 pub fn statements_without_fault_are_typed()
     ensures { StatementsWithoutFaultAreTyped Name }
 {}
 
-/// Proves that every type agrees with its shape if each array and record type in the checker's
-/// table does. A shape is a type as the definitions see it, with all its parts.
+/// Proves that every type of the checker agrees with its shape if each array and record type in the
+/// checker's list does. A shape (`Shape`) is the definitions' representation of a type, with all
+/// its parts.
 pub fn table_types_agree()
     ensures { TableTypesAgree }
 {}
@@ -46,39 +48,40 @@ pub fn modules_without_fault_pass_type_check()
 {}
 
 /// Proves that if no fault of types and no undeclared name is reported for a module, the walk over
-/// the module has found the meaning of each declaration.
+/// the module has found the right meaning of each declaration (`KnowsDeclarations`).
 pub fn walk_without_fault_finds_meanings()
     ensures { WalkWithoutFaultFindsMeanings }
 {}
 
 /// Proves that no fault is reported for an expression that has a type. The law assumes that the
-/// facts known at the expression are correct (`FactsAgree`).
+/// types and meanings found for the names in the expression are correct (`FactsAgree`).
 pub fn typed_expressions_have_no_fault()
     ensures { TypedExpressionsHaveNoFault Name }
 {}
 
 /// Proves that no fault is reported for a constant expression that has a value. The law assumes
-/// that the facts known at the expression are correct (`FactsAgree`).
+/// that the types and meanings found for the names in the expression are correct
+/// (`FactsAgree`).
 pub fn valued_constants_have_no_fault()
     ensures { ValuedConstantsHaveNoFault Name }
 {}
 
-/// Proves that no fault is reported for a valid array length. The law assumes that the facts known
-/// at the length are correct (`FactsAgree`).
+/// Proves that no fault is reported for a valid array length. The law assumes that the types and
+/// meanings found for the names in the length's expression are correct (`FactsAgree`).
 pub fn valid_lengths_have_no_fault()
     ensures { ValidLengthsHaveNoFault Name }
 {}
 
 /// Proves that no fault is reported for an assignment's target if the target is a variable or
-/// parameter with well-typed selectors. The law assumes that the facts known at the target are
-/// correct (`FactsAgree`).
+/// parameter with well-typed selectors. The law assumes that the types and meanings found for the
+/// names in the target are correct (`FactsAgree`).
 pub fn typed_targets_have_no_fault()
     ensures { TypedTargetsHaveNoFault Name }
 {}
 
-/// Proves that no fault is reported for well-typed statements. The law assumes that the facts known
-/// at the statements are correct (`FactsAgree`), and that no two types are made by the same word
-/// ARRAY or RECORD.
+/// Proves that no fault is reported for well-typed statements. The law assumes that the types and
+/// meanings found for the names in the statements are correct (`FactsAgree`). It also
+/// assumes that no two types are made by the same word ARRAY or RECORD.
 pub fn typed_statements_have_no_fault()
     ensures { TypedStatementsHaveNoFault Name }
 {}

@@ -1,8 +1,8 @@
-//! Reports the type errors and undeclared names of a module, with their places (docs/LANGUAGE.md,
-//! Faults of scopes and types). If there are none, the report has the table of the module's
-//! declarations.
+//! Reports the type errors and undeclared names of a module, each with its span in the text
+//! (docs/LANGUAGE.md, Faults of scopes and types). If there are none, the report has the table of
+//! the module's declarations.
 //!
-//! The laws state that nothing is reported exactly if the module passes the type check
+//! The laws (`laws`) state that nothing is reported exactly if the module passes the type check
 //! (`passes_type_check`). This check ignores duplicate declarations and wrong closing names. In a
 //! module that passes, every name is bound.
 #![tactic(auto)]

@@ -40,10 +40,11 @@
 //! `token_after` returns the end of the text unchanged. Every fault has a place, because `span_at`
 //! returns the start of the text if there is no token.
 //!
-//! A body declares nothing. So if only the tokens of one body changed, the facts at every other
-//! place are unchanged. Any other body that had no faults still has none (`some_bodies_suffice`).
-//! `report_some_bodies` therefore walks the declarations, the changed body and the bodies that had
-//! faults, and skips all others. The report lists the bodies with faults, for the next change.
+//! A body declares nothing. So if only the tokens of one body changed, the types and meanings known
+//! at every other place are unchanged. Any other body that had no faults still has none
+//! (`some_bodies_suffice`). `report_some_bodies` therefore walks the declarations, the changed body
+//! and the bodies that had faults, and skips all others. The report lists the bodies with faults,
+//! for the next change.
 //!
 //! If the statements of one body were replaced, and the module passes the type check without them,
 //! only these statements can have faults (`NewBody` of the proofs). `report_one_body` walks the
@@ -56,8 +57,8 @@
 //! as if memory had run out, so the definition needs no upper limit. No text is long enough for
 //! such a sum.
 //!
-//! The faults at undeclared names are copied from the faults of scopes. The walk itself reports
-//! nothing at such a name.
+//! The faults at undeclared names are copied from the faults that were found when the names were
+//! bound (`Resolved::faults`). The walk itself reports nothing at such a name.
 
 mod checker_state;
 mod declarations;
@@ -210,7 +211,8 @@ fn make_declaration_table<'t>(
     Ok(DeclarationTable::new(composites, objects))
 }
 
-/// The state of the walk: the declarations and types found so far, and the faults reported so far.
+/// The state of the walk over a module: the declarations and types found so far, and the faults
+/// reported so far.
 #[derive(Drop)]
 struct Reporter<'t> {
     alloc: Global,
@@ -219,8 +221,8 @@ struct Reporter<'t> {
 }
 
 impl<'t> Reporter<'t> {
-    /// Returns the state at the start of a module. Only the predeclared names have a meaning, and
-    /// the only faults are the undeclared names.
+    /// Returns the state of the walk at the start of a module. Only the predeclared names have a
+    /// meaning, and the only faults are the undeclared names.
     fn new(alloc: Global, resolved: &'t Resolved<'t>) -> Result<Reporter<'t>, AllocError>
         ensures checker_state { IfOk result (λ t. declarations_in_state t.checker_state ≡ state_at_start resolved.now) }
         ensures faults { IfOk result
@@ -275,8 +277,8 @@ impl<'t> Reporter<'t> {
     }
 }
 
-/// Returns the faults with the code `Undeclared` among the module's faults of scopes, in the same
-/// order.
+/// Returns the faults with the code `Undeclared` among the faults that were found when the module's
+/// names were bound, in the same order.
 fn undeclared_name_faults(alloc: Global, resolved: &Resolved) -> Result<Vec<Fault>, AllocError>
     ensures { IfOk result (λ faults. faults.items ≡ filter is_undeclared_fault resolved.now.faults) }
 {

@@ -1,5 +1,5 @@
 -- The lists of a module's field identifiers, and how these lists change when the text changes.
--- Rule: none; for contracts about lists of fields.
+-- Rule: none; used in contracts about lists of fields.
 use Rattle.std.specs.Prelude.{◌≡◌, ◌==◌, ◌+◌, ◌-◌, ◌^◌, ℕ, List, [], ◌∷◌, ◌++◌, length, min, nat_le, nat_lt, set, if◌then◌else◌}
 use Rattle.std.specs.List.{filter}
 use Rattle.ob0_scan.specs.declared.tokens.SameParts.{SameParts}
@@ -38,15 +38,15 @@ field_lists_of t r = record {
 abbrev pub AreFieldListsOf : Resolution → FieldLists → Type 0
 AreFieldListsOf r f = (f.declared ≡ declared_fields r.module_read) × (f.all ≡ field_identifiers r)
 
--- returns the list `xs` after items of another list are written over its items, beginning at index
--- `k`; items that would lie after the end of `xs` are ignored
+-- returns the list `xs` in which the items of the second list replace the items from index `k` on;
+-- items that would lie after the end of `xs` are ignored
 abbrev pub overwritten_fields : List FieldName → ℕ → List FieldName → List FieldName
 overwritten_fields xs k [] = xs
 overwritten_fields xs k (y ∷ ys) = overwritten_fields (set xs k y) (k + 1) ys
 
 -- States that the list `all` consists of `before`, then `replaced_fields`, and then `after`. The
 -- fields in `others` are at the same tokens as `replaced_fields`, so `others` can replace them. The
--- tokens of `all` are in strictly ascending order.
+-- token indexes of `all` are strictly ascending and less than `token_limit`.
 pub record HasSameTokensWith (all before others after : List FieldName) : Type 0 where
   pub replaced_fields : List FieldName
   pub token_limit : ℕ
@@ -63,7 +63,7 @@ abbrev pub fields_from : ℕ → List FieldName → List FieldName
 fields_from token xs = filter (λ x. nat_le token x.token) xs
 
 -- Returns the index of an unchanged token in the new text, given its index `i` in the old text. `s`
--- specifies the unchanged tokens. The result is at most 2^64 - 1.
+-- specifies the unchanged tokens. Returns 2^64 - 1 if the index would be greater.
 abbrev pub new_token_index : SameParts → ℕ → ℕ
 new_token_index s i = min (moved_token_index s i) (2 ^ 64 - 1)
 
@@ -73,6 +73,7 @@ abbrev pub moved_field : SameParts → FieldName → FieldName
 moved_field s x = record { token = new_token_index s x.token; owner = x.owner }
 
 -- returns the index in the old text of a token that lies after the changed tokens, given its index
--- `i` in the new text; the result is at most 2^64 - 1
+-- `i` in the new text; `s` specifies the unchanged tokens; returns 2^64 - 1 if the index would be
+-- greater
 abbrev pub old_token_index : SameParts → ℕ → ℕ
 old_token_index s i = min (i - s.new_suffix + s.old_suffix) (2 ^ 64 - 1)

@@ -1,6 +1,6 @@
 -- The type that each ARRAY and RECORD of a module constructs, and the field that an identifier
 -- belongs to, with the field's type.
--- Rule: docs/LANGUAGE.md, Types 1 (each ARRAY and RECORD is a type of its own);
+-- Rule: docs/LANGUAGE.md, Types 1 (each ARRAY and RECORD makes a separate type);
 -- docs/PROTOCOL.md, Requests on documents 4.
 use Rattle.std.specs.Prelude.{◌≡◌, ℕ, true, is_some, List, [], ◌∷◌, ◌++◌, get_or, Option, None, option_and_then, option_map}
 use Rattle.std.specs.List.{All}
@@ -73,7 +73,8 @@ abbrev pub constructed_type_by_objects : (ℕ → Option (Object Shape Signature
 constructed_type_by_objects objects r k =
     get_or (constructed_types (meanings_by_token objects r) None (tree_of r.module_read)) k None
 
--- a field, identified by its place in its record, with the shape of the field's type
+-- a field of a record, with the field's type; `field` has the record's ordinal and the field's
+-- index in the record
 pub record TypedField : Type 0 where
   pub field : FieldId
   pub shape : Shape

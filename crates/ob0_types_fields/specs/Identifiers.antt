@@ -117,7 +117,7 @@ field_index_in_record m k x =
     position_from (λ token. same_name (token_text_at m.source token) x) 0
     (field_tokens_of_record k (declared_fields m))
 
--- ---- laws: renaming changes only a field's tokens, each field is declared, and the grammar determines the fields
+-- ---- laws about the tokens, the duplicates and the declarations of fields
 
 -- States that renaming the field `f` of the record with ordinal `k` in a well-typed module changes only the identifiers
 -- at the field's tokens. These identifiers get the name `new`.
@@ -148,8 +148,8 @@ FieldsAreDeclared =
     (λ x. is_some (field_declaring_token r.module_read x.owner (token_text_at r.module_read.source x.token))
     ≡ true) (field_identifiers r)
 
--- returns the token indexes of the identifiers that have the role of a field name: they declare a field in a record, or
--- they select a field
+-- returns the token indexes of the listed identifiers that are field names according to the grammar: they declare a
+-- field in a record, or they select a field
 abbrev pub field_role_tokens : List (Role × ℕ) → List ℕ
 field_role_tokens [] = []
 field_role_tokens ((role.FieldName, token) ∷ rest) = token ∷ field_role_tokens rest

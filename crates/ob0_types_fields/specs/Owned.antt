@@ -222,7 +222,8 @@ owners_in_resolution r =
     owners_in_module (meanings_by_token (declared_object (named_tree_of r.module_read)) r)
     (tree_of r.module_read)
 
--- states that, for each token in the list, the table and the list give the same owner, or both give none
+-- states that, for each token in the list, the table gives the same owner as the list; an owner is the ordinal of a
+-- record, or None
 abbrev pub AgreesWithOwnerList : (ℕ → Option ℕ) → List (ℕ × Option ℕ) → Type 0
 AgreesWithOwnerList table [] = Unit {0}
 AgreesWithOwnerList table (x ∷ xs) = (table x.0 ≡ x.1) × AgreesWithOwnerList table xs
@@ -244,8 +245,8 @@ fields_with_owners [] = []
 fields_with_owners ((x, None) ∷ xs) = fields_with_owners xs
 fields_with_owners ((x, Some k) ∷ xs) = record { token = x; owner = k } ∷ fields_with_owners xs
 
--- returns the table `table` after the owners of these field identifiers are entered in it, each at the index of the
--- identifier's token
+-- returns the table `table` with the owner (the record's ordinal) of each of these field identifiers entered at the
+-- index of the identifier's token
 abbrev pub table_with_owners : List (Option ℕ) → List FieldName → List (Option ℕ)
 table_with_owners table [] = table
 table_with_owners table (f ∷ fs) = table_with_owners (set table f.token (Some f.owner)) fs
@@ -262,7 +263,7 @@ EnteredFieldsCompleteOwnerTable =
 
 -- ---- the field identifiers only, in the order in which the code's walk collects them
 
--- returns a list of one field identifier if the identifier at token `x` has an owner, otherwise an
+-- returns a list with the field identifier at token `x` if it has an owner (the ordinal of its record), otherwise an
 -- empty list
 abbrev pub field_if_owned : ℕ → Option ℕ → List FieldName
 field_if_owned x None = []
@@ -335,13 +336,13 @@ abbrev mutual
       fields_in_group k (suc k) g ++ fields_in_groups k (suc k + group_constructor_count g) rest
 
   -- returns the fields of a group, which belong to the record with ordinal `r`, then the fields that the group's type
-  -- declares
+  -- declares; `k` is the number of words ARRAY and RECORD before that type
   pub fields_in_group : ℕ → ℕ → Tree ℕ fields → List FieldName
   fields_in_group r k no_fields = []
   fields_in_group r k (some_fields ns t) = fields_at_tokens r (names_in_list ns) ++ fields_in_type k t
 
   -- returns the fields that a record's groups of fields after the first group declare, in text order; the record has
-  -- ordinal `r`
+  -- ordinal `r`, and `k` is the number of words ARRAY and RECORD before these groups
   pub fields_in_groups : ℕ → ℕ → Tree ℕ (items further_fields) → List FieldName
   fields_in_groups r k end = []
   fields_in_groups r k (more (then_fields g) rest) =

@@ -1,6 +1,6 @@
 -- Tables that give the record of each field identifier of a text. The index into a table is the
 -- index of the identifier's token.
--- Rule: none; for contracts about the records of field identifiers.
+-- Rule: none; used in contracts about the records of field identifiers.
 use Rattle.std.specs.Prelude.{◌≡◌, ℕ, Bool, ◌&&◌, List, Option, Some, None, if◌then◌else◌}
 use Rattle.ob0_scan.specs.TextWithTokens.{TextWithTokens}
 use Rattle.ob0_tree.specs.Tree.{mapped_tree}
@@ -20,8 +20,8 @@ field_names_by_record l (Some k) x = l k x
 
 -- States that the table `owners` has, at each token that declares or selects a field, the ordinal
 -- of the field's record. This is stated through renaming: for any new names `l` of fields, two
--- trees are equal. One is the module's tree with its fields renamed. The other is the module's tree
--- with the name at each token renamed according to the table.
+-- trees are equal. One is the module's tree with its fields renamed by `l`. In the other, the name
+-- at a token is renamed exactly if the table has a record's ordinal for this token.
 abbrev pub IsOwnerTable : ParsedModule → List (Option ℕ) → Type 0
 IsOwnerTable m owners =
     (l : ℕ → Name → Name)

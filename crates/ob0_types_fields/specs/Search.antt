@@ -1,6 +1,6 @@
 -- The search for the ARRAY or RECORD with a given ordinal among all such words of a module, in text
 -- order.
--- Rule: none; for private contracts of a walk.
+-- Rule: none; used in contracts of private functions.
 use Rattle.std.specs.Prelude.{ℕ, ◌-◌, ◌==◌, List, [], ◌∷◌, Option, None, option_map, if◌then◌else◌}
 use Rattle.ob0_language_types.specs.Expressions.{Meanings}
 use Rattle.ob0_language_types.specs.WellTyped.{Signature}
@@ -44,22 +44,23 @@ found_type (is_skipping n) = None
 abbrev pub constructor_walk_meanings : ConstructorWalk → Meanings ℕ Shape Signature
 constructor_walk_meanings w = meanings_by_token (declared_object_in w.table.now) w.resolved.now
 
--- returns the shape of the type `of` in the walk's table of declarations; None if `of` is None
+-- converts the type `of` of the code to a type of the definitions (`Shape`), using the walk's table of declarations;
+-- None if `of` is None
 abbrev pub shape_in_walk : ConstructorWalk → Option TypeId → Option Shape
 shape_in_walk w of = option_map (type_shape (shapes_of w.table.now)) of
 
--- converts a state of the code's search to a state of the definitions, given the shapes of the
--- arrays and records
+-- converts a state of the code's search to a state of the definitions, given the list `shapes` of the array and record
+-- types (`Shape`) in the table of declarations
 abbrev pub search_view : List Shape → Search → SearchState
 search_view shapes (search.Found of) = is_found (option_map (type_shape shapes) of)
 search_view shapes (search.Skipping n) = is_skipping n
 
--- converts a state of the code's search to a state of the definitions; the walk's table of declarations
--- gives the shapes of arrays and records
+-- converts a state of the code's search to a state of the definitions; the walk's table of declarations gives the types
+-- of arrays and records
 abbrev pub search_view_in_walk : ConstructorWalk → Search → SearchState
 search_view_in_walk w s = search_view (shapes_of w.table.now) s
 
--- converts a typed field of the code to a typed field of the definitions, given the shapes of the
--- arrays and records
+-- converts a typed field of the code to a typed field of the definitions, given the list `shapes` of the array and
+-- record types (`Shape`) in the table of declarations
 abbrev pub typed_field_view : List Shape → code.TypedField → TypedField
 typed_field_view shapes f = record { field = f.field; shape = type_shape shapes f.type_id }

@@ -1,5 +1,5 @@
 -- Definitions for the contracts of the walk that collects the fields of a module.
--- Rule: none; for private contracts of a walk.
+-- Rule: none; used in contracts of private functions.
 use Rattle.std.specs.Prelude.{ℕ, List, Option}
 use Rattle.ob0_tree.specs.Tree.{Tree, field, index, item, selector}
 use Rattle.ob0_language_types.specs.Expressions.{Meanings}
@@ -18,7 +18,8 @@ use Rattle.ob0_types_fields.specs.Owned.{field_if_owned, fields_in_tree, owner, 
 abbrev pub field_walk_meanings : FieldWalk → Meanings ℕ Shape Signature
 field_walk_meanings w = meanings_by_token (declared_object_in w.table.now) w.resolved.now
 
--- returns the shape of a record type in the walk's table of declarations
+-- converts the record type `r` of the code to a type of the definitions (`Shape`); the walk's table
+-- of declarations has the types of its fields
 abbrev pub record_shape_in : FieldWalk → RecordShape → Shape
 record_shape_in w r = entry_shape (shapes_of w.table.now) (made.Record r)
 

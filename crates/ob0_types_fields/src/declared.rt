@@ -34,8 +34,8 @@ fn add_named_fields(
     Ok(())
 }
 
-/// Returns the ordinal of the next word ARRAY or RECORD: the old value of `word_count`, the number
-/// of such words so far. Then adds 1 to `word_count`. Returns an error if the sum doesn't fit in 64
+/// Adds 1 to `word_count`, the number of words ARRAY and RECORD visited so far. Returns the old
+/// value, which is the ordinal of the next such word. Returns an error if the sum doesn't fit in 64
 /// bits. No text is long enough for that.
 fn take_next_ordinal(word_count: &mut usize) -> Result<usize, AllocError>
     ensures { MatchResult result (λ n. (n ≡ word_count.old) × (word_count.new ≡ word_count.old + 1))
@@ -75,9 +75,9 @@ pub(crate) fn add_type_fields(
     }
 }
 
-/// Appends the fields that a record type declares, including the fields of records inside it.
-/// `word_count` counts the words ARRAY and RECORD that precede the type in the module. On return,
-/// `word_count` also counts the words in the type.
+/// Appends to `found` the fields that a record type declares, including the fields of records
+/// inside this type. `word_count` counts the words ARRAY and RECORD that precede the type in the
+/// module. On return, `word_count` also counts the words in the type.
 #[cycle(types)]
 fn add_record_fields(
     found: &mut FieldNameList,

@@ -18,8 +18,8 @@
 //! A list has token indexes but not the text, so a caller may use the list with another text. If
 //! that text has no token with such an index, the code treats the field as an empty span at the
 //! text's start. Therefore, the contract of `ModuleFields::identifier_at` has a premise: the
-//! indexes ascend and are indexes of the text's tokens (`AreInTextOrder`). The lists of a module's
-//! own fields satisfy this premise (`fields_ascend`).
+//! indexes ascend and are indexes of the text's tokens (`AreInTextOrder`). If `ModuleFields` was
+//! made from a text, its lists satisfy this premise for that text (`fields_ascend`).
 
 ghost use Rattle.std.specs.Prelude.{◌≡◌, ◌++◌, List, [], false, true, map, nat_lt, IfOk, OnOk};
 ghost use Rattle.std.specs.List.{position_from};
@@ -117,10 +117,11 @@ impl ModuleFields {
     }
 
     /// Returns the lists for a changed text in which the statements of one body were replaced,
-    /// given the lists for the old text (`self`). `place` is the place of the body in the changed
-    /// text, and `same` specifies the unchanged tokens. Fields before the body's first identifier
-    /// are kept. A walk finds the fields in the new statements. Fields after the body get the new
-    /// indexes of their tokens, which are at most 2^64 - 1.
+    /// given the lists for the old text (`self`). `place` has the token indexes, in the changed
+    /// text, of the body's first identifier and of the block's closing name. `same` specifies the
+    /// unchanged tokens. Fields before the body's first identifier are unchanged. A walk finds the
+    /// fields in the new statements. Fields after the body get the indexes that their tokens have
+    /// in the changed text, or 2^64 - 1 if an index would be greater.
     pub fn with_replaced_body<'a, 't>(
         self,
         alloc: Global,
@@ -201,7 +202,7 @@ impl ModuleFields {
     }
 }
 
-/// Replaces fields of the list `all` by the fields in `found`. Each field in `found` replaces the
+/// Replaces fields of the list `all` with the fields in `found`. Each field in `found` replaces the
 /// field of `all` that is at the same token. The replaced fields must be consecutive in `all`,
 /// which must be in text order.
 fn replace_fields_at_tokens(all: &mut FieldNameList, found: &[FieldName])
@@ -227,7 +228,7 @@ fn count_fields_before(all: &[FieldName], token: usize) -> usize
     all.partition_point(|field| field.token < token)
 }
 
-/// Overwrites the fields of the list `all` by the fields in `found`, starting at index `start` of
+/// Overwrites fields of the list `all` with the fields in `found`, starting at index `start` of
 /// `all`. Fields in `found` that would lie after the end of `all` are ignored.
 fn overwrite_fields_from(all: &mut FieldNameList, start: usize, found: &[FieldName])
     ensures { all.new.items ≡ overwritten_fields all.old.items start found.now }
@@ -242,7 +243,7 @@ fn overwrite_fields_from(all: &mut FieldNameList, start: usize, found: &[FieldNa
 }
 
 /// Returns the index of an unchanged token in the new text, given its index `token` in the old
-/// text. `same` specifies the unchanged tokens. The result is at most 2^64 - 1.
+/// text. `same` specifies the unchanged tokens. Returns 2^64 - 1 if the index would be greater.
 fn new_token_index(token: usize, same: SameParts) -> usize
     ensures { result ≡ new_token_index same token }
 {
@@ -256,7 +257,8 @@ fn new_token_index(token: usize, same: SameParts) -> usize
 }
 
 /// Returns the index in the old text of a token that lies after the changed tokens, given its index
-/// `token` in the new text. The result is at most 2^64 - 1.
+/// `token` in the new text. `same` specifies the unchanged tokens. Returns 2^64 - 1 if the index
+/// would be greater.
 fn old_token_index(token: usize, same: SameParts) -> usize
     ensures { result ≡ old_token_index same token }
 {
@@ -336,7 +338,8 @@ fn all_fields<'a, 't>(
     }
 }
 
-/// Walks a module and returns all its field identifiers, in text order.
+/// Walks the module `resolved` and returns all its field identifiers, in text order. `table` is the
+/// table of the module's declarations.
 fn find_fields<'a, 't>(
     alloc: Global,
     table: &'a DeclarationTable,

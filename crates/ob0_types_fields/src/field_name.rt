@@ -1,4 +1,4 @@
-//! Identifiers of fields.
+//! Defines field identifiers: identifiers that declare or select a field of a record.
 
 /// A field identifier: an identifier that declares or selects a field of a record.
 #[derive(Clone, Copy)]
@@ -10,5 +10,5 @@ pub struct FieldName {
     pub owner: usize,
 }
 
-/// A list of identifiers of fields.
+/// Field identifiers of one module, in text order.
 pub(crate) type FieldNameList = Vec<FieldName>;

@@ -84,8 +84,8 @@ enum Search {
 }
 
 impl Search {
-    /// Returns the state of the search after one more word ARRAY or RECORD. This word constructs
-    /// the type `of`, or an unknown type if `of` is None.
+    /// Returns the state of the search after one more word ARRAY or RECORD, given the state before
+    /// this word. The word constructs the type `of`, or an unknown type if `of` is None.
     fn pass_constructor(self, of: Option<TypeId>) -> Search
         ensures { (shapes : List Shape)
             → search_view shapes result
@@ -166,9 +166,9 @@ impl<'a, 't> ConstructorWalk<'a, 't> {
         }
     }
 
-    /// Returns the state of the search after all words ARRAY and RECORD of a record type, including
-    /// its first word. `of` is the type that the record type denotes, or None if this type is
-    /// unknown.
+    /// Returns the state of the search after all words ARRAY and RECORD of a record type, given the
+    /// state `search` before them. The first of these words is the RECORD of this type. `of` is the
+    /// type that the record type denotes, or None if this type is unknown.
     #[cycle(types)]
     fn search_record(&self, search: Search, of: Option<TypeId>, r: &RecordType) -> Search
         ensures { search_view_in_walk self.now result

@@ -8,16 +8,17 @@ ghost use Rattle.ob0_types_fields.specs.Identifiers.{DuplicateHasDeclaringToken,
 ghost use Rattle.ob0_types_fields.specs.Owned.{WalkFindsAllFields, AgreeingTableIsOwnerTable, EnteredFieldsCompleteOwnerTable};
 ghost use Rattle.ob0_types_fields.specs.Owners.{RenamingFollowsOwners};
 
-/// Proves that a table gives the record of each field identifier of a well-typed module
-/// (`IsOwnerTable`) if it agrees with the list `owners_in_resolution`. For each identifier in this
-/// list, the table must have the same record as the list, or no record if the list has none.
+/// Proves that a table is an owner table (`IsOwnerTable`) of a well-typed module if it agrees with
+/// the list `owners_in_resolution`. For each identifier of the module, this list gives the ordinal
+/// of the field's record, or None if the identifier isn't a field identifier. The table must have
+/// the same at the identifier's token.
 pub fn agreeing_table_is_owner_table()
     ensures { AgreeingTableIsOwnerTable }
 {}
 
-/// Proves that an owner table (`IsOwnerTable`) of a well-typed module can be made in two steps.
-/// First, a table is made with one empty entry for each token. Then the ordinal of each field
-/// identifier's record is entered at the identifier's token.
+/// Proves that an owner table (`IsOwnerTable`) of a well-typed module can be made in two steps. The
+/// first step makes a table that has None for each token. The second step enters the ordinal of
+/// each field identifier's record at the identifier's token.
 pub fn entered_fields_complete_owner_table()
     ensures { EnteredFieldsCompleteOwnerTable }
 {}

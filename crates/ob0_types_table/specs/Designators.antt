@@ -1,6 +1,6 @@
 -- Finds the designator of a factor, term or expression that is only a designator. Converts
 -- expressions to trees with labels.
--- Rule: none; for contracts about designators and labelled trees.
+-- Rule: none; used in contracts about designators and labelled trees.
 use Rattle.std.specs.Prelude.{ℕ, List, map, Some, None, Option}
 use Rattle.ob0_tree.specs.Tree.{Tree, designator, end, expression, factor, items, product, selector, simple, sum, term}
 use Rattle.ob0_tree.specs.View.{expression_of}
@@ -35,6 +35,7 @@ abbrev pub designator_of_simple : {N : Type 0}
 designator_of_simple (sum None t end) = designator_of_term t
 designator_of_simple _ = None
 
--- returns the trees of the expressions in a list, in order; in these trees each name is replaced by its label
+-- returns the trees of the expressions in a list, in order; in these trees each name is replaced by its label: the
+-- ordinal of its declaration, or the name itself if it isn't bound
 abbrev pub labelled_expressions : Resolution → List Expression → List (Tree Label expression)
 labelled_expressions r es = map (λ e. tree_with_labels r (expression_of e)) es

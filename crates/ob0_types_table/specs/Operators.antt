@@ -1,5 +1,5 @@
 -- The values of operations in a constant expression.
--- Rule: none; for contracts about single operations of docs/LANGUAGE.md, Types 6.
+-- Rule: none; used in contracts about single operations of docs/LANGUAGE.md, Types 6.
 use Rattle.std.specs.Prelude.{cond, Some, Option, option_and_then}
 use Rattle.ob0_tree.specs.declared.tree.AddOperator.{AddOperator}
 use Rattle.ob0_tree.specs.declared.tree.MultiplyOperator.{MultiplyOperator}

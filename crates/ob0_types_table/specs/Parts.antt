@@ -1,5 +1,5 @@
 -- A type with its parts (`Parts`): the type's shape, its size, and whether it is a type of the module.
--- Rule: none; for contracts about `Parts`.
+-- Rule: none; used in contracts about `Parts`.
 use Rattle.std.specs.Prelude.{Bool, true, false, List, Option, Some, None, slice_get}
 use Rattle.ob0_types_table.specs.KnownTables.{Tables}
 use Rattle.ob0_types_table.specs.Tables.{HasSizeOfShape, entry_shape, faulty_shape}

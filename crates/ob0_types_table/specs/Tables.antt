@@ -1,6 +1,6 @@
--- The meaning of the checker's table in contracts: its types as shapes, and its declarations as
--- objects.
--- Rule: none; for contracts about the checker's tables.
+-- Converts the checker's table of types and declarations to the definitions: its types to shapes, and its declarations
+-- to objects.
+-- Rule: none; used in contracts about the checker's tables.
 use Rattle.std.specs.Prelude.{◌≡◌, ℕ, ◌<◌, Bool, true, false, List, [], ◌∷◌, ◌++◌, map, length, slice_index_or, All, Some, None, Option, string_bytes}
 use Rattle.ob0_language_values.specs.Scalars.{scalar_value}
 use Rattle.ob0_language_values.specs.Values.{FieldShapes, Shape, array_shape, boolean_shape, integer_shape, next_field_shape, no_field_shape, record_shape}
@@ -65,14 +65,14 @@ abbrev pub extended_shapes : List Shape → List code.TypeEntry → List Shape
 extended_shapes known [] = known
 extended_shapes known (m ∷ ms) = extended_shapes (known ++ entry_shape known m ∷ []) ms
 
--- states that the type refers to no entry of the table, or to one of the first `n` entries
+-- states that the type refers to none of the table's entries, or to one of the first `n` entries
 abbrev pub IsTypeAmongEntries : ℕ → TypeId → Type 0
 IsTypeAmongEntries n (type.Array i) = i < n
 IsTypeAmongEntries n (type.Record i) = i < n
 IsTypeAmongEntries n _ = Unit {0}
 
--- states that the element type of an array, or the type of each field of a record, refers to no entry of the table, or
--- to one of the first `n` entries
+-- states that the element type of an array, or the type of each field of a record, refers to none of the table's
+-- entries or to one of the first `n` entries
 abbrev pub PartsAreAmongEntries : ℕ → code.TypeEntry → Type 0
 PartsAreAmongEntries n (made.Array a) = IsTypeAmongEntries n a.element
 PartsAreAmongEntries n (made.Record r) = All (λ f. IsTypeAmongEntries n f.of) r.fields
@@ -95,7 +95,7 @@ AreEntriesInOrder known [] = Unit {0}
 AreEntriesInOrder known (m ∷ ms) =
     IsEntry known m × AreEntriesInOrder (known ++ entry_shape known m ∷ []) ms
 
--- returns the mode of a parameter: by place if the Bool is true, otherwise by value
+-- returns the mode of a parameter: by reference (`by_place`) if the Bool is true, otherwise by value
 abbrev pub mode_of : Bool → Mode
 mode_of true = by_place
 mode_of false = by_value

@@ -1,4 +1,4 @@
-//! Adds an entry to the table of a module's array and record types.
+//! Appends an entry to the list of a module's array and record types.
 
 ghost use Rattle.std.specs.Prelude.{◌≡◌, ◌++◌, ◌∷◌, [], length, IfOk, OnOk, OnErr};
 ghost use Rattle.ob0_types_table.specs.Tables.{type_of_entry};

@@ -17,7 +17,8 @@ use crate::types::{TypeId, scalar_type};
 use ob0_language_values::Scalar;
 use std::marker::Model;
 
-/// The greatest length of an array, and also the greatest number of scalars in a type.
+/// The greatest length of an array, and also the greatest number of scalars (INTEGER and BOOLEAN
+/// values) in a type.
 pub const MAX_SCALARS: usize = 65536;
 
 /// The greatest depth of nested arrays and records. A named type counts as if it were written out.
@@ -62,7 +63,8 @@ pub struct RecordShape {
     pub depth: usize,
 }
 
-/// An entry of the table: the array or record that a word ARRAY or RECORD of the text makes.
+/// An entry of the table: an array or record type, which is made by one word ARRAY or RECORD of the
+/// text.
 #[derive(Drop)]
 pub enum TypeEntry {
     Array(ArrayShape),
@@ -87,7 +89,7 @@ pub enum StandardProcedure {
 /// The object to which a declared name refers, with its type, value or parameters.
 #[derive(Drop)]
 pub enum Object {
-    /// A type's name. The variant has the type to which the name refers.
+    /// A type's name, with the type to which the name refers.
     Named(TypeId),
     Constant(Scalar),
     /// A constant whose right side has a fault.
@@ -107,8 +109,8 @@ pub struct DeclarationTable {
 }
 
 impl RecordShape {
-    /// Returns the first field with this name: the ordinal of this record, and the field's
-    /// position. Returns None if there is no such field.
+    /// Returns the first field with this name: the record's ordinal, and the field's position in
+    /// the record. Returns None if there is no such field.
     fn field(&self, name: &str) -> Option<FieldId>
         ensures { (shapes : List shape.Shape)
             → result
@@ -154,7 +156,8 @@ impl DeclarationTable {
         DeclarationTable { shapes, objects }
     }
 
-    /// Returns the number of ordinals in the table, which has one object or None for each ordinal.
+    /// Returns the number of declarations in the table, including the predeclared names. The
+    /// ordinals of the declarations are the numbers from 0 up to, but not including, this number.
     pub fn count(&self) -> usize
         ensures { result ≡ length self.now.objects }
     {

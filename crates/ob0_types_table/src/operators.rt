@@ -1,5 +1,6 @@
-//! Operations on the values of constants. An operand may have no value. If the left operand of OR
-//! or `&` already decides the result, the right operand needs no value.
+//! Operations on the values of constants. An operand has no value (None) if it isn't constant or
+//! its evaluation failed. If the left operand of OR or `&` already decides the result, the right
+//! operand needs no value.
 
 ghost use Rattle.std.specs.Prelude.{◌≡◌, Some, option_and_then, option_map};
 ghost use Rattle.ob0_language_values.specs.Scalars.{scalar_value};
@@ -59,8 +60,9 @@ pub fn complement(operand: Option<Scalar>) -> Option<Scalar>
     }
 }
 
-/// Returns the value of a sum, a difference or an OR. Returns None if a needed operand has no
-/// value, or if the operation has no result, for example because it overflows.
+/// Returns the value of a sum, a difference or an OR. If `left` already decides an OR, `right`
+/// needs no value. Returns None if a needed operand has no value, or if the operation has no
+/// result, for example because it overflows.
 pub fn value_of_sum(
     operator: AddOperator,
     left: Option<Scalar>,
@@ -84,8 +86,9 @@ pub fn value_of_sum(
     }
 }
 
-/// Returns the value of a product, a quotient, a remainder or an `&`. Returns None if a needed
-/// operand has no value, or if the operation has no result, for example because it overflows.
+/// Returns the value of a product, a quotient, a remainder or an `&`. If `left` already decides an
+/// `&`, `right` needs no value. Returns None if a needed operand has no value, or if the operation
+/// has no result, for example because it overflows.
 pub fn value_of_product(
     operator: MultiplyOperator,
     left: Option<Scalar>,

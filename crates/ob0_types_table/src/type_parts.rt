@@ -1,10 +1,10 @@
-//! Gives the parts of a type (`Parts`), for example an array's length and element type.
+//! Returns the parts of a type (`Parts`), for example an array's length and element type.
 //!
-//! The parts of an array or record include its number of scalars and its depth (`PartsHaveSizes`).
-//! The parts of a `TypeId` are `Faulty` exactly if the `TypeId` isn't one of the module's types
-//! (`is_known_type`). A faulty type also has a shape (`faulty_shape`), but with an ordinal that no
-//! ARRAY or RECORD of a text has. So a function whose contract states the shape of its result can't
-//! return `Unknown` for a type of a module.
+//! The parts of an array or record include its number of scalars and the depth to which it is
+//! nested (`PartsHaveSizes`). The parts of a `TypeId` are `Faulty` exactly if the `TypeId` isn't
+//! one of the module's types (`is_known_type`). A faulty type also has a shape (`faulty_shape`),
+//! but with an ordinal that no ARRAY or RECORD of a text has. So a function whose contract states
+//! the shape of its result can't return `Unknown` for a type of a module.
 
 ghost use Rattle.std.specs.Prelude.{◌≡◌};
 ghost use Rattle.ob0_types_table.specs.Parts.{PartsHaveSizes, is_not_faulty, is_known_type, parts_shape};

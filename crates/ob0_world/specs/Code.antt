@@ -1,6 +1,6 @@
 -- Converts events, publications and applied edits of the code to events, publications and applied
 -- edits of the model (`ClientAndServer`).
--- Rule: none; for contracts: what values of the code mean.
+-- Rule: none; used in contracts that relate the code's values to the model's.
 use Rattle.std.specs.Prelude.{ℕ, List, map, string_bytes, Vec}
 use Rattle.std.specs.Str.{chars}
 use Rattle.std.specs.declared.alloc.Global.{Global}
@@ -36,14 +36,16 @@ publication_of m =
       no_diagnostics = m.empty;
     }
 
--- returns the bytes of each content, in order
+-- returns the list of bytes of each content, in order; a content is the bytes of one message
 abbrev pub content_bytes : List (Vec ℕ Global) → List (List ℕ)
 content_bytes contents = map (λ v. v.items) contents
 
--- returns, as edits of the model, the applied edits in the results `p` that `play` returns
+-- returns the applied edits in `p`, the results that `play` returns, as values of the model's type
+-- `Applied`
 abbrev pub played_edits : played.Played → List Applied
 played_edits p = map applied_of p.applied.items
 
--- returns, as publications of the model, the publications in the results `p` that `play` returns
+-- returns the publications in `p`, the results that `play` returns, as values of the model's type
+-- `PublicationWithText`
 abbrev pub played_publications : played.Played → List PublicationWithText
 played_publications p = map publication_of p.made.items

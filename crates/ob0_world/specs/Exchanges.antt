@@ -3,7 +3,7 @@
 -- session in place of the model's server, and contents in place of the messages. A content is the
 -- bytes of one message. The session may be any that the protocol (`Answers`) allows. An ask is a
 -- request whose answer the editor may apply: a rename, an inlining or a formatting.
--- Rule: LSP 3.17; for a law of every editor with a session.
+-- Rule: LSP 3.17; used in laws about every editor that keeps ob0's rules.
 use Rattle.std.specs.Prelude.{◌≡◌, ◌⊎◌, ◌<◌, ◌≤◌, ◌==◌, map, filter_map, ⊤, ℕ, ℤ, List, [], ◌∷◌, ◌++◌, All, fold, Bool, true, false, Option, Some, None, MatchOption, option_map, option_and_then, Result, Ok, Err, if◌then◌else◌, codes}
 use Rattle.std.specs.Str.{bytes_eq}
 use Rattle.serde_json.specs.Data.{Data, null, boolean, number, string, array, object, unsigned, negative, float}
@@ -63,25 +63,27 @@ same_id (number_id n) (text_id t) = false
 same_id (text_id s) (number_id m) = false
 same_id (text_id s) (text_id t) = bytes_eq s t
 
--- The id of a request that the editor sent. If the request is an ask, `ask` is its number, counted
--- from 1. For any other request `ask` is None.
+-- The id of a request that the editor sent. If the request is for edits (an ask), `ask` is its
+-- number, counted from 1. For any other request, such as a hover request, `ask` is None.
 pub record SentRequestId : Type 0 where
   pub id : RequestId
   pub ask : Option ℕ
 
--- Finds the first request with this id. Returns `Some (Some k)` if that request is ask `k`, `Some
--- None` if it isn't an ask, and None if no request has this id.
+-- Searches the sent requests for the first one with this id. Returns `Some (Some k)` if that
+-- request is the ask (request for edits) with number `k`, `Some None` if it isn't an ask, and None
+-- if no request has this id.
 abbrev pub ask_of_request_id : List SentRequestId → RequestId → Option (Option ℕ)
 ask_of_request_id [] id = None
 ask_of_request_id (s ∷ sent) id = if same_id s.id id then Some s.ask else ask_of_request_id sent id
 
--- Returns the number of the ask that has this JSON value as its id. None if no request has this id,
--- or if the first request with this id isn't an ask.
+-- Returns the number of the ask (request for edits) that has this JSON value as its id. None if no
+-- request has this id, or if the first request with this id isn't an ask.
 abbrev pub ask_number_by_id : List SentRequestId → Data → Option ℕ
 ask_number_by_id sent id = option_and_then (λ ask. ask) (option_and_then (ask_of_request_id sent) (id_of_value id))
 
--- States that each ask among the messages `sent` gets an id that neither a request in `ids` nor an
--- earlier ask in `sent` has. The list `new` is `ids` with the ids of these asks appended, in order.
+-- States that each ask (request for edits) among the messages `sent` gets an id that no request in
+-- `ids` and no earlier ask in `sent` has. The list `new` is `ids` with the ids of these asks
+-- appended, in order.
 abbrev pub AssignsAskIds : List SentRequestId → List MessageToServer → List SentRequestId → Type 0
 AssignsAskIds ids [] new = new ≡ ids
 AssignsAskIds ids (notifies note ∷ sent) new = AssignsAskIds ids sent new
@@ -90,14 +92,15 @@ AssignsAskIds ids (requests k uri ask ∷ sent) new =
     × (ask_of_request_id ids id ≡ None)
     × AssignsAskIds (ids ++ record { id = id; ask = Some k } ∷ []) sent new
 
--- Returns `ids` with this id appended, as the id of a request that isn't an ask. For None (the
--- message has no valid id), the list is unchanged.
+-- Returns `ids` with this id appended, as the id of a request that isn't for edits (not an ask).
+-- For None (the message has no valid id), the list is unchanged.
 abbrev pub with_non_ask_id : List SentRequestId → Option RequestId → List SentRequestId
 with_non_ask_id ids None = ids
 with_non_ask_id ids (Some id) = ids ++ record { id = id; ask = None } ∷ []
 
--- States that the id is None, or that the first request in `ids` with this id isn't an ask. None
--- means that the message has no valid id. If no request in `ids` has the id, the fact doesn't hold.
+-- States that the id is None, or that the first request in `ids` with this id isn't for edits (not
+-- an ask). None means that the message has no valid id. If no request in `ids` has the id, the fact
+-- doesn't hold.
 abbrev pub IsNonAskId : List SentRequestId → Option RequestId → Type 0
 IsNonAskId ids None = ⊤
 IsNonAskId ids (Some id) = ask_of_request_id ids id ≡ Some None
@@ -158,7 +161,7 @@ IsReadOnlyRequest (Err fault) = ⊤
 -- States that the message is outside the model. It opens, changes and closes no document, and
 -- requests no edits that the editor applies. It is a response, JSON that isn't a message, a
 -- notification that the server ignores, or a request that changes nothing in the session and
--- doesn't have an ask's id.
+-- doesn't have the id of a request for edits.
 abbrev pub IsUnmodeledMessage : List SentRequestId → MessageMeaning → Type 0
 IsUnmodeledMessage ids not_json = ⊥
 IsUnmodeledMessage ids not_a_message = ⊤
@@ -198,8 +201,8 @@ pub record IsActionsRequest (id : Data) (uri : List ℕ) (position : Position) (
   pub ordered : IsAtOrBefore range.start range.end
   pub allowed : allows_inlining only ≡ true
 
--- States that the content is the request with this id for this ask about the document with this
--- uri. For an inlining, it is a request for code actions.
+-- States that the content is the request with this id that asks for these edits of the document
+-- with this uri. For an inlining, the content is a request for code actions.
 abbrev pub IsRequestFor : Data → List ℕ → Ask → List ℕ → Type 0
 IsRequestFor id uri (rename position name) content =
     IsRequestWithId id uri (rename position name) content
@@ -211,23 +214,23 @@ IsRequestFor id uri (format indent) content = IsRequestWithId id uri (format ind
 abbrev pub AcceptsActions : ClientFeatures → Type 0
 AcceptsActions client = client.accepts_literal_actions ≡ true
 
--- States that the client accepts the edits that answer this ask. Only an inlining has a condition:
--- the client accepts code actions with edits.
+-- States that the client accepts the edits that answer this ask (request for edits). Only for an
+-- inlining there is a condition: the client accepts literal code actions (`AcceptsActions`).
 abbrev pub AcceptsEdits : ClientFeatures → Ask → Type 0
 AcceptsEdits client (rename position name) = ⊤
 AcceptsEdits client (inline_here position) = AcceptsActions client
 AcceptsEdits client (inline_all position) = AcceptsActions client
 AcceptsEdits client (format indent) = ⊤
 
--- states that the ask with number `k` is this ask about this document, and that its request has
--- this id
+-- states that the sent request with number `k` asks for these edits (`ask`) of the document with
+-- this uri, and that it has this id
 pub record IsAskWithId (ids : List SentRequestId) (requested : List SentAsk) (id : Data) (k : ℕ)
     (uri : List ℕ) (ask : Ask) : Type 0 where
   pub numbered : ask_number_by_id ids id ≡ Some k
   pub is : IsAsk requested k uri ask
 
--- States that the content is this message, written for the session of this client. A request must
--- be for edits that the client accepts.
+-- States that the content is this message to a session whose client has these features. If the
+-- message is a request for edits, the client must accept the edits (`AcceptsEdits`).
 abbrev pub IsMessageToSession : ClientFeatures
     → List SentRequestId
     → List SentAsk
@@ -261,13 +264,14 @@ AreMessagesToSession client ids requested (None ∷ messages) [] = ⊥
 
 -- ---- turns, and the exchanges to which they lead
 
--- Returns the message to the editor that a content is, or None if it is no such message. The list
--- `ids` says which ask has the id of an answer.
+-- Returns the message that the editor reads in a content, or None if the content is no message to
+-- the editor. The list `ids` has the ids of the sent requests, so it decides which request an
+-- answer belongs to.
 abbrev pub message_to_editor_by_ids : List SentRequestId → List SentAsk → List ℕ → Option MessageToEditor
 message_to_editor_by_ids ids requested content = message_to_editor_by (ask_number_by_id ids) requested content
 
--- Returns the editor after it has read this message. The editor keeps an answer with edits to one
--- of its asks, and nothing else. For None (no message), the editor is unchanged.
+-- Returns the editor after it has read this message. The editor stores an answer that has edits,
+-- and nothing else. For None (no message), the editor is unchanged.
 abbrev pub after_reading_if_any : Editor → Option MessageToEditor → Editor
 after_reading_if_any e None = e
 after_reading_if_any e (Some message) = after_reading e message
@@ -320,7 +324,8 @@ Exchanges old server_takes new =
     × (new ≡ record old { wire = wire })
 Exchanges old editor_takes new = EditorReadsFirst old.wire.to_editor old new
 
--- states that these turns, one after another, may lead from `old` to `new`
+-- states that these turns, one after another, may lead from the exchange `old` to the exchange
+-- `new`
 abbrev pub ExchangeCourse : Exchange → List Turn → Exchange → Type 0
 ExchangeCourse old [] new = new ≡ old
 ExchangeCourse old (turn ∷ turns) new =
@@ -453,11 +458,11 @@ notifications_in contents = filter_map (message_to_server_in []) contents
 -- States the guarantees for an exchange of a session and an editor that keeps ob0's rules, which
 -- led from `begin` to `now`.
 pub record HoldsOfExchange (begin now : Exchange) : Type 0 where
-  -- each edit that the editor applied keeps the run
+  -- each edit that the editor applied keeps the module's run
   pub applied : All KeepsTheRun now.applied
-  -- The lists of diagnostics with a version that the session has sent after `begin` are correct.
-  -- They are for the first documents that the editor announced, in order. `since` are the contents
-  -- that the session has sent after `begin`.
+  -- `since` are the contents that the session has sent after `begin`. The lists of diagnostics with
+  -- a version in these contents are correct for the first documents that the editor announced, in
+  -- order.
   pub since : List (List ℕ)
   pub sent : now.wire.got ++ now.wire.to_editor ≡ begin.wire.got ++ since
   pub published_documents : List AnnouncedDocument
@@ -496,9 +501,9 @@ HoldsForEveryExchange =
 
 -- ---- the law that each list of events that `play` plays is an exchange
 
--- States that each course (`ConnectionCourse`) of the model's editor with a session is also an
--- exchange of an editor that keeps ob0's rules. So each guarantee about exchanges holds for every
--- list of events that `play` plays.
+-- States that each list of events of the model's editor and a session (`ConnectionCourse`) is also
+-- an exchange of an editor that keeps ob0's rules. So each guarantee about exchanges holds for
+-- every list of events that `play` plays.
 abbrev pub ACourseIsAnExchange : Type 0
 ACourseIsAnExchange =
     (unit : Unit) (begin end : Connection) (events : List Event)

@@ -1,12 +1,13 @@
 -- Defines the state of the model (`ClientAndServer`) that the fields of a `Connection` mean, the
 -- connection's invariant, and the clauses of its private functions. No contract of a public
--- function mentions these definitions. The messages of a queue are read from its contents
--- (`all_messages_to_server`, `all_messages_to_editor`). By the invariant, each content is a
--- message. A content keeps its meaning when the editor sends more requests (`proofs/Waiting`).
--- `RunsWithEditor` states that the session serves this editor. According to the editor's
--- `initialize`, the session's client accepts edits with document versions, and literal code
--- actions. So a WorkspaceEdit is always written as `documentChanges`.
--- Rule: none; for contracts: contents that wait, and what they say.
+-- function mentions these definitions. A connection stores each queue as a list of contents: the
+-- bytes of its messages. The messages are read from these contents (`all_messages_to_server`,
+-- `all_messages_to_editor`). By the invariant, each queued content is a message. A content keeps
+-- its meaning when the editor sends more requests (`proofs/Waiting`). `RunsWithEditor` states that
+-- the session serves this editor. The editor's `initialize` declares that the editor accepts edits
+-- with document versions, and literal code actions. So the session always writes a WorkspaceEdit as
+-- `documentChanges`.
+-- Rule: none; used in contracts about the fields of a connection.
 use Rattle.std.specs.Prelude.{◌≡◌, ◌≤◌, ◌⊎◌, ℕ, ℤ, List, [], ◌∷◌, ◌++◌, map, length, All, Bool, true, Option, Some, None, Vec, option_and_then, filter_map}
 use Rattle.std.specs.declared.alloc.Global.{Global}
 use Rattle.ob0_text.specs.OpenDocuments.{OpenDocuments, Document, InStep, OutOfStep, document_at}
@@ -31,21 +32,23 @@ use Rattle.ob0_world.specs.Worlds.{Wire, Connection}
 abbrev pub Contents : Type 0
 Contents = List (Vec ℕ Global)
 
--- Returns the messages to the server in these contents, given the editor's list of sent asks. A
--- content that isn't such a message is left out.
+-- Returns the messages to the server in these contents, in order. `requested` are the requests for
+-- edits that the editor has sent. A content that isn't such a message is left out.
 abbrev pub all_messages_to_server : List SentAsk → Contents → List MessageToServer
 all_messages_to_server requested contents = filter_map (message_to_server_in requested) (content_bytes contents)
 
--- Returns the messages to the editor in these contents, given the editor's list of sent asks. A
--- content that isn't such a message is left out.
+-- Returns the messages to the editor in these contents, in order. `requested` are the requests for
+-- edits that the editor has sent. A content that isn't such a message is left out.
 abbrev pub all_messages_to_editor : List SentAsk → Contents → List MessageToEditor
 all_messages_to_editor requested contents = filter_map (message_to_editor_in requested) (content_bytes contents)
 
--- states that the content is a message to the server, given the list of sent asks
+-- states that the content is a message to the server, if the editor has sent the requests
+-- `requested`
 abbrev pub HasMessageToServer : List SentAsk → Vec ℕ Global → Type 0
 HasMessageToServer requested content = (m : MessageToServer) × IsMessageToServer requested m content.items
 
--- states that the content is a message to the editor, given the list of sent asks
+-- states that the content is a message to the editor, if the editor has sent the requests
+-- `requested`
 abbrev pub HasMessageToEditor : List SentAsk → Vec ℕ Global → Type 0
 HasMessageToEditor requested content = (m : MessageToEditor) × (message_to_editor_in requested content.items ≡ Some m)
 
@@ -67,15 +70,17 @@ RunsWithEditorOrFailed s = RunsWithEditor s ⊎ (s.phase ≡ Failed)
 
 -- ---- publications
 
--- Returns the publication with these parts and the text of this document, for which the diagnostics
--- were made. None if the document is out of step.
+-- Returns the publication with this uri and version, and with the text of this document, for which
+-- the diagnostics were made. `empty` says whether there are no diagnostics. None if the document is
+-- out of step: its text isn't known.
 abbrev pub publication_with_text : List ℕ → ℤ → Bool → Document → Option PublicationWithText
 publication_with_text uri version empty (InStep held text) =
     Some (record { uri = uri; version = version; text = text; no_diagnostics = empty })
 publication_with_text uri version empty OutOfStep = None
 
--- Returns the publication in a message, with the text that its document has in `held`. None if the
--- message isn't a publication with a version, or if the document isn't open or is out of step.
+-- Returns the publication in a message, with the text that its document has in the server's
+-- documents `held`. None if the message isn't a publication with a version, or if the document
+-- isn't open or is out of step.
 abbrev pub publication_in_message : OpenDocuments → MessageToEditor → Option PublicationWithText
 publication_in_message held (publishes uri (Some version) empty) =
     option_and_then (publication_with_text uri version empty) (document_at held uri)
@@ -99,7 +104,7 @@ pub record ConnectionInvariant (requested : List SentAsk) (to_server to_editor :
   pub to_editor_are_messages : All (HasMessageToEditor requested) to_editor
   pub running : RunsWithEditorOrFailed session
 
--- returns the model's client and server, made of the parts that the code stores
+-- returns the state of the model (`ClientAndServer`) that these fields of a connection mean
 abbrev pub model_from : Editor
     → Contents
     → ServerState
@@ -117,7 +122,8 @@ model_from e to_server session to_editor applied made =
       made = map publication_of made;
     }
 
--- returns the session with the contents in each direction, made of the parts that the code stores
+-- returns the session and the contents in each direction (`Wire`) that these fields of a connection
+-- mean
 abbrev pub wire_from : ServerState → Contents → Contents → Contents → Contents → Wire
 wire_from session taken to_server got to_editor =
     record {
@@ -128,8 +134,8 @@ wire_from session taken to_server got to_editor =
       to_editor = content_bytes to_editor;
     }
 
--- returns the connection, made of the parts that the code stores: the model's client and server,
--- and the session with the contents
+-- returns the connection of the model that the fields of a connection in the code mean: the model's
+-- client and server, and the session with the contents
 abbrev pub connection_from : Editor
     → Contents
     → ServerState
@@ -147,14 +153,14 @@ connection_from e to_server session to_editor applied made taken got =
 
 -- ---- the invariant of a world: bounds on the editor's counters, and a reachable state
 
--- states that the editor has opened documents at most `n` times and sent at most `n` asks, and that
--- the version of each open document is at most `n`
+-- states that the editor has opened documents at most `n` times and sent at most `n` requests for
+-- edits, and that the version of each open document is at most `n`
 pub record CountsAtMost (n : ℕ) (e : Editor) : Type 0 where
   pub openings : e.openings ≤ n
   pub asks : length e.requested ≤ n
   pub versions : (uri : List ℕ) (d : OpenDocument) → open_at e uri ≡ Some d → version_number d.version ≤ n
 
--- states that some list of events leads from the start to this state
+-- states that some list of events leads from the initial state (`start`) to this state
 abbrev pub IsReachable : ClientAndServer → Type 0
 IsReachable w = (unit : Unit) × (events : List Event) × Course (start unit) events w
 
@@ -167,8 +173,8 @@ publication_in_first_content held requested [] = None
 publication_in_first_content held requested (content ∷ contents) =
     option_and_then (publication_in_message held) (message_to_editor_in requested content.items)
 
--- States that `new` is the queue `old` with the content at its end, and that the report is `sent`.
--- For None, `new` is `old` and the report is `nothing`.
+-- States that `new` is the queue `old` with the content at its end, and that the report `seen` is
+-- `sent`. For None (no content), `new` is `old` and the report is `nothing`.
 abbrev pub QueuesContent : Contents → Option (Vec ℕ Global) → seen.Seen → Contents → Type 0
 QueuesContent old None seen new = (report_of seen ≡ nothing) × (new ≡ old)
 QueuesContent old (Some content) seen new = (report_of seen ≡ sent) × (new ≡ old ++ content ∷ [])

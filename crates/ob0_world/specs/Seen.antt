@@ -1,5 +1,5 @@
 -- Defines the report on each event, as `World::step` returns it to its caller.
--- Rule: none; for contracts of `World::step`: what a caller is shown of an event.
+-- Rule: none; used in the contract of `World::step`, which returns the report.
 use Rattle.std.specs.Prelude.{◌≡◌, ℕ, ◌-◌, List, [], ◌∷◌, Bool, length, is_some, string_bytes, if◌then◌else◌}
 use Rattle.ob0_world.specs.declared.events.Seen as seen
 use Rattle.ob0_world_editor.specs.Moves.{has_edits}
@@ -7,14 +7,15 @@ use Rattle.ob0_world_rules.specs.ClientAndServer.{Editor, MessageToServer, Messa
 use Rattle.ob0_world_rules.specs.EditorActs.{Act, open_document, change_document, close_document, ask_about, apply, discard, ActResult, act_result, edits_of_answer}
 use Rattle.ob0_world_rules.specs.Happens.{Event, editor_acts, serve, take_message, Happens}
 
--- a report on an event: it says what happened
+-- a report on an event: a message was sent or taken, an answer was applied or discarded, or nothing
+-- happened
 pub data Seen : Type 0 where
   nothing : Seen
   sent : Seen
-  -- the number of messages that the server sent
+  -- the server took a message, and sent this many messages
   served : ℕ → Seen
   published : List ℕ → Bool → Seen
-  -- the ask's number, and whether the answer has edits
+  -- the editor took an answer: its request's number, and whether the answer has edits
   answered : ℕ → Bool → Seen
   applies : ℕ → Seen
   drops : ℕ → Seen
@@ -29,9 +30,9 @@ abbrev pub send_report : ActResult → Seen
 send_report done = report_if_any done.sent sent nothing
 
 -- Returns the report on an act that this editor performs. An act about a document is reported by
--- `send_report`. Applying an answer is reported as `applies` if the edits are made, otherwise as
--- `drops`. Discarding an answer is reported as `drops`. If the editor doesn't have the answer, the
--- report is `nothing`.
+-- `send_report`. Applying an answer is reported as `applies` if the editor makes the edits,
+-- otherwise as `drops`. Discarding an answer is reported as `drops`. If the editor doesn't have the
+-- answer, the report is `nothing`.
 abbrev pub act_report : Editor → Act → Seen
 act_report e (open_document uri text) = send_report (act_result e (open_document uri text))
 act_report e (change_document uri how) = send_report (act_result e (change_document uri how))

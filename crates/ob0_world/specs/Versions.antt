@@ -42,32 +42,32 @@ abbrev pub edit_of_action : List ℕ → Data → Option Data
 edit_of_action title value =
     option_and_then (get (codes "edit")) (option_and_then (first_action_with_title title) (as_array value))
 
--- Returns the WorkspaceEdit in the result of an ask, or None if there is none. The result of a
--- rename is a WorkspaceEdit. The result of an inlining is a list of actions, each with a
--- WorkspaceEdit. The result of a formatting is a list of edits, without a WorkspaceEdit.
+-- Returns the WorkspaceEdit in the result of a request for edits, or None if there is none. The
+-- result of a rename is a WorkspaceEdit. The result of an inlining is a list of actions, each with
+-- a WorkspaceEdit. The result of a formatting is a list of edits, without a WorkspaceEdit.
 abbrev pub edit_in_result : Ask → Data → Option Data
 edit_in_result (rename position name) value = Some value
 edit_in_result (inline_here position) value = edit_of_action (codes "Inline here") value
 edit_in_result (inline_all position) value = edit_of_action (codes "Inline everywhere") value
 edit_in_result (format indent) value = None
 
--- Returns the uri and the version that the answer to an ask mentions. None if the answer doesn't
--- mention both.
+-- Returns the uri and the version that the answer to a request for edits mentions. None if the
+-- answer doesn't mention both.
 abbrev pub answer_uri_and_version : Ask → Data → Option (List ℕ × ℤ)
 answer_uri_and_version ask answer =
     option_and_then edited_uri_and_version
     (option_and_then (edit_in_result ask) (get (codes "result") answer))
 
--- states that the ask requests a formatting
+-- states that this request for edits is for a formatting
 abbrev pub IsFormatting : Ask → Type 0
 IsFormatting (rename position name) = ⊥
 IsFormatting (inline_here position) = ⊥
 IsFormatting (inline_all position) = ⊥
 IsFormatting (format indent) = ⊤
 
--- States that the answer mentions the document that was asked about, with the version that it had
+-- States that the answer mentions the request's document, with the version that the document had
 -- when the request was sent. An answer without edits and an answer to a formatting needn't mention
--- it.
+-- the document.
 abbrev pub MentionsAskedDocument : SentAsk → Data → Type 0
 MentionsAskedDocument a answer =
     (answer_uri_and_version a.ask answer ≡ Some (a.uri, a.version))
@@ -83,8 +83,8 @@ MentionsDocumentOfAsk requested content =
     → (a : SentAsk) × (request_numbered requested k ≡ Some a) × MentionsAskedDocument a answer
 
 -- States that `MentionsDocumentOfAsk` holds for each content that waits for the editor, after any
--- list of events. Each content that the editor takes has waited before, so the fact also holds for
--- these contents.
+-- list of events. Each content that the editor has taken waited before, so the fact also holds for
+-- the taken contents.
 abbrev pub AnswersMentionVersions : Type 0
 AnswersMentionVersions =
     (unit : Unit) (begin : Connection) (events : List Event) (now : Connection)

@@ -1,6 +1,6 @@
 -- Defines the connection of an editor and a session, the world with its steps, and the results of a
 -- list of events.
--- Rule: none; for contracts of `World`: a list of events, step by step.
+-- Rule: none; used in the contracts of `World`.
 use Rattle.std.specs.Prelude.{◌≡◌, ◌<◌, ◌+◌, ◌++◌, ◌⊎◌, ⊤, ℕ, List, [], ◌∷◌, map, take, length, Bool, true, false, Option, Some}
 use Rattle.std.specs.Option.{option_to_list}
 use Rattle.ob0_text.specs.declared.position_types.Unit.{Unit}
@@ -110,9 +110,9 @@ pub record QueuesMatch (w : Connection) : Type 0 where
       ≡ map Some w.model.to_editor
   pub documents : w.model.held ≡ w.wire.session.held
 
--- States that one event happens in the model, and that it changes the session and the contents
--- (`MovesWire`). After the event, the waiting contents are the messages that wait in the model
--- (`QueuesMatch`).
+-- States that this event leads from `old` to `new`, in the model (`Happens`) and for the session
+-- and the contents (`MovesWire`). After the event, the waiting contents are the messages that wait
+-- in the model (`QueuesMatch`).
 pub record ConnectionStep (old : Connection) (event : Event) (new : Connection) : Type 0 where
   pub happens : Happens old.model event new.model
   pub moves : MovesWire event old.wire new.wire
@@ -126,12 +126,12 @@ ConnectionCourse old (event ∷ events) new =
 
 -- ---- the results that `play` returns for a list of events
 
--- states that the results `p` of the code have the applied edits and the publications of the state
--- `w`, in order
+-- states that `p`, the results in the code, has the applied edits and the publications of the
+-- model's state `w`, in order
 abbrev pub ResultsMatch : ClientAndServer → played.Played → Type 0
 ResultsMatch w p = (played_edits p ≡ w.applied) × (played_publications p ≡ w.made)
 
--- states that the results `p` of the code have the contents that each side has taken according to
+-- states that `p`, the results in the code, has the contents that each side has taken according to
 -- `w`, and the contents that wait for the editor
 abbrev pub ContentsMatch : Wire → played.Played → Type 0
 ContentsMatch w p =
@@ -140,8 +140,8 @@ ContentsMatch w p =
     × (content_bytes p.unread.items ≡ w.to_editor)
 
 -- States the guarantees (`Headline`) for a list of events, and for the edits and publications that
--- the code returns in `p`. Also states that a session took and sent the contents in `p` during
--- these events, from the session's start.
+-- the code returns in `p`. Also states that `p` has the contents that a session took and sent in
+-- one conversation, from the session's start to the end of these events.
 pub record Plays (unit : Unit) (events : List event.Event) (p : played.Played) : Type 0 where
   pub headline : Headline unit (map event_of events) (played_edits p) (played_publications p)
   pub begin : Connection
@@ -154,7 +154,8 @@ pub record Plays (unit : Unit) (events : List event.Event) (p : played.Played) :
   pub conversation : Conversation server.start (content_bytes p.taken.items)
       (content_bytes p.got.items ++ content_bytes p.unread.items) after
 
--- States that the code reports 0 steps, and returns no edit, no publication and no content.
+-- States that `fault` reports 0 steps, and has no edit, no publication and no content. So the
+-- guarantees (`Headline`) hold for the empty list of events.
 pub record PlaysNothing (unit : Unit) (fault : PlayFault) : Type 0 where
   pub none : fault.steps ≡ 0
   pub headline : Headline unit [] (played_edits fault.played) (played_publications fault.played)
@@ -162,9 +163,9 @@ pub record PlaysNothing (unit : Unit) (fault : PlayFault) : Type 0 where
   pub got : fault.played.got.items ≡ []
   pub unread : fault.played.unread.items ≡ []
 
--- States one of two things. Either only the first `fault.steps` events were played, fewer than all,
--- and `Plays` holds for them. Or no event was played, and the code returns no results
--- (`PlaysNothing`).
+-- States which results `play` returns with this fault. Either only the first `fault.steps` events
+-- happened, fewer than all, and `Plays` holds for them. Or no event happened, and there are no
+-- results (`PlaysNothing`).
 abbrev pub PlaysPrefix : Unit → List event.Event → PlayFault → Type 0
 PlaysPrefix unit events fault =
     ((fault.steps < length events) × Plays unit (take fault.steps events) fault.played)
@@ -204,8 +205,8 @@ StepsUnlessEnded true old event seen new = ⊥
 abbrev pub WorldSteps : World → Event → Seen → World → Type 0
 WorldSteps old event seen new = StepsUnlessEnded old.ended old event seen new
 
--- states that `old` and `new` have the same applied edits and publications, that each side has
--- taken the same contents, and that the same contents wait for the editor
+-- states that `old` and `new` have the same applied edits, publications and contents: the contents
+-- that each side has taken, and the contents that wait for the editor
 pub record SameHistory (old new : Connection) : Type 0 where
   pub applied : new.model.applied ≡ old.model.applied
   pub made : new.model.made ≡ old.model.made

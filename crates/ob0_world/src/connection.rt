@@ -28,8 +28,8 @@ use std::alloc::{AllocError, Global};
 use std::collections::VecDeque;
 use std::marker::Model;
 
-/// An editor and a session, with the contents of the messages that wait for each of them, the
-/// contents that each has taken, and the results so far.
+/// An editor and a session, with the contents of the messages that wait for each side, the contents
+/// that each side has taken, and the results so far: the applied edits and the publications.
 #[derive(Drop)]
 pub struct Connection<T: TextStore> {
     alloc: Global,
@@ -65,7 +65,7 @@ impl<T: TextStore> Model for Connection<T> {
 
 impl<T: TextStore> Connection<T> {
     /// Returns a connection of an editor without documents and a session that this editor has
-    /// initialized. Both count positions in this unit.
+    /// initialized. Both sides count positions in `unit`.
     pub fn new(alloc: Global, unit: Unit) -> Result<Connection<T>, AllocError>
         ensures { IfOk result (Begins unit) }
     {
@@ -296,8 +296,8 @@ fn send(queue: &mut VecDeque<Vec<u8>>, content: Option<Vec<u8>>) -> Result<Seen,
     }
 }
 
-/// Lets the session take a content, and returns the contents of the session's replies. If an
-/// allocation fails, the session has failed for good.
+/// Lets the session take a content, and returns the contents of the session's replies. After a
+/// failed allocation, the session's phase is `Failed` for good.
 fn serve_content<T: TextStore>(
     session: &mut Session<T>,
     content: &[u8],
@@ -362,8 +362,8 @@ fn publication_in_content<T: TextStore>(
     }
 }
 
-/// Returns a publication with these parts and the text that its document has in `documents`. None
-/// if the document isn't open or is out of step.
+/// Returns the publication with this uri and version, and with the text that its document has in
+/// `documents`. None if the document isn't open or is out of step (its text isn't known).
 fn publication_from_documents<T: TextStore>(
     alloc: Global,
     documents: &Documents<T>,

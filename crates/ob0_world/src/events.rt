@@ -12,16 +12,18 @@ pub enum Event {
     /// If the document isn't open, nothing happens.
     ChangeDoc { uri: String, changes: Vec<Change> },
     CloseDoc { uri: String },
-    /// The editor sends this request about a document. If the document isn't open, nothing happens.
-    /// Asks are numbered from 1, in the order in which they are sent.
+    /// The editor sends a request for edits of a document. If the document isn't open, nothing
+    /// happens. These requests (asks) are numbered from 1, in the order in which they are sent.
     Ask { uri: String, ask: Ask },
     /// The server takes the first message that waits for it, and sends its replies.
     Serve,
     /// The editor takes the first message that waits for it.
     Take,
-    /// The editor applies the answer to ask `k`, if it has this answer.
+    /// The editor applies the answer to the request with number `k`. If the editor doesn't have
+    /// this answer, nothing happens.
     Apply { k: u64 },
-    /// The editor discards the answer to ask `k`, if it has this answer.
+    /// The editor discards the answer to the request with number `k`. If the editor doesn't have
+    /// this answer, nothing happens.
     Discard { k: u64 },
 }
 
@@ -34,10 +36,11 @@ pub enum Seen {
     Sent,
     /// The server took a message and sent this many messages.
     Served(usize),
-    /// The editor took the diagnostics of a document. `empty` is true if there are none.
+    /// The editor took the diagnostics of the document `uri`. `empty` is true if the list of
+    /// diagnostics is empty.
     Published { uri: String, empty: bool },
-    /// The editor took the answer to ask `k`. `edits` is true if the answer has edits. The editor
-    /// keeps an answer only if it has edits.
+    /// The editor took the answer to the request with number `k`. `edits` is true if the answer has
+    /// edits, and only such an answer is stored.
     Answered { k: u64, edits: bool },
     Applied { k: u64 },
     Dropped { k: u64 },

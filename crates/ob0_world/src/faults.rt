@@ -1,4 +1,4 @@
-//! Defines the faults of a world. Each fault is the result of a failed allocation.
+//! Defines the faults of a world and of `play`. The only cause of a fault is a failed allocation.
 
 use crate::played::Played;
 use thiserror::Error;
@@ -12,8 +12,8 @@ pub enum WorldFault {
     Ended,
 }
 
-/// The fault of `play` and `play_in`: an allocation failed. Before the failure `steps` events
-/// happened, and `played` has their results.
+/// The fault of `play` and `play_in`: an allocation failed. Before the failure, the first `steps`
+/// events happened, and `played` has the results of these events.
 #[derive(Debug, Drop, Error)]
 #[error("out of memory")]
 pub struct PlayFault {

@@ -1,4 +1,5 @@
-//! Proves laws about an editor and a session: the versions in answers, and every exchange.
+//! Proves laws about an editor and a session: which versions answers mention, and what holds in
+//! every exchange of messages.
 ghost use Rattle.ob0_world.specs.Exchanges.{ACourseIsAnExchange, HoldsForEveryExchange, EveryExchangeFollowsModel};
 ghost use Rattle.ob0_world.specs.Versions.{AnswersMentionVersions, VersionsSuffice};
 

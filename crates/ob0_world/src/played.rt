@@ -3,8 +3,8 @@
 use ob0_world_editor::Applied;
 use std::collections::VecDeque;
 
-/// A publication of diagnostics with the document's version, and the text that the diagnostics were
-/// made for. `empty` is true if the list of diagnostics is empty.
+/// A publication of diagnostics, with the document's uri and version, and the text for which the
+/// diagnostics were made. `empty` is true if the list of diagnostics is empty.
 #[derive(Debug, Drop)]
 pub struct Made {
     pub uri: String,
@@ -13,9 +13,9 @@ pub struct Made {
     pub empty: bool,
 }
 
-/// The results of a list of events, each list in order: the applied edits, the publications with a
-/// version, and the contents of the messages. Only the contents that still wait for the session are
-/// left out.
+/// The results of a list of events: the applied edits, the publications with a version, and the
+/// contents of the messages. Each list is in the order in which the events happened. The contents
+/// that still wait for the session are left out.
 #[derive(Debug, Drop)]
 pub struct Played {
     pub applied: Vec<Applied>,

@@ -6,8 +6,8 @@
 //!
 //! `MovesWire` states how each event changes the session and the contents, and `QueuesMatch` states
 //! that the two parts agree. (`Connection::contents_match_messages` is called only for its
-//! contract.) The contract of a step distinguishes whether the world had ended before the step
-//! (`WorldSteps`, `WorldFails`).
+//! contract.) The contract of `step` has two cases: the world had ended before the step, or it
+//! hadn't (`WorldSteps`, `WorldFails`).
 //!
 //! `Plays` states the guarantees (`Headline`), and that the events are a course of the connection
 //! (`ConnectionCourse`) that starts with an initialized session (`Begins`). The code also returns
@@ -31,8 +31,9 @@ use std::alloc::{AllocError, Global};
 use std::collections::VecDeque;
 use std::marker::Model;
 
-/// An editor and a session with a queue in each direction. A step makes one event happen. `steps`
-/// is the number of steps that returned Ok, and `has_ended` is true if a step has failed.
+/// An editor and a session with a queue of messages in each direction. A step makes one event
+/// happen. `steps` is the number of steps that returned Ok, and `has_ended` is true if a step has
+/// failed.
 #[derive(Drop)]
 pub struct World<T: TextStore> {
     connection: Connection<T>,
@@ -61,8 +62,8 @@ impl<T: TextStore> Model for World<T> {
 
 impl<T: TextStore> World<T> {
     /// Returns a world in which no document is open and no message waits. The editor has
-    /// initialized the session, as a client that accepts edits with document versions and literal
-    /// code actions. Both count positions in UTF-16 units.
+    /// initialized the session, and has declared that it accepts edits with document versions and
+    /// literal code actions. Both sides count positions in UTF-16 units.
     pub fn new(alloc: Global) -> Result<World<T>, WorldFault>
         ensures start { IfOk result (IsNew Utf16) }
         ensures err { IfErr result (λ fault. fault ≡ Memory) }

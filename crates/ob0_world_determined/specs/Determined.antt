@@ -71,8 +71,8 @@ MayServe result taken put =
 abbrev pub IsFullyWritten : Result ℕ ServeFault → Type 0
 IsFullyWritten result = (result ≢ Err Memory) × (result ≢ Err Write)
 
--- states that the bytes that were read decide the result: an `exit`, the end of the input, or a bad
--- head ended the call
+-- states that the read bytes decide this result of `serve`: an `exit`, the end of the input, or a
+-- bad head ended the call
 abbrev pub IsDeterminedByBytes : Result ℕ ServeFault → Type 0
 IsDeterminedByBytes (Ok status) = ⊤
 IsDeterminedByBytes (Err BadHead) = ⊤
@@ -82,7 +82,8 @@ IsDeterminedByBytes (Err TooManyReads) = ⊥
 IsDeterminedByBytes (Err Write) = ⊥
 IsDeterminedByBytes (Err Memory) = ⊥
 
--- states that an `exit` or a bad head ended the call, so that later bytes make no difference
+-- states that an `exit` or a bad head ended the call of `serve` with this result, so that further
+-- input would make no difference
 abbrev pub IsFinalResult : Result ℕ ServeFault → List ℕ → List ℕ → Type 0
 IsFinalResult (Ok status) taken put = EndsByExit status taken put
 IsFinalResult (Err BadHead) taken put = ⊤

@@ -1,6 +1,6 @@
--- Converts asks, answers, messages and applied edits of the code to the model's
--- (`ClientAndServer`). An ask is a request whose answer the editor may apply.
--- Rule: none; for contracts: what values of the code mean.
+-- Converts asks, answers, messages and applied edits of the code to values of the model
+-- (`ClientAndServer`). An ask is a request for edits: a rename, an inlining or a formatting.
+-- Rule: none; used in contracts that relate the code's values to the model's.
 use Rattle.std.specs.Prelude.{pos, string_bytes}
 use Rattle.std.specs.Str.{chars}
 use Rattle.ob0_world_editor.specs.declared.asks.Ask as ask
@@ -12,14 +12,14 @@ use Rattle.ob0_world_rules.specs.Edited.{replacements}
 use Rattle.ob0_world_rules.specs.Asks.{Ask, rename, inline_here, inline_all, format}
 use Rattle.ob0_world_rules.specs.ClientAndServer.{SentAsk, Answer, Applied, MessageToEditor, publishes, answers}
 
--- returns the model's ask for a value of the code's type `Ask`
+-- returns the model's request for edits for a value of the code's type `Ask`
 abbrev pub ask_of : ask.Ask → Ask
 ask_of (ask.TheVariants.Rename position name) = rename position (string_bytes name)
 ask_of (ask.TheVariants.InlineHere position) = inline_here position
 ask_of (ask.TheVariants.InlineAll position) = inline_all position
 ask_of (ask.TheVariants.Format indent) = format indent
 
--- returns the model's sent ask for a value of the code's type `SentAsk`
+-- returns the model's sent request for a value of the code's type `SentAsk`
 abbrev pub sent_ask_of : requested.SentAsk → SentAsk
 sent_ask_of a =
     record {

@@ -1,6 +1,6 @@
 -- Converts the open documents that the code stores to the model's open documents. Also defines an
 -- encoding (`Coded`) of the model's open documents.
--- Rule: none; for contracts: what values of the code mean.
+-- Rule: none; used in contracts that relate the code's values to the model's.
 use Rattle.std.specs.Prelude.{ℕ, ℤ, pos, List, map, string_bytes, String, refl}
 use Rattle.std.specs.Str.{chars}
 use Rattle.std.specs.FinMap as map_of
@@ -19,7 +19,7 @@ abbrev pub editor_documents_of : {A : Type 0} → List (String A × stored.OpenD
 editor_documents_of entries =
     map_of.from_entries (map (λ e. (string_bytes e.0, open_document_of e.1)) entries)
 
--- encodes an open document as the tuple of its version, text and opening
+-- encodes an open document as the tuple of its version, text and opening number
 abbrev pub open_document_code : Coded OpenDocument
 open_document_code =
     code_by (ℤ × (List ℕ × ℕ)) (coded× coded_ℤ (coded× (coded_list coded_ℕ) coded_ℕ))

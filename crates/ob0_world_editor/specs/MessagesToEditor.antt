@@ -1,5 +1,5 @@
 -- Defines the message that the editor reads in a content: a publication of diagnostics, or the
--- answer to an ask. The ask decides how its answer is read.
+-- answer to an ask (request for edits). The ask decides how its answer is read.
 -- Rule: docs/PROTOCOL.md, JSON shapes 2.
 use Rattle.std.specs.Prelude.{ℕ, ℤ, List, [], ◌∷◌, Bool, true, false, Option, Some, None, is_some, option_and_then, option_map, unwrap_or, if◌then◌else◌, codes}
 use Rattle.std.specs.Str.{bytes_eq, chars, is_utf8}
@@ -15,7 +15,7 @@ use Rattle.ob0_world_editor.specs.MessagesToServer.{request_number}
 
 -- ---- publications
 
--- returns whether the optional text is the given text; false for None
+-- returns whether the optional text `found` is equal to `text`; false for None
 abbrev pub is_given_text : List ℕ → Option (List ℕ) → Bool
 is_given_text text (Some found) = bytes_eq found text
 is_given_text text None = false
@@ -74,30 +74,32 @@ document_edit_items uri edit None =
 abbrev pub workspace_edit_items : List ℕ → Data → Option Items
 workspace_edit_items uri edit = document_edit_items uri edit (get (codes "documentChanges") edit)
 
--- Returns the first action with this title. None if no action has this title.
+-- Returns the first code action with this title in a JSON list. None if no action has this title.
 abbrev pub first_action_with_title : List ℕ → Items → Option Data
 first_action_with_title title no_items = None
 first_action_with_title title (item d ds) =
     if is_given_text title (text_member (codes "title") d) then Some d else first_action_with_title title ds
 
--- Returns the list of edits of the document with this uri in the first action with this title. None
--- if there is no such list.
+-- Returns the list of edits of the document with this uri in the first code action with this title.
+-- `value` is the JSON list of actions. None if there is no such list.
 abbrev pub action_edit_items : List ℕ → List ℕ → Data → Option Items
 action_edit_items title uri value =
     option_and_then (workspace_edit_items uri)
     (option_and_then (get (codes "edit")) (option_and_then (first_action_with_title title) (as_array value)))
 
--- Returns the list of edits in the result of an ask. None if there is no such list. The result of a
--- rename is a WorkspaceEdit. The result of an inlining is a list of actions, of which the ask
--- selects one by its title. The result of a formatting is the list of edits.
+-- Returns the list of edits in `value`, the result of an ask (request for edits). None if there is
+-- no such list. The result of a rename is a WorkspaceEdit. The result of an inlining is a list of
+-- actions, of which the ask selects one by its title. The result of a formatting is the list of
+-- edits.
 abbrev pub edit_items_for : List ℕ → Ask → Data → Option Items
 edit_items_for uri (rename position name) value = workspace_edit_items uri value
 edit_items_for uri (inline_here position) value = action_edit_items (codes "Inline here") uri value
 edit_items_for uri (inline_all position) value = action_edit_items (codes "Inline everywhere") uri value
 edit_items_for uri (format indent) value = as_array value
 
--- Returns the edits of an answer. The list is empty for a refusal, for the result null, and if an
--- edit can't be read.
+-- Returns the edits in the answer to an ask (request for edits) about the document with this uri.
+-- The list is empty if the answer has no list of edits, such as a refusal or the result null. The
+-- list is also empty if one of the edits can't be read.
 abbrev pub edits_for : List ℕ → Ask → Data → List Replacement
 edits_for uri ask answer =
     unwrap_or
@@ -109,8 +111,9 @@ abbrev pub answer_to : List SentAsk → Data → ℕ → Option MessageToEditor
 answer_to requested answer k =
     option_map (λ a. answers k (edits_for a.uri a.ask answer)) (request_numbered requested k)
 
--- Reads a JSON value as the answer to an ask. `number_of` converts an answer's id to the number of
--- the answered ask. Returns None if the id is missing or belongs to no sent ask.
+-- Reads a JSON value as the answer to one of the sent requests for edits (`requested`). `number_of`
+-- converts the answer's id to the number of the answered request. Returns None if the id is missing
+-- or belongs to no such request.
 abbrev pub answer_of_response : (Data → Option ℕ) → List SentAsk → Data → Option MessageToEditor
 answer_of_response number_of requested answer =
     option_and_then (answer_to requested answer)
@@ -127,20 +130,21 @@ publication_of_notification d =
 
 -- Returns the message to the editor that a JSON value means: a publication if the value has a
 -- `method`, otherwise an answer. `number_of` converts an answer's id to the number of the answered
--- ask. None if there is no such message.
+-- request. None if there is no such message.
 abbrev pub message_to_editor_of : (Data → Option ℕ) → List SentAsk → Data → Option MessageToEditor
 message_to_editor_of number_of requested d =
     if is_some (get (codes "method") d)
     then publication_of_notification d else answer_of_response number_of requested d
 
--- Returns the message to the editor in a content, given the list of sent asks. `number_of` converts
--- an answer's id to the number of the answered ask. None if the content has no such message.
+-- Returns the message to the editor in a content. `requested` are the requests for edits that the
+-- editor has sent. `number_of` converts an answer's id to the number of the answered request. None
+-- if the content has no such message.
 unfoldable pub message_to_editor_by : (Data → Option ℕ) → List SentAsk → List ℕ → Option MessageToEditor
 message_to_editor_by number_of requested content =
     if is_utf8 content
     then option_and_then (message_to_editor_of number_of requested) (read content) else None
 
--- Returns the message to the editor in a content, for an editor that uses each ask's number as the
--- request's id. None if the content has no such message.
+-- Returns the message to the editor in a content, for an editor whose requests for edits have their
+-- numbers as ids. None if the content has no such message.
 abbrev pub message_to_editor_in : List SentAsk → List ℕ → Option MessageToEditor
 message_to_editor_in requested content = message_to_editor_by request_number requested content

@@ -17,8 +17,8 @@ use Rattle.ob0_world_editor.specs.Shapes.{method_of, empty_range_at}
 
 -- ---- the message to the server in a content; the id of a request is the number of its ask
 
--- Returns the number that a request has as its id. None if the id isn't a whole number, or is
--- negative.
+-- Returns the number that this JSON value, the id of a request, is. None if the value isn't a whole
+-- number, or is negative.
 abbrev pub request_number : Data → Option ℕ
 request_number (number (unsigned k)) = Some k
 request_number (number (negative z)) = None
@@ -55,8 +55,8 @@ message_to_server_of requested not_json = None
 message_to_server_of requested not_a_message = None
 message_to_server_of requested response = None
 
--- Returns the message to the server in a content, given the list of sent asks. None if the content
--- isn't such a message.
+-- Returns the message to the server in a content. `requested` are the requests for edits that the
+-- editor has sent. None if the content isn't a message of the model.
 unfoldable pub message_to_server_in : List SentAsk → List ℕ → Option MessageToServer
 message_to_server_in requested content =
     if is_utf8 content
@@ -65,14 +65,15 @@ message_to_server_in requested content =
 
 -- ---- the contents that the server reads as a given message
 
--- returns the notification that the server reads for this event
+-- returns the notification, as the server reads it, for this event of a document
 abbrev pub notification_for : DocumentEvent → Notification
 notification_for (Opened uri version text) = opens uri version text
 notification_for (Changed uri version all) = changes uri version all
 notification_for (Lost uri) = unreadable (Some uri)
 notification_for (Closed uri) = closes uri
 
--- returns the request that the server reads for this ask about the document with this uri
+-- returns the request, as the server reads it, that asks for these edits of the document with this
+-- uri
 abbrev pub client_request_for : List ℕ → Ask → wire.ClientRequest
 client_request_for uri (rename position name) = wire.rename (record { uri = uri; position = position }) name
 client_request_for uri (inline_here position) = wire.code_action uri (empty_range_at position) None
@@ -96,7 +97,8 @@ pub record IsNotificationFor (note : DocumentEvent) (content : List ℕ) : Type 
   pub reported : notification_by_method method params ≡ notification_for note
   pub fits : HasVersionInRange note
 
--- states that the content is the request for this ask about a document, with this id
+-- states that the content is the request, with this id, that asks for these edits of the document
+-- with this uri
 pub record IsRequestWithId (id : Data) (uri : List ℕ) (ask : Ask) (content : List ℕ)
     : Type 0 where
   pub json : Data
@@ -105,12 +107,13 @@ pub record IsRequestWithId (id : Data) (uri : List ℕ) (ask : Ask) (content : L
   pub means : meaning_of json ≡ request id (method_of ask) params
   pub calls : request_by_method (method_of ask) params ≡ Ok (client_request_for uri ask)
 
--- states that the content is the request for this ask about a document, with the number `k` as its
--- id
+-- states that the content is the request that asks for these edits of the document with this uri,
+-- with the number `k` as its id
 abbrev pub IsRequest : ℕ → List ℕ → Ask → List ℕ → Type 0
 IsRequest k uri ask content = IsRequestWithId (number (unsigned k)) uri ask content
 
--- states that the request with number `k` is this ask about the document with this uri
+-- states that the sent request with number `k` asks for these edits (`ask`) of the document with
+-- this uri
 pub record IsAsk (requested : List SentAsk) (k : ℕ) (uri : List ℕ) (ask : Ask) : Type 0 where
   pub sent : SentAsk
   pub is : request_numbered requested k ≡ Some sent

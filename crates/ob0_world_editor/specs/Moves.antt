@@ -1,5 +1,5 @@
 -- Defines the effect of each call of the code's `Editor`, for the contracts of its functions.
--- Rule: none; for contracts: what a call of the editor did.
+-- Rule: none; used in the contracts of the code's `Editor`.
 use Rattle.std.specs.Prelude.{◌≡◌, ◌<◌, ◌-◌, ◌^◌, ⊤, ℕ, Bool, true, false, pos, List, [], ◌∷◌, Vec, Option, Some, None, length, map, option_map, slice_get}
 use Rattle.std.specs.List.{remove}
 use Rattle.std.specs.FinMap as map_of
@@ -15,8 +15,8 @@ use Rattle.ob0_world_editor.specs.declared.applied.ApplyOutcome as applying
 use Rattle.ob0_world_editor.specs.declared.editor.HeldAnswer as answer
 use Rattle.ob0_world_editor.specs.declared.editor.RewrittenDocument as rewritten
 
--- states that each number that the editor counts (openings, asks, versions) is less than 2^63 - 1,
--- so that it can still grow by one
+-- states that the number of openings, the number of sent requests and each document's version are
+-- less than 2^63 - 1, so that each can still grow by one
 pub record CountsCanGrow (e : Editor) : Type 0 where
   pub openings : e.openings < 2 ^ 63 - 1
   pub asks : length e.requested < 2 ^ 63 - 1
@@ -27,8 +27,8 @@ abbrev pub has_edits : List Replacement → Bool
 has_edits [] = false
 has_edits (e ∷ es) = true
 
--- States one of two things. Either no message is sent and there is no content (None), or one
--- message is sent and the content is that message.
+-- States that the content is the only message in a list of sent messages. If the list is empty,
+-- states that there is no content (None).
 abbrev pub IsSentContent : List SentAsk → List MessageToServer → Option (Vec ℕ Global) → Type 0
 IsSentContent requested [] None = ⊤
 IsSentContent requested [] (Some content) = ⊥
@@ -56,9 +56,9 @@ IsApplyOutcome done held (applying.TheVariants.Made applied content) new =
 
 -- ---- applying an answer, step by step
 
--- States that this is the index, from 0, of the first answer to ask `k`, and that removing the
--- answer at this index leaves the other answers (`answers_except`). For None, states that there is
--- no such answer.
+-- States that this is the index, from 0, of the first answer to request `k` in the list, and that
+-- removing the answer at this index leaves the other answers (`answers_except`). For None, states
+-- that there is no such answer.
 abbrev pub IsIndexOfAnswer : List answer.HeldAnswer → ℕ → Option ℕ → Type 0
 IsIndexOfAnswer answers k (Some i) =
     (i < length answers)
@@ -67,7 +67,8 @@ IsIndexOfAnswer answers k (Some i) =
     × (answers_except k (map answer_of answers) ≡ map answer_of (remove answers i))
 IsIndexOfAnswer answers k None = edits_of_answer k (map answer_of answers) ≡ None
 
--- returns the editor in which the rewritten document has its new text and version
+-- returns the editor with the document that `r` describes in place of the open document with the
+-- same uri: with the new text and version
 abbrev pub with_text : Editor → rewritten.RewrittenDocument → Editor
 with_text e r =
     let a : Applied = applied_of r.applied in

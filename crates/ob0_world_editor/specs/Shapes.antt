@@ -107,15 +107,15 @@ formatting_params uri indent =
     object (member (codes "options") (options_value indent)
     (member (codes "textDocument") (document_value uri) no_members))
 
--- Returns the method of the request for an ask. Both ways of inlining request the code actions at
--- the ask's position.
+-- Returns the method of the request that asks for these edits. Both ways of inlining request the
+-- code actions at `position`.
 abbrev pub method_of : Ask → List ℕ
 method_of (rename position name) = codes "textDocument/rename"
 method_of (inline_here position) = codes "textDocument/codeAction"
 method_of (inline_all position) = codes "textDocument/codeAction"
 method_of (format indent) = codes "textDocument/formatting"
 
--- returns the params of the request for an ask about the document with this uri
+-- returns the params of the request that asks for these edits of the document with this uri
 abbrev pub params_for : List ℕ → Ask → Data
 params_for uri (rename position name) = rename_params uri position name
 params_for uri (inline_here position) = actions_params uri position

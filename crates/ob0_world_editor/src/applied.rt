@@ -16,12 +16,13 @@ pub struct Applied {
 /// The result of applying an answer.
 #[derive(Drop)]
 pub enum ApplyOutcome {
-    /// The editor has no answer to the ask with this number.
+    /// The editor has no answer to the request with this number.
     NotHeld,
     /// The answer was discarded without making its edits. Its document has been changed, closed or
     /// reopened since the request, or two edits share a character.
     Dropped,
-    /// The edits were made. `content` is the notification with the new text, for the server.
+    /// The edits were made. `applied` is the applied edit, and `content` is the content of the
+    /// notification that tells the server the new text.
     Made { applied: Applied, content: Vec<u8> },
 }
 

@@ -1,4 +1,4 @@
-//! Defines the asks: the requests whose answers an editor may apply.
+//! Defines the asks: the requests for edits that an editor sends and whose answers it may apply.
 ghost use Rattle.std.specs.Prelude.{◌≡◌, IfOk};
 ghost use Rattle.ob0_world_editor.specs.Code.{ask_of};
 
@@ -14,7 +14,7 @@ pub enum Ask {
     Format { indent: Indent },
 }
 
-/// Returns a copy of an ask.
+/// Returns a copy of this request for edits.
 pub fn copy_of(alloc: Global, ask: &Ask) -> Result<Ask, AllocError>
     ensures { IfOk result (λ copy. ask_of copy ≡ ask_of ask.now) }
 {

@@ -9,17 +9,18 @@ use std::alloc::{AllocError, Global};
 use std::collections::BTreeMap;
 use std::marker::Model;
 
-/// A document that is open in the editor: its version, its text and the number of its opening.
+/// A document that is open in the editor: its version, its text and its opening number.
 #[derive(Drop)]
 pub struct OpenDocument {
     pub version: u64,
     pub text: String,
-    /// The number of this opening. Each opening of a document in the editor has its own number.
+    /// The opening number. The editor counts its openings of all documents, so a document that is
+    /// opened again gets another number.
     pub opening: u64,
 }
 
 impl OpenDocument {
-    /// Returns a document with this version, a copy of this text, and this number of its opening.
+    /// Returns a document with this version, a copy of this text, and this opening number.
     pub fn with_text(
         alloc: Global,
         version: u64,

@@ -1,10 +1,10 @@
 //! Models an editor that talks to a server: its documents, its requests and the answers that it
 //! has.
 //!
-//! If a call returns an error, the editor is unchanged. To this end, contents and copies are made
-//! first. The insertion into the map is the last step that can fail, and only then is the number of
-//! openings increased. The exception is `apply`, which first removes the answer. So after an error
-//! in `apply` the answer is lost.
+//! If a call returns an error, the editor is unchanged. To this end, a call first makes all
+//! contents and copies. The last step that can fail is the insertion into the map of documents or
+//! into a list, and other fields are changed after that step. The exception is `apply`, which first
+//! removes the answer. So after an error in `apply` the editor has lost the answer.
 //!
 //! A document's text is stored as a `String`. A text store is made only while changes or edits are
 //! applied. So the editor needs no invariant about the units of text stores.
@@ -30,8 +30,8 @@ use ob0_text::{Change, Edit, Unit, Whole};
 use std::alloc::{AllocError, Global};
 use std::marker::Model;
 
-/// A request that was sent, with the document's uri, and with its text, opening and version at the
-/// time of sending.
+/// A request for edits that was sent, with the document's uri, and with the document's text,
+/// opening number (`OpenDocument.opening`) and version at the time of sending.
 #[derive(Drop)]
 pub struct SentAsk {
     pub ask: Ask,
@@ -49,7 +49,7 @@ pub struct HeldAnswer {
 }
 
 /// The result of making an answer's edits in a document: the applied edit (`applied.after` is the
-/// new text), the document's next version, and the number of its opening.
+/// new text), the document's next version, and its opening number.
 #[derive(Drop)]
 struct RewrittenDocument {
     applied: Applied,
@@ -57,8 +57,9 @@ struct RewrittenDocument {
     opening: u64,
 }
 
-/// An editor: its open documents, the requests that it has sent, and the answers that it has. It
-/// counts positions in `unit`.
+/// An editor: its open documents, the requests for edits that it has sent, and the answers that it
+/// has not used yet. It counts positions in `unit`. `openings` is the number of times that it has
+/// opened a document.
 #[derive(Drop)]
 pub struct Editor {
     alloc: Global,
@@ -163,8 +164,8 @@ impl Editor {
         Ok(Some(content))
     }
 
-    /// Asks about a document, and returns the content of the request for the server. None if the
-    /// document isn't open. On an error the editor is unchanged.
+    /// Makes a request for edits of a document, and returns the content of the request for the
+    /// server. None if the document isn't open. On an error the editor is unchanged.
     pub fn ask(&mut self, uri: &str, ask: &Ask) -> Result<Option<Vec<u8>>, AllocError>
         requires { CountsCanGrow self.old }
         ensures ok { IfOk result (λ content. PerformsAct
@@ -182,7 +183,7 @@ impl Editor {
     }
 
     /// Returns the message in a content that the server has sent. None if the content is neither a
-    /// publication nor an answer to one of the editor's asks.
+    /// publication nor an answer to one of the editor's requests for edits.
     pub fn read(&self, content: &[u8]) -> Result<Option<Message>, AllocError>
         ensures { IfOk result
             (λ found. option_map message_of found ≡ message_to_editor_in self.now.requested content.now) }
@@ -190,8 +191,8 @@ impl Editor {
         read_message(self.alloc, self.requested.as_slice(), content)
     }
 
-    /// Keeps the answer to ask `number` if the answer has edits. Returns whether the answer has
-    /// edits. On an error the editor is unchanged.
+    /// Stores the answer to the request with this number if the answer has edits. Returns whether
+    /// the answer has edits. On an error the editor is unchanged.
     pub fn keep(&mut self, number: u64, edits: Vec<Edit>) -> Result<bool, AllocError>
         ensures kept { OnOk result
             (self.new ≡ after_reading self.old (answers number (replacements edits.items))) }
@@ -205,10 +206,10 @@ impl Editor {
         Ok(true)
     }
 
-    /// Makes the edits of the answer to ask `k`, and returns the applied edit with the content of
-    /// the notification. No edit is made if the document's opening or version has changed since the
-    /// request, or if two edits share a character. In every case the answer is removed, even if an
-    /// allocation fails.
+    /// Makes the edits of the answer to request `k`, and returns the applied edit with the content
+    /// of the notification. No edit is made if the editor has no such answer, if the document has
+    /// been changed, closed or reopened since the request, or if two edits share a character. In
+    /// every case the answer is removed, even if an allocation fails.
     pub fn apply(&mut self, k: u64) -> Result<ApplyOutcome, AllocError>
         requires { CountsCanGrow self.old }
         ensures ok { IfOk result (λ applying. IsApplyOutcome (act_result self.old (apply k))
@@ -226,7 +227,7 @@ impl Editor {
         }
     }
 
-    /// Discards the answer to ask `k`, and returns whether the editor had this answer.
+    /// Discards the answer to request `k`, and returns whether the editor had this answer.
     pub fn discard(&mut self, k: u64) -> bool
         ensures held { result ≡ is_some (edits_of_answer k self.old.answers) }
         ensures after { self.new ≡ without_answer self.old k }
@@ -245,8 +246,8 @@ impl Editor {
     }
 
     /// Returns the document of request `k` with these edits made. None if there is no such request,
-    /// if its document isn't open, if the document's opening or version has changed since the
-    /// request, or if two edits share a character.
+    /// if its document isn't open, if the document's opening number or version has changed since
+    /// the request, or if two edits share a character.
     fn rewrite(&self, k: u64, edits: &[Edit]) -> Result<Option<RewrittenDocument>, AllocError>
         requires { CountsCanGrow self.now }
         ensures { IfOk result (λ rewritten.
@@ -322,8 +323,8 @@ impl Editor {
     }
 }
 
-/// Returns a sent ask: copies of the ask and the uri, and the document's present text, opening and
-/// version.
+/// Returns the record of a sent request for edits: copies of the request and the uri, and the
+/// document's present text, opening number and version.
 fn sent_ask(
     alloc: Global,
     ask: &Ask,
@@ -350,8 +351,8 @@ fn sent_ask(
     })
 }
 
-/// Returns the index, from 0, of the first answer to ask `k` in this list. None if there is no such
-/// answer.
+/// Returns the index, from 0, of the first answer to request `k` in this list. None if there is no
+/// such answer.
 fn index_of_answer(answers: &[HeldAnswer], k: u64) -> Option<usize>
     ensures { IsIndexOfAnswer answers.now k result }
 {

@@ -1,13 +1,13 @@
 //! Writes JSON objects of two and three members. The names of members are written without escapes,
 //! so they mustn't contain a character that needs an escape.
 //!
-//! Each message of the editor is a type with its own `write`. An object with one member is a
+//! Each message of the editor is a type that implements `WriteJson`. An object with one member is a
 //! `OneMemberObject`. An object with two or three members is written by one call of a function of
 //! this file. The proof of such a `write` applies the lemma `object_of` (ob0_rpc) to the contract
 //! of that function.
 //!
-//! Each `?` makes the proof much slower. So a `write` has no `?`, except for objects with four
-//! members and for the list of changes.
+//! Each `?` in a `write` makes the proof much slower. So only the `write` functions for objects
+//! with four members and for the list of changes use `?`.
 ghost use Rattle.std.specs.Prelude.{OnOk};
 ghost use Rattle.serde_json.specs.Data.{member, no_members};
 ghost use Rattle.ob0_rpc.specs.Appending.{AppendsMembers};

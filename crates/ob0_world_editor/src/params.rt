@@ -1,5 +1,5 @@
-//! Defines types for the JSON values of an editor's messages (LSP 3.17). Each value writes itself
-//! as JSON.
+//! Defines types for the JSON values in an editor's messages (LSP 3.17). Each type implements
+//! `WriteJson`, which writes a value as JSON.
 ghost use Rattle.std.specs.Prelude.{◌≡◌, false, Some, None, OnOk, codes, map};
 ghost use Rattle.serde_json.specs.Data.{array, member, no_members, object};
 ghost use Rattle.serde_json.specs.View.{items_of};
@@ -219,7 +219,8 @@ impl<'a> WriteJson for CodeActionParams<'a> {
     }
 }
 
-/// The formatting options for one level of indentation: spaces or a tab, and the number of spaces.
+/// The formatting options of a request: whether a level of indentation is spaces (not a tab), and
+/// the number of spaces.
 #[derive(Drop)]
 pub struct FormattingOptions {
     pub insert_spaces: bool,

@@ -1,4 +1,4 @@
-//! Reads the server's messages: publications, and answers to asks.
+//! Reads the server's messages: publications, and answers to requests for edits.
 ghost use Rattle.std.specs.Prelude.{◌≡◌, IfOk, codes, option_map, option_and_then, map};
 ghost use Rattle.serde_json.specs.Find.{get, as_number, as_i64, as_array};
 ghost use Rattle.serde_json.specs.View.{view, items_view};
@@ -16,7 +16,8 @@ use ob0_text::Edit;
 use serde_json::Value;
 use std::alloc::{AllocError, Global};
 
-/// A message of the server that the editor uses: a publication, or the answer to an ask.
+/// A message of the server that the editor uses: a publication, or the answer to a request for
+/// edits.
 #[derive(Drop)]
 pub enum Message {
     Published {
@@ -24,15 +25,15 @@ pub enum Message {
         version: Option<i64>,
         empty: bool,
     },
-    /// The answer to the ask with this number. A refusal has no edits.
+    /// The answer to the request for edits with this number. A refusal has no edits.
     Answered {
         number: u64,
         edits: Vec<Edit>,
     },
 }
 
-/// Returns the message in a content, given the list of sent asks. None if the content is neither a
-/// publication nor the answer to one of these asks.
+/// Returns the message in a content. `requested` are the requests for edits that the editor has
+/// sent. None if the content is neither a publication nor the answer to one of these requests.
 pub fn read_message(
     alloc: Global,
     requested: &[SentAsk],
@@ -143,7 +144,8 @@ fn answer_number(answer: &Value) -> Option<u64>
     answer.get("id")?.as_u64()
 }
 
-/// Returns the ask with this number, counted from 1. None if there is no such ask.
+/// Returns the sent request for edits with this number, counted from 1. None if there is no such
+/// request.
 pub fn numbered_ask(requested: &[SentAsk], number: u64) -> Option<&SentAsk>
     ensures { option_map (λ a. sent_ask_of a.now) result
         ≡ request_numbered (map sent_ask_of requested.now) number }
@@ -159,8 +161,8 @@ pub fn numbered_ask(requested: &[SentAsk], number: u64) -> Option<&SentAsk>
     }
 }
 
-/// Returns the edits in the answer to an ask about this document. The list is empty if the answer
-/// has no edits, or if one of its edits can't be read.
+/// Returns the edits in the answer to `ask`, a request for edits of this document. The list is
+/// empty if the answer has no edits, or if one of its edits can't be read.
 fn read_edits(alloc: Global, uri: &str, ask: &Ask, answer: &Value) -> Result<Vec<Edit>, AllocError>
     ensures { IfOk result
         (λ edits. replacements edits.items
@@ -209,8 +211,8 @@ fn workspace_edit_values<'v>(edit: &'v Value, uri: &str) -> Option<&'v Vec<Value
     }
 }
 
-/// Returns the list of edits of this document in the first action with this title. None if there is
-/// no such list.
+/// Returns the list of edits of this document in the first code action with this title. None if
+/// there is no such list.
 fn action_edit_values<'v>(actions: &'v Value, title: &str, uri: &str) -> Option<&'v Vec<Value>>
     ensures { option_map (λ v. items_view v.now.items) result
         ≡ action_edit_items title.now uri.now (view actions.now) }

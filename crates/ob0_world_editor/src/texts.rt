@@ -1,4 +1,4 @@
-//! Returns the text that results from changes or edits of a text.
+//! Applies changes (one after another) and edits (all at once) to a text.
 ghost use Rattle.std.specs.Prelude.{◌≡◌, Some, map, IfOk, OnOk, string_bytes};
 ghost use Rattle.std.specs.Option.{option_map};
 ghost use Rattle.std.specs.Str.{chars};
@@ -10,7 +10,7 @@ use ob0_text::{Change, Edit, PatchFault, TextStore, Unit, patch};
 use std::alloc::{AllocError, Global};
 
 /// Returns the text after these changes, each made in the text that the previous change has left.
-/// Positions are counted in this unit.
+/// Positions are counted in `unit`.
 pub fn apply_changes<T: TextStore>(
     alloc: Global,
     unit: Unit,

@@ -89,8 +89,8 @@ pub fn did_close(alloc: Global, uri: &str) -> Result<Vec<u8>, AllocError>
     )
 }
 
-/// Returns the content of the request for an ask about a document, with this number as its id. Both
-/// ways of inlining request the code actions at the ask's position.
+/// Returns the content of the request that asks for these edits of a document, with this number as
+/// its id. Both ways of inlining request the code actions at the position in `ask`.
 pub fn request(alloc: Global, number: u64, uri: &str, ask: &Ask) -> Result<Vec<u8>, AllocError>
     ensures { IfOk result (λ content. IsRequest number uri.now (ask_of ask.now) content.items) }
 {

@@ -31,16 +31,16 @@ InlinesAt how unit text position edits =
     × InlinesIn how unit text (position_offset unit text position) found
     × (edits ≡ found.items)
 
--- States that these edits do what the ask requests: rename, inline a constant here or everywhere,
--- or format the text.
+-- States that these edits do what the ask (request for edits) requests: rename, inline a constant
+-- at one use or everywhere, or format the text.
 abbrev pub GivesEdits : Unit → List ℕ → Ask → List Edit → Type 0
 GivesEdits unit text (rename position name) edits = RenamesIn unit text position name edits
 GivesEdits unit text (inline_here position) edits = InlinesAt OneUse unit text position edits
 GivesEdits unit text (inline_all position) edits = InlinesAt Everywhere unit text position edits
 GivesEdits unit text (format indent) edits = FormatsIn unit (clamped_indent indent) text edits
 
--- states that the ask is refused: the new name or the inlining is refused, or the formatted text is
--- too long
+-- states that the server refuses this request for edits: the new name or the inlining is refused,
+-- or the formatted text would be too long
 abbrev pub Refuses : Unit → List ℕ → Ask → Type 0
 Refuses unit text (rename position name) =
     (refusal : EditRefusal) × IsRenameRefusedIn unit text position name refusal
@@ -50,15 +50,15 @@ Refuses unit text (inline_all position) =
     IsInliningRefusedIn Everywhere unit text (position_offset unit text position)
 Refuses unit text (format indent) = FormattedTextIsTooLong (clamped_indent indent) text
 
--- States that the edits `given` answer the ask about this text. They are the requested edits, or
--- none if the ask is refused or the text isn't a well-typed module.
+-- States that the edits `given` answer this request for edits (`ask`) of the text. They are the
+-- requested edits, or none if the request is refused or the text isn't a well-typed module.
 abbrev pub IsAnswerForText : Unit → List ℕ → Ask → List Replacement → Type 0
 IsAnswerForText unit text ask given =
     ((edits : List Edit) × GivesEdits unit text ask edits × (given ≡ replacements edits))
     ⊎ ((Refuses unit text ask ⊎ ¬ WellTypedText text) × (given ≡ []))
 
--- States that the edits `given` answer the ask about this document. If the document isn't open
--- (None) or is out of step, there are no edits.
+-- States that the edits `given` answer this request for edits (`ask`) of the document. If the
+-- document isn't open (None) or is out of step (its text isn't known), there are no edits.
 abbrev pub IsAnswer : Unit → Option Document → Ask → List Replacement → Type 0
 IsAnswer unit (Some (InStep version text)) ask given = IsAnswerForText unit text ask given
 IsAnswer unit (Some OutOfStep) ask given = given ≡ []

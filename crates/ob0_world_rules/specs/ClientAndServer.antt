@@ -11,8 +11,8 @@ use Rattle.ob0_world_rules.specs.Asks.{Ask}
 
 -- ---- the editor
 
--- A document that is open in the editor: its version, its text, and the number of its opening.
--- Openings are numbered from 1, over all documents.
+-- A document that is open in the editor: its version, its text, and its opening number. The editor
+-- counts its openings of all documents: the first has number 1.
 pub record OpenDocument : Type 0 where
   pub version : ℤ
   pub text : List ℕ
@@ -23,7 +23,7 @@ abbrev pub EditorDocuments : Type 0
 EditorDocuments = map_of.FinMap (slice_cmp nat_cmp) OpenDocument
 
 -- an ask (a request for edits) that the editor has sent, with the uri of its document, and with the
--- document's text, opening and version at the time of sending
+-- document's text, opening number and version at the time of sending
 pub record SentAsk : Type 0 where
   pub ask : Ask
   pub uri : List ℕ
@@ -31,19 +31,21 @@ pub record SentAsk : Type 0 where
   pub opening : ℕ
   pub version : ℤ
 
--- an answer that the editor has received and not yet used, with the number of its ask
+-- an answer that the editor has received and not yet used: the number of its ask (request for
+-- edits), and the edits
 pub record Answer : Type 0 where
   pub number : ℕ
   pub edits : List Replacement
 
--- an editor with its documents, the asks that it has sent, and the answers that it has
+-- an editor: its open documents, the requests for edits that it has sent, and the answers that it
+-- has not used yet
 pub record Editor : Type 0 where
   -- the unit in which positions are counted
   pub unit : Unit
   pub documents : EditorDocuments
   -- the number of openings so far, including the openings of documents that are closed again
   pub openings : ℕ
-  -- the asks that were sent, in order; the first has number 1
+  -- the requests for edits that were sent, in order; the first has number 1
   pub requested : List SentAsk
   pub answers : List Answer
 
@@ -52,7 +54,8 @@ abbrev pub new_editor : Unit → Editor
 new_editor unit =
     record { unit = unit; documents = map_of.empty; openings = 0; requested = []; answers = [] }
 
--- returns the ask with this number, counted from 1; None if there is no such ask
+-- returns the sent request for edits with this number, counted from 1; None if there is no such
+-- request
 abbrev pub request_numbered : List SentAsk → ℕ → Option SentAsk
 request_numbered requested zero = None
 request_numbered requested (suc k) = slice_get requested k
@@ -63,13 +66,14 @@ open_at e uri = map_of.get e.documents uri
 
 -- ---- the messages in the queues
 
--- a message to the server: a notification about a document, or an ask
+-- a message to the server: a notification about a document, or an ask (a request for edits)
 pub data MessageToServer : Type 0 where
   notifies : DocumentEvent → MessageToServer
-  -- the ask's number, the document's uri, and the ask
+  -- an ask: its number, the document's uri, and the requested edits
   requests : ℕ → List ℕ → Ask → MessageToServer
 
--- a message to the editor: a publication of diagnostics, or the answer to an ask
+-- a message to the editor: a publication of diagnostics, or the answer to an ask (request for
+-- edits)
 pub data MessageToEditor : Type 0 where
   -- The document's uri and version, and whether the list of diagnostics is empty. When a document
   -- is closed, an empty list without a version is published.
@@ -85,8 +89,8 @@ pub record Applied : Type 0 where
   pub before : List ℕ
   pub after : List ℕ
 
--- a publication with the document's version, the text that its diagnostics were made for, and
--- whether there are no diagnostics (`no_diagnostics`)
+-- a publication of diagnostics, with the document's uri and version, the text for which the
+-- diagnostics were made, and whether the list of diagnostics is empty (`no_diagnostics`)
 pub record PublicationWithText : Type 0 where
   pub uri : List ℕ
   pub version : ℤ

@@ -1,4 +1,5 @@
--- Defines the text that results from edits, and the text that results from changes.
+-- Defines the text after edits, which are made at once, and the text after changes, which are made
+-- one after another.
 -- Rule: LSP 3.17, TextEdit[].
 use Rattle.std.specs.Prelude.{◌≡◌, ℕ, List, map, fold, Option, None, string_bytes}
 use Rattle.std.specs.Str.{chars}
@@ -22,8 +23,8 @@ replacement_of e = record { range = e.range; text = chars (string_bytes e.text) 
 abbrev pub replacements : List Edit → List Replacement
 replacements edits = map replacement_of edits
 
--- Returns the text with all edits made at once: each range is a range of the text before the edits.
--- None if two edits share a character.
+-- Returns the text with all edits made at once: each range refers to the text before the edits.
+-- Positions are counted in `unit`. None if two edits share a character.
 unfoldable pub text_after_edits : Unit → List ℕ → List Replacement → Option (List ℕ)
 text_after_edits unit text edits =
     patched_by_cuts text (map (λ e. cut_at (width_of unit) text e.range e.text) edits)

@@ -57,8 +57,8 @@ opening_result e uri text =
     sending_result (record e { documents = map_of.insert e.documents uri d; openings = e.openings + 1 })
     (notifies (Opened uri (pos 1) text)) []
 
--- returns the result of an act that gives an open document this text and the next version, and
--- sends these changes
+-- returns the result of an act that gives the open document `d` this text and the next version,
+-- sends the changes `how`, and applies these edits
 abbrev pub rewriting_result : Editor → List ℕ → OpenDocument → List ℕ → List TextChange → List Applied → ActResult
 rewriting_result e uri d text how applied =
     let new : OpenDocument = record d { version = next_version d.version; text = text } in
@@ -70,8 +70,8 @@ abbrev pub closing_result : Editor → List ℕ → ActResult
 closing_result e uri =
     sending_result (record e { documents = map_of.remove e.documents uri }) (notifies (Closed uri)) []
 
--- returns the result of asking about an open document: the request is stored and sent with the next
--- number
+-- returns the result of sending a request for edits of the open document `d`: the request is stored
+-- in `requested`, and sent with the next number
 abbrev pub asking_result : Editor → List ℕ → Ask → OpenDocument → ActResult
 asking_result e uri ask d =
     let a : SentAsk = record {
@@ -98,13 +98,14 @@ answers_except k (a ∷ rest) = if a.number == k then rest else a ∷ answers_ex
 abbrev pub without_answer : Editor → ℕ → Editor
 without_answer e k = record e { answers = answers_except k e.answers }
 
--- returns the document if it has the same opening and version as in the request, otherwise None
+-- returns the document if its opening number and its version are equal to the request's,
+-- otherwise None
 abbrev pub if_unchanged_since : SentAsk → OpenDocument → Option OpenDocument
 if_unchanged_since a d = if d.opening == a.opening && same_version d.version a.version then Some d else None
 
 -- Returns the result of making the edits of an answer to request `k` in the request's document.
--- None if there is no such request, if the document isn't open, if its opening or version has
--- changed since the request, or if two edits share a character.
+-- None if there is no such request, if the document isn't open, if its opening number or version
+-- has changed since the request, or if two edits share a character.
 abbrev pub applying_result : Editor → ℕ → List Replacement → Option ActResult
 applying_result e k edits = do
   a ← request_numbered e.requested k
@@ -115,7 +116,7 @@ applying_result e k edits = do
 
 -- Returns the result of an act. Nothing happens if a document is opened that is open already, or if
 -- a document is changed, closed or asked about that isn't open. `apply` and `discard` always remove
--- the answer.
+-- the answer, even if its edits can't be made.
 abbrev pub act_result : Editor → Act → ActResult
 act_result e (open_document uri text) =
     if is_some (open_at e uri) then unchanged_result e else opening_result e uri text

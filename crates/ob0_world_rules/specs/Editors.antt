@@ -32,7 +32,7 @@ pub data Move : Type 0 where
 
 -- ---- revisions
 
--- returns the document after a revision
+-- returns the document with the version and the text of the revision
 abbrev pub revised_document : OpenDocument → Revision → OpenDocument
 revised_document d r = record d { version = r.version; text = r.text }
 
@@ -54,7 +54,8 @@ Revises e uri (r ∷ more) new announced =
     × Revises (with_document e uri (revised_document d r)) uri more new later
     × (announced ≡ record { uri = uri; document = revised_document d r } ∷ later)
 
--- returns one notification for each of these revisions
+-- returns one change notification for each of these revisions of the document with this uri, in
+-- order
 abbrev pub notifications_of : List ℕ → List Revision → List MessageToServer
 notifications_of uri revisions = map (λ r. notifies (Changed uri r.version r.sent_changes)) revisions
 
@@ -95,7 +96,8 @@ pub record AppliesAnswer (e : Editor) (k : ℕ) (revisions : List Revision) (don
 
 -- ---- the allowed moves and their results
 
--- returns the result of opening a document with any version; an open document may be opened again
+-- returns the result of opening the document `d` under this uri, with the version, text and opening
+-- number in `d`; a document that is already open may be opened again
 abbrev pub opening_result_as : OpenDocument → Editor → List ℕ → ActResult
 opening_result_as d e uri =
     sending_result (record (with_document e uri d) { openings = d.opening })

@@ -1,4 +1,5 @@
--- States the guarantees for every editor that keeps ob0's rules, in every interleaving.
+-- States the guarantees for every editor that keeps ob0's rules, in every interleaving of the
+-- editor's and the server's turns.
 -- Rule: docs/PROMISES.md, Client and server.
 use Rattle.std.specs.Prelude.{◌≡◌, List, [], ◌∷◌, ◌++◌, map, Option, Some, None}
 use Rattle.ob0_text.specs.declared.position_types.Unit.{Unit}
@@ -46,7 +47,7 @@ modeled_messages [] = []
 modeled_messages (None ∷ queue) = modeled_messages queue
 modeled_messages (Some message ∷ queue) = message ∷ modeled_messages queue
 
--- returns the notifications about documents in a queue, in order, without the asks
+-- returns the notifications about documents in a queue, in order, without the requests for edits
 abbrev pub notifications_among : List MessageToServer → List MessageToServer
 notifications_among [] = []
 notifications_among (notifies note ∷ queue) = notifies note ∷ notifications_among queue
@@ -137,11 +138,12 @@ MayLeadTo w (turn ∷ turns) new =
 
 -- ---- the laws
 
--- states the guarantees for a state to which turns lead
+-- states the guarantees for the state `w`; by the law `HoldsForEveryEditor` they hold for each
+-- state to which turns lead
 pub record HoldsWithEditor (w : EditorAndServer) : Type 0 where
-  -- Each applied edit keeps the run. Each list of diagnostics is empty exactly when the text that
-  -- it was made for is a well-typed module. If no message of the model waits for the server, the
-  -- latest diagnostics are for the present text.
+  -- Each applied edit keeps the module's run. Each list of diagnostics is empty exactly when the
+  -- text that it was made for is a well-typed module. If no message of the model waits for the
+  -- server, the latest diagnostics are for the present text.
   pub holds : Holds (model_state_of w)
   -- if no notification waits for the server, the latest diagnostics are for the present text, even
   -- if asks and messages outside the model still wait

@@ -41,9 +41,10 @@ AreUpToDate e made =
 
 -- ---- the guarantees for a list of events
 
--- states the guarantees for a state to which events lead
+-- states the guarantees for the state `w`; by the law `HoldsInEveryInterleaving` they hold for each
+-- state to which events lead
 pub record Holds (w : ClientAndServer) : Type 0 where
-  -- each applied edit keeps the run
+  -- each applied edit keeps the module's run
   pub applied : All KeepsTheRun w.applied
   -- each published list is empty exactly when the text that it was made for is a well-typed module
   pub made : All IsCorrectPublication w.made

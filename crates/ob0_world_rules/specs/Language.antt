@@ -15,8 +15,8 @@ use Rattle.ob0_language_types.specs.WellTyped.{WellTyped}
 use Rattle.ob0_language_runs.specs.EditLaws.{HaveSameRuns}
 use Rattle.ob0_edits.specs.Texts.{utf8}
 
--- returns the terminals that a tree has for a lexeme: one for a token, none for white space or a
--- comment
+-- returns the terminals (leaves) of a syntax tree for a lexeme of its text: one for a token, none
+-- for white space or a comment
 abbrev pub terminals : LexemeKind → List ℕ → List (Terminal Name)
 terminals lexeme.Space text = []
 terminals lexeme.Comment text = []

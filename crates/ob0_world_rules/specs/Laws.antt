@@ -18,8 +18,8 @@ use Rattle.ob0_world_rules.specs.Mirror.{Mirrors}
 
 -- ---- texts
 
--- States that two definitions of a text's tree agree. A text has a given tree by its lexemes
--- (`IsModuleText`) exactly if it has that tree by the parser's tokens (`IsTextOf`).
+-- States that two definitions of a module's text with its tree agree. One is by the text's lexemes
+-- (`IsModuleText`), and the other is by the parser's tokens (`IsTextOf`).
 abbrev pub ReadingsAgree : Type 0
 ReadingsAgree =
     (tree : Tree Name module_text) (bytes : List ℕ)
@@ -36,15 +36,15 @@ pub record EditsPreserveRun (unit : Unit) (text : List ℕ) (edits : List Replac
   pub after_is_well_typed : WellTypedText after
   pub same : SameRun text after
 
--- states that the edits that answer an ask turn a well-typed module into a well-typed module with
--- the same run (`EditsPreserveRun`)
+-- states that the edits that answer a request for edits turn a well-typed module into a well-typed
+-- module with the same run (`EditsPreserveRun`)
 abbrev pub EditsKeepTheRun : Type 0
 EditsKeepTheRun =
     (unit : Unit) (text : List ℕ) (ask : Ask) (edits : List Edit)
     → GivesEdits unit text ask edits
     → EditsPreserveRun unit text (replacements edits)
 
--- states that two answers to the same ask about the same text are equal
+-- states that two answers to the same request for edits of the same text are equal
 abbrev pub AnswersAreUnique : Type 0
 AnswersAreUnique =
     (unit : Unit) (text : List ℕ) (ask : Ask) (given other : List Replacement)
@@ -71,14 +71,14 @@ CourseIsDetermined =
     → Course w events other
     → end ≡ other
 
--- States that the ask has an answer for each unit and text. The formula is a double negation: it is
--- impossible that no list of edits is an answer.
+-- States that this request for edits (`Ask`) has an answer for each unit of positions and each
+-- text. The formula is a double negation: it is impossible that no list of edits is an answer.
 abbrev pub HasAnswers : Ask → Type 0
 HasAnswers ask =
     (unit : Unit) (text : List ℕ)
     → ¬ ((given : List Replacement) → ¬ IsAnswerForText unit text ask given)
 
--- states that the event isn't an ask, or is an ask that has answers
+-- states that the event isn't a request for edits, or is one that has answers (`HasAnswers`)
 abbrev pub IsAnswerable : Event → Type 0
 IsAnswerable (editor_acts (open_document uri text)) = ⊤
 IsAnswerable (editor_acts (change_document uri how)) = ⊤
@@ -89,9 +89,9 @@ IsAnswerable (editor_acts (discard k)) = ⊤
 IsAnswerable serve = ⊤
 IsAnswerable take_message = ⊤
 
--- States that each list of events leads from the start to some state, if its asks have answers. So
--- the laws about all courses of events aren't vacuous. The formula is a double negation: it is
--- impossible that the events lead to no state.
+-- States that each list of events leads from the start to some state, if its requests for edits
+-- have answers. So the laws about all courses of events aren't vacuous. The formula is a double
+-- negation: it is impossible that the events lead to no state.
 abbrev pub CourseExists : Type 0
 CourseExists =
     (unit : Unit) (events : List Event)

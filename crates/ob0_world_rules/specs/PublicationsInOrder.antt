@@ -16,7 +16,7 @@ pub record AnnouncedDocument : Type 0 where
   pub uri : List ℕ
   pub document : OpenDocument
 
--- returns a list of this one document, with its uri, or an empty list for None
+-- returns a list of this one document with its uri, or an empty list for None (no document is open)
 abbrev pub document_if_open : List ℕ → Option OpenDocument → List AnnouncedDocument
 document_if_open uri (Some d) = record { uri = uri; document = d } ∷ []
 document_if_open uri None = []

@@ -6,9 +6,10 @@ use Rattle.ob0_world_rules.specs.Edited.{Replacement}
 use Rattle.ob0_world_rules.specs.Answers.{IsAnswer, IsEmptyIfWellTyped}
 use Rattle.ob0_world_rules.specs.ClientAndServer.{MessageToServer, notifies, requests, MessageToEditor, publishes, answers, PublicationWithText}
 
--- States that the server sends diagnostics, with the version, for a document in step. For a
--- document that is out of step or isn't open, it sends nothing. `made` has the same publication,
--- with the text for which the diagnostics were made.
+-- States that the server sends the diagnostics of a document in step, with the document's version.
+-- For a document that is out of step (the server doesn't know its text) or isn't open, the server
+-- sends nothing. `made` has the same publication, with the text for which the diagnostics were
+-- made.
 abbrev pub Publishes : List ℕ → Option Document → List MessageToEditor → List PublicationWithText → Type 0
 Publishes uri (Some (InStep version text)) sent made =
     (empty : Bool) × IsEmptyIfWellTyped text empty × (sent ≡ publishes uri (Some version) empty ∷ [])

@@ -9,19 +9,19 @@ pub fn holds_in_every_interleaving()
     ensures { HoldsInEveryInterleaving }
 {}
 
-/// Proves that the edits that answer an ask turn a well-typed module into a well-typed module with
-/// the same run: the same output and the same end.
+/// Proves that the edits that answer a request for edits turn a well-typed module into a well-typed
+/// module with the same run: the same output and the same end.
 pub fn edits_keep_the_run()
     ensures { EditsKeepTheRun }
 {}
 
-/// Proves that two definitions of a text's tree agree. A text has a given tree by its lexemes
-/// (`IsModuleText`) exactly if it has that tree by the parser's tokens (`IsTextOf`).
+/// Proves that two definitions of a module's text with its tree agree. One is by the text's lexemes
+/// (`IsModuleText`), and the other is by the parser's tokens (`IsTextOf`).
 pub fn readings_agree()
     ensures { ReadingsAgree }
 {}
 
-/// Proves that two answers to the same ask about the same text are equal.
+/// Proves that two answers to the same request for edits of the same text are equal.
 pub fn answers_are_unique()
     ensures { AnswersAreUnique }
 {}
@@ -36,8 +36,8 @@ pub fn course_is_determined()
     ensures { CourseIsDetermined }
 {}
 
-/// Proves that each list of events leads from the start to some state, if its asks have answers. So
-/// the laws about all courses of events aren't vacuous.
+/// Proves that each list of events leads from the start to some state, if its requests for edits
+/// have answers. So the laws about all courses of events aren't vacuous.
 pub fn course_exists()
     ensures { CourseExists }
 {}
@@ -63,8 +63,8 @@ pub fn holds_for_every_editor()
     ensures { HoldsForEveryEditor }
 {}
 
-/// Proves that the model's editor keeps ob0's rules. So the guarantees for every editor also hold
-/// for the model's.
+/// Proves that the model's editor keeps ob0's rules: its events are turns of such an editor. So the
+/// guarantees for every editor also hold for the model's editor.
 pub fn model_editor_keeps_rules()
     ensures { ModelEditorKeepsRules }
 {}

@@ -1,5 +1,5 @@
-//! The state of the reporting walk: the types and declarations found so far. A type may be unknown,
-//! as a whole or in parts.
+//! Defines the state of the walk that reports faults: the types and declarations found so far. A
+//! type may be unknown, and so may a part of a type, such as an array's element type.
 
 ghost use Rattle.std.specs.Prelude.{◌≡◌, ◌≤◌, ◌∷◌, [], ◌++◌, ◌+◌, ◌^◌, map, IfOk, MatchResult, OnOk, option_map, slice_get, slice_index_or, None, Some};
 ghost use Rattle.ob0_types_table.specs.declared.types.TypeId.TheVariants as type;
@@ -20,7 +20,7 @@ use std::alloc::{AllocError, Global};
 /// The meaning of a declared name, with its type, value or parameters.
 #[derive(Drop)]
 pub(crate) enum Meaning {
-    /// A type's name. The variant has the type to which the name refers.
+    /// A type's name, with the type to which the name refers.
     Named(TypeId),
     /// A constant with this value, or with None if its right side has a fault.
     Constant(Option<Scalar>),
@@ -28,7 +28,8 @@ pub(crate) enum Meaning {
     Procedure(Vec<FormalParameter>),
 }
 
-/// Returns the meanings of the predeclared names, in the order of their ordinals.
+/// Returns the meanings of the predeclared names in the order of their ordinals: INTEGER, BOOLEAN,
+/// TRUE, FALSE, Read, Write, WriteLn.
 pub(crate) fn predeclared_meanings(alloc: Global) -> Result<Vec<Option<Meaning>>, AllocError>
     ensures { IfOk result (λ ms. map (option_map meaning_view) ms.items ≡ predeclared_meanings) }
 {
@@ -58,8 +59,8 @@ fn one_parameter_procedure(alloc: Global, by_place: bool) -> Result<Meaning, All
     Ok(Meaning::Procedure(formals))
 }
 
-/// The size of a type: the number of its scalars, and the depth to which its arrays and records are
-/// nested.
+/// The size of a type: the number of INTEGER and BOOLEAN values in it (its scalars), and the depth
+/// to which its arrays and records are nested.
 #[derive(Clone, Copy)]
 pub(crate) struct Size {
     pub(crate) scalars: usize,
@@ -112,7 +113,7 @@ impl Size {
         }
     }
 
-    /// Returns whether a type of this size is within the limits on scalars and on depth.
+    /// Returns whether a type of this size is within the limits `MAX_SCALARS` and `MAX_DEPTH`.
     fn is_within_limits(self) -> bool
         ensures { result ≡ is_within_limits (size_of self) }
     {
@@ -123,8 +124,8 @@ impl Size {
     }
 }
 
-/// Returns the sum of two numbers, or an error if the sum doesn't fit 64 bits. No text is long
-/// enough to cause this error.
+/// Returns the sum of two numbers, or an error if the sum doesn't fit 64 bits. The callers add
+/// numbers of types in a text. No text is long enough to cause this error.
 pub(crate) fn sum_or_error(a: usize, b: usize) -> Result<usize, AllocError>
     ensures { MatchResult result (λ n. n ≡ a + b) (λ _. 2 ^ 64 ≤ a + b) }
 {
@@ -138,8 +139,8 @@ pub(crate) fn sum_or_error(a: usize, b: usize) -> Result<usize, AllocError>
 #[derive(Drop)]
 pub(crate) struct CheckerState<'t> {
     pub(crate) resolved: &'t Resolved<'t>,
-    /// The meaning of each declaration, by ordinal. The meaning is None until the walk has reached
-    /// the declaration. A name can only be bound to an earlier declaration in the text.
+    /// The meaning of each declaration, by ordinal. The meaning is None until the walk has found
+    /// it. A name can only be bound to a declaration before it in the text.
     pub(crate) meanings: Vec<Option<Meaning>>,
     /// The array and record types found so far. A `TypeId` refers to such a type by its index in
     /// this list.
@@ -154,8 +155,8 @@ impl<'t> CheckerState<'t> {
         token_text_at(self.resolved.tokens(), token)
     }
 
-    /// Returns the index of the token after this one. At the end of the text, returns `token`
-    /// unchanged.
+    /// Returns the index of the token after `token`. If `token` is the end of the text (the number
+    /// of tokens), returns it unchanged.
     pub(crate) fn token_after(&self, token: usize) -> usize
         ensures { result ≡ token_after self.now.resolved.now.module_read.source token }
     {
@@ -204,8 +205,8 @@ impl<'t> CheckerState<'t> {
         self.report(faults, code, token, token)
     }
 
-    /// Returns the meaning of the name at a token. Returns None if the name is unbound or its
-    /// declaration isn't known yet.
+    /// Returns the meaning of the name at a token. Returns None if the name is unbound, or if the
+    /// walk hasn't found the meaning of its declaration yet.
     pub(crate) fn meaning_of_name(&self, token: usize) -> Option<&Meaning>
         ensures { option_map (λ m. m.now) result ≡ meaning_in_state self.now token }
     {
@@ -215,8 +216,8 @@ impl<'t> CheckerState<'t> {
         }
     }
 
-    /// Returns the meaning of the declaration with this ordinal. Returns None if the declaration
-    /// isn't known yet, or if there is no such ordinal.
+    /// Returns the meaning of the declaration with this ordinal. Returns None if the walk hasn't
+    /// found the meaning yet, or if there is no such ordinal.
     fn meaning_of(&self, ordinal: usize) -> Option<&Meaning>
         ensures { option_map (λ m. m.now) result
             ≡ slice_index_or self.now.meanings.items ordinal None }
@@ -252,7 +253,7 @@ impl<'t> CheckerState<'t> {
         }
     }
 
-    /// Returns the size of a type.
+    /// Returns the size of a type. The unknown type has no scalars and depth 0.
     pub(crate) fn size_of(&self, of: TypeId) -> Size
         ensures { size_of result ≡ size_at (declarations_in_state self.now).made of }
     {
@@ -305,9 +306,9 @@ impl<'t> CheckerState<'t> {
     }
 
     /// Returns the number of array and record types found so far plus `around`, the number of types
-    /// that enclose the next word ARRAY or RECORD. If nothing is reported, this sum is the ordinal
-    /// of that word: the number of such words before it in the text. Returns an error if the sum
-    /// doesn't fit 64 bits.
+    /// that enclose the next word ARRAY or RECORD. If no fault is reported, this sum is the ordinal
+    /// of that word: the number of words ARRAY and RECORD before it in the text. Returns an error
+    /// if the sum doesn't fit 64 bits.
     pub(crate) fn next_type_ordinal(&self, around: usize) -> Result<usize, AllocError>
         ensures { MatchResult result (λ n. n ≡ next_type_ordinal around (declarations_in_state self.now))
             (λ _. 2 ^ 64 ≤ next_type_ordinal around (declarations_in_state self.now)) }
@@ -337,7 +338,7 @@ impl<'t> CheckerState<'t> {
     }
 }
 
-/// Returns the size of an array or record type, given its entry.
+/// Returns the size of an array or record type, which is stored in the type's entry.
 fn size_of_entry(entry: &TypeEntry) -> Size
     ensures { size_of result ≡ (composite_type_of entry.now).size }
 {

@@ -112,7 +112,8 @@ impl<'t> Reporter<'t> {
     }
 
     /// If `wanted` is true, reports the faults of a body. If the body has a fault, also appends
-    /// `own`, the closing name of the body's block, to `bodies_with_faults`.
+    /// `own`, the closing name of the body's block, to `bodies_with_faults`. If `wanted` is false,
+    /// does nothing.
     fn report_body_if_wanted(
         &mut self,
         bodies_with_faults: &mut Vec<usize>,

@@ -111,8 +111,8 @@ pub(crate) fn same_type(a: TypeId, b: TypeId) -> bool
     a == b
 }
 
-/// Returns whether the two types are equal, or one of them is the unknown type. Otherwise a
-/// mismatch is reported if an operand of the type `of` is found and the type `wanted` is required.
+/// Returns whether the two types are equal, or one of them is the unknown type. If not, an
+/// expression of the type `of` is a mismatch for the required type `wanted`.
 fn may_be_same_type(of: TypeId, wanted: TypeId) -> bool
     ensures { result ≡ may_be_same_type (known_types []) of wanted }
 {
@@ -131,8 +131,8 @@ fn required_type_or_unknown(of: TypeId, wanted: TypeId) -> TypeId
 }
 
 impl Operand {
-    /// Returns the operand of the expression in which a sign or `~` precedes this operand. The
-    /// result has the type `of` and the given value.
+    /// Returns the operand for the expression that consists of a sign or `~` and this operand. It
+    /// has the type `of` and this value.
     fn prefixed_operand(self, of: TypeId, value: Option<Scalar>) -> Operand
         ensures { operand_of result
             ≡ prefixed_operand of (option_map scalar_value value) (operand_of self) }
@@ -146,8 +146,8 @@ impl Operand {
         }
     }
 
-    /// Returns the operand of an operation on this operand and the operand `right`. The result has
-    /// the type `of` and the given value.
+    /// Returns the operand for the expression that joins this operand and the operand `right` by an
+    /// operator. It has the type `of` and this value.
     fn join_operand(self, right: Operand, of: TypeId, value: Option<Scalar>) -> Operand
         ensures { operand_of result
             ≡ joint_operand of (option_map scalar_value value) (operand_of self)
@@ -162,7 +162,7 @@ impl Operand {
         }
     }
 
-    /// Returns the operand of a designator that extends this operand's designator by a selector.
+    /// Returns the operand for a designator that extends this operand's designator by a selector.
     /// `last` is the last token of that selector. The result has the type `of` and no value.
     fn extend_designator(self, of: TypeId, last: usize) -> Operand
         ensures { operand_of result ≡ extended_operand (operand_of self) of last }
@@ -178,7 +178,7 @@ impl Operand {
 }
 
 impl<'t> CheckerState<'t> {
-    /// Reports a fault that spans the whole expression of an operand.
+    /// Reports a fault with this code. The fault's span is the whole expression of the operand.
     pub(crate) fn report_at_operand(
         &self,
         faults: &mut Vec<Fault>,
@@ -233,8 +233,8 @@ impl<'t> CheckerState<'t> {
         }
     }
 
-    /// Reports the faults of an expression and returns its operand. If `only_constants` is true, a
-    /// variable's name is a fault.
+    /// Reports the faults of an expression and returns its type, value and tokens as an `Operand`.
+    /// If `only_constants` is true, a variable's name is a fault.
     #[cycle(expressions)]
     pub(crate) fn check_expression(
         &self,
@@ -272,7 +272,8 @@ impl<'t> CheckerState<'t> {
         }
     }
 
-    /// Reports the faults of a relation between two operands, and returns the resulting operand.
+    /// Reports a mismatch if the operands of a relation don't have the required type, and returns
+    /// the operand for the whole comparison.
     fn check_relation(
         &self,
         faults: &mut Vec<Fault>,
@@ -309,8 +310,8 @@ impl<'t> CheckerState<'t> {
         Ok(so_far)
     }
 
-    /// Reports the faults of `+`, `-` or OR between two operands, and returns the resulting
-    /// operand.
+    /// Reports a mismatch if the operands of `+`, `-` or OR don't have the required type, and
+    /// returns the operand for the whole expression.
     fn check_sum(
         &self,
         faults: &mut Vec<Fault>,
@@ -327,7 +328,7 @@ impl<'t> CheckerState<'t> {
         Ok(left.join_operand(right, of, value))
     }
 
-    /// Returns the operand of a sign and the operand after it. A sign requires INTEGER, and a
+    /// Returns the operand for a sign and the operand after it. A sign requires INTEGER, and a
     /// mismatch is reported. Without a sign (None), the operand is returned unchanged.
     fn check_sign(
         &self,
@@ -366,8 +367,8 @@ impl<'t> CheckerState<'t> {
         Ok(so_far)
     }
 
-    /// Reports the faults of `*`, DIV, MOD or `&` between two operands, and returns the resulting
-    /// operand.
+    /// Reports a mismatch if the operands of `*`, DIV, MOD or `&` don't have the required type, and
+    /// returns the operand for the whole expression.
     fn check_product(
         &self,
         faults: &mut Vec<Fault>,
@@ -420,7 +421,7 @@ impl<'t> CheckerState<'t> {
         }
     }
 
-    /// Returns the operand of the number at this token.
+    /// Returns the operand for a number, which is an INTEGER constant at the token `token`.
     fn integer_operand(&self, token: usize) -> Operand
         ensures { operand_of result ≡ number_operand (facts_in self.now false) token }
     {
@@ -434,7 +435,7 @@ impl<'t> CheckerState<'t> {
         }
     }
 
-    /// Returns the operand of an expression in parentheses. `inside` is the operand of the
+    /// Returns the operand for an expression in parentheses. `inside` is the operand for the
     /// expression between the parentheses.
     fn parenthesised_operand(&self, inside: Operand) -> Operand
         ensures { operand_of result ≡ operand_in_parentheses (facts_in self.now false) (operand_of inside) }
@@ -448,8 +449,8 @@ impl<'t> CheckerState<'t> {
         }
     }
 
-    /// Reports a mismatch if the operand of `~` isn't BOOLEAN, and returns the resulting operand.
-    /// An operand with an unknown type isn't reported.
+    /// Reports a mismatch if the operand of `~` has a known type other than BOOLEAN. Returns the
+    /// operand for the whole negation.
     fn check_negation(
         &self,
         faults: &mut Vec<Fault>,
@@ -462,7 +463,7 @@ impl<'t> CheckerState<'t> {
         Ok(operand.prefixed_operand(of, operators::complement(operand.value)))
     }
 
-    /// Returns the operand of the name at a token. The name must be a constant's or a variable's,
+    /// Returns the operand for the name at a token. The name must be a constant's or a variable's,
     /// and any other name is reported. If `only_constants` is true, a variable's name is also
     /// reported. A name without a known meaning isn't reported here.
     fn operand_of_name(
@@ -504,8 +505,8 @@ impl<'t> CheckerState<'t> {
         }
     }
 
-    /// Returns the operand of the designator `d`, whose name has the operand `base`. Reports the
-    /// faults of the designator's selectors.
+    /// Returns the operand for the designator `d`, given the operand `base` for its name. Reports
+    /// the faults of the designator's selectors.
     #[cycle(expressions)]
     pub(crate) fn apply_selectors(
         &self,
@@ -525,8 +526,8 @@ impl<'t> CheckerState<'t> {
         Ok(so_far)
     }
 
-    /// Returns the operand of a designator with one more selector, and reports this selector's
-    /// faults. `base` is the operand of the designator without this selector.
+    /// Returns the operand for a designator with one more selector, and reports this selector's
+    /// faults. `base` is the operand for the designator without this selector.
     #[cycle(expressions)]
     fn check_selector(
         &self,
@@ -548,8 +549,8 @@ impl<'t> CheckerState<'t> {
         }
     }
 
-    /// Returns the operand of the element that `index` selects in `base`, and reports the faults of
-    /// this selection. The index must be INTEGER even if `base` isn't an array.
+    /// Returns the operand for the element that `index` selects in the array `base`, and reports
+    /// the faults of this selection. The index must be INTEGER even if `base` isn't an array.
     fn select_element(
         &self,
         faults: &mut Vec<Fault>,
@@ -564,7 +565,7 @@ impl<'t> CheckerState<'t> {
         Ok(base.extend_designator(of, self.token_after(index.last)))
     }
 
-    /// Returns the type of an element of the type `base`, and reports `NotArray` if `base` is known
+    /// Returns the element type of the array type `base`, and reports `NotArray` if `base` is known
     /// and isn't an array. The result is the unknown type if `base` isn't an array or `index_type`
     /// isn't INTEGER.
     fn array_element_type(
@@ -607,8 +608,8 @@ impl<'t> CheckerState<'t> {
         Ok(TypeId::Unknown)
     }
 
-    /// Returns the operand of the field of `base` whose name is at the token `name`. Reports the
-    /// faults of the selection.
+    /// Returns the operand for the field of the record `base` whose name is at the token `name`.
+    /// Reports the faults of this selection.
     fn select_field(
         &self,
         faults: &mut Vec<Fault>,
@@ -699,8 +700,8 @@ impl<'t> CheckerState<'t> {
     }
 }
 
-/// Returns the operand of a constant's name at a token. `value` is the constant's value, or None if
-/// the constant's declaration has a fault.
+/// Returns the operand for a constant's name at a token. `value` is the constant's value, or None
+/// if the constant's declaration has a fault.
 fn constant_operand(value: Option<Scalar>, token: usize) -> Operand
     ensures { operand_of result
         ≡ constant_name_operand (known_types []) (option_map scalar_value value) token }

@@ -1,4 +1,5 @@
-//! Converts the declarations that the walk found to objects of the declaration table.
+//! Converts the meanings of declarations, which the walk has found, to objects of the declaration
+//! table (`DeclarationTable`).
 
 ghost use Rattle.std.specs.Prelude.{◌≡◌, IfOk, Some, map, option_map, slice_set};
 ghost use Rattle.ob0_types_table.specs.declared.known.Object.TheVariants as kind;

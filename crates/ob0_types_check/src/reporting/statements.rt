@@ -266,9 +266,10 @@ impl<'t> CheckerState<'t> {
         Ok(())
     }
 
-    /// Reports a mismatch of an argument's operand with its formal parameter. Returns the
-    /// parameter's type if the operand has this type and nothing is reported, otherwise the unknown
-    /// type.
+    /// Reports a fault if an argument doesn't fit its formal parameter. `operand` is the result of
+    /// checking the argument. An argument for a VAR parameter must be a variable, and every
+    /// argument must have its parameter's type. Returns this type if the argument has it and
+    /// nothing is reported, otherwise the unknown type.
     fn check_argument_operand(
         &self,
         faults: &mut Vec<Fault>,

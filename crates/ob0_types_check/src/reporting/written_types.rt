@@ -1,4 +1,5 @@
-//! Reports the faults of types as they are written in the text, and makes these types.
+//! Reports the faults of the types that are written in the text: type names, array types and record
+//! types. Makes the checker's representation of these types (`TypeId`).
 
 ghost use Rattle.std.specs.Prelude.{◌≡◌, ◌∷◌, ◌++◌, [], false, IfOk, OnOk, Some};
 ghost use Rattle.ob0_types_table.specs.declared.types.TypeId.TheVariants as type;
@@ -63,7 +64,8 @@ impl KnownFields {
         }
     }
 
-    /// Appends a field. The total size isn't changed.
+    /// Appends a field with this name and the type `of`. The total size isn't changed, because
+    /// `add_known_field` adds the field's size.
     fn add(&mut self, alloc: Global, name: &str, of: TypeId) -> Result<(), AllocError>
         ensures fields { OnOk result (fields_in self.new.fields.items
             ≡ fields_in self.old.fields.items ++ record { name = name.now; of = of } ∷ []) }
@@ -121,9 +123,9 @@ impl<'t> CheckerState<'t> {
         Ok(TypeId::Unknown)
     }
 
-    /// Returns the length of an array, given the operand of its length expression. A length that
-    /// isn't INTEGER, has no value or isn't valid is reported. Returns None if a fault is reported
-    /// or the operand's type is unknown.
+    /// Returns the length of an array. `operand` is the result of checking the length's expression.
+    /// A length that isn't INTEGER, has no value or isn't valid is reported. Returns None if a
+    /// fault is reported or the operand's type is unknown.
     fn check_length(
         &self,
         faults: &mut Vec<Fault>,
@@ -196,10 +198,10 @@ impl<'t> Reporter<'t> {
         self.make_array(ordinal, size, length, element)
     }
 
-    /// Makes an array type and returns it. `size` is the operand of the length's expression. If the
-    /// length has a fault (`length` is None), the result is the unknown type, although the element
-    /// type has been checked. An array type that is too large is reported at its word ARRAY, the
-    /// token before the length.
+    /// Makes an array type and returns it. `size` is the result of checking the length's
+    /// expression. If the length has a fault (`length` is None), the result is the unknown type,
+    /// although the element type has been checked. An array type that is too large is reported at
+    /// its word ARRAY, the token before the length.
     fn make_array(
         &mut self,
         ordinal: usize,
@@ -268,8 +270,9 @@ impl<'t> Reporter<'t> {
         Ok(gathered)
     }
 
-    /// Makes a record type of the gathered fields and returns it. `ordinal` is the ordinal of its
-    /// word RECORD, whose token is `word`. A record type that is too large is reported at `word`.
+    /// Makes a record type of the gathered fields and returns it. `word` is the token of its word
+    /// RECORD, and `ordinal` is the number of words ARRAY and RECORD before this token in the text.
+    /// A record type that is too large is reported at `word`.
     fn make_record(
         &mut self,
         word: usize,
