@@ -10,7 +10,7 @@ pub returns : goal.returns
 returns c =
     let r = c.args.names.now in
     let m = r.module_read in
-    let parts = c.into_parts-declaration_tokens in
+    let parts = c.into_parts-declarations in
     let sought = c.in_ok-sought.sought.items in
     let written : Spellings = record { source = m.source; ordinals = sought; declaration = Some 0; new = c.args.name.now } in
     let gone = c.in_ok-numbering.ensures

@@ -9,7 +9,7 @@ use Rattle.ob0_scope.proofs.renamed.ordinals_after_rename.Goals as goal
 pub returns-clause-renumbered : goal.returns-clause-renumbered
 returns-clause-renumbered c =
     let r = c.args.names.now in
-    let parts = c.into_parts-declaration_tokens in
+    let parts = c.into_parts-declarations in
     let written = spellings_after_rename r c.args.declaration c.args.new.now in
     let ordinals = c.ordinals.ensures in
     let gone = c.in_ok-numbering.ensures
