@@ -335,8 +335,8 @@ impl ScannedText {
             return ScannedText::reanalyse_changed_kinds(alloc, tokens, tree, bindings, types, same);
         }
         if same_words {
-            if places.begins_alike(&tokens) {
-                return ScannedText::reanalyse_same_words(
+            if places.begins_like_module_text(&tokens) {
+                return ScannedText::reanalyse_with_same_spellings(
                     alloc, tokens, tree, bindings, types, places,
                 );
             }
@@ -420,7 +420,7 @@ impl ScannedText {
     /// Analyses a changed text whose tokens have the same spellings as the previous text's tokens.
     /// The tree, bindings and types are kept. Only the spans of the faults are computed again, from
     /// each fault's first and last token (`places`) in the changed text.
-    fn reanalyse_same_words(
+    fn reanalyse_with_same_spellings(
         alloc: Global,
         tokens: Tokens,
         tree: ModuleTree,

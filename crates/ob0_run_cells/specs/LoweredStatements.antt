@@ -62,13 +62,13 @@ pub record Target : Type 0 where
 
 -- The data that stays the same while the statements of a body run: the types of the store, the
 -- meanings of names, and the activations that the body can see. `enters` is the effect of the
--- module's calls, and `lowered_enters` is the effect of lowered calls.
+-- module's calls, and `lowered_call_effect` is the effect of lowered calls.
 pub record Body (N : Type 0) : Type 0 where
   pub typing : StoreTyping
   pub active : Meanings N Place (List Mode)
   pub levels : Levels
   pub enters : CallFunction N
-  pub lowered_enters : execution.CallEffect
+  pub lowered_call_effect : execution.CallEffect
 
 -- States that each lowered call has the effect of the module's call of the same procedure, if both
 -- have the same arguments and begin in states that represent each other.
@@ -81,7 +81,7 @@ CallsRepresent {N} checked targets b =
     → ArgumentsMatchSignature b.typing signature args
     → p.cells ≡ low.cells ++ argument_cells args
     → p.addresses ≡ argument_addresses b.typing args
-    → ProgressRepresents b.typing (b.lowered_enters (targets x).procedure
+    → ProgressRepresents b.typing (b.lowered_call_effect (targets x).procedure
     (execution.levels_in_call b.levels (length low.cells) (targets x).up p) record low
     { cells = p.cells }) (b.enters x args s)
 
@@ -94,7 +94,7 @@ pub record IsBodyOfModule {N : Type 0} (checked : TypeMeanings N) (slots : N →
   pub variables_in_slots : (x : N) (p : Place)
       → b.active.object_for x ≡ Some (a_variable p)
       → slot_address b.levels (slots x) ≡ address b.typing p
-  pub has_addresses : store_size b.typing < 2 ^ 64
+  pub store_is_addressable : store_size b.typing < 2 ^ 64
   pub calls_represent : CallsRepresent checked targets b
 
 -- states that a lowered step has the effect of a step of the module, in each body that belongs to
@@ -122,7 +122,7 @@ abbrev pub CodeMeansStatement : {N : Type 0}
     → Tree N statement
     → Type 0
 CodeMeansStatement checked slots targets c a =
-    StepRepresents checked slots targets (λ b t. execution.execute b.lowered_enters t b.levels c)
+    StepRepresents checked slots targets (λ b t. execution.execute b.lowered_call_effect t b.levels c)
     (λ b t. execute b.active b.enters t a)
 
 -- states that instructions are correct code for a sequence of statements: they have its effect
@@ -134,7 +134,7 @@ abbrev pub CodeMeansSequence : {N : Type 0}
     → Tree N sequence
     → Type 0
 CodeMeansSequence checked slots targets cs a =
-    StepRepresents checked slots targets (λ b t. execution.execute_sequence b.lowered_enters t b.levels cs)
+    StepRepresents checked slots targets (λ b t. execution.execute_sequence b.lowered_call_effect t b.levels cs)
     (λ b t. execute_sequence b.active b.enters t a)
 
 -- States that instructions are correct code for the statements after the first one of a sequence.
@@ -146,7 +146,7 @@ abbrev pub CodeMeansFurtherStatements : {N : Type 0}
     → Tree N (items further_statement)
     → Type 0
 CodeMeansFurtherStatements checked slots targets cs rest =
-    StepRepresents checked slots targets (λ b t. execution.execute_sequence b.lowered_enters t b.levels cs)
+    StepRepresents checked slots targets (λ b t. execution.execute_sequence b.lowered_call_effect t b.levels cs)
     (λ b t. execute_further_statements b.active b.enters t rest)
 
 -- States that instructions are correct code for an ELSE part. If there is no ELSE part, the
@@ -159,7 +159,7 @@ abbrev pub CodeMeansElse : {N : Type 0}
     → Tree N (maybe else_part)
     → Type 0
 CodeMeansElse checked slots targets cs last =
-    StepRepresents checked slots targets (λ b t. execution.execute_sequence b.lowered_enters t b.levels cs)
+    StepRepresents checked slots targets (λ b t. execution.execute_sequence b.lowered_call_effect t b.levels cs)
     (λ b t. execute_else b.active b.enters t last)
 
 -- States that branches are correct code for ELSIF parts, and that the instructions `cs`, which run
@@ -174,8 +174,8 @@ abbrev pub CodeMeansElsifs : {N : Type 0}
     → Tree N (maybe else_part)
     → Type 0
 CodeMeansElsifs checked slots targets bs cs rest last =
-    StepRepresents checked slots targets (λ b t. execution.execute_branches b.lowered_enters t b.levels bs
-    (execution.execute_sequence b.lowered_enters t b.levels cs))
+    StepRepresents checked slots targets (λ b t. execution.execute_branches b.lowered_call_effect t b.levels bs
+    (execution.execute_sequence b.lowered_call_effect t b.levels cs))
     (λ b t. execute_elsifs b.active b.enters t rest (execute_else b.active b.enters t last))
 
 -- States that an expression is only a designator of a variable, and that the lowered place `q`

@@ -24,13 +24,13 @@ pub fn resolve_at_occurrences(
     ensures { IfOk result
         (λ found. found.items ≡ resolve_at_occurrences (named_tree_of names.now.module_read) name.now) }
 {
-    let ordinals = number_with_replacement(alloc, names, name)?;
+    let ordinals = ordinals_with_replacement(alloc, names, name)?;
     ordinals_at(alloc, &ordinals, names.occurrences())
 }
 
 /// Returns the table of ordinals of a changed module, in which `name` replaces each occurrence. For
 /// each token, the table has the ordinal to which the token is bound, or None.
-fn number_with_replacement(
+fn ordinals_with_replacement(
     alloc: Global,
     names: &Resolved,
     name: &str,

@@ -132,8 +132,8 @@ comparison_type types t = if types.same t types.unknown then types.unknown else 
 
 -- returns the operand for the expression that joins the operands `a` and `b` by an operator; it has the type `of` and
 -- this value
-abbrev pub joint_operand : {T : Type 0} → T → Option Value → Operand T → Operand T → Operand T
-joint_operand of value a b =
+abbrev pub operand_of_operation : {T : Type 0} → T → Option Value → Operand T → Operand T → Operand T
+operand_of_operation of value a b =
     record { of = of; value = value; may_be_variable = false; first = a.first; last = b.last }
 
 -- returns the operand for a sign or `~` followed by the operand `o`; it has the type `of` and this value
@@ -151,7 +151,7 @@ abbrev pub add_operands : {T : Type 0}
     → Reported (Operand T)
 add_operands facts o a b = do
   t ← required_type_of_both facts (operand_type_of_addition facts.types o) a b
-  without_fault (joint_operand t (option_and_then (sum_value o b.value) a.value) a b)
+  without_fault (operand_of_operation t (option_and_then (sum_value o b.value) a.value) a b)
 
 -- returns the fault if the operands of `*`, DIV, MOD or `&` don't have the required type, and the operand for the whole
 -- expression
@@ -163,7 +163,7 @@ abbrev pub multiply_operands : {T : Type 0}
     → Reported (Operand T)
 multiply_operands facts o a b = do
   t ← required_type_of_both facts (operand_type_of_multiplication facts.types o) a b
-  without_fault (joint_operand t (option_and_then (product_value o b.value) a.value) a b)
+  without_fault (operand_of_operation t (option_and_then (product_value o b.value) a.value) a b)
 
 -- returns the fault if the operands of a relation don't have the required type, and the operand for the whole
 -- comparison
@@ -175,7 +175,7 @@ abbrev pub relate_operands : {T : Type 0}
     → Reported (Operand T)
 relate_operands facts r a b = do
   t ← required_type_of_both facts (operand_type_of_relation facts.types r a.of) a b
-  without_fault (joint_operand (comparison_type facts.types t)
+  without_fault (operand_of_operation (comparison_type facts.types t)
       (apply_to_both (λ x y. outcome_value (apply_relation r x y)) a.value b.value) a b)
 
 -- returns the operand for an optional sign and the operand after it; a sign requires INTEGER, and a mismatch is a fault

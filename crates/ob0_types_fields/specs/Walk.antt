@@ -20,8 +20,8 @@ field_walk_meanings w = meanings_by_token (declared_object_in w.table.now) w.res
 
 -- converts the record type `r` of the code to a type of the definitions (`Shape`); the walk's table
 -- of declarations has the types of its fields
-abbrev pub record_shape_in : FieldWalk → RecordShape → Shape
-record_shape_in w r = entry_shape (shapes_of w.table.now) (made.Record r)
+abbrev pub record_shape_in_walk : FieldWalk → RecordShape → Shape
+record_shape_in_walk w r = entry_shape (shapes_of w.table.now) (made.Record r)
 
 -- returns the field identifiers in one selector: the selected field, or the fields in an index's
 -- expression; `s` is the type of the designator before the selector
