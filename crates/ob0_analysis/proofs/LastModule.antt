@@ -7,7 +7,7 @@ use Rattle.ob0_scan.specs.Reused.{kinds, kind_without_value, words_of_tokens}
 use Rattle.ob0_scan.specs.SameKinds.{HasSameKinds, HasSameWords}
 use Rattle.ob0_scan.specs.TextWithTokens.{IsScan, TextWithTokens}
 use Rattle.ob0_tree.specs.declared.tree.ModuleTree.{ModuleTree}
-use Rattle.ob0_scope_table.specs.BodyPlaces.{body_place_around, module_tree_of}
+use Rattle.ob0_scope_table.specs.BodyPlaces.{body_place_of_range, module_tree_of}
 use Rattle.ob0_scope_table.specs.declared.one_body.BodyPlace.{BodyPlace}
 use Rattle.ob0_scope_table.specs.declared.resolved.Bindings.{Bindings}
 use Rattle.ob0_types.specs.declared.checked.ModuleTypes.{ModuleTypes}
@@ -39,14 +39,14 @@ module _ (s wider : SameParts) (still : WidensDifference s wider) where
   there = omega (arith, still.back)
 
   here : s.new_suffix + more ≡ wider.new_suffix
-  here = omega (arith, still.back, still.same_shift)
+  here = omega (arith, still.back, still.adds_equally_many_tokens)
 
   tokens_still : (old new : List Token) → HasSameKinds s old new → wider.old_suffix ≤ length old → HasSameKinds wider old new
   tokens_still old new h inside = record {
     old_range = omega (arith, still.front, still.back, h.old_range);
-    new_range = omega (arith, still.front, still.back, still.same_shift, h.new_range);
+    new_range = omega (arith, still.front, still.back, still.adds_equally_many_tokens, h.new_range);
     old_inside = inside;
-    new_inside = omega (arith, still.same_shift, inside, as_many s old new h);
+    new_inside = omega (arith, still.adds_equally_many_tokens, inside, as_many s old new h);
     front = less_front wider.prefix s.prefix (kinds new) (kinds old) still.front h.front;
     back = less_back s.new_suffix s.old_suffix more wider.new_suffix wider.old_suffix (kinds new) (kinds old) here there h.back;
   }
@@ -59,7 +59,7 @@ module _ (s wider : SameParts) (still : WidensDifference s wider) where
 
   -- A wider range that ends inside the new text also ends inside the old text.
   inside_old : (old new : List Token) → HasSameKinds s old new → wider.new_suffix ≤ length new → wider.old_suffix ≤ length old
-  inside_old old new h inside = omega (arith, still.same_shift, inside, as_many s old new h)
+  inside_old old new h inside = omega (arith, still.adds_equally_many_tokens, inside, as_many s old new h)
 
 -- ---- two changes
 
@@ -83,7 +83,7 @@ joined_words s t old mid new p q h k = record {
 
 -- The module of the previous text is the last module if the range of differences is widened within one of its bodies.
 pub is_last : (new : TextWithTokens) (tree : ModuleTree) (b : Bindings) (types : ModuleTypes) (s wider : SameParts) (place : BodyPlace) → IsEarlierModule new tree b types s → WidensDifference s wider → wider.new_suffix ≤ length new.tokens
-    → body_place_around wider.prefix wider.old_suffix (module_tree_of tree) ≡ Some place → IsLastModuleOf new (record { bindings = b; types = types; same = wider; place = place })
+    → body_place_of_range wider.prefix wider.old_suffix (module_tree_of tree) ≡ Some place → IsLastModuleOf new (record { bindings = b; types = types; same = wider; place = place })
 is_last new tree b types s wider place h still inside placed = record {
   tree = tree;
   earlier_module = record {

@@ -23,10 +23,10 @@ use Rattle.ob0_tree.proofs.Mapped.{spell_mapped}
 use Rattle.ob0_parse_descent.proofs.Unique.{same}
 use Rattle.ob0_scope.specs.NewBody.{WasBoundBeforeNewBody}
 use Rattle.ob0_scope_table.specs.Bindings.{resolution_with}
-use Rattle.ob0_scope_table.specs.BodyPlaces.{body_place_around, module_tree_of}
+use Rattle.ob0_scope_table.specs.BodyPlaces.{body_place_of_range, module_tree_of}
 use Rattle.ob0_tree.specs.FirstIdentifier.{token_of_first_identifier}
-use Rattle.ob0_scope_table.specs.BodyReplaced.{IsBodyReplaced, PathToBody, body_at_path, closing_name_in_module, moved_token_index, path_to_body_in_module, module_without_body}
-use Rattle.ob0_scope_table.specs.OneBody.{is_outside}
+use Rattle.ob0_scope_table.specs.BodyReplaced.{IsBodyReplaced, PathToBody, body_at_path, closing_name_at_path, moved_token_index, path_to_body_in_module, module_without_body}
+use Rattle.ob0_scope_table.specs.OneBody.{is_outside_range}
 use Rattle.ob0_scope_table.proofs.BodyPlaces.{body_place_read}
 use Rattle.ob0_scope_table.proofs.Moved.{moved_above, moved_below, out_cases}
 use Rattle.ob0_scope_table.specs.declared.one_body.BodyPlace.{BodyPlace}
@@ -110,10 +110,10 @@ record Halves (m : ParsedModule) (path : PathToBody) (first closing : ℕ) : Typ
   pub closes : before + 1 ≡ closing
   pub back_is : back ≡ drop before (marked 0 (kinds m.source.tokens))
 
-halves : (m : ParsedModule) → IsParsed m → (path : PathToBody) (first closing : ℕ) → token_of_first_identifier (identifiers role.Declaring (body_at_path path (tree_of m))) ≡ Some first → closing_name_in_module path (tree_of m) ≡ closing → Halves m path first closing
+halves : (m : ParsedModule) → IsParsed m → (path : PathToBody) (first closing : ℕ) → token_of_first_identifier (identifiers role.Declaring (body_at_path path (tree_of m))) ≡ Some first → closing_name_at_path path (tree_of m) ≡ closing → Halves m path first closing
 halves m parsed path first closing is_first is_closing =
     let t : Tree ℕ module_text = tree_of m in
-    let c : ℕ = closing_name_in_module path t in
+    let c : ℕ = closing_name_at_path path t in
     let o = opened (body_at_path path t) first is_first in
     let a = around_body path t o.written o.is in
     let end_mark : Terminal ℕ = WordOrSymbol (kind.ReservedWord reserved.End) in
@@ -205,7 +205,7 @@ module _ (old new : ParsedModule) (s : SameParts) (tokens : HasSameKinds s old.s
 
 -- ---- tokens outside the range have the same spelling
 
-words_outside : (s : SameParts) (old new : TextWithTokens) → HasSameWords s old new → s.prefix ≤ s.old_suffix → (i : ℕ) → is_outside s.prefix s.old_suffix i ≡ true
+words_outside : (s : SameParts) (old new : TextWithTokens) → HasSameWords s old new → s.prefix ≤ s.old_suffix → (i : ℕ) → is_outside_range s.prefix s.old_suffix i ≡ true
     → slice_get (words_of_tokens new.text new.tokens) (moved_token_index s i) ≡ slice_get (words_of_tokens old.text old.tokens) i
 words_outside s old new written range i out = ⊎_elim
     (λ less. ap (slice_get (words_of_tokens new.text new.tokens)) (moved_below s i less)
@@ -218,7 +218,7 @@ words_outside s old new written range i out = ⊎_elim
     (out_cases s.prefix s.old_suffix i out)
 
 pub body_replaced : (old new : ParsedModule) (s : SameParts) → IsScan old.source → IsScan new.source → IsParsed old → IsParsed new → HasSameKinds s old.source.tokens new.source.tokens → HasSameWords s old.source new.source
-    → (was : BodyPlace) → body_place_around s.prefix s.old_suffix (tree_of old) ≡ Some was → IsSameBody was (body_place_around s.prefix s.new_suffix (tree_of new)) s → IsBodyReplaced old new (path_to_body_in_module s.prefix (tree_of old)) s
+    → (was : BodyPlace) → body_place_of_range s.prefix s.old_suffix (tree_of old) ≡ Some was → IsSameBody was (body_place_of_range s.prefix s.new_suffix (tree_of new)) s → IsBodyReplaced old new (path_to_body_in_module s.prefix (tree_of old)) s
 body_replaced old new s old_scan new_scan old_parsed new_parsed tokens written place placed b =
     let path : PathToBody = path_to_body_in_module s.prefix (tree_of old) in
     let new_path : PathToBody = path_to_body_in_module s.prefix (tree_of new) in
@@ -231,7 +231,7 @@ body_replaced old new s old_scan new_scan old_parsed new_parsed tokens written p
     let moved_too : module_without_body new_path (tree_of new) ≡ mapped_tree (moved_token_index s) (moved_token_index s) (module_without_body path (tree_of old)) =
     without_same old new s tokens path new_path first place.closing b.place.closing was is b.front b.back b.closing in
     let back : s.old_suffix ≤ place.closing = omega (arith, b.back) in
-    let closes : closing_name_in_module new_path (tree_of new) ≡ moved_token_index s (closing_name_in_module path (tree_of old)) =
+    let closes : closing_name_at_path new_path (tree_of new) ≡ moved_token_index s (closing_name_at_path path (tree_of old)) =
     q.closes ∙ sym (ap (moved_token_index s) p.closes ∙ (moved_above s place.closing tokens.old_range back ∙ omega (arith, b.closing, back))) in
     let one_way : new_path ≡ path = same_way s tokens.old_range tokens.new_range old new moved_too in
     record {
@@ -252,7 +252,7 @@ body_replaced old new s old_scan new_scan old_parsed new_parsed tokens written p
       first_identifier_of_new_body = subst (λ w. token_of_first_identifier (identifiers role.Declaring (body_at_path w (tree_of new))) ≡ Some first) one_way is_first;
       front = b.front;
       back = subst (λ n. s.old_suffix < n) (sym p.closes) b.back;
-      closing = subst (λ w. closing_name_in_module w (tree_of new) ≡ moved_token_index s (closing_name_in_module path (tree_of old))) one_way closes;
+      closing = subst (λ w. closing_name_at_path w (tree_of new) ≡ moved_token_index s (closing_name_at_path path (tree_of old))) one_way closes;
     }
 
 -- ---- the reused results
@@ -270,7 +270,7 @@ had_module c tree b types places h = record {
   written = h.written;
 }
 
-module _ (new : TextWithTokens) (tree : ModuleTree) (last : LastModule) (now : Option BodyPlace) (h : IsLastModuleOf new last) (placed : now ≡ body_place_around last.same.prefix last.same.new_suffix (module_tree_of tree)) (parsed : IsParsed (parsed_module new tree)) (one_body : IsSameBody last.place now last.same) where
+module _ (new : TextWithTokens) (tree : ModuleTree) (last : LastModule) (now : Option BodyPlace) (h : IsLastModuleOf new last) (placed : now ≡ body_place_of_range last.same.prefix last.same.new_suffix (module_tree_of tree)) (parsed : IsParsed (parsed_module new tree)) (one_body : IsSameBody last.place now last.same) where
   abbrev before_it : ParsedModule
   before_it = parsed_module h.earlier_module.old h.tree
 

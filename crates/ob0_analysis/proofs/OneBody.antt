@@ -13,7 +13,7 @@ use Rattle.ob0_tree.specs.declared.tree.ModuleTree.{ModuleTree}
 use Rattle.ob0_scope.proofs.Rebound.{ordinals_outside}
 use Rattle.ob0_scope.specs.Rebound.{WasBoundBeforeChange}
 use Rattle.ob0_scope_table.specs.Bindings.{resolution_with}
-use Rattle.ob0_scope_table.specs.OneBody.{IsBodyChange, is_in_body, is_outside}
+use Rattle.ob0_scope_table.specs.OneBody.{IsBodyChange, is_range_in_one_body, is_outside_range}
 use Rattle.ob0_scope_table.specs.Resolution.{IsResolution}
 use Rattle.ob0_scope_table.specs.declared.resolved.Bindings.{Bindings}
 use Rattle.ob0_types.specs.OneBody.{WereTypesBeforeChange}
@@ -50,7 +50,7 @@ module _ (s : SameParts) (old new : TextWithTokens) (alike : kinds new.tokens �
       let b : length before ≡ length old.tokens = length-map old.tokens (word_of_token old.text) in
       omega (arith, left, a, b, as_many, same.new_inside, same.old_inside)
 
-  same_outside : (i : ℕ) → is_outside s.prefix s.old_suffix i ≡ true → slice_get after i ≡ slice_get before i
+  same_outside : (i : ℕ) → is_outside_range s.prefix s.old_suffix i ≡ true → slice_get after i ≡ slice_get before i
   same_outside i e = one (nat_lt i s.prefix) refl
     where
       one : (b : Bool) → nat_lt i s.prefix ≡ b → slice_get after i ≡ slice_get before i
@@ -67,7 +67,7 @@ module _ (s : SameParts) (old new : TextWithTokens) (alike : kinds new.tokens �
           past true f g = grind (arith, nat_tests)
           past false f g = absurd (cc)
 
-module _ {new : TextWithTokens} {tree : ModuleTree} {b : Bindings} {types : ModuleTypes} {s : SameParts} (h : IsEarlierModuleWithSameKinds new tree b types s) (lies : is_in_body s.prefix s.old_suffix (tree_of (parsed_module new tree)) ≡ true) where
+module _ {new : TextWithTokens} {tree : ModuleTree} {b : Bindings} {types : ModuleTypes} {s : SameParts} (h : IsEarlierModuleWithSameKinds new tree b types s) (lies : is_range_in_one_body s.prefix s.old_suffix (tree_of (parsed_module new tree)) ≡ true) where
   body_change : IsBodyChange h.earlier_module.old (parsed_module new tree) s.prefix s.old_suffix
   body_change = record {
     old_scan = h.earlier_module.old_scan;

@@ -5,7 +5,7 @@ use Rattle.ob0_scan.specs.declared.lexeme.ReservedWord.TheVariants as reserved
 use Rattle.ob0_scan.specs.declared.lexeme.Symbol.TheVariants as symbol
 use Rattle.ob0_tree.specs.Lexeme.{Terminal, Name, WordOrSymbol}
 use Rattle.ob0_tree.specs.Tree.{Tree, block, body, declares, declares_procedure, end, forms_block, is_module, item, items, mapped_tree, maybe, module_text, more, one, procedure, spell}
-use Rattle.ob0_scope_table.specs.BodyReplaced.{PathToBody, block_without, body_at_path_in_procedures, body_at_path, body_at_path_in_block, body_at_path_in_procedure, closing_name_in_procedures, closing_name_in_module, closing_name_in_block, closing_name_in_procedure, shift_path, procedure_without, procedures_without, path_to_body_in_procedures, path_to_body_in_block, path_to_body_in_module, module_without_body}
+use Rattle.ob0_scope_table.specs.BodyReplaced.{PathToBody, block_without, body_at_path_in_procedures, body_at_path, body_at_path_in_block, body_at_path_in_procedure, closing_name_at_path_in_procedures, closing_name_at_path, closing_name_at_path_in_block, closing_name_at_path_in_procedure, path_after_insertion_in_front, procedure_without, procedures_without, path_to_body_in_procedures, path_to_body_in_block, path_to_body_in_module, module_without_body}
 
 -- Holds if `whole` and `less` are the tokens of a part with a body and without it. Both have the same tokens before the
 -- body, and the END and the closing name of its block after it.
@@ -42,7 +42,7 @@ in_heading x n semi fs b e r f z is =
 
 mutual
   around_block : {N : Type 0} (path : PathToBody) (own : N) (b : Tree N block) (after : List (Terminal N)) (y : Tree N (item body)) → body_at_path_in_block path b ≡ one y
-      → Around (spell b ++ (WordOrSymbol (kind.ReservedWord reserved.End) ∷ Name own ∷ after)) (spell (block_without path b) ++ (WordOrSymbol (kind.ReservedWord reserved.End) ∷ Name own ∷ after)) (body_at_path_in_block path b) (closing_name_in_block path own b)
+      → Around (spell b ++ (WordOrSymbol (kind.ReservedWord reserved.End) ∷ Name own ∷ after)) (spell (block_without path b) ++ (WordOrSymbol (kind.ReservedWord reserved.End) ∷ Name own ∷ after)) (body_at_path_in_block path b) (closing_name_at_path_in_block path own b)
   around_block [] own (forms_block ds statements) after y e =
       record { front = spell ds; back = after; whole_is = append_assoc (spell ds) (spell statements) _; less_is = append_assoc (spell ds) [] _ }
   around_block (k ∷ path) own (forms_block (declares cs ts vs ps) statements) after y e =
@@ -56,7 +56,7 @@ mutual
       }
 
   around_among : {N : Type 0} (k : ℕ) (path : PathToBody) (own : N) (ps : Tree N (items procedure)) (after : List (Terminal N)) (y : Tree N (item body)) → body_at_path_in_procedures k path ps ≡ one y
-      → Around (spell ps ++ after) (spell (procedures_without k path ps) ++ after) (body_at_path_in_procedures k path ps) (closing_name_in_procedures k path own ps)
+      → Around (spell ps ++ after) (spell (procedures_without k path ps) ++ after) (body_at_path_in_procedures k path ps) (closing_name_at_path_in_procedures k path own ps)
   around_among k path own end after y e = absurd (cc (e))
   around_among zero path own (more p ps) after y e =
       let h = around_procedure path p (spell ps ++ after) y e in
@@ -76,7 +76,7 @@ mutual
       }
 
   around_procedure : {N : Type 0} (path : PathToBody) (p : Tree N (item procedure)) (after : List (Terminal N)) (y : Tree N (item body)) → body_at_path_in_procedure path p ≡ one y
-      → Around (spell p ++ after) (spell (procedure_without path p) ++ after) (body_at_path_in_procedure path p) (closing_name_in_procedure path p)
+      → Around (spell p ++ after) (spell (procedure_without path p) ++ after) (body_at_path_in_procedure path p) (closing_name_at_path_in_procedure path p)
   around_procedure path (declares_procedure n fs b c) after y e =
       let last : List (Terminal _) = WordOrSymbol (kind.ReservedWord reserved.End) ∷ Name c ∷ WordOrSymbol (kind.Symbol symbol.Semicolon) ∷ [] in
       let h = around_block path c b (WordOrSymbol (kind.Symbol symbol.Semicolon) ∷ after) y e in
@@ -87,7 +87,7 @@ mutual
         less_is = in_heading _ _ _ (spell fs) (spell (block_without path b)) last after h.front _ h.less_is;
       }
 
-pub around_body : {N : Type 0} (path : PathToBody) (t : Tree N module_text) (y : Tree N (item body)) → body_at_path path t ≡ one y → Around (spell t) (spell (module_without_body path t)) (body_at_path path t) (closing_name_in_module path t)
+pub around_body : {N : Type 0} (path : PathToBody) (t : Tree N module_text) (y : Tree N (item body)) → body_at_path path t ≡ one y → Around (spell t) (spell (module_without_body path t)) (body_at_path path t) (closing_name_at_path path t)
 around_body path (is_module n b c) y e =
     let h = around_block path c b (WordOrSymbol (kind.Symbol symbol.Dot) ∷ []) y e in
     record {
@@ -106,8 +106,8 @@ mutual
 
   way_less_among : (low k : ℕ) (path : PathToBody) (ps : Tree ℕ (items procedure)) → path_to_body_in_procedures low (procedures_without k path ps) ≡ path_to_body_in_procedures low ps
   way_less_among low k path end = refl
-  way_less_among low zero path (more (declares_procedure n fs b c) ps) = ap (λ w. if nat_lt c low then shift_path (path_to_body_in_procedures low ps) else zero ∷ w) (way_less_block low path b)
-  way_less_among low (suc k) path (more (declares_procedure n fs b c) ps) = ap (λ w. if nat_lt c low then shift_path w else zero ∷ path_to_body_in_block low b) (way_less_among low k path ps)
+  way_less_among low zero path (more (declares_procedure n fs b c) ps) = ap (λ w. if nat_lt c low then path_after_insertion_in_front (path_to_body_in_procedures low ps) else zero ∷ w) (way_less_block low path b)
+  way_less_among low (suc k) path (more (declares_procedure n fs b c) ps) = ap (λ w. if nat_lt c low then path_after_insertion_in_front w else zero ∷ path_to_body_in_block low b) (way_less_among low k path ps)
 
 pub way_less : (low : ℕ) (path : PathToBody) (t : Tree ℕ module_text) → path_to_body_in_module low (module_without_body path t) ≡ path_to_body_in_module low t
 way_less low path (is_module n b c) = way_less_block low path b
@@ -120,9 +120,9 @@ module _ (low : ℕ) (f : ℕ → ℕ) (side : (c : ℕ) → nat_lt (f c) low �
     way_moved_among : (ps : Tree ℕ (items procedure)) → path_to_body_in_procedures low (mapped_tree f f ps) ≡ path_to_body_in_procedures low ps
     way_moved_among end = refl
     way_moved_among (more (declares_procedure n fs b c) ps) =
-        ap (λ x. if x then shift_path (path_to_body_in_procedures low (mapped_tree f f ps)) else zero ∷ path_to_body_in_block low (mapped_tree f f b)) (side c)
-        ∙ (ap (λ w. if nat_lt c low then shift_path w else zero ∷ path_to_body_in_block low (mapped_tree f f b)) (way_moved_among ps)
-        ∙ ap (λ w. if nat_lt c low then shift_path (path_to_body_in_procedures low ps) else zero ∷ w) (way_moved_block b))
+        ap (λ x. if x then path_after_insertion_in_front (path_to_body_in_procedures low (mapped_tree f f ps)) else zero ∷ path_to_body_in_block low (mapped_tree f f b)) (side c)
+        ∙ (ap (λ w. if nat_lt c low then path_after_insertion_in_front w else zero ∷ path_to_body_in_block low (mapped_tree f f b)) (way_moved_among ps)
+        ∙ ap (λ w. if nat_lt c low then path_after_insertion_in_front (path_to_body_in_procedures low ps) else zero ∷ w) (way_moved_block b))
 
   pub way_moved : (t : Tree ℕ module_text) → path_to_body_in_module low (mapped_tree f f t) ≡ path_to_body_in_module low t
   way_moved (is_module n b c) = way_moved_block b

@@ -7,7 +7,7 @@ use Rattle.ob0_scan.specs.declared.tokens.SameParts.{SameParts}
 use Rattle.ob0_tree.specs.declared.tree.ModuleTree.{ModuleTree}
 use Rattle.ob0_tree.specs.ParsedModule.{IsParsed, parsed_module}
 use Rattle.ob0_scope_table.specs.Bindings.{resolution_with}
-use Rattle.ob0_scope_table.specs.BodyPlaces.{body_place_around, module_tree_of}
+use Rattle.ob0_scope_table.specs.BodyPlaces.{body_place_of_range, module_tree_of}
 use Rattle.ob0_scope_table.specs.Resolution.{IsResolution}
 use Rattle.ob0_scope_table.specs.declared.resolved.Bindings.{Bindings}
 use Rattle.ob0_types.specs.CheckedModules.{AreTypesOf}
@@ -36,7 +36,7 @@ pub record IsEarlierModule
 pub record IsLastModuleOf (new : TextWithTokens) (last : LastModule) : Type 0 where
   pub tree : ModuleTree
   pub earlier_module : IsEarlierModule new tree last.bindings last.types last.same
-  pub placed : body_place_around last.same.prefix last.same.old_suffix (module_tree_of tree) ≡ Some last.place
+  pub placed : body_place_of_range last.same.prefix last.same.old_suffix (module_tree_of tree) ≡ Some last.place
 
 -- States that the tokens that may differ according to `wide` include the tokens that may differ
 -- according to `narrow`. At the end of the range, `wide` must add as many tokens in the old text as
@@ -44,7 +44,7 @@ pub record IsLastModuleOf (new : TextWithTokens) (last : LastModule) : Type 0 wh
 pub record WidensDifference (narrow wide : SameParts) : Type 0 where
   pub front : wide.prefix ≤ narrow.prefix
   pub back : narrow.old_suffix ≤ wide.old_suffix
-  pub same_shift : wide.new_suffix + narrow.old_suffix ≡ narrow.new_suffix + wide.old_suffix
+  pub adds_equally_many_tokens : wide.new_suffix + narrow.old_suffix ≡ narrow.new_suffix + wide.old_suffix
 
 -- States that a change from an old text to a new text keeps the last module right: if `before`
 -- belongs to the old text, then `after` belongs to the new text. This must hold for any old text

@@ -31,7 +31,7 @@
 //!   the parser refuses. Meanwhile the results for the earlier module are kept (`last_module.rt`).
 //!
 //! If all tokens have the same spelling (`words_of_tokens`), for example after a change of blanks,
-//! line endings or comments, everything is kept (`reanalyse_same_words`). The tree has the same
+//! line endings or comments, everything is kept (`reanalyse_with_same_spellings`). The tree has the same
 //! names and numbers, and each fault is at the same tokens (`bindings_move_with_tokens` of
 //! `ob0_scope`, `types_depend_on_tokens` of `ob0_types`). Faults are stored with spans. So the
 //! tokens of each fault are found by binary search before the scan, and the spans are computed
@@ -142,7 +142,7 @@ impl Analysis {
     {
         let Analysis { outcome, room } = self;
         match outcome {
-            AnalysisResult::Unscannable(ill) => Analysis::analyse_after_faults(
+            AnalysisResult::Unscannable(ill) => Analysis::analyse_after_lexical_faults(
                 alloc, ill, room, text,
             ),
             AnalysisResult::Read(read) => {
@@ -155,7 +155,7 @@ impl Analysis {
     /// Analyses a text if the previous text had lexical faults (`ill`). Reuses the analysis of the
     /// last text that had lexemes, if that analysis is kept. The lists of that analysis have room
     /// for a text of `room` bytes.
-    fn analyse_after_faults(
+    fn analyse_after_lexical_faults(
         alloc: Global,
         ill: UnscannableText,
         room: usize,

@@ -3,7 +3,7 @@
 
 ghost use Rattle.std.specs.Prelude.{◌≡◌, ◌+◌, ◌-◌, ◌<◌, ◌≤◌, true, length, take, drop};
 ghost use Rattle.ob0_scan.specs.Reused.{ReplacesRange};
-ghost use Rattle.ob0_analysis.specs.Pieces.{IsCommonPiece};
+ghost use Rattle.ob0_analysis.specs.Pieces.{HaveEqualBytesAt};
 
 /// A difference between two texts: the `removed` bytes at the byte offset `start` of the first text
 /// are replaced by `added` bytes in the second text.
@@ -33,7 +33,7 @@ impl Difference {
 
 /// The size, in bytes, of the pieces in which two texts are compared. The first piece that differs
 /// or isn't full is compared byte by byte.
-const COMPARISON_BLOCK: usize = 256;
+const COMPARISON_BLOCK_SIZE: usize = 256;
 
 /// Returns the length of the common prefix of two texts, in bytes.
 fn common_prefix_length(a: &[u8], b: &[u8]) -> usize
@@ -41,7 +41,7 @@ fn common_prefix_length(a: &[u8], b: &[u8]) -> usize
     ensures in_b { result ≤ length b.now }
     ensures same { take result a.now ≡ take result b.now }
 {
-    let known = extend_prefix(a, b, 0, COMPARISON_BLOCK);
+    let known = extend_prefix(a, b, 0, COMPARISON_BLOCK_SIZE);
     extend_prefix(a, b, known, 1)
 }
 
@@ -57,7 +57,7 @@ fn extend_prefix(a: &[u8], b: &[u8], known: usize, size: usize) -> usize
     ensures same { take result a.now ≡ take result b.now }
 {
     let mut count = known;
-    while is_same_piece(a, b, count, count, size) {
+    while have_equal_bytes_at(a, b, count, count, size) {
         count += size;
     }
     count
@@ -73,7 +73,7 @@ fn common_suffix_length(a: &[u8], b: &[u8], start: usize) -> usize
     ensures same { drop (length a.now - result) a.now ≡ drop (length b.now - result) b.now }
 {
     let most = (a.len() - start).min(b.len() - start);
-    let known = extend_suffix(a, b, most, 0, COMPARISON_BLOCK);
+    let known = extend_suffix(a, b, most, 0, COMPARISON_BLOCK_SIZE);
     extend_suffix(a, b, most, known, 1)
 }
 
@@ -91,7 +91,7 @@ fn extend_suffix(a: &[u8], b: &[u8], most: usize, known: usize, size: usize) -> 
 {
     let mut count = known;
     while most - count >= size
-        && is_same_piece(a, b, a.len() - count - size, b.len() - count - size, size)
+        && have_equal_bytes_at(a, b, a.len() - count - size, b.len() - count - size, size)
     {
         count += size;
     }
@@ -100,8 +100,8 @@ fn extend_suffix(a: &[u8], b: &[u8], most: usize, known: usize, size: usize) -> 
 
 /// Returns whether the `size` bytes of `a` at the byte offset `in_a` exist, and equal the `size`
 /// bytes of `b` at the byte offset `in_b`.
-fn is_same_piece(a: &[u8], b: &[u8], in_a: usize, in_b: usize, size: usize) -> bool
-    ensures yes { result ≡ true → IsCommonPiece a.now b.now in_a in_b size }
+fn have_equal_bytes_at(a: &[u8], b: &[u8], in_a: usize, in_b: usize, size: usize) -> bool
+    ensures yes { result ≡ true → HaveEqualBytesAt a.now b.now in_a in_b size }
 {
     in_a <= a.len()
         && in_b <= b.len()

@@ -41,7 +41,7 @@ impl FaultPlaces {
     /// Returns whether the text with the tokens `tokens` begins like the module's text (`self`):
     /// both begin with a token, or neither does. A text without tokens counts as one that begins
     /// with a token.
-    pub(crate) fn begins_alike(&self, tokens: &Tokens) -> bool
+    pub(crate) fn begins_like_module_text(&self, tokens: &Tokens) -> bool
         ensures { result ≡ true → (first_token_start tokens.now == 0) ≡ self.now.starts_with_token }
     {
         begins_with_token(tokens) == self.starts_with_token

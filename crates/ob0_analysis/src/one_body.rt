@@ -5,7 +5,7 @@ ghost use Rattle.std.specs.Prelude.{◌≡◌, true, IfOk};
 ghost use Rattle.ob0_tree.specs.ParsedModule.{IsParsed, parsed_module, tree_of};
 ghost use Rattle.ob0_scope.specs.Rebound.{WasBoundBeforeChange};
 ghost use Rattle.ob0_scope_table.specs.Bindings.{resolution_with};
-ghost use Rattle.ob0_scope_table.specs.OneBody.{is_in_body};
+ghost use Rattle.ob0_scope_table.specs.OneBody.{is_range_in_one_body};
 ghost use Rattle.ob0_scope_table.specs.Resolution.{IsResolution};
 ghost use Rattle.ob0_types.specs.CheckedModules.{AreTypesOf};
 ghost use Rattle.ob0_types.specs.OneBody.{WereTypesBeforeChange};
@@ -13,7 +13,7 @@ ghost use Rattle.ob0_types.specs.OneBody.{WereTypesBeforeChange};
 use crate::parts::check_types;
 use ob0_scan::{SameParts, Tokens};
 use ob0_scope::{bindings_of, rebind_body};
-use ob0_scope_table::{Bindings, Resolved, is_in_body};
+use ob0_scope_table::{Bindings, Resolved, is_range_in_one_body};
 use ob0_tree::{Module, ModuleTree};
 use ob0_types::{ModuleTypes, types_after_body_change};
 use std::alloc::{AllocError, Global};
@@ -23,10 +23,10 @@ use std::alloc::{AllocError, Global};
 pub(crate) fn differs_in_one_body(tokens: &Tokens, tree: &ModuleTree, same: SameParts) -> bool
     requires { IsParsed (parsed_module tokens.now tree.now) }
     ensures { result
-        ≡ is_in_body same.prefix same.old_suffix (tree_of (parsed_module tokens.now tree.now)) }
+        ≡ is_range_in_one_body same.prefix same.old_suffix (tree_of (parsed_module tokens.now tree.now)) }
 {
     let read = Module::from_parts(tokens, tree);
-    is_in_body(&read, same.prefix, same.old_suffix)
+    is_range_in_one_body(&read, same.prefix, same.old_suffix)
 }
 
 /// Binds the names of a text that has the same tree as the previous text. If the texts differ in

@@ -333,8 +333,8 @@ impl ScannedText {
             return ScannedText::reanalyse_changed_kinds(alloc, tokens, tree, bindings, types, same);
         }
         if same_words {
-            if places.begins_alike(&tokens) {
-                return ScannedText::reanalyse_same_words(
+            if places.begins_like_module_text(&tokens) {
+                return ScannedText::reanalyse_with_same_spellings(
                     alloc, tokens, tree, bindings, types, places,
                 );
             }
@@ -416,7 +416,7 @@ impl ScannedText {
     /// Analyses a text whose tokens have the same spelling as the previous text's. The tree,
     /// bindings and types are kept. Only the spans of the faults are computed again, from the same
     /// tokens (`places`) in the changed text.
-    fn reanalyse_same_words(
+    fn reanalyse_with_same_spellings(
         alloc: Global,
         tokens: Tokens,
         tree: ModuleTree,

@@ -20,7 +20,7 @@ ghost use Rattle.std.specs.Prelude.{◌≡◌, ◌≢◌, ◌≤◌, Some, false
 ghost use Rattle.clap.specs.Words.{App, Rule, app_of, first_of, found_of, new_app, rows_of, rule_of, subcommand_rows_of, with_rule, with_subcommand};
 ghost use Rattle.ob0_cli.specs.Given.{SpellsCommand, IsCompleteCommand, HasBoundedValue, HasCoordinateValue, HasTextValue, HasFoundValues, HasNumberValue, YieldsCommandLine, HasFilePath, HasNeededValues, RefusesWords, max_option_value};
 ghost use Rattle.ob0_cli.specs.declared.line.CommandLine.TheVariants.{Serve};
-ghost use Rattle.ob0_cli.specs.Lines.{client_rule, ob0_without_subcommands, ob0_app, calls_rule, check as check_lines, number_rule, rename as rename_lines, run as run_lines, serve as serve_lines, serve_without_options as serve_lines_alone, stdio_rule, turns_rule, word_rule};
+ghost use Rattle.ob0_cli.specs.Lines.{client_rule, ob0_without_subcommands, ob0_app, calls_rule, check as check_app, number_rule, rename as rename_app, run as run_app, serve as serve_app, serve_without_options as serve_app_without_options, stdio_rule, turns_rule, word_rule};
 
 use clap::error::ErrorKind;
 use clap::{Arg, ArgAction, ArgMatches, Command, Error, value_parser};
@@ -347,7 +347,7 @@ fn command_with_help<'a>(
 /// Makes the subcommand `serve`. The subcommand accepts the options that LSP 3.17 recommends, and
 /// ignores them.
 fn serve_definition<'a>(alloc: Global) -> Result<Command<'a>, AllocError>
-    ensures { IfOk result (λ c. app_of c ≡ serve_lines) }
+    ensures { IfOk result (λ c. app_of c ≡ serve_app) }
 {
     let with_stdio = add_argument(Ok(serve_without_options(alloc)), stdio_argument(alloc));
     add_argument(with_stdio, client_argument(alloc))
@@ -355,7 +355,7 @@ fn serve_definition<'a>(alloc: Global) -> Result<Command<'a>, AllocError>
 
 /// Makes the subcommand `serve` without its options. Each option may be given several times.
 fn serve_without_options<'a>(alloc: Global) -> Command<'a>
-    ensures { app_of result ≡ serve_lines_alone }
+    ensures { app_of result ≡ serve_app_without_options }
 {
     command_with_help(
         alloc,
@@ -387,7 +387,7 @@ fn client_argument<'a>(alloc: Global) -> Arg<'a>
 }
 
 fn check_definition<'a>(alloc: Global) -> Result<Command<'a>, AllocError>
-    ensures { IfOk result (λ c. app_of c ≡ check_lines) }
+    ensures { IfOk result (λ c. app_of c ≡ check_app) }
 {
     let file = word_argument(alloc, "file", "FILE", "The file with the module");
     command_with_help(
@@ -400,7 +400,7 @@ fn check_definition<'a>(alloc: Global) -> Result<Command<'a>, AllocError>
 }
 
 fn run_definition<'a>(alloc: Global) -> Result<Command<'a>, AllocError>
-    ensures { IfOk result (λ c. app_of c ≡ run_lines) }
+    ensures { IfOk result (λ c. app_of c ≡ run_app) }
 {
     let file = word_argument(alloc, "file", "FILE", "The file with the module");
     let alone = command_with_help(
@@ -415,7 +415,7 @@ fn run_definition<'a>(alloc: Global) -> Result<Command<'a>, AllocError>
 }
 
 fn rename_definition<'a>(alloc: Global) -> Result<Command<'a>, AllocError>
-    ensures { IfOk result (λ c. app_of c ≡ rename_lines) }
+    ensures { IfOk result (λ c. app_of c ≡ rename_app) }
 {
     let file = word_argument(alloc, "file", "FILE", "The file with the module");
     let alone = command_with_help(

@@ -13,7 +13,7 @@ use Rattle.ob0_commands.specs.declared.faults.FileFault.{FileFault}
 use Rattle.ob0_commands.specs.declared.faults.FileFault.TheVariants as fault
 use Rattle.ob0_commands.specs.Numbers.{IsUnusableInput, IsInputOf}
 use Rattle.ob0_commands.specs.Printed.{PrintsDiagnostics, run_end_line, output_text}
-use Rattle.ob0_commands.specs.Statuses.{IsNonUtf8File, IsFaultOrMemory, StopsRunning, run_end_status}
+use Rattle.ob0_commands.specs.Statuses.{IsNonUtf8File, IsFaultOrMemory, MayStopRun, run_end_status}
 use Rattle.ob0_commands.specs.TextRuns.{IsLoweredTo, PrintsCompleteRun, PrintsErrorsOrStoppedRun, PrintsRun, TextRunsAs}
 
 -- If the status is 0, the run reached the end of the module's body.
@@ -62,7 +62,7 @@ prints_wrong file text given c t before mid after same kept wrong IsPrintedOnStd
 
 -- If reading the numbers fails, `run` may stop with that fault.
 pub stops_reading : (file text : List ℕ) (program : Program) (given : Option (List ℕ)) (failed : Bool) (Otherwise : Type 0) (f : FileFault) → text ≡ file → IsLoweredTo text program → ¬ (IsNonUtf8File file)
-    → IsFaultOrMemory fault.Input (IsUnusableInput given failed) Otherwise f → StopsRunning file given failed f
+    → IsFaultOrMemory fault.Input (IsUnusableInput given failed) Otherwise f → MayStopRun file given failed f
 stops_reading file text program given failed Otherwise f same lowered readable (inl none) =
     let module_there : IsWellTypedModule text = record { tree = lowered.tree; text_of = lowered.text_of; well_typed = lowered.well_typed } in
     inl (none.0, (subst IsWellTypedModule same module_there, none.1))

@@ -11,7 +11,7 @@ use Rattle.ob0_commands.specs.Inputs.{ConsumesAtMost}
 use Rattle.ob0_commands.specs.Numbers.{max_input}
 use Rattle.ob0_commands.specs.Printed.{PrintsDiagnostics}
 use Rattle.ob0_commands.specs.Renamed.{RenameEndsWithoutFault}
-use Rattle.ob0_commands.specs.Statuses.{IsNonUtf8File, KeepsInputFailureUnlessInputFault, StopsCommandOnFile, StopsRunning}
+use Rattle.ob0_commands.specs.Statuses.{IsNonUtf8File, KeepsInputFailureUnlessInputFault, MayStopCommandOnFile, MayStopRun}
 use Rattle.ob0_commands.specs.TextRuns.{RunEndsWithoutFault}
 
 -- States that `check` ends with this status. With status 0, the file has no diagnostics, and nothing is printed. With
@@ -30,7 +30,7 @@ ChecksFile contents is_flushed has_failed before after IsPrintedOnStderr file st
     (PrintsDiagnostics file (contents before) (contents after) × (is_flushed after ≡ true))
     (¬ IsNonUtf8File file × (has_failed after ≡ has_failed before) × IsPrintedOnStderr None)
     status
-    ⊎ EndsByFault has_failed before after file (StopsCommandOnFile file) IsPrintedOnStderr status
+    ⊎ EndsByFault has_failed before after file (MayStopCommandOnFile file) IsPrintedOnStderr status
 
 -- States that `run` ends with this status. With status 0 or 1, a run of the file's module on the
 -- numbers of the input is printed, or the file's errors are printed (`RunEndsWithoutFault`). With
@@ -53,7 +53,7 @@ RunsFile contents is_flushed has_failed before after IsPrintedOnStderr file rema
     × (input_failed input_after ≡ input_failed input))
     status
     ⊎ EndsByFault has_failed before after file
-    (λ fault. StopsRunning file (remaining input) (input_failed input_after) fault
+    (λ fault. MayStopRun file (remaining input) (input_failed input_after) fault
     × KeepsInputFailureUnlessInputFault (input_failed input) (input_failed input_after) fault)
     IsPrintedOnStderr status
 
@@ -74,7 +74,7 @@ RenamesInFile contents is_flushed has_failed before after IsPrintedOnStderr file
     RenameEndsWithoutFault contents is_flushed before after IsPrintedOnStderr file position new
     (¬ IsNonUtf8File file × (has_failed after ≡ has_failed before))
     status
-    ⊎ EndsByFault has_failed before after file (StopsCommandOnFile file) IsPrintedOnStderr status
+    ⊎ EndsByFault has_failed before after file (MayStopCommandOnFile file) IsPrintedOnStderr status
 
 -- States that the command of this command line ends with this status, as `ChecksFile`, `RunsFile`
 -- or `RenamesInFile` says. `input` and `input_after` are the input before and after the call. Only `run`

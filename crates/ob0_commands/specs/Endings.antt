@@ -1,16 +1,16 @@
 -- Defines how a command on a file ends: its status, its output and its lines on standard error. If
 -- the status is 0 or 1, the file is UTF-8 or too long. In that case, the call hasn't changed
 -- whether the output or the input has failed. Any other status is the status of a fault.
--- `StopsCommandOnFile` and `StopsRunning` state the reason for the fault. A run is printed only if
+-- `MayStopCommandOnFile` and `MayStopRun` state the reason for the fault. A run is printed only if
 -- the bytes of its input are a list of numbers (`IsInputOf`) or aren't known. Status 5 (out of
 -- memory) doesn't depend on the input, but it occurs only for a file that isn't too long
--- (`IsMemoryOnlyIfShort`): for a file that is too long, the commands allocate nothing. Each
+-- (`IsMemoryFaultOnlyForShortFile`): for a file that is too long, the commands allocate nothing. Each
 -- command prints after its last allocation. So a fault other than `Write` leaves the output
 -- unchanged (`PrintsNothingUnlessWriteFault`).
 -- Rule: docs/PROTOCOL.md, The program 5 to 8.
 use Rattle.std.specs.Prelude.{◌≡◌, ◌≤◌, ℕ, List, Option, Some, Bool}
 use Rattle.ob0_commands.specs.Printed.{fault_line}
-use Rattle.ob0_commands.specs.Statuses.{IsMemoryOnlyIfShort, OutputFailureMatches, PrintsNothingUnlessWriteFault, status_of}
+use Rattle.ob0_commands.specs.Statuses.{IsMemoryFaultOnlyForShortFile, OutputFailureMatches, PrintsNothingUnlessWriteFault, status_of}
 use Rattle.ob0_commands.specs.declared.faults.FileFault.{FileFault}
 
 -- States that no fault stops the command. The status is 0 and `Good` holds, or the status is 1 and
@@ -31,5 +31,5 @@ pub record EndsByFault {O : Type 0} (has_failed : O → Bool) (before after : O)
   pub stops : Stops ending_fault
   pub failed : OutputFailureMatches (has_failed before) (has_failed after) ending_fault
   pub kept : PrintsNothingUnlessWriteFault before after ending_fault
-  pub memory : IsMemoryOnlyIfShort file ending_fault
+  pub memory : IsMemoryFaultOnlyForShortFile file ending_fault
   pub said : IsPrintedOnStderr (Some (fault_line ending_fault))

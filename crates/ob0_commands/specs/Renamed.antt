@@ -20,7 +20,7 @@ use Rattle.ob0_commands.specs.Statuses.{IsTextFile}
 
 -- States that the edits can be applied to the text, and that the edited text is printed in UTF-8.
 -- If the output's bytes aren't known, nothing is stated about them.
-pub record PrintsPatched (unit : Unit) (content : List ℕ) (edits : List Edit)
+pub record PrintsPatchedText (unit : Unit) (content : List ℕ) (edits : List Edit)
     (before after : Option (List ℕ)) : Type 0 where
   pub text : List ℕ
   pub utf8 : IsUtf8 text
@@ -36,7 +36,7 @@ abbrev pub PrintsEditedText : Unit
     → Option (List ℕ)
     → Type 0
 PrintsEditedText unit content (Ok edits) before after =
-    PrintsPatched unit content edits.items before after
+    PrintsPatchedText unit content edits.items before after
 PrintsEditedText unit content (Err refusal) before after = ⊥
 
 -- States that the result is a refusal whose line is printed on standard error. A list of edits
@@ -55,7 +55,7 @@ pub record PrintsRenamed (file : List ℕ) (position : Position) (new : List ℕ
   pub has_text : IsTextFile file
   pub edits : List Edit
   pub rename : RenamesIn Utf16 (chars file) position new edits
-  pub prints : PrintsPatched Utf16 (chars file) edits before after
+  pub prints : PrintsPatchedText Utf16 (chars file) edits before after
 
 -- States that the file has a text (`IsTextFile`), but that renaming the declaration at the position
 -- to `new` is refused. The refusal is printed on standard error, and the output is unchanged.

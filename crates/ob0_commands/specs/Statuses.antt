@@ -33,13 +33,13 @@ IsNonUtf8File file = (length file ≤ max_text) × ¬ (IsUtf8 file)
 
 -- States that this fault may stop a command on this file. The fault is `Utf8` if the file isn't UTF-8
 -- (`IsNonUtf8File`). Otherwise it is `Write` or `Memory`.
-abbrev pub StopsCommandOnFile : List ℕ → FileFault → Type 0
-StopsCommandOnFile file f =
+abbrev pub MayStopCommandOnFile : List ℕ → FileFault → Type 0
+MayStopCommandOnFile file f =
     ((f ≡ fault.Utf8) × IsNonUtf8File file) ⊎ (IsWriteOrMemory f × ¬ (IsNonUtf8File file))
 
 -- States that the fault `Memory` occurs only if the file isn't too long.
-abbrev pub IsMemoryOnlyIfShort : List ℕ → FileFault → Type 0
-IsMemoryOnlyIfShort file f = f ≡ fault.Memory → length file ≤ max_text
+abbrev pub IsMemoryFaultOnlyForShortFile : List ℕ → FileFault → Type 0
+IsMemoryFaultOnlyForShortFile file f = f ≡ fault.Memory → length file ≤ max_text
 
 -- States that the output is unchanged, unless the fault is `Write`. `before` and `after` are the
 -- output before and after the call.
@@ -73,8 +73,8 @@ OutputFailureMatches before after f =
 
 -- States that the file is a well-typed module, but that there are no numbers to run it on. The
 -- input has failed, is too long, or isn't a list of numbers.
-abbrev pub ModuleLacksInput : List ℕ → Option (List ℕ) → (input_failed : Bool) → Type 0
-ModuleLacksInput file given input_failed = IsWellTypedModule file × IsUnusableInput given input_failed
+abbrev pub ModuleLacksUsableInput : List ℕ → Option (List ℕ) → (input_failed : Bool) → Type 0
+ModuleLacksUsableInput file given input_failed = IsWellTypedModule file × IsUnusableInput given input_failed
 
 -- States that the call didn't change whether the input has failed, unless the fault is `Input`.
 -- `before` and `after` say whether the input has failed, before and after the call.
@@ -82,7 +82,7 @@ abbrev pub KeepsInputFailureUnlessInputFault : (before after : Bool) → FileFau
 KeepsInputFailureUnlessInputFault before after f = f ≢ fault.Input → after ≡ before
 
 -- States that this fault may stop `run` on this file and this input. The fault is `Input`, and the module has no valid
--- input. Or it is a fault that may stop any command on the file (`StopsCommandOnFile`).
-abbrev pub StopsRunning : List ℕ → Option (List ℕ) → (input_failed : Bool) → FileFault → Type 0
-StopsRunning file given input_failed f =
-    ((f ≡ fault.Input) × ModuleLacksInput file given input_failed) ⊎ StopsCommandOnFile file f
+-- input. Or it is a fault that may stop any command on the file (`MayStopCommandOnFile`).
+abbrev pub MayStopRun : List ℕ → Option (List ℕ) → (input_failed : Bool) → FileFault → Type 0
+MayStopRun file given input_failed f =
+    ((f ≡ fault.Input) × ModuleLacksUsableInput file given input_failed) ⊎ MayStopCommandOnFile file f

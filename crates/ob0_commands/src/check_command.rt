@@ -9,7 +9,7 @@ ghost use Rattle.std.specs.Mem.{manually_drop_value};
 ghost use Rattle.ob0_commands.specs.CommandEffects.{ChecksFile};
 ghost use Rattle.ob0_commands.specs.Printed.{PrintsDiagnostics, all_diagnosis_lines, diagnosis_line_at, diagnosis_lines_at, too_long_line};
 ghost use Rattle.ob0_commands.specs.StderrLines.{PrintsLine};
-ghost use Rattle.ob0_commands.specs.Statuses.{IsMemoryOnlyIfShort, IsNonUtf8File, OutputFailureMatches, PrintsNothingUnlessWriteFault, IsWriteOrMemory, StopsCommandOnFile};
+ghost use Rattle.ob0_commands.specs.Statuses.{IsMemoryFaultOnlyForShortFile, IsNonUtf8File, OutputFailureMatches, PrintsNothingUnlessWriteFault, IsWriteOrMemory, MayStopCommandOnFile};
 ghost use Rattle.ob0_commands.specs.declared.faults.FileFault.TheVariants as faults;
 ghost use Rattle.ob0_scan.specs.TextWithTokens.{max_text};
 ghost use Rattle.ob0_analysis.specs.Diagnosed.{Reports, reported_diagnosis_of};
@@ -53,10 +53,10 @@ pub fn check_file<'f, O: Output>(
     ensures flushed { IfOk result (λ found. IfNone found (O.is_flushed out.new ≡ true)) }
     ensures readable { OnOk result (¬ IsNonUtf8File file.entry.now) }
     ensures unfailed { OnOk result (O.has_failed out.new ≡ O.has_failed out.old) }
-    ensures fault { IfErr result (StopsCommandOnFile file.entry.now) }
+    ensures fault { IfErr result (MayStopCommandOnFile file.entry.now) }
     ensures failed { IfErr result
         (OutputFailureMatches (O.has_failed out.old) (O.has_failed out.new)) }
-    ensures memory { IfErr result (IsMemoryOnlyIfShort file.entry.now) }
+    ensures memory { IfErr result (IsMemoryFaultOnlyForShortFile file.entry.now) }
     ensures kept { IfErr result (PrintsNothingUnlessWriteFault out.old out.new) }
 {
     let Some(text) = decode_or_print_too_long(file, out)? else {
@@ -99,7 +99,7 @@ pub fn decode_or_print_too_long<'f, O: Output>(
     ensures flushed { IfOk result (λ found. IfNone found (O.is_flushed out.new ≡ true)) }
     ensures readable { OnOk result (¬ IsNonUtf8File file.entry.now) }
     ensures unfailed { OnOk result (O.has_failed out.new ≡ O.has_failed out.old) }
-    ensures fault { IfErr result (StopsCommandOnFile file.entry.now) }
+    ensures fault { IfErr result (MayStopCommandOnFile file.entry.now) }
     ensures failed { IfErr result
         (OutputFailureMatches (O.has_failed out.old) (O.has_failed out.new)) }
     ensures short { IfOk result (λ found. IfSome found (λ _. length file.entry.now ≤ max_text)) }

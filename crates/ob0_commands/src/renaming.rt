@@ -12,7 +12,7 @@ ghost use Rattle.ob0_commands.specs.Endings.{EndsWithoutFault};
 ghost use Rattle.ob0_commands.specs.CommandEffects.{RenamesInFile};
 ghost use Rattle.ob0_commands.specs.Renamed.{PrintsRefusal, PrintsEditedText, RenameEndsWithoutFault};
 ghost use Rattle.ob0_commands.specs.StderrLines.{PrintsLine};
-ghost use Rattle.ob0_commands.specs.Statuses.{IsMemoryOnlyIfShort, IsNonUtf8File, OutputFailureMatches, PrintsNothingUnlessWriteFault, IsWriteOrMemory, StopsCommandOnFile};
+ghost use Rattle.ob0_commands.specs.Statuses.{IsMemoryFaultOnlyForShortFile, IsNonUtf8File, OutputFailureMatches, PrintsNothingUnlessWriteFault, IsWriteOrMemory, MayStopCommandOnFile};
 
 use crate::check_command::{analyse, decode_or_print_too_long, print_diagnoses};
 use crate::faults::{FileFault, print_fault};
@@ -56,10 +56,10 @@ fn rename_in_file<O: Output, E: Output>(
     ensures ends { IfOk result (RenameEndsWithoutFault O.contents O.is_flushed out.old out.new
         (PrintsLine E.contents E.is_flushed E.has_failed err.old err.new) file.now position new.now
         (¬ IsNonUtf8File file.now × (O.has_failed out.new ≡ O.has_failed out.old))) }
-    ensures fault { IfErr result (StopsCommandOnFile file.now) }
+    ensures fault { IfErr result (MayStopCommandOnFile file.now) }
     ensures failed { IfErr result
         (OutputFailureMatches (O.has_failed out.old) (O.has_failed out.new)) }
-    ensures memory { IfErr result (IsMemoryOnlyIfShort file.now) }
+    ensures memory { IfErr result (IsMemoryFaultOnlyForShortFile file.now) }
     ensures kept { IfErr result (PrintsNothingUnlessWriteFault out.old out.new) }
     ensures unsaid { OnErr result (err.new ≡ err.old) }
 {

@@ -23,7 +23,7 @@ ghost use Rattle.ob0_commands.specs.Numbers.{max_input};
 ghost use Rattle.ob0_commands.specs.CommandEffects.{RunsFile};
 ghost use Rattle.ob0_commands.specs.Printed.{IsWrittenExcept, PrintsDiagnostics, run_end_line, output_text, output_item_text};
 ghost use Rattle.ob0_commands.specs.StderrLines.{PrintsLine};
-ghost use Rattle.ob0_commands.specs.Statuses.{IsMemoryOnlyIfShort, IsNonUtf8File, KeepsInputFailureUnlessInputFault, OutputFailureMatches, PrintsNothingUnlessWriteFault, IsWriteOrMemory, StopsRunning, run_end_status};
+ghost use Rattle.ob0_commands.specs.Statuses.{IsMemoryFaultOnlyForShortFile, IsNonUtf8File, KeepsInputFailureUnlessInputFault, OutputFailureMatches, PrintsNothingUnlessWriteFault, IsWriteOrMemory, MayStopRun, run_end_status};
 ghost use Rattle.ob0_commands.specs.declared.faults.FileFault.TheVariants as faults;
 ghost use Rattle.ob0_commands.specs.TextRuns.{IsLoweredTo, RunEndsWithoutFault, TextRunsAs};
 
@@ -98,10 +98,10 @@ fn run_file<R: Input, O: Output, E: Output>(
     ensures limit { ConsumesAtMost (suc max_input) (R.remaining input.old) (R.remaining input.new) }
     ensures read { IfErr result (KeepsInputFailureUnlessInputFault (R.has_failed input.old) (R.has_failed input.new)) }
     ensures fault { IfErr result
-        (StopsRunning file.now (R.remaining input.old) (R.has_failed input.new)) }
+        (MayStopRun file.now (R.remaining input.old) (R.has_failed input.new)) }
     ensures failed { IfErr result
         (OutputFailureMatches (O.has_failed out.old) (O.has_failed out.new)) }
-    ensures memory { IfErr result (IsMemoryOnlyIfShort file.now) }
+    ensures memory { IfErr result (IsMemoryFaultOnlyForShortFile file.now) }
     ensures kept { IfErr result (PrintsNothingUnlessWriteFault out.old out.new) }
     ensures unread { ¬ IsWellTypedModule file.now → input.new ≡ input.old }
     ensures unsaid { OnErr result (err.new ≡ err.old) }

@@ -12,7 +12,7 @@ use Rattle.ob0_scan.proofs.Borders.{cut_depends_on_next_bytes}
 use Rattle.ob0_scan.proofs.Spans.{scan_token_ranges}
 use Rattle.ob0_text.specs.Patches.{Cut, text_with_cuts}
 use Rattle.ob0_edits_tokens.specs.Replaced.{span_at, AreIdentifierIndexes, replacement_cut}
-use Rattle.ob0_edits_tokens.specs.Removed.{IsDeclaration, removal_cut, text_after_removal}
+use Rattle.ob0_edits_tokens.specs.Removed.{MayBeConstantDeclaration, removal_cut, text_after_removal}
 use Rattle.ob0_edits_tokens.proofs.Removals.{cleared}
 use Rattle.ob0_edits_tokens.proofs.Names.{a_name}
 use Rattle.ob0_edits_tokens.proofs.Swaps.{Chain, swapped}
@@ -123,14 +123,14 @@ module _ (s : TextWithTokens) (new places : List ℕ) (total count end i : ℕ) 
       ap (λ n. count + n) (sym (last_length s.text end)) ∙ ap (λ ps. count + length (text_with_cuts s.text end (map (replacement_cut s.tokens new) ps))) (sym (drop_all i places done)) ∙ c.sum
 
 -- The removal of a declaration and the cuts after it follow one another.
-pub chain_without : (s : TextWithTokens) (scan : IsScan s) (new places : List ℕ) (first last : ℕ) → IsDeclaration s.tokens first last → AreIdentifierIndexes s.tokens (suc last) places → Chain 0 (removal_cut s.tokens first last ∷ map (replacement_cut s.tokens new) places)
+pub chain_without : (s : TextWithTokens) (scan : IsScan s) (new places : List ℕ) (first last : ℕ) → MayBeConstantDeclaration s.tokens first last → AreIdentifierIndexes s.tokens (suc last) places → Chain 0 (removal_cut s.tokens first last ∷ map (replacement_cut s.tokens new) places)
 chain_without s scan new places first last decl names =
     let apart = (cut_depends_on_next_bytes s.text scan.lexemes).0 scan.lexed in
     let done = cleared s.text s.tokens (codes "x") _ (a_name (codes "x") some_name) first last decl places names 0 0 scan.lexemes []
     (record { tokens_are = scan.tokens; count = refl; rest = sym apart.0; apart = apart.1 }) (omega arith) in
     (done.chain.0, done.chain.1, same_chain s.tokens (codes "x") new (span_at s.tokens last).end places done.chain.2)
 
-pub length_without : (s : TextWithTokens) (scan : IsScan s) (new places : List ℕ) (first last : ℕ) → IsDeclaration s.tokens first last → AreIdentifierIndexes s.tokens (suc last) places
+pub length_without : (s : TextWithTokens) (scan : IsScan s) (new places : List ℕ) (first last : ℕ) → MayBeConstantDeclaration s.tokens first last → AreIdentifierIndexes s.tokens (suc last) places
     → (span_at s.tokens first).start + length (text_with_cuts s.text (span_at s.tokens last).end (map (replacement_cut s.tokens new) places)) ≡ length (text_after_removal s first last places new)
 length_without s scan new places first last decl names =
     let range = scan_token_ranges s scan first _ (omega (arith, decl.order, decl.inside)) in

@@ -12,7 +12,7 @@ use Rattle.ob0_text.specs.declared.position_types.Unit as counting
 use Rattle.ob0_text.specs.Units.{width_of}
 use Rattle.ob0_text.specs.Patches.{Cut, cut_at, cuts_of, patched_by_cuts}
 use Rattle.ob0_edits_tokens.specs.Changed.{words_of, changed_words, changes_at}
-use Rattle.ob0_edits_tokens.specs.Replaced.{AreIdentifierIndexes, span_at, replacement_cut, text_after_replacement, ReplacesName, range_and_text, replacement_at_token, LeavesWords}
+use Rattle.ob0_edits_tokens.specs.Replaced.{AreIdentifierIndexes, span_at, replacement_cut, text_after_replacement, MayReplaceName, range_and_text, replacement_at_token, LeavesWords}
 use Rattle.ob0_edits_tokens.specs.Ranges.{range_of}
 use Rattle.ob0_edits_tokens.proofs.Swaps.{Chain, AllClear, HasClearEnds, Swapped, swapped}
 use Rattle.ob0_edits_tokens.proofs.TextCuts.{AreSame, IsBorder, chained, same_cut, patched_by_same}
@@ -28,7 +28,7 @@ first_border text c place clear = record { place = place; clear = λ ending. cle
 pub last_border : (text : List ℕ) (c : Cut) → IsCharBoundary text c.to → HasClearEnds text c → IsBorder text c.to
 last_border text c place clear = record { place = place; clear = λ ending. clear.last ending.cr }
 
-module _ (unit : counting.Unit) (s : TextWithTokens) (scan : IsScan s) (new : List ℕ) (ws : List Word) (replaces : ReplacesName new ws) (good : IsUtf8 new) (places : List ℕ) (names : AreIdentifierIndexes s.tokens 0 places) where
+module _ (unit : counting.Unit) (s : TextWithTokens) (scan : IsScan s) (new : List ℕ) (ws : List Word) (replaces : MayReplaceName new ws) (good : IsUtf8 new) (places : List ℕ) (names : AreIdentifierIndexes s.tokens 0 places) where
   result : Swapped s.text s.tokens new ws replaces 0 0 scan.lexemes places
   result =
       let apart = (cut_depends_on_next_bytes s.text scan.lexemes).0 scan.lexed in

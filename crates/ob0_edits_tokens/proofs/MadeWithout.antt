@@ -14,9 +14,9 @@ use Rattle.ob0_text.specs.declared.position_types.Unit as counting
 use Rattle.ob0_text.specs.Units.{width_of}
 use Rattle.ob0_text.specs.Patches.{Cut, cut_at, cuts_of, patched_by_cuts}
 use Rattle.ob0_edits_tokens.specs.Changed.{words_of, changed_words, changes_at}
-use Rattle.ob0_edits_tokens.specs.Replaced.{AreIdentifierIndexes, span_at, replacement_cut, ReplacesName, range_and_text, replacement_at_token, LeavesWords}
+use Rattle.ob0_edits_tokens.specs.Replaced.{AreIdentifierIndexes, span_at, replacement_cut, MayReplaceName, range_and_text, replacement_at_token, LeavesWords}
 use Rattle.ob0_edits_tokens.specs.Ranges.{range_of}
-use Rattle.ob0_edits_tokens.specs.Removed.{changes_with_removal, IsDeclaration, span_of_tokens, removal_cut, text_after_removal}
+use Rattle.ob0_edits_tokens.specs.Removed.{changes_with_removal, MayBeConstantDeclaration, span_of_tokens, removal_cut, text_after_removal}
 use Rattle.ob0_edits_tokens.proofs.TextCuts.{AreSame, chained, same_cut, patched_by_same}
 use Rattle.ob0_edits_tokens.proofs.Removals.{Cleared, cleared}
 use Rattle.ob0_edits_tokens.proofs.Made.{scan_of, first_border, last_border, char_cut, same_cuts, cuts_of_parts}
@@ -25,7 +25,7 @@ pub lower : (tokens : List Token) (least low : ℕ) (places : List ℕ) → low 
 lower tokens least low [] h names = tt
 lower tokens least low (p ∷ ps) h names = (omega (arith, h, names.0), names.1, names.2, names.3)
 
-module _ (unit : counting.Unit) (s : TextWithTokens) (scan : IsScan s) (new : List ℕ) (ws : List Word) (replaces : ReplacesName new ws) (good : IsUtf8 new) (first last : ℕ) (decl : IsDeclaration s.tokens first last) (places : List ℕ) (names : AreIdentifierIndexes s.tokens (suc last) places) where
+module _ (unit : counting.Unit) (s : TextWithTokens) (scan : IsScan s) (new : List ℕ) (ws : List Word) (replaces : MayReplaceName new ws) (good : IsUtf8 new) (first last : ℕ) (decl : MayBeConstantDeclaration s.tokens first last) (places : List ℕ) (names : AreIdentifierIndexes s.tokens (suc last) places) where
   all_names : AreIdentifierIndexes s.tokens 0 places
   all_names = lower s.tokens (suc last) 0 places (omega arith) names
 

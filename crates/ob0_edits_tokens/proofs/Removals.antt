@@ -21,8 +21,8 @@ use Rattle.ob0_scan.proofs.Runs.{letter_or_digit}
 use Rattle.ob0_text.specs.Patches.{Cut, text_with_cuts}
 use Rattle.ob0_edits_tokens.specs.Changed.{WordChanges, changed_words, changes_at, replacement_or_word}
 use Rattle.ob0_edits_tokens.specs.Replaced as place
-use Rattle.ob0_edits_tokens.specs.Replaced.{AreIdentifierIndexes, span_at, replacement_cut, ReplacesName}
-use Rattle.ob0_edits_tokens.specs.Removed.{changes_with_removal, IsDeclaration, removal_cut}
+use Rattle.ob0_edits_tokens.specs.Replaced.{AreIdentifierIndexes, span_at, replacement_cut, MayReplaceName}
+use Rattle.ob0_edits_tokens.specs.Removed.{changes_with_removal, MayBeConstantDeclaration, removal_cut}
 use Rattle.ob0_edits_tokens.proofs.Swaps.{Chain, chain_from, AllClear, Swapped, swapped, pieced_keep, pieced_here, same_first, first_of, byte_at, further, here_token, make_token, make_word, no_break, not_among}
 use Rattle.ob0_edits_tokens.proofs.Merges.{begins_with_space, MeetsLoosely, merged}
 
@@ -51,7 +51,7 @@ gone first last k ch h e = rw (le-leb first k h, le-leb k last e) refl
 not_gone : (first last k : ℕ) (ch : WordChanges) → k < first → changes_with_removal first last ch k ≡ ch k
 not_gone first last k ch h = rw (lt-leb first k h) refl
 
-module _ (text : List ℕ) (tokens : List Token) (new : List ℕ) (ws : List Word) (replaces : ReplacesName new ws) (first last : ℕ) (decl : IsDeclaration tokens first last) (places : List ℕ) (names : AreIdentifierIndexes tokens (suc last) places) where
+module _ (text : List ℕ) (tokens : List Token) (new : List ℕ) (ws : List Word) (replaces : MayReplaceName new ws) (first last : ℕ) (decl : MayBeConstantDeclaration tokens first last) (places : List ℕ) (names : AreIdentifierIndexes tokens (suc last) places) where
   abbrev changes : WordChanges
   changes = changes_with_removal first last (changes_at places ws)
 

@@ -21,7 +21,7 @@ use Rattle.ob0_scan.proofs.Reusing.{joined_append}
 use Rattle.ob0_text.specs.Patches.{Cut, text_with_cuts}
 use Rattle.ob0_edits_tokens.specs.Changed.{changed_words, changes_at, is_in_list, replacement_or_word}
 use Rattle.ob0_edits_tokens.specs.Replaced as place
-use Rattle.ob0_edits_tokens.specs.Replaced.{AreIdentifierIndexes, span_at, replacement_cut, CutsAscend, ReplacesName}
+use Rattle.ob0_edits_tokens.specs.Replaced.{AreIdentifierIndexes, span_at, replacement_cut, CutsAscend, MayReplaceName}
 use Rattle.ob0_edits_tokens.proofs.Ends.{append_apart}
 
 abbrev pub make_word : TokenKind → List ℕ → Word
@@ -113,7 +113,7 @@ pieced_end text at = refl
 abbrev pub make_token : TokenKind → Span → Token
 make_token kind span = record { kind = kind; span = span }
 
-module _ (text : List ℕ) (tokens : List Token) (new : List ℕ) (ws : List Word) (replaces : ReplacesName new ws) where
+module _ (text : List ℕ) (tokens : List Token) (new : List ℕ) (ws : List Word) (replaces : MayReplaceName new ws) where
   -- states that the lexemes after a place are known, with the new lexemes at the places; the first
   -- token has the index k
   pub record Swapped (at k : ℕ) (ls : List Lexeme) (places : List ℕ) : Type 0 where

@@ -21,7 +21,7 @@ changes_with_removal first last changes k = if nat_le first k && nat_le k last t
 -- section. Only the first token, the last token and the token before the first are checked: the
 -- first is an identifier, the last is a `;`, and the token before the first, if there is one, is
 -- CONST or another `;`.
-pub record IsDeclaration (tokens : List Token) (first last : ℕ) : Type 0 where
+pub record MayBeConstantDeclaration (tokens : List Token) (first last : ℕ) : Type 0 where
   pub order : first < last
   pub inside : last < length tokens
   pub name : (token_or_empty tokens first).kind ≡ token.Identifier

@@ -9,7 +9,7 @@ use Rattle.ob0_scan.specs.declared.lexeme.LexemeKind.{LexemeKind}
 use Rattle.ob0_scan.specs.declared.lexeme.Span.{Span}
 use Rattle.ob0_scan.specs.declared.lexeme.Token.{Token}
 use Rattle.ob0_scan.specs.Lexed.{Lexeme, text_of_lexemes}
-use Rattle.ob0_scan.specs.Ends.{continues_lexeme, EndsBefore}
+use Rattle.ob0_scan.specs.Ends.{continues_lexeme, EndsBeforeByte}
 use Rattle.ob0_scan.specs.TextWithTokens.{Word, words_of_lexemes, TextWithTokens, IsScan}
 use Rattle.ob0_text.specs.declared.edits.Edit.{Edit}
 use Rattle.ob0_text.specs.declared.position_types.Range.{Range}
@@ -61,13 +61,13 @@ CutsAscend at (c ∷ cs) = (at ≤ c.from) × (c.from < c.to) × CutsAscend c.to
 abbrev pub LexemesEndBefore : List Lexeme → ℕ → Type 0
 LexemesEndBefore [] byte = Unit {0}
 LexemesEndBefore (l ∷ lexemes) byte =
-    EndsBefore l (slice_index (text_of_lexemes lexemes ++ (byte ∷ [])) 0) × LexemesEndBefore lexemes byte
+    EndsBeforeByte l (slice_index (text_of_lexemes lexemes ++ (byte ∷ [])) 0) × LexemesEndBefore lexemes byte
 
 -- States that the text `new`, whose words are `ws`, may replace any identifier. A lexeme in front
 -- of `new` that can't continue with a letter can't continue with the first byte of `new` either.
 -- The lexemes of `new` stay separate from one another, and from a following byte that isn't a
 -- letter or digit.
-pub record ReplacesName (new : List ℕ) (ws : List Word) : Type 0 where
+pub record MayReplaceName (new : List ℕ) (ws : List Word) : Type 0 where
   pub lexemes : List Lexeme
   pub whole : text_of_lexemes lexemes ≡ new
   pub read : words_of_lexemes lexemes ≡ ws

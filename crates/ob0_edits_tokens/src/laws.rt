@@ -3,13 +3,13 @@
 ghost use Rattle.std.specs.Prelude.{ℕ, List, [], ◌∷◌};
 ghost use Rattle.ob0_scan.specs.Classes.{IsIdentifier};
 ghost use Rattle.ob0_edits_tokens.specs.OfTrees.{RenamingKeepsSpelling};
-ghost use Rattle.ob0_edits_tokens.specs.Replaced.{ReplacesName};
+ghost use Rattle.ob0_edits_tokens.specs.Replaced.{MayReplaceName};
 ghost use Rattle.ob0_edits_tokens.specs.Written.{name_word};
 
 /// Proves that the identifier `new` may replace any identifier of a text: the tokens in front of it
 /// and behind it stay separate from it.
 pub fn names_replace_names()
-    ensures { (new : List ℕ) → IsIdentifier new → ReplacesName new (name_word new ∷ []) }
+    ensures { (new : List ℕ) → IsIdentifier new → MayReplaceName new (name_word new ∷ []) }
 {}
 
 /// Proves that renaming keeps the spelling of trees. Let a tree spell the words of a text. If the

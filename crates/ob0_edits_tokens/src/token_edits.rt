@@ -6,11 +6,11 @@ ghost use Rattle.std.specs.Str.{chars};
 ghost use Rattle.ob0_scan.specs.TextWithTokens.{Word, max_text};
 ghost use Rattle.ob0_text.specs.declared.refusals.EditRefusal.TheVariants.{TooLong, Memory};
 ghost use Rattle.ob0_edits_tokens.specs.Changed.{words_of, changed_words, changes_at};
-ghost use Rattle.ob0_edits_tokens.specs.Replaced.{AreIdentifierIndexes, CutsAscend, replacement_cut, text_after_replacement, ReplacesName, range_and_text, replacement_at_token, LeavesWords};
+ghost use Rattle.ob0_edits_tokens.specs.Replaced.{AreIdentifierIndexes, CutsAscend, replacement_cut, text_after_replacement, MayReplaceName, range_and_text, replacement_at_token, LeavesWords};
 ghost use Rattle.ob0_text.specs.Units.{width_of};
 ghost use Rattle.ob0_edits_tokens.specs.Ranges.{range_of};
 ghost use Rattle.ob0_text.specs.Patches.{text_with_cuts};
-ghost use Rattle.ob0_edits_tokens.specs.Removed.{changes_with_removal, IsDeclaration, span_of_tokens, text_after_removal};
+ghost use Rattle.ob0_edits_tokens.specs.Removed.{changes_with_removal, MayBeConstantDeclaration, span_of_tokens, text_after_removal};
 
 use crate::positions::{ranges, spans_of};
 use ob0_scan::{MAX_TEXT, Span, Tokens};
@@ -35,7 +35,7 @@ pub fn replacement_edits<T: TextStore>(
         token_indexes.now) }
     ensures short { IfOk result
         (λ edits. length (text_after_replacement tokens.now token_indexes.now new.now) ≤ max_text) }
-    ensures words { (ws : List Word) → ReplacesName new.now ws
+    ensures words { (ws : List Word) → MayReplaceName new.now ws
         → IfOk result (λ edits. LeavesWords (T.unit_of store.now) (T.content store.now) edits.items
         (changed_words (changes_at token_indexes.now ws) 0 (words_of tokens.now))) }
     ensures too_long { IsErrOf result TooLong
@@ -68,7 +68,7 @@ pub fn removal_edits<T: TextStore>(
     new: &str,
 ) -> Result<Vec<Edit>, EditRefusal>
     requires content { T.content store.now ≡ chars tokens.now.text }
-    requires declaration { IsDeclaration tokens.now.tokens first last }
+    requires declaration { MayBeConstantDeclaration tokens.now.tokens first last }
     requires names { AreIdentifierIndexes tokens.now.tokens (suc last) token_indexes.now }
     ensures edits { IfOk result (λ edits. map range_and_text edits.items
         ≡ (
@@ -79,7 +79,7 @@ pub fn removal_edits<T: TextStore>(
         (T.content store.now) tokens.now.tokens new.now) token_indexes.now) }
     ensures short { IfOk result
         (λ edits. length (text_after_removal tokens.now first last token_indexes.now new.now) ≤ max_text) }
-    ensures words { (ws : List Word) → ReplacesName new.now ws
+    ensures words { (ws : List Word) → MayReplaceName new.now ws
         → IfOk result (λ edits. LeavesWords (T.unit_of store.now) (T.content store.now) edits.items
         (changed_words (changes_with_removal first last (changes_at token_indexes.now ws)) 0
         (words_of tokens.now))) }

@@ -12,7 +12,7 @@ use Rattle.ob0_frame.specs.Frames.{Frames, CannotBeginMessage}
 pub record IsContentAt (bytes : List ℕ) (start end : ℕ) : Type 0 where
   pub within : start ≤ length bytes
   pub ordered : start ≤ end
-  pub after_head : 0 < start
+  pub head_is_nonempty : 0 < start
   pub announces : Announces (take start bytes) (end - start)
 
 -- States that this is the stage of the message at the beginning of the bytes.

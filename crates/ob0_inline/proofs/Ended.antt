@@ -19,7 +19,7 @@ use Rattle.ob0_tree.specs.Places as leaf
 use Rattle.ob0_tree.specs.Tree.{identifiers, occurrences, spell}
 use Rattle.ob0_edits_tokens.specs.Changed.{changes_at, changed_words, words_of}
 use Rattle.ob0_edits_tokens.specs.OfTrees.{indexed_tokens}
-use Rattle.ob0_edits_tokens.specs.Removed.{IsDeclaration, changes_with_removal}
+use Rattle.ob0_edits_tokens.specs.Removed.{MayBeConstantDeclaration, changes_with_removal}
 use Rattle.ob0_edits_tokens.specs.Replaced.{AreIdentifierIndexes}
 use Rattle.ob0_edits_tokens.specs.Words.{terminal_of_word}
 use Rattle.ob0_language_names.specs.Names.{Label, Name, naming_by_spelling, declared, same_label}
@@ -160,7 +160,7 @@ module _ (r : Resolution) (is : IsResolution r) (d : ℕ) (w : Value) (has_value
   pub end_known : (first : ℕ) → Some first ≡ declaration_token r.declaration_tokens d → position_from (λ x. is_semicolon x.kind) first (drop first r.module_read.source.tokens) ≡ Some end_token
   end_known first e = ap (λ n. position_from (λ (x : Token). is_semicolon x.kind) n (drop n r.module_read.source.tokens)) (some_inverse (e ∙ token_known)) ∙ ends_at
 
-  pub declaration_at : IsDeclaration r.module_read.source.tokens name_token end_token
+  pub declaration_at : MayBeConstantDeclaration r.module_read.source.tokens name_token end_token
   declaration_at = is_declaration r.module_read.source d 7 (names_in (module_block (tree_of r.module_read))) (spell (gone_module d (tree_of r.module_read))) taken
 
   pub names_at : AreIdentifierIndexes r.module_read.source.tokens (suc end_token) (uses_of r.module_read d)
@@ -177,10 +177,10 @@ module _ (r : Resolution) (is : IsResolution r) (c : NamedConstant) (constant : 
       some_inverse (sym (ends_at r is c.ordinal (scalar_value c.value) constant.has_value)
       ∙ (ap (λ n. position_from (λ (x : Token). is_semicolon x.kind) n (drop n r.module_read.source.tokens)) first_is ∙ constant.ends))
 
-  pub is_taken : IsDeclaration r.module_read.source.tokens c.first c.last
+  pub is_taken : MayBeConstantDeclaration r.module_read.source.tokens c.first c.last
   is_taken =
-      subst (λ n. IsDeclaration r.module_read.source.tokens n c.last) first_is
-      (subst (IsDeclaration r.module_read.source.tokens (name_token r is c.ordinal (scalar_value c.value) constant.has_value)) last_is
+      subst (λ n. MayBeConstantDeclaration r.module_read.source.tokens n c.last) first_is
+      (subst (MayBeConstantDeclaration r.module_read.source.tokens (name_token r is c.ordinal (scalar_value c.value) constant.has_value)) last_is
       (declaration_at r is c.ordinal (scalar_value c.value) constant.has_value))
 
   pub are_uses : AreIdentifierIndexes r.module_read.source.tokens (suc c.last) (uses_of r.module_read c.ordinal)

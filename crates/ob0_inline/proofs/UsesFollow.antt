@@ -15,7 +15,7 @@ use Rattle.ob0_edits_tokens.specs.Changed.{is_in_list, words_of}
 use Rattle.ob0_edits_tokens.specs.OfTrees.{indexed_tokens}
 use Rattle.ob0_language_names.specs.Names.{Name, naming_by_spelling}
 use Rattle.ob0_language_names.specs.Parts.{module_block}
-use Rattle.ob0_scope_table.specs.Resolution.{IsResolution, Resolution, binding_at, ordinal_in, ordinal_and_spelling}
+use Rattle.ob0_scope_table.specs.Resolution.{IsResolution, Resolution, ordinal_and_spelling_at, ordinal_in, ordinal_and_spelling}
 use Rattle.ob0_language_names.specs.Scopes.{relabel_module}
 use Rattle.ob0_scope.proofs.Fused.{mapped_tree-mapped_tree, relabel_module-mapped_tree}
 use Rattle.ob0_language_names.proofs.OccurrenceNames.{length-map}
@@ -33,7 +33,7 @@ bound_by_table : (r : Resolution) → IsResolution r → occurrences (relabel_mo
 bound_by_table r is =
     let m = r.module_read in
     let first : Option ℕ × Name → Option ℕ = λ p. p.0 in
-    ap occurrences (relabel_module-mapped_tree naming_by_spelling first ordinal_and_spelling (named_tree_of m) ∙ (ap (mapped_tree first (λ n. n)) is.binding ∙ mapped_tree-mapped_tree first (binding_at m.source r.ordinals) (leaf.token_value_at m.source) (tree_of m)))
+    ap occurrences (relabel_module-mapped_tree naming_by_spelling first ordinal_and_spelling (named_tree_of m) ∙ (ap (mapped_tree first (λ n. n)) is.binding ∙ mapped_tree-mapped_tree first (ordinal_and_spelling_at m.source r.ordinals) (leaf.token_value_at m.source) (tree_of m)))
     ∙ occurrences-mapped_tree (ordinal_in r.ordinals) (leaf.token_value_at m.source) (tree_of m)
 
 -- If the constant has a value, the module's tokens are split by its declaration.

@@ -15,7 +15,7 @@ use Rattle.ob0_tree.specs.Lexeme as lexeme
 use Rattle.ob0_tree.specs.Places.{index_terminal}
 use Rattle.ob0_edits_tokens.specs.Changed.{WordChanges, changes_at, changed_words, replacement_or_word, words_of}
 use Rattle.ob0_edits_tokens.specs.OfTrees.{indexed_tokens, word_at}
-use Rattle.ob0_edits_tokens.specs.Removed.{IsDeclaration, changes_with_removal}
+use Rattle.ob0_edits_tokens.specs.Removed.{MayBeConstantDeclaration, changes_with_removal}
 use Rattle.ob0_edits_tokens.specs.Replaced as place
 use Rattle.ob0_edits_tokens.specs.Replaced.{AreIdentifierIndexes}
 use Rattle.ob0_edits_tokens.specs.Words.{terminal_of_word}
@@ -102,7 +102,7 @@ module _ (s : TextWithTokens) (d k : ℕ) (labels : List ℕ) (left : List (Term
   unfolding at_name
   name_is_first = (name_kind (0 + length front) t.name (word_at (words_of s) (length front)).kind at_name.1).1 ∙ (let z : 0 + length front ≡ length front = omega arith in z)
 
-  pub is_declaration : IsDeclaration s.tokens (first_bound_token t) (last_token t)
+  pub is_declaration : MayBeConstantDeclaration s.tokens (first_bound_token t) (last_token t)
   is_declaration =
       let count = words_count in
       let a = at_end in

@@ -77,14 +77,14 @@ pub(crate) fn any_use_shadowed(
     let value = constant.value;
     match value {
         Scalar::Number(_) => Ok(false),
-        Scalar::Truth(true) => any_use_binds_elsewhere(
+        Scalar::Truth(true) => any_use_would_bind_elsewhere(
             alloc,
             names,
             constant.ordinal,
             "TRUE",
             TRUE_ORDINAL,
         ),
-        Scalar::Truth(false) => any_use_binds_elsewhere(
+        Scalar::Truth(false) => any_use_would_bind_elsewhere(
             alloc,
             names,
             constant.ordinal,
@@ -96,7 +96,7 @@ pub(crate) fn any_use_shadowed(
 
 /// Returns whether the constant has a use at which `name`, if written there, wouldn't be bound to
 /// the declaration with the ordinal `ordinal`. `constant` is the constant's ordinal.
-fn any_use_binds_elsewhere(
+fn any_use_would_bind_elsewhere(
     alloc: Global,
     names: &Resolved,
     constant: usize,
@@ -112,13 +112,13 @@ fn any_use_binds_elsewhere(
     // The proof needs the contract of this call.
     let _module = names.module();
     let bound = resolve_at_occurrences(alloc, names, name)?;
-    Ok(any_use_differs(names, &bound, constant, ordinal))
+    Ok(any_use_has_other_ordinal(names, &bound, constant, ordinal))
 }
 
 /// Returns whether the constant with the ordinal `constant` has a use whose item in `bound` isn't
 /// `ordinal`. `bound` has an item for each occurrence, in text order: the ordinal of a declaration,
 /// or None.
-fn any_use_differs(
+fn any_use_has_other_ordinal(
     names: &Resolved,
     bound: &[Option<usize>],
     constant: usize,
@@ -130,7 +130,7 @@ fn any_use_differs(
         (range_with_len 0 (length names.now.uses)) }
 {
     for occurrence in 0..names.occurrences().len() {
-        if is_differing_use(names, bound, occurrence, constant, ordinal) {
+        if is_use_with_other_ordinal(names, bound, occurrence, constant, ordinal) {
             return true;
         }
     }
@@ -140,7 +140,7 @@ fn any_use_differs(
 /// Returns whether the occurrence with the number `occurrence` is a use of the constant with the
 /// ordinal `constant`, and its item in `bound` isn't `ordinal`. `bound` has an item for each
 /// occurrence, in text order: the ordinal of a declaration, or None.
-fn is_differing_use(
+fn is_use_with_other_ordinal(
     names: &Resolved,
     bound: &[Option<usize>],
     occurrence: usize,

@@ -15,7 +15,7 @@ use Rattle.ob0_tree.specs.Tree.{nesting}
 use Rattle.ob0_tree_values.proofs.TreeValues.{vec_of}
 use Rattle.ob0_edits_tokens.specs.Changed.{changes_at, changed_words, words_of}
 use Rattle.ob0_edits_tokens.specs.Ranges.{range_of}
-use Rattle.ob0_edits_tokens.specs.Removed.{IsDeclaration, span_of_tokens, changes_with_removal}
+use Rattle.ob0_edits_tokens.specs.Removed.{MayBeConstantDeclaration, span_of_tokens, changes_with_removal}
 use Rattle.ob0_edits_tokens.specs.Replaced.{AreIdentifierIndexes, LeavesWords, replacement_at_token, range_and_text}
 use Rattle.ob0_edits_tokens.proofs.MadeWithout.{leaves_words_without}
 use Rattle.ob0_scope_table.specs.Resolution.{Resolution}
@@ -55,7 +55,7 @@ module _ (unit : Unit) (text : List ℕ) (r : Resolution) (module_in : IsResolve
   abbrev places : List ℕ
   places = uses_of r.module_read c.ordinal
 
-  declaration : IsDeclaration s.tokens c.first c.last
+  declaration : MayBeConstantDeclaration s.tokens c.first c.last
   declaration = is_taken r module_in.well_typed.resolved c constant
 
   are_names : AreIdentifierIndexes s.tokens (suc c.last) places

@@ -14,7 +14,7 @@ use Rattle.ob0_language_types.specs.Typing.{addition_type, negation_type, consta
 use Rattle.ob0_language_types.specs.WellTyped.{FormalParameter, Signature, TypeMeanings, same_known_shape, same_fields, same_shape, signature_of}
 use Rattle.ob0_language_values.specs.Values.{FieldShapes, Shape, Value, array_shape, boolean_shape, integer_shape, next_field_shape, no_field_shape, number, record_shape}
 use Rattle.ob0_language_fields.specs.Fields.{FieldRenaming, record_ordinal}
-use Rattle.ob0_language_fields.proofs.NamesMeant.{named}
+use Rattle.ob0_language_fields.proofs.MeaningsByName.{named}
 use Rattle.ob0_language_field_laws.specs.FieldLaws.{KeepsFieldsDistinct}
 use Rattle.std.proofs.lemmas.Bool.{eqb-true}
 

@@ -4,9 +4,9 @@ use Rattle.ob0_language_names.specs.Names.{naming_by_spelling}
 use Rattle.ob0_language_types.specs.WellTyped.{WellTyped}
 use Rattle.ob0_language_runs.specs.Runs.{run, run_with_naming}
 use Rattle.ob0_language_field_laws.specs.FieldLaws.{KeepsFieldsDistinct, FieldRenamingKeepsTypingAndRuns}
-use Rattle.ob0_language_field_laws.proofs.RefieldedModules.{field_renaming_keeps_type_check-holds}
-use Rattle.ob0_language_field_laws.proofs.RefieldedOnce.{has_consistent_names-rename_fields}
-use Rattle.ob0_language_field_laws.proofs.RefieldedRuns.{run-tagged}
+use Rattle.ob0_language_field_laws.proofs.FieldRenamedModules.{field_renaming_keeps_type_check-holds}
+use Rattle.ob0_language_field_laws.proofs.FieldRenamedOnce.{has_consistent_names-rename_fields}
+use Rattle.ob0_language_field_laws.proofs.FieldRenamedRuns.{run-tagged}
 use Rattle.ob0_language_fields.proofs.Bare.{bare, rename_fields_in_module-bare}
 
 bare-apart : KeepsFieldsDistinct bare

@@ -13,8 +13,8 @@ use Rattle.ob0_language_names.specs.Names.{Name}
 use Rattle.ob0_language_types.specs.Expressions.{Meanings, Object, a_constant, evaluate, evaluate_addends, evaluate_factor, evaluate_multipliers, evaluate_simple, evaluate_term, evaluate_selectors, object_value}
 use Rattle.ob0_language_types.specs.Typing.{constant_of, constant_value, constant_meanings, outcome_value, type_of}
 use Rattle.ob0_language_values.specs.Values.{Outcome, Overflow, Place, Shape, Step, Value, add, add_short_circuits, value_at_path, checked_division, division_outcome, elements, ends_run_with, fits_in_32_bits, succeeds_with, checked_number, members, multiply, multiply_short_circuits, negate, number, or_stuck, quotient, apply_relation, remainder, apply_sign, truth, ◌>>=◌}
-use Rattle.ob0_language_field_laws.proofs.RefieldedExpressions.{Scalar, logical, scalar_value, whole}
-use Rattle.ob0_language_fields.proofs.NamesMeant.{named}
+use Rattle.ob0_language_field_laws.proofs.FieldRenamedExpressions.{Scalar, logical, scalar_value, whole}
+use Rattle.ob0_language_fields.proofs.MeaningsByName.{named}
 
 abbrev pub IsScalarValue : Value → Type 0
 IsScalarValue (elements vs) = ⊥

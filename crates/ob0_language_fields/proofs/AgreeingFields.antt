@@ -16,7 +16,7 @@ use Rattle.ob0_language_types.proofs.TypedElsewhere.{then_some}
 use Rattle.ob0_language_values.specs.Values.{FieldShapes, Shape, Value, array_shape, boolean_shape, elements, integer_shape, members, next_field_shape, no_field_shape, number, record_shape, truth}
 use Rattle.ob0_language_fields.specs.Fields.{FieldRenaming, record_ordinal, rename_fields, rename_fields_in_group, rename_fields_in_groups, rename_fields_in_type}
 use Rattle.ob0_language_fields.specs.Renaming.{RecordFields, records_in_group, records_in_groups, records_in_type}
-use Rattle.ob0_language_fields.proofs.NamesMeant.{named}
+use Rattle.ob0_language_fields.proofs.MeaningsByName.{named}
 
 -- Holds if two functions for the names of fields agree: on the fields of a list, of the records of a text, and of the
 -- records in a type.

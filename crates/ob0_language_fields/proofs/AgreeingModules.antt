@@ -16,7 +16,7 @@ use Rattle.ob0_language_values.specs.Values.{Shape}
 use Rattle.ob0_language_fields.specs.Fields.{FieldRenaming, environment_after_procedures, rename_fields, rename_fields_in_block, rename_fields_in_formals, rename_fields_in_procedure, rename_fields_in_procedures, rename_fields_in_section, rename_fields_in_sections, rename_fields_in_type_section, rename_fields_in_types, rename_fields_in_variable_section, rename_fields_in_variables, rename_fields_in_module}
 use Rattle.ob0_language_fields.specs.Renaming.{records, records_in_block, records_in_procedure, records_in_procedures, records_in_sections, records_in_type, records_in_types, records_in_variables}
 use Rattle.ob0_language_fields.proofs.AgreeingFields.{ObjectsAgree, ObjectAgrees, OptionAgrees, RecordsAgree, ShapeAgrees, denoted_type-agrees, records-split, sequence-alike, type-alike}
-use Rattle.ob0_language_fields.proofs.NamesMeant.{parameter_of, object_in}
+use Rattle.ob0_language_fields.proofs.MeaningsByName.{parameter_of, object_in}
 
 -- holds if two functions for the names of fields agree on all types of an environment
 

@@ -1,5 +1,5 @@
 pub mod AgreeingFields
 pub mod AgreeingModules
 pub mod Bare
-pub mod NamesMeant
+pub mod MeaningsByName
 pub mod WorkedFields

@@ -12,6 +12,6 @@ pub mod OccurrenceNames
 pub mod Places
 pub mod EditedTrees
 pub mod EditedOnce
-pub mod NoneLeft
+pub mod InliningLeavesNoUse
 pub mod EverywhereTrees
 pub mod ElsewhereNames

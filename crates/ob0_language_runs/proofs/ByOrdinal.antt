@@ -16,7 +16,7 @@ use Rattle.ob0_language_types.specs.WellTyped.{Mode, by_place, by_value, section
 use Rattle.ob0_language_types.proofs.Agreeing.{Agree, HoldsOf, agree-map, agree-then, agree-value}
 use Rattle.ob0_language_types.proofs.Constructors.{formals_constructor_count-relabel, procedure_constructor_count-relabel, types_constructor_count-relabel, variables_constructor_count-relabel}
 use Rattle.ob0_language_types.proofs.TypeNaturality.{constant_value-map, constructor_count-map, denoted_type-map}
-use Rattle.ob0_language_runs.specs.Runs.{Activation, Argument, CallFunction, ProcedureText, Frame, Parameter, Progress, State, activate, allocate, bind_parameter, bind_parameters, call, declare_block, declare_procedures, declare_variables, execute_sequence, execute_body, run_result, formal_modes, continue_in_frame, parameters, statement_object, place_argument, run_with_naming, statement_meanings, value_argument, declare_procedures_in_frame}
+use Rattle.ob0_language_runs.specs.Runs.{Activation, Argument, CallFunction, ProcedureText, Frame, Parameter, Progress, State, activate, allocate, bind_parameter, bind_parameters, call, declare_block, declare_procedures, declare_variables, execute_sequence, execute_body, run_result, formal_modes, continue_in_frame, parameters, object_for_statements, place_argument, run_with_naming, meanings_for_statements, value_argument, declare_procedures_in_frame}
 use Rattle.ob0_language_runs.proofs.Noted.{Below, Below-from, Noted, OwnName, by_name, by_name-from, by_ordinal, by_ordinal-from, noted_from, numbered_code, numbered_object, scope_of}
 use Rattle.ob0_language_runs.proofs.RunNaturality.{execute_sequence-map}
 
@@ -40,11 +40,11 @@ pub relabel_procedure-modes : {N M : Type 0} (naming : Naming N) (label : Labell
 relabel_procedure-modes naming label scope k (declares_procedure x fs b closing) =
     ap formal_modes (formals-section naming label scope (suc k) fs) ∙ relabel_formals-modes naming label scope (suc k) (formal_sections fs)
 
-pub statement_object-agrees : {N : Type 0} (naming : Naming N) (noted : Noted N) → statement_object (newest_object (by_ordinal naming noted)) ≡ statement_object (newest_object (by_name noted))
-statement_object-agrees naming [] = refl
-statement_object-agrees naming (b ∷ noted) = of_object b.object
+pub object_for_statements-agrees : {N : Type 0} (naming : Naming N) (noted : Noted N) → object_for_statements (newest_object (by_ordinal naming noted)) ≡ object_for_statements (newest_object (by_name noted))
+object_for_statements-agrees naming [] = refl
+object_for_statements-agrees naming (b ∷ noted) = of_object b.object
   where
-    of_object : (o : Object Place (ProcedureText _)) → statement_object (Some (numbered_object naming (scope_of noted) b.ordinal o)) ≡ statement_object (Some o)
+    of_object : (o : Object Place (ProcedureText _)) → object_for_statements (Some (numbered_object naming (scope_of noted) b.ordinal o)) ≡ object_for_statements (Some o)
     of_object (a_type s) = refl
     of_object (a_constant v) = refl
     of_object (a_variable p) = refl
@@ -87,10 +87,10 @@ types-agree naming n noted below x =
     ap (λ env. type_of_name (newest_object env)) (by_ordinal-from naming n noted x below) ∙ type_of_name-agrees naming (noted_from naming noted x)
     ∙ sym (ap (λ env. type_of_name (newest_object env)) (by_name-from naming noted x))
 
-pub statement_meanings-agree : {N : Type 0} (naming : Naming N) (n : ℕ) (noted : Noted N) → Below n noted → (x : N) → (statement_meanings naming_by_label (by_ordinal naming noted)).object_for (label_at_token naming noted x) ≡ (statement_meanings naming (by_name noted)).object_for x
-statement_meanings-agree naming n noted below x =
-    ap (λ env. statement_object (newest_object env)) (by_ordinal-from naming n noted x below) ∙ statement_object-agrees naming (noted_from naming noted x)
-    ∙ sym (ap (λ env. statement_object (newest_object env)) (by_name-from naming noted x))
+pub meanings_for_statements-agree : {N : Type 0} (naming : Naming N) (n : ℕ) (noted : Noted N) → Below n noted → (x : N) → (meanings_for_statements naming_by_label (by_ordinal naming noted)).object_for (label_at_token naming noted x) ≡ (meanings_for_statements naming (by_name noted)).object_for x
+meanings_for_statements-agree naming n noted below x =
+    ap (λ env. object_for_statements (newest_object env)) (by_ordinal-from naming n noted x below) ∙ object_for_statements-agrees naming (noted_from naming noted x)
+    ∙ sym (ap (λ env. object_for_statements (newest_object env)) (by_name-from naming noted x))
 
 -- holds if a noted environment has this scope, and its ordinals are below the next one
 abbrev pub Within : {N : Type 0} → ℕ → Scope N → Noted N → Type 0
@@ -354,8 +354,8 @@ pub body-agrees : {N : Type 0} (naming : Naming N) (n : ℕ) (noted : Noted N) �
 unfolding execute_body
 body-agrees naming n noted below there here h t none = refl
 body-agrees naming n noted below there here h t (one (begins statements)) = λ i s.
-    (execute_sequence-map (label_at_token naming noted) (label_from_ordinal naming None) (statement_meanings naming_by_label (by_ordinal naming noted)) there t statements
-    ∙ (λ j. execute_sequence (record { object_for = λ x. statement_meanings-agree naming n noted below x j; written = naming.written }) (λ x. h x j) t statements)) i s
+    (execute_sequence-map (label_at_token naming noted) (label_from_ordinal naming None) (meanings_for_statements naming_by_label (by_ordinal naming noted)) there t statements
+    ∙ (λ j. execute_sequence (record { object_for = λ x. meanings_for_statements-agree naming n noted below x j; written = naming.written }) (λ x. h x j) t statements)) i s
 
 -- If frames agree by name and by ordinal and are continued alike, the runs agree.
 pub continue_in_frame-agrees : {N : Type 0} (naming : Naming N) (P : NotedFrame N → Type 0) (s : State) (r : Option (Frame N)) (q : Option (Frame Label)) (here : Frame N → State → Progress) (there : Frame Label → State → Progress)

@@ -24,7 +24,7 @@ use Rattle.ob0_language_types.proofs.Leaves.{AllStay, Here, Literal, denoted_typ
 use Rattle.ob0_language_types.proofs.Literals.{IsSeen, literal-has_value, some_inverse}
 use Rattle.ob0_language_types.proofs.Marks.{IsRight, Mark, Marks, OfProcedure, Sound, Sound-from, Stays, found, is_left, knowns, marks_from, not-left, object_as, object_of, read, read-from, read_edited, read_edited-from, scope_marked}
 use Rattle.ob0_language_runs.specs.EditLaws.{InliningKeepsTypingAndRuns, RemovingUnusedKeepsTypingAndRuns}
-use Rattle.ob0_language_runs.specs.Runs.{Activation, Argument, CallFunction, ProcedureText, Frame, Parameter, Progress, State, activate, allocate, bind_parameter, bind_parameters, call, declare_block, declare_procedures, declare_variables, execute_sequence, execute_body, run_result, formal_modes, continue_in_frame, parameters, statement_object, place_argument, run, run_with_naming, statement_meanings, stopped, value_argument, declare_procedures_in_frame}
+use Rattle.ob0_language_runs.specs.Runs.{Activation, Argument, CallFunction, ProcedureText, Frame, Parameter, Progress, State, activate, allocate, bind_parameter, bind_parameters, call, declare_block, declare_procedures, declare_variables, execute_sequence, execute_body, run_result, formal_modes, continue_in_frame, parameters, object_for_statements, place_argument, run, run_with_naming, meanings_for_statements, stopped, value_argument, declare_procedures_in_frame}
 use Rattle.ob0_language_runs.proofs.ByOrdinal.{formal_names-parameters, parameter_names}
 use Rattle.ob0_language_runs.proofs.InlinedStatements.{execute_sequence-written}
 use Rattle.ob0_language_runs.proofs.RunNaturality.{execute_sequence-map}
@@ -66,11 +66,11 @@ sections-modes edit j (more (then_section (variable_section ns t)) fs) = λ i. m
 pub procedure-modes : (edit : Edit) (j k : ℕ) (p : Tree Name (item procedure)) → formal_modes (procedure_formals (edited_procedure edit j k p)) ≡ formal_modes (procedure_formals p)
 procedure-modes edit j k (declares_procedure x fs b closing) = ap formal_modes (formals-of edit j fs) ∙ sections-modes edit j (formal_sections fs)
 
-statement_object-kept : (edit : Edit) (o : Option (Mark Place Text)) → statement_object (option_map (object_of (after edit)) o) ≡ statement_object (option_map (object_of before) o)
-statement_object-kept edit None = refl
-statement_object-kept edit (Some b) = of_object b.object
+object_for_statements-kept : (edit : Edit) (o : Option (Mark Place Text)) → object_for_statements (option_map (object_of (after edit)) o) ≡ object_for_statements (option_map (object_of before) o)
+object_for_statements-kept edit None = refl
+object_for_statements-kept edit (Some b) = of_object b.object
   where
-    of_object : (o : Object Place Text) → statement_object (Some (object_as (after edit b.ordinal) o)) ≡ statement_object (Some (object_as (before b.ordinal) o))
+    of_object : (o : Object Place Text) → object_for_statements (Some (object_as (after edit b.ordinal) o)) ≡ object_for_statements (Some (object_as (before b.ordinal) o))
     of_object (a_type s) = refl
     of_object (a_constant v) = refl
     of_object (a_variable p) = refl
@@ -78,15 +78,15 @@ statement_object-kept edit (Some b) = of_object b.object
     of_object (a_standard p) = refl
 
 abbrev pub meanings_after : Edit → Marks Place Text → Meanings Name Place (List Mode)
-meanings_after edit marks = statement_meanings naming_by_spelling (read_edited edit (after edit) marks)
+meanings_after edit marks = meanings_for_statements naming_by_spelling (read_edited edit (after edit) marks)
 
 abbrev pub meanings_before : Marks Place Text → Meanings Name Place (List Mode)
-meanings_before marks = statement_meanings naming_by_spelling (read before marks)
+meanings_before marks = meanings_for_statements naming_by_spelling (read before marks)
 
-pub seen-statement_object : (env : Activation Name) (w : Value) → IsSeen (meanings naming_by_spelling env) w → IsSeen (statement_meanings naming_by_spelling env) w
-seen-statement_object env (truth true) e = ap statement_object e
-seen-statement_object env (truth false) e = ap statement_object e
-seen-statement_object env _ e = tt
+pub seen-object_for_statements : (env : Activation Name) (w : Value) → IsSeen (meanings naming_by_spelling env) w → IsSeen (meanings_for_statements naming_by_spelling env) w
+seen-object_for_statements env (truth true) e = ap object_for_statements e
+seen-object_for_statements env (truth false) e = ap object_for_statements e
+seen-object_for_statements env _ e = tt
 
 -- a name's meaning, its spelling, and the effect of calling it
 pub record RunTag : Type 0 where
@@ -108,19 +108,19 @@ pub run-same : (edit : Edit) (w : Value) (marks : Marks Place Text) (there here 
 run-same edit w marks there here kept [] known = tt
 run-same edit w marks there here kept (x ∷ xs) known = (
   λ i. record {
-    object = (ap statement_object (edited-object_for edit (after edit) marks x known.0) ∙ (statement_object-kept edit (found marks x) ∙ sym (ap statement_object (read-object_for before marks x)))) i;
+    object = (ap object_for_statements (edited-object_for edit (after edit) marks x known.0) ∙ (object_for_statements-kept edit (found marks x) ∙ sym (ap object_for_statements (read-object_for before marks x)))) i;
     text = [];
     entering = kept x known.0 i;
   },
   run-same edit w marks there here kept xs known.1,
 )
 
-pub execute_sequence-alike : (there here : Activation Name) (enter_there enter_here : CallFunction Name) (t : ℕ) (a : Tree Name sequence) → SameAt (run_tag (statement_meanings naming_by_spelling there) enter_there) (run_tag (statement_meanings naming_by_spelling here) enter_here) (occurrences a)
-    → execute_sequence (statement_meanings naming_by_spelling there) enter_there t a ≡ execute_sequence (statement_meanings naming_by_spelling here) enter_here t a
+pub execute_sequence-alike : (there here : Activation Name) (enter_there enter_here : CallFunction Name) (t : ℕ) (a : Tree Name sequence) → SameAt (run_tag (meanings_for_statements naming_by_spelling there) enter_there) (run_tag (meanings_for_statements naming_by_spelling here) enter_here) (occurrences a)
+    → execute_sequence (meanings_for_statements naming_by_spelling there) enter_there t a ≡ execute_sequence (meanings_for_statements naming_by_spelling here) enter_here t a
 execute_sequence-alike there here enter_there enter_here t a e =
-    sym (execute_sequence-map (run_tag (statement_meanings naming_by_spelling there) enter_there) run_field run_tagged (λ x. x.entering) t a)
-    ∙ (ap (execute_sequence run_tagged (λ x. x.entering) t) (map_names-same (run_tag (statement_meanings naming_by_spelling there) enter_there) (run_tag (statement_meanings naming_by_spelling here) enter_here) run_field a e)
-    ∙ execute_sequence-map (run_tag (statement_meanings naming_by_spelling here) enter_here) run_field run_tagged (λ x. x.entering) t a)
+    sym (execute_sequence-map (run_tag (meanings_for_statements naming_by_spelling there) enter_there) run_field run_tagged (λ x. x.entering) t a)
+    ∙ (ap (execute_sequence run_tagged (λ x. x.entering) t) (map_names-same (run_tag (meanings_for_statements naming_by_spelling there) enter_there) (run_tag (meanings_for_statements naming_by_spelling here) enter_here) run_field a e)
+    ∙ execute_sequence-map (run_tag (meanings_for_statements naming_by_spelling here) enter_here) run_field run_tagged (λ x. x.entering) t a)
 
 pub body-kept : (edit : Edit) (w : Value) → Literal edit w → (n : ℕ) (marks : Marks Place Text) → Run_sound edit w n marks → (there here : CallFunction Name) → ((x : Name) → Stays edit (scope_marked marks) x → there x ≡ here x)
     → (t j : ℕ) (statements : Tree Name (maybe body)) → Here edit w (maybe body) j (scope_marked marks) statements
@@ -132,8 +132,8 @@ body-kept edit w lit n marks s there here kept t j (one (begins a)) known = λ i
     ∙ ⊎_elim
     (λ yes_shown. let seen : IsSeen (read_meanings before marks) w = seen-read edit w (IsText edit w) before n marks s yes_shown in
     execute_sequence-written (meanings_before marks) here t edit.uses edit.literal w record {
-      in_store = λ store. literal-has_value (meanings_before marks) store edit.literal w lit.written lit.scalar (seen-statement_object (read before marks) w seen);
-    } j a (uses-map edit.uses (NamesConstant (read_meanings before marks) w) (IsConstantOf (meanings_before marks) w) (λ x e. ap statement_object e) j (occurrences a) (uses-read edit w (IsText edit w) before n marks s j (occurrences a) known.0)))
+      in_store = λ store. literal-has_value (meanings_before marks) store edit.literal w lit.written lit.scalar (seen-object_for_statements (read before marks) w seen);
+    } j a (uses-map edit.uses (NamesConstant (read_meanings before marks) w) (IsConstantOf (meanings_before marks) w) (λ x e. ap object_for_statements e) j (occurrences a) (uses-read edit w (IsText edit w) before n marks s j (occurrences a) known.0)))
     (λ not_shown. ap (execute_sequence (meanings_before marks) here t) (inline-nothing edit.uses edit.literal j a (none-used edit w j (scope_marked marks) (occurrences a) not_shown known.0)))
     (cases_Bool (shown w (scope_marked marks)))) i state
 

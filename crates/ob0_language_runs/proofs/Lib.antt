@@ -11,5 +11,5 @@ pub mod InlinedStatements
 pub mod RenamedRuns
 pub mod EditedRuns
 pub mod RunsEverywhere
-pub mod OtherPlaces
-pub mod KeptVariables
+pub mod LargerStores
+pub mod FreeingKeepsRuns

@@ -16,7 +16,7 @@ use Rattle.ob0_language_types.proofs.TypesByOrdinal.{typed_parameter}
 use Rattle.ob0_language_types.proofs.Conditions.{both_true, hold-true}
 use Rattle.ob0_language_types.proofs.TypedElsewhere.{then_some}
 use Rattle.ob0_language_runs.specs.Laws.{NeverStuck}
-use Rattle.ob0_language_runs.specs.Runs.{Activation, Argument, CallFunction, ProcedureText, Frame, Parameter, Progress, State, activate, allocate, bind_parameter, bind_parameters, call, declare_block, declare_procedures, declare_variables, execute_sequence, execute_body, run_result, formal_modes, continue_in_frame, parameters, statement_object, place_argument, run, run_with_naming, running, statement_meanings, stopped, value_argument, declare_procedures_in_frame}
+use Rattle.ob0_language_runs.specs.Runs.{Activation, Argument, CallFunction, ProcedureText, Frame, Parameter, Progress, State, activate, allocate, bind_parameter, bind_parameters, call, declare_block, declare_procedures, declare_variables, execute_sequence, execute_body, run_result, formal_modes, continue_in_frame, parameters, object_for_statements, place_argument, run, run_with_naming, running, meanings_for_statements, stopped, value_argument, declare_procedures_in_frame}
 use Rattle.ob0_language_runs.proofs.ByOrdinal.{with_mode}
 use Rattle.ob0_language_runs.proofs.SoundStatements.{RunObjectAgrees-grows, PlaceHasType-grows, ProgressFits-grown, execute_sequence-keeps, keeps-here, same_store-fits}
 use Rattle.ob0_language_runs.specs.TypeAgreement.{ArgumentsMatchSignature, RunBindingAgrees, RunEnvironmentAgrees, EachElementHasShape, HasShape, MembersHaveShapes, RunObjectAgrees, StoreHasTypes, StoreTyping, signature_modes, shape_at_path}
@@ -38,7 +38,7 @@ modes-typed naming env k (more (then_section f) fs) ps e =
     ap (λ ms. map (λ x. (section_mode f)) (section_names f) ++ ms) (modes-typed naming (bind_names (section_names f) (a_variable s) env) (k + constructor_count (section_type f)) fs rest er)
     ∙ (sym (modes-of_parameters record { mode = (section_mode f); shape = s } (section_names f) rest) ∙ ap (λ ps. signature_modes (map (λ p. p.formal) ps)) (some_inverse e₂))
 
-pub binding-object : {N : Type 0} (naming : Naming N) (typing : StoreTyping) (checked : TypeEnvironment N) (x : N) (o : Object Shape Signature) (r : Object Place (ProcedureText N)) → RunBindingAgrees naming typing checked x o r → RunObjectAgrees typing (Some o) (statement_object (Some r))
+pub binding-object : {N : Type 0} (naming : Naming N) (typing : StoreTyping) (checked : TypeEnvironment N) (x : N) (o : Object Shape Signature) (r : Object Place (ProcedureText N)) → RunBindingAgrees naming typing checked x o r → RunObjectAgrees typing (Some o) (object_for_statements (Some r))
 binding-object naming typing checked x (a_procedure signature) (a_procedure code) h =
     modes-typed naming checked code.constructors_before (procedure_formals code.text) h.0 h.1 ∙ ap signature_modes (sym h.2)
 binding-object naming typing checked x (a_type s) r h = h
@@ -47,13 +47,13 @@ binding-object naming typing checked x (a_variable s) r h = h
 binding-object naming typing checked x (a_standard s) r h = h
 binding-object naming typing checked x (a_procedure signature) _ h = h
 
-pub names-fit : {N : Type 0} (naming : Naming N) (typing : StoreTyping) (checked : TypeEnvironment N) (active : Activation N) → RunEnvironmentAgrees naming typing checked active → (z : N) → RunObjectAgrees typing (newest_object (environment_from_binding naming checked z)) (statement_object (newest_object (environment_from_binding naming active z)))
+pub names-fit : {N : Type 0} (naming : Naming N) (typing : StoreTyping) (checked : TypeEnvironment N) (active : Activation N) → RunEnvironmentAgrees naming typing checked active → (z : N) → RunObjectAgrees typing (newest_object (environment_from_binding naming checked z)) (object_for_statements (newest_object (environment_from_binding naming active z)))
 names-fit naming typing [] [] h z = tt
 names-fit {N} naming typing (b ∷ checked) (d ∷ active) h z =
-    subst (λ y. RunObjectAgrees typing (newest_object (elim (naming.same z b.0) [ true ↦ b ∷ checked | false ↦ environment_from_binding naming checked z ])) (statement_object (newest_object (elim (naming.same z y) [ true ↦ d ∷ active | false ↦ environment_from_binding naming active z ])))) h.0
+    subst (λ y. RunObjectAgrees typing (newest_object (elim (naming.same z b.0) [ true ↦ b ∷ checked | false ↦ environment_from_binding naming checked z ])) (object_for_statements (newest_object (elim (naming.same z y) [ true ↦ d ∷ active | false ↦ environment_from_binding naming active z ])))) h.0
     (go (names-fit naming typing checked active h.2 z) (naming.same z b.0))
   where
-    go : RunObjectAgrees typing (newest_object (environment_from_binding naming checked z)) (statement_object (newest_object (environment_from_binding naming active z))) → (v : Bool) → RunObjectAgrees typing (newest_object {N = N} {V = Shape} {P = Signature} (elim v [ true ↦ b ∷ checked | false ↦ environment_from_binding naming checked z ])) (statement_object (newest_object {N = N} {V = Place} {P = ProcedureText N} (elim v [ true ↦ d ∷ active | false ↦ environment_from_binding naming active z ])))
+    go : RunObjectAgrees typing (newest_object (environment_from_binding naming checked z)) (object_for_statements (newest_object (environment_from_binding naming active z))) → (v : Bool) → RunObjectAgrees typing (newest_object {N = N} {V = Shape} {P = Signature} (elim v [ true ↦ b ∷ checked | false ↦ environment_from_binding naming checked z ])) (object_for_statements (newest_object {N = N} {V = Place} {P = ProcedureText N} (elim v [ true ↦ d ∷ active | false ↦ environment_from_binding naming active z ])))
     go older true = binding-object naming typing checked b.0 b.1 d.1 h.1
     go older false = older
 names-fit naming typing _ _ h z = absurd h
@@ -68,10 +68,10 @@ from-fit naming typing _ _ z h = absurd h
 
 pub binding-grows : {N : Type 0} (naming : Naming N) (typing others : StoreTyping) (checked : TypeEnvironment N) (x : N) (o : Object Shape Signature) (r : Object Place (ProcedureText N)) → RunBindingAgrees naming typing checked x o r → RunBindingAgrees naming (typing ++ others) checked x o r
 binding-grows naming typing others checked x (a_procedure signature) (a_procedure code) h = h
-binding-grows naming typing others checked x (a_type s) r h = RunObjectAgrees-grows typing others (Some (a_type s)) (statement_object (Some r)) h
-binding-grows naming typing others checked x (a_constant s) r h = RunObjectAgrees-grows typing others (Some (a_constant s)) (statement_object (Some r)) h
-binding-grows naming typing others checked x (a_variable s) r h = RunObjectAgrees-grows typing others (Some (a_variable s)) (statement_object (Some r)) h
-binding-grows naming typing others checked x (a_standard s) r h = RunObjectAgrees-grows typing others (Some (a_standard s)) (statement_object (Some r)) h
+binding-grows naming typing others checked x (a_type s) r h = RunObjectAgrees-grows typing others (Some (a_type s)) (object_for_statements (Some r)) h
+binding-grows naming typing others checked x (a_constant s) r h = RunObjectAgrees-grows typing others (Some (a_constant s)) (object_for_statements (Some r)) h
+binding-grows naming typing others checked x (a_variable s) r h = RunObjectAgrees-grows typing others (Some (a_variable s)) (object_for_statements (Some r)) h
+binding-grows naming typing others checked x (a_standard s) r h = RunObjectAgrees-grows typing others (Some (a_standard s)) (object_for_statements (Some r)) h
 binding-grows naming typing others checked x _ _ h = h
 
 pub environments-grow : {N : Type 0} (naming : Naming N) (typing others : StoreTyping) (checked : TypeEnvironment N) (active : Activation N) → RunEnvironmentAgrees naming typing checked active → RunEnvironmentAgrees naming (typing ++ others) checked active
@@ -109,13 +109,13 @@ last-shape _ _ s h = absurd h
 
 -- Declarations make bindings that fit the bindings of the checked module.
 
-pub statement_object-constant : {N : Type 0} (o : Option (Object Place (ProcedureText N))) → constant_of (statement_object o) ≡ constant_of o
-statement_object-constant (Some (a_type s)) = refl
-statement_object-constant _ = refl
+pub object_for_statements-constant : {N : Type 0} (o : Option (Object Place (ProcedureText N))) → constant_of (object_for_statements o) ≡ constant_of o
+object_for_statements-constant (Some (a_type s)) = refl
+object_for_statements-constant _ = refl
 
-pub statement_object-type : {N : Type 0} (o : Option (Object Place (ProcedureText N))) → type_of_name (statement_object o) ≡ type_of_name o
-statement_object-type (Some (a_type s)) = refl
-statement_object-type _ = refl
+pub object_for_statements-type : {N : Type 0} (o : Option (Object Place (ProcedureText N))) → type_of_name (object_for_statements o) ≡ type_of_name o
+object_for_statements-type (Some (a_type s)) = refl
+object_for_statements-type _ = refl
 
 pub fit-constant : (typing : StoreTyping) (checked : Option (Object Shape Signature)) (active : Option (Object Place (List Mode))) → RunObjectAgrees typing checked active → constant_of active ≡ constant_of checked
 fit-constant typing None None h = refl
@@ -137,11 +137,11 @@ fit-type typing _ _ h = absurd h
 
 pub constants-same : {N : Type 0} (naming : Naming N) (typing : StoreTyping) (checked : TypeEnvironment N) (active : Activation N) → RunEnvironmentAgrees naming typing checked active → (x : N) → constant_of ((meanings naming active).object_for x) ≡ constant_of ((meanings naming checked).object_for x)
 constants-same naming typing checked active h x =
-    sym (statement_object-constant (newest_object (environment_from_binding naming active x))) ∙ fit-constant typing (newest_object (environment_from_binding naming checked x)) (statement_object (newest_object (environment_from_binding naming active x))) (names-fit naming typing checked active h x)
+    sym (object_for_statements-constant (newest_object (environment_from_binding naming active x))) ∙ fit-constant typing (newest_object (environment_from_binding naming checked x)) (object_for_statements (newest_object (environment_from_binding naming active x))) (names-fit naming typing checked active h x)
 
 pub types-same : {N : Type 0} (naming : Naming N) (typing : StoreTyping) (checked : TypeEnvironment N) (active : Activation N) → RunEnvironmentAgrees naming typing checked active → (x : N) → type_of_name ((meanings naming active).object_for x) ≡ type_of_name ((meanings naming checked).object_for x)
 types-same naming typing checked active h x =
-    sym (statement_object-type (newest_object (environment_from_binding naming active x))) ∙ fit-type typing (newest_object (environment_from_binding naming checked x)) (statement_object (newest_object (environment_from_binding naming active x))) (names-fit naming typing checked active h x)
+    sym (object_for_statements-type (newest_object (environment_from_binding naming active x))) ∙ fit-type typing (newest_object (environment_from_binding naming checked x)) (object_for_statements (newest_object (environment_from_binding naming active x))) (names-fit naming typing checked active h x)
 
 pub value-same : {N : Type 0} (naming : Naming N) (typing : StoreTyping) (checked : TypeEnvironment N) (active : Activation N) → RunEnvironmentAgrees naming typing checked active → (e : Tree N expression) → constant_value (meanings naming active) e ≡ constant_value (meanings naming checked) e
 value-same naming typing checked active h e =
@@ -274,8 +274,8 @@ pub body-run : {N : Type 0} (naming : Naming N) (typing : StoreTyping) (checked 
 unfolding execute_body body_is_well_typed
 body-run naming typing checked active enter t none s env calls_fit store h = same_store-fits typing s store
 body-run naming typing checked active enter t (one (begins statements)) s env calls_fit store h =
-    keeps-here typing (execute_sequence (statement_meanings naming active) enter t statements)
-    (execute_sequence-keeps typing (meanings naming checked) (statement_meanings naming active) enter record { names_fit = (names-fit naming typing checked active env, λ x. refl); calls_fit = calls_fit } t statements h) s store
+    keeps-here typing (execute_sequence (meanings_for_statements naming active) enter t statements)
+    (execute_sequence-keeps typing (meanings naming checked) (meanings_for_statements naming active) enter record { names_fit = (names-fit naming typing checked active env, λ x. refl); calls_fit = calls_fit } t statements h) s store
 
 -- holds if calls preserve the typing; this is the induction hypothesis for a smaller bound
 abbrev pub CallsRun : {N : Type 0} → Naming N → (Activation N → CallFunction N) → Type 0

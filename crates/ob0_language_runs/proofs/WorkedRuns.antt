@@ -3,7 +3,7 @@ use Rattle.std.proofs.Common.{◌≡◌, [], ◌∷◌, pos, negsuc, refl}
 use Rattle.ob0_language_names.specs.Names.{naming_by_spelling}
 use Rattle.ob0_language_names.proofs.WorkedTrees.{activations, aliases, captured_variable, divisions, least_constant, least_constant_gone, least_constant_inlined, negative_divisor, records, recursion, recursion_renamed, repeats, shadowed_variable, sign_overflows, store_of_calls, sum_overflows, turns_and_calls, visible_later, visible_later_renamed}
 use Rattle.ob0_language_values.specs.Values.{CallBound, Divisor, Done, Index, InputEnd, Overflow, TurnBound}
-use Rattle.ob0_language_runs.specs.Freed.{run_freeing}
+use Rattle.ob0_language_runs.specs.Freed.{run_freeing_variables}
 use Rattle.ob0_language_runs.specs.Runs.{line_out, number_out, run}
 
 pub shadowed_variable-run-1 : run shadowed_variable [] 64 9 ≡ record { output = number_out (pos 1) ∷ []; ending = Done }
@@ -124,6 +124,6 @@ store_of_calls-run-1 = refl
 
 -- Each call gets new variables, and its VAR parameter refers to the same place. This doesn't depend on whether calls
 -- drop their variables.
-pub store_of_calls-freed-1 : run_freeing naming_by_spelling store_of_calls [] 2 1 ≡ record { output = number_out (pos 10) ∷ number_out (pos 10) ∷ number_out (pos 10) ∷ []; ending = Done }
-unfolding run_freeing
+pub store_of_calls-freed-1 : run_freeing_variables naming_by_spelling store_of_calls [] 2 1 ≡ record { output = number_out (pos 10) ∷ number_out (pos 10) ∷ number_out (pos 10) ∷ []; ending = Done }
+unfolding run_freeing_variables
 store_of_calls-freed-1 = refl

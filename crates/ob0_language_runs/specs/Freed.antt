@@ -18,15 +18,15 @@ drop_variables n (stopped e out) = stopped e out
 -- within each other. If it is 0, the run ends with CallBound. The second number bounds the
 -- iterations of each loop. After the call returns, the store has as many variables as before the
 -- call.
-unfoldable pub call_freeing : {N : Type 0} → Naming N → ℕ → ℕ → Activation N → CallFunction N
+unfoldable pub call_freeing_variables : {N : Type 0} → Naming N → ℕ → ℕ → Activation N → CallFunction N
 unfolding activate
-call_freeing naming zero t env x args s = stopped CallBound s.output
-call_freeing naming (suc c) t env x args s =
+call_freeing_variables naming zero t env x args s = stopped CallBound s.output
+call_freeing_variables naming (suc c) t env x args s =
     drop_variables (length s.store)
-    (activate naming (call_freeing naming c t) t (environment_from_binding naming env x) args s)
+    (activate naming (call_freeing_variables naming c t) t (environment_from_binding naming env x) args s)
 
 -- returns the result of running a module if each call drops its variables when it returns; `c`
 -- bounds the number of open calls, and `t` bounds the iterations of each loop
-unfoldable pub run_freeing : {N : Type 0} → Naming N → Tree N module_text → List ℤ → ℕ → ℕ → Run
-unfolding run_with_calls call_freeing
-run_freeing naming m input c t = run_with_calls naming (call_freeing naming c t) t m input
+unfoldable pub run_freeing_variables : {N : Type 0} → Naming N → Tree N module_text → List ℤ → ℕ → ℕ → Run
+unfolding run_with_calls call_freeing_variables
+run_freeing_variables naming m input c t = run_with_calls naming (call_freeing_variables naming c t) t m input

@@ -11,7 +11,7 @@ use Rattle.ob0_language_types.specs.Expressions.{Meanings, a_constant, evaluate_
 use Rattle.ob0_language_types.specs.Laws.{EachUseHas}
 use Rattle.ob0_language_values.specs.Values.{Place, Store, Stuck, Value, succeeds_with}
 use Rattle.ob0_language_types.specs.WellTyped.{Mode, WellTyped}
-use Rattle.ob0_language_runs.specs.Freed.{run_freeing}
+use Rattle.ob0_language_runs.specs.Freed.{run_freeing_variables}
 use Rattle.ob0_language_runs.specs.Runs.{CallFunction, State, execute, run, run_numbered, run_with_naming}
 
 -- States that a module and its numbered tree have the same run for every input and all bounds on calls and loop
@@ -44,9 +44,9 @@ FreeRenamingKeepsRuns =
 abbrev pub FreeingVariablesKeepsRuns : Type 0
 FreeingVariablesKeepsRuns =
     ((naming : Naming Name) (m : Tree Name module_text) (input : List ℤ) (c t : ℕ)
-    → run_freeing naming m input c t ≡ run_with_naming naming m input c t)
+    → run_freeing_variables naming m input c t ≡ run_with_naming naming m input c t)
     × ((naming : Naming Label) (m : Tree Label module_text) (input : List ℤ) (c t : ℕ)
-    → run_freeing naming m input c t ≡ run_with_naming naming m input c t)
+    → run_freeing_variables naming m input c t ≡ run_with_naming naming m input c t)
 
 -- States that no run of a well-typed module gets stuck: each step of the run has a meaning.
 abbrev pub NeverStuck : Type 0

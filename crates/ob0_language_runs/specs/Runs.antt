@@ -342,24 +342,24 @@ formal_modes (more (then_section f) fs) =
 
 -- returns a name's object with only the data that statements need: a procedure keeps only the modes of its parameters,
 -- and any other object is unchanged
-abbrev pub statement_object : {N : Type 0}
+abbrev pub object_for_statements : {N : Type 0}
     → Option (Object Place (ProcedureText N))
     → Option (Object Place (List Mode))
-statement_object None = None
-statement_object (Some (a_type s)) = Some (a_type s)
-statement_object (Some (a_constant v)) = Some (a_constant v)
-statement_object (Some (a_variable p)) = Some (a_variable p)
-statement_object (Some (a_procedure code)) = Some (a_procedure (formal_modes (procedure_formals code.text)))
-statement_object (Some (a_standard p)) = Some (a_standard p)
+object_for_statements None = None
+object_for_statements (Some (a_type s)) = Some (a_type s)
+object_for_statements (Some (a_constant v)) = Some (a_constant v)
+object_for_statements (Some (a_variable p)) = Some (a_variable p)
+object_for_statements (Some (a_procedure code)) = Some (a_procedure (formal_modes (procedure_formals code.text)))
+object_for_statements (Some (a_standard p)) = Some (a_standard p)
 
 -- returns the meanings of names for the statements of an activation
-abbrev pub statement_meanings : {N : Type 0}
+abbrev pub meanings_for_statements : {N : Type 0}
     → Naming N
     → Activation N
     → Meanings N Place (List Mode)
-statement_meanings naming env =
+meanings_for_statements naming env =
     record
-    { object_for = λ x. statement_object ((meanings naming env).object_for x); written = naming.written }
+    { object_for = λ x. object_for_statements ((meanings naming env).object_for x); written = naming.written }
 
 -- executes the statements of a body; does nothing if there is no body
 unfoldable pub execute_body : {N : Type 0}
@@ -373,7 +373,7 @@ unfoldable pub execute_body : {N : Type 0}
 unfolding execute
 execute_body naming env enter t none s = running s
 execute_body naming env enter t (one (begins statements)) s =
-    execute_sequence (statement_meanings naming env) enter t statements s
+    execute_sequence (meanings_for_statements naming env) enter t statements s
 
 -- continues a run with the function `next` in a frame; the run gets the frame's store; ends the run with Stuck if the
 -- frame is None

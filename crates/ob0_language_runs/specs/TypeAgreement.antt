@@ -7,7 +7,7 @@ use Rattle.ob0_language_types.specs.Expressions.{Meanings, Object, a_constant, a
 use Rattle.ob0_language_types.specs.Typing.{shape_of_field}
 use Rattle.ob0_language_types.specs.WellTyped.{Mode, Signature, TypeEnvironment, TypeMeanings, TypedParameter, bind_typed_parameters, by_place, by_value, bind_procedure, procedure_is_well_typed, typed_parameters}
 use Rattle.ob0_language_values.specs.Values.{FieldShapes, Members, Place, Shape, Step, Store, Value, Values, array_shape, at_field, at_index, boolean_shape, count_values, elements, integer_shape, members, next_field_shape, next_member, next_value, no_field_shape, no_member, no_value, number, record_shape, truth}
-use Rattle.ob0_language_runs.specs.Runs.{Activation, Argument, ProcedureText, statement_object, place_argument, value_argument}
+use Rattle.ob0_language_runs.specs.Runs.{Activation, Argument, ProcedureText, object_for_statements, place_argument, value_argument}
 
 -- States that a value has a type, including the types of the value's parts.
 abbrev mutual
@@ -118,7 +118,7 @@ RunBindingAgrees {N} naming typing checked x (a_procedure signature) (a_procedur
     × (signature ≡ map (λ p. p.formal) ps)
     × (procedure_is_well_typed naming (bind_typed_parameters ps (bind_procedure x ps checked)) code.constructors_before code.text
     ≡ true)
-RunBindingAgrees naming typing checked x o r = RunObjectAgrees typing (Some o) (statement_object (Some r))
+RunBindingAgrees naming typing checked x o r = RunObjectAgrees typing (Some o) (object_for_statements (Some r))
 
 -- states that the environment of a run agrees with the checked environment: both bind the same names in the same order,
 -- to objects that agree

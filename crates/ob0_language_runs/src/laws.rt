@@ -2,7 +2,7 @@
 //! numbered tree (`numbered`) has the ordinal of its declaration in place of each bound name.
 //!
 //! In the definition `run`, the store keeps every variable until the run ends. In
-//! `run_freeing` (`specs/Freed`), a call's variables are dropped when the call returns.
+//! `run_freeing_variables` (`specs/Freed`), a call's variables are dropped when the call returns.
 //! `freeing_variables_keeps_runs` states that both runs have the same result. `specs/TypeAgreement`
 //! defines when a value, a store, a place or an environment agrees with the types of a checked
 //! module. Throughout a run of a well-typed module all of them agree, so the run doesn't get stuck.

@@ -12,7 +12,7 @@ use Rattle.ob0_language_names.specs.Parts.{block_procedures, block_statements, f
 use Rattle.ob0_language_names.specs.Scopes.{Scope, ordinal_after_block, ordinal_after_names, ordinal_after_procedure, ordinal_after_procedures, label_from_ordinal, declare_names, first_procedure_ordinal, numbered, relabel_block, relabel_formals, relabel_procedures}
 use Rattle.ob0_language_names.proofs.Ordinals.{le-ordinal_after_names, le-ordinal_after_block, le-ordinal_after_procedure, le-ordinal_after_procedures}
 use Rattle.ob0_language_types.specs.Bindings.{block_bindings, list_if_some, module_bindings, object_of_ordinal, procedures_bindings}
-use Rattle.ob0_language_types.specs.Bodies.{HoldsInBlock, BodyAt, BindingsMatchDeclarations, HoldsInProcedure, HoldsInProcedures, block_bodies, procedure_bodies, procedures_bodies}
+use Rattle.ob0_language_types.specs.Bodies.{HoldsInBlock, BodyWithEnvironment, BindingsMatchDeclarations, HoldsInProcedure, HoldsInProcedures, block_bodies, procedure_bodies, procedures_bodies}
 use Rattle.ob0_language_types.specs.Declaring.{declare_block}
 use Rattle.ob0_language_types.specs.ConstantValues.{ConstantEnvironment, non_constant}
 use Rattle.ob0_language_types.specs.Declarations.{constructors_before_procedures, formals_constructor_count, procedure_constructor_count}
@@ -175,7 +175,7 @@ list_if_some-all P None list h = All-nil P
 list_if_some-all P (Some a) list h = h a refl
 
 module _ (Q : TypeEnvironment Label → Type 0) where
-  abbrev At : BodyAt Label → Type 0
+  abbrev At : BodyWithEnvironment Label → Type 0
   At place = Q place.environment
 
   mutual

@@ -8,14 +8,14 @@ use Rattle.ob0_language_names.specs.Parts.{module_block}
 use Rattle.ob0_language_names.specs.OccurrenceLookup.{naming_for_lookup_of}
 use Rattle.ob0_language_names.proofs.EditedTrees.{Edit, inline-nothing, leaf, no_uses, writing}
 use Rattle.ob0_language_names.proofs.EverywhereTrees.{everywhere, gone-module}
-use Rattle.ob0_language_names.proofs.NoneLeft.{AllGiveWay, NoneOf, none-left}
+use Rattle.ob0_language_names.proofs.InliningLeavesNoUse.{AllGiveWay, NoneOf, none-left}
 use Rattle.ob0_language_names.proofs.Peeling.{both}
 use Rattle.ob0_language_names.proofs.Places.{AllAt, Both, Each, EachBlock, Placed, both-block, each-block}
 use Rattle.ob0_language_values.specs.Values.{Value, elements, members, number, truth}
 use Rattle.ob0_language_types.specs.EditLaws.{InliningEverywhereKeepsWellTyped, IsConstantWithLiteral, MeansPredeclaredTruth}
 use Rattle.ob0_language_types.specs.WellTyped.{WellTyped, passes_type_check}
 use Rattle.ob0_language_types.specs.Written.{value_literal}
-use Rattle.ob0_language_types.proofs.AloneInBlocks.{IsOf, UsesAreFactors, alone-block}
+use Rattle.ob0_language_types.proofs.ConstantUsesInBlocks.{IsOf, UsesAreFactors, alone-block}
 use Rattle.ob0_language_types.proofs.EditedModules.{IsFitted, IsShownAs, all-at, all-shown, label_ordinal-of, marked_outermost, outermost-sound, seven-or-less, shown-from, truth_name, well_typed-edited}
 use Rattle.ob0_language_types.proofs.EditedTypes.{anything}
 use Rattle.ob0_language_types.proofs.Leaves.{AllStay, Here, Literal, Writes, none-used, same_ordinal-true, shown}

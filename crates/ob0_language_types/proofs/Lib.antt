@@ -24,9 +24,9 @@ pub mod EditedTypes
 pub mod EditedModules
 pub mod WorkedConstants
 pub mod TypedElsewhere
-pub mod AloneInBlocks
+pub mod ConstantUsesInBlocks
 pub mod InlinedEverywhere
-pub mod ConstantsAlone
+pub mod ConstantUsesAreWhole
 pub mod Bound
 pub mod ConstantsDeclared
 pub mod DeclaredPlaces

@@ -4,7 +4,7 @@ use Rattle.ob0_tree.specs.Tree.{Tree, addend, adds, arguments, array_type, assig
 use Rattle.ob0_language_names.specs.NonFactorNames.{non_factor_names}
 use Rattle.ob0_language_names.specs.Names.{Name}
 use Rattle.ob0_language_names.specs.Parts.{names_in_list}
-use Rattle.ob0_language_names.proofs.NoneLeft.{NoneOf, none-of-join}
+use Rattle.ob0_language_names.proofs.InliningLeavesNoUse.{NoneOf, none-of-join}
 use Rattle.ob0_language_values.specs.Values.{FieldShapes, Shape, Value, array_shape, boolean_shape, elements, integer_shape, members, number, record_shape, truth}
 use Rattle.ob0_language_types.specs.Arguments.{arguments_listed, further_arguments}
 use Rattle.ob0_language_types.specs.Expressions.{Meanings, Object, a_constant, a_procedure, a_standard, a_type, a_variable, evaluate}

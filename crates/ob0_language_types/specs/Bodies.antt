@@ -14,7 +14,7 @@ use Rattle.ob0_language_types.specs.WellTyped.{Signature, TypeEnvironment, Typed
 use Rattle.ob0_language_values.specs.Values.{Shape}
 
 -- the statements of a body, with the environment in which they are checked
-pub record BodyAt (N : Type 0) : Type 0 where
+pub record BodyWithEnvironment (N : Type 0) : Type 0 where
   pub environment : TypeEnvironment N
   pub statements : Tree N (maybe body)
 
@@ -31,7 +31,7 @@ unfoldable mutual
       → TypeEnvironment N
       → ℕ
       → Tree N block
-      → List (BodyAt N)
+      → List (BodyWithEnvironment N)
   block_bodies naming env k (forms_block (declares cs ts vs ps) statements) =
       list_if_some (declare_block naming env k (forms_block (declares cs ts vs ps) statements))
       (λ inner. procedures_bodies naming inner
@@ -46,7 +46,7 @@ unfoldable mutual
       → ℕ
       → Tree N (maybe body)
       → Tree N (items procedure)
-      → List (BodyAt N)
+      → List (BodyWithEnvironment N)
   procedures_bodies naming env k statements end =
       record { environment = env; statements = statements } ∷ []
   procedures_bodies naming env k statements (more p rest) =
@@ -62,12 +62,12 @@ unfoldable mutual
       → TypeEnvironment N
       → ℕ
       → Tree N (item procedure)
-      → List (BodyAt N)
+      → List (BodyWithEnvironment N)
   procedure_bodies naming env k (declares_procedure x fs b closing) =
       block_bodies naming env (k + formals_constructor_count (formal_sections fs)) b
 
 -- returns the bodies of a module, each with the environment in which its statements are checked
-abbrev pub module_bodies : {N : Type 0} → Naming N → Tree N module_text → List (BodyAt N)
+abbrev pub module_bodies : {N : Type 0} → Naming N → Tree N module_text → List (BodyWithEnvironment N)
 module_bodies naming m = block_bodies naming (outermost_environment naming) 0 (module_block m)
 
 -- States that the property `Q` holds for each of these environments of a block: after its

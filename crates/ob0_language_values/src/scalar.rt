@@ -211,7 +211,7 @@ pub fn apply_relation(
         },
         Scalar::Truth(a) => match right {
             Scalar::Number(_) => Err(OperatorFault::Operand),
-            Scalar::Truth(b) => relate_truths(relation, a, b),
+            Scalar::Truth(b) => compare_truths(relation, a, b),
         },
     }
 }
@@ -232,7 +232,7 @@ fn compare(relation: Relation, a: i32, b: i32) -> bool
 
 /// Returns the truth value of `a = b` or `a # b`. Returns the error `Operand` for any other
 /// relation.
-fn relate_truths(relation: Relation, a: bool, b: bool) -> Result<Scalar, OperatorFault>
+fn compare_truths(relation: Relation, a: bool, b: bool) -> Result<Scalar, OperatorFault>
     ensures { scalar_outcome result ≡ apply_relation relation (truth a) (truth b) }
 {
     match relation {

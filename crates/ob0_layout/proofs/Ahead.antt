@@ -28,7 +28,7 @@ use Rattle.ob0_layout.specs.declared.sites.KindAndRole.{KindAndRole}
 use Rattle.ob0_layout.specs.declared.line_role.LineRole.{LineRole}
 use Rattle.ob0_layout.specs.Cuts.{changed_sites, gap_before, gap_cut, last_gap, next_lexeme}
 use Rattle.ob0_layout.specs.Gaps.{all_gaps, changed_gaps, gaps_of_lexemes, gaps_after, is_changed}
-use Rattle.ob0_layout.specs.Layout.{PlacedLexeme, placed_lexemes, next_line_level, next_role, has_break, comment_role, gap_text_between, indentation}
+use Rattle.ob0_layout.specs.Layout.{LexemeWithRole, lexemes_with_roles, next_line_level, next_role, has_break, comment_role, gap_text_between, indentation}
 use Rattle.ob0_layout.proofs.Apart.{IsSolid}
 use Rattle.ob0_layout.proofs.InText.{from_start}
 
@@ -99,7 +99,7 @@ module _ (text : List ℕ) where
     pub up : at ≤ length text
     pub tokens : tokens_from at rest ≡ []
     pub comments : comments_from at rest ≡ []
-    pub none : (level : ℕ) (broken : Bool) (ss : List LineRole) → placed_lexemes at level broken ss rest ≡ []
+    pub none : (level : ℕ) (broken : Bool) (ss : List LineRole) → lexemes_with_roles at level broken ss rest ≡ []
 
   -- states that a token or comment comes next, after white space
   pub record Found (at : ℕ) (rest : List Lexeme) : Type 0 where
@@ -113,7 +113,7 @@ module _ (text : List ℕ) where
     pub tokens : tokens_from at rest ≡ tokens_from place (record { kind = kind; text = t } ∷ ls)
     pub comments : comments_from at rest ≡ comments_from place (record { kind = kind; text = t } ∷ ls)
     pub found : (level : ℕ) (broken : Bool) (ss : List LineRole)
-        → placed_lexemes at level broken ss rest ≡ placed_lexemes place level (broken || has_break (slice_range text at place)) ss (record { kind = kind; text = t } ∷ ls)
+        → lexemes_with_roles at level broken ss rest ≡ lexemes_with_roles place level (broken || has_break (slice_range text at place)) ss (record { kind = kind; text = t } ∷ ls)
 
   over_space : (at : ℕ) (t : List ℕ) (ls : List Lexeme) → drop at text ≡ t ++ text_of_lexemes ls → drop (at + length t) text ≡ text_of_lexemes ls
       → NoMore (at + length t) ls ⊎ Found (at + length t) ls → NoMore at (record { kind = lexeme.Space; text = t } ∷ ls) ⊎ Found at (record { kind = lexeme.Space; text = t } ∷ ls)
@@ -134,7 +134,7 @@ module _ (text : List ℕ) where
         index_terminals_from = n.index_terminals_from;
         tokens = n.tokens;
         comments = n.comments;
-        found = λ level broken ss. n.found level (broken || has_break t) ss ∙ ap (λ b. placed_lexemes n.place level b ss (record { kind = n.kind; text = n.t } ∷ n.ls)) (same broken);
+        found = λ level broken ss. n.found level (broken || has_break t) ss ∙ ap (λ b. lexemes_with_roles n.place level b ss (record { kind = n.kind; text = n.t } ∷ n.ls)) (same broken);
       })
 
   found_here : (k : LexemeKind) (at : ℕ) (t : List ℕ) (ls : List Lexeme) → IsSolid k → LexemesFrom text at (record { kind = k; text = t } ∷ ls) [] → Found at (record { kind = k; text = t } ∷ ls)
@@ -151,7 +151,7 @@ module _ (text : List ℕ) where
         index_terminals_from = s;
         tokens = refl;
         comments = refl;
-        found = λ level broken ss. ap (λ b. placed_lexemes at level b ss (record { kind = k; text = t } ∷ ls)) (sym (ap (λ g. broken || has_break g) nothing ∙ or-false broken));
+        found = λ level broken ss. ap (λ b. lexemes_with_roles at level b ss (record { kind = k; text = t } ∷ ls)) (sym (ap (λ g. broken || has_break g) nothing ∙ or-false broken));
       }
 
   over_kind : (k : LexemeKind) (at : ℕ) (t : List ℕ) (ls : List Lexeme) → LexemesFrom text at (record { kind = k; text = t } ∷ ls) []
@@ -179,22 +179,22 @@ no_indent (indent_by.Spaces n) = let none : 0 * n ≡ 0 = omega arith in ap (λ 
 module _ (indent : Indent) (text : List ℕ) where
   -- returns the gaps after offset `start`, which is the text's start or the end of a token or
   -- comment
-  abbrev gaps_left : Option KindAndRole → ℕ → List PlacedLexeme → List Cut
+  abbrev gaps_left : Option KindAndRole → ℕ → List LexemeWithRole → List Cut
   gaps_left None start [] = record { from = start; to = length text; new = [] } ∷ []
   gaps_left None start (b ∷ bs) = record { from = start; to = b.span.start; new = [] } ∷ gaps_after indent (length text) b bs
   gaps_left (Some a) start bs = gaps_after indent (length text) (record { lexeme = record { kind = a.kind; text = [] }; span = record { start = start; end = start }; role = a.role }) bs
 
-  at_start : (bs : List PlacedLexeme) → gaps_left None 0 bs ≡ gaps_of_lexemes indent (length text) bs
+  at_start : (bs : List LexemeWithRole) → gaps_left None 0 bs ≡ gaps_of_lexemes indent (length text) bs
   at_start [] = refl
   at_start (b ∷ bs) = refl
 
   -- The gaps after a token or comment depend only on its kind, role and end.
-  same_after : (b : PlacedLexeme) (bs : List PlacedLexeme) → gaps_after indent (length text) b bs ≡ gaps_left (Some (make_solid b.lexeme.kind b.role)) b.span.end bs
+  same_after : (b : LexemeWithRole) (bs : List LexemeWithRole) → gaps_after indent (length text) b bs ≡ gaps_left (Some (make_solid b.lexeme.kind b.role)) b.span.end bs
   unfolding gap_text_between
   same_after b [] = refl
   same_after b (c ∷ cs) = refl
 
-  one_gap : (before : Option KindAndRole) (start : ℕ) (b : PlacedLexeme) (bs : List PlacedLexeme)
+  one_gap : (before : Option KindAndRole) (start : ℕ) (b : LexemeWithRole) (bs : List LexemeWithRole)
       → gap_cut indent (make_site start b.span.start (gap_before before b.lexeme.kind b.role)) ∷ gaps_left (Some (make_solid b.lexeme.kind b.role)) b.span.end bs ≡ gaps_left before start (b ∷ bs)
   unfolding gap_text_between
   one_gap None start b bs = ap (λ cs. record { from = start; to = b.span.start; new = [] } ∷ cs) (sym (same_after b bs))
@@ -223,7 +223,7 @@ module _ (indent : Indent) (text : List ℕ) where
     pub index_terminals_from : LexemesFrom text start rest []
     pub left_is : left ≡ tokens_from start rest
     pub comments_is : comments ≡ comments_from start rest
-    pub same : map (gap_cut indent) out ++ changed_gaps text (gaps_left before start (placed_lexemes start level (is_none before) ss rest)) ≡ changed_gaps text whole
+    pub same : map (gap_cut indent) out ++ changed_gaps text (gaps_left before start (lexemes_with_roles start level (is_none before) ss rest)) ≡ changed_gaps text whole
 
   pub passing_at_start : (s : TextWithTokens) (scan : IsScan s) (ss : List LineRole) (left : List Token) (comments : List Span) (out : List GapSite) → text ≡ s.text → left ≡ s.tokens → comments ≡ s.comments → out ≡ []
       → Passing (all_gaps indent text ss scan.lexemes) left comments ss None 0 0 out
@@ -232,7 +232,7 @@ module _ (indent : Indent) (text : List ℕ) where
     index_terminals_from = subst (λ t. LexemesFrom t 0 scan.lexemes []) (sym text_is) (from_start s scan);
     left_is = left_is ∙ scan.tokens;
     comments_is = comments_is ∙ scan.comments;
-    same = λ i. map (gap_cut indent) (out_is i) ++ changed_gaps text (at_start (placed_lexemes 0 0 true ss scan.lexemes) i);
+    same = λ i. map (gap_cut indent) (out_is i) ++ changed_gaps text (at_start (lexemes_with_roles 0 0 true ss scan.lexemes) i);
   }
 
   -- The invariant of the pass holds of equal parts.
@@ -244,7 +244,7 @@ module _ (indent : Indent) (text : List ℕ) where
     index_terminals_from = h.index_terminals_from;
     left_is = a ∙ h.left_is;
     comments_is = b ∙ h.comments_is;
-    same = (λ i. map (gap_cut indent) (f i) ++ changed_gaps text (gaps_left (d i) start (placed_lexemes start (e i) (is_none (d i)) (c i) h.rest))) ∙ h.same;
+    same = (λ i. map (gap_cut indent) (f i) ++ changed_gaps text (gaps_left (d i) start (lexemes_with_roles start (e i) (is_none (d i)) (c i) h.rest))) ∙ h.same;
   }
 
   module _ (whole : List Cut) (left : List Token) (comments : List Span) (ss : List LineRole) (before : Option KindAndRole) (level start : ℕ) (out : List GapSite) where
@@ -278,12 +278,12 @@ module _ (indent : Indent) (text : List ℕ) where
       passes : (kind : LexemeKind) (place : ℕ) (t : List ℕ) (ls : List Lexeme) (role : LineRole) (left' : List Token) (comments' : List Span) (ss' : List LineRole) (level' : ℕ)
           → start ≤ place → LexemesFrom text place (record { kind = kind; text = t } ∷ ls) []
           → left' ≡ tokens_from (place + length t) ls → comments' ≡ comments_from (place + length t) ls
-          → placed_lexemes start level (is_none before) ss h.rest ≡ record { lexeme = record { kind = kind; text = t }; span = span_from place (length t); role = role } ∷ placed_lexemes (place + length t) level' false ss' ls
+          → lexemes_with_roles start level (is_none before) ss h.rest ≡ record { lexeme = record { kind = kind; text = t }; span = span_from place (length t); role = role } ∷ lexemes_with_roles (place + length t) level' false ss' ls
           → Passes kind (span_from place (length t)) role left' comments' ss' level'
       passes kind place t ls role left' comments' ss' level' up s tokens others found =
           let s' = next_from text place (record { kind = kind; text = t }) ls [] s in
-          let b : PlacedLexeme = record { lexeme = record { kind = kind; text = t }; span = span_from place (length t); role = role } in
-          let bs : List PlacedLexeme = placed_lexemes (place + length t) level' false ss' ls in
+          let b : LexemeWithRole = record { lexeme = record { kind = kind; text = t }; span = span_from place (length t); role = role } in
+          let bs : List LexemeWithRole = lexemes_with_roles (place + length t) level' false ss' ls in
           record {
             up = up;
             ordered = omega arith;
@@ -300,7 +300,7 @@ module _ (indent : Indent) (text : List ℕ) where
 
       passes_kind : (kind : LexemeKind) (place : ℕ) (t : List ℕ) (ls : List Lexeme) → IsSolid kind → start ≤ place → LexemesFrom text place (record { kind = kind; text = t } ∷ ls) []
           → left ≡ tokens_from place (record { kind = kind; text = t } ∷ ls) → comments ≡ comments_from place (record { kind = kind; text = t } ∷ ls)
-          → placed_lexemes start level (is_none before) ss h.rest ≡ placed_lexemes place level (is_none before || has_break (slice_range text start place)) ss (record { kind = kind; text = t } ∷ ls)
+          → lexemes_with_roles start level (is_none before) ss h.rest ≡ lexemes_with_roles place level (is_none before || has_break (slice_range text start place)) ss (record { kind = kind; text = t } ∷ ls)
           → Goes (first_of kind (span_from place (length t)))
       passes_kind lexeme.Space place t ls without_white_space up s tokens others found = absurd without_white_space
       passes_kind lexeme.Comment place t ls without_white_space up s tokens others found =

@@ -30,7 +30,7 @@ use Rattle.ob0_layout.specs.declared.gap.Gap.TheVariants.{Nothing, Space}
 use Rattle.ob0_layout.specs.declared.line_role.LineRole.{LineRole}
 use Rattle.ob0_layout.specs.declared.line_role.LineRole.TheVariants.{Begins, Opening, Joining, Plain}
 use Rattle.ob0_layout.specs.LineRoles.{line_roles}
-use Rattle.ob0_layout.specs.Layout.{PlacedLexeme, placed_lexemes, next_line_level, next_role, has_break, comment_role, is_comment, has_no_space_before, has_no_space_after, indentation, gap_text_between, gap_between, gap_in_line, gap_text, white_space_lexeme, with_formatted_gaps_after, with_formatted_gaps, formatted_lexemes}
+use Rattle.ob0_layout.specs.Layout.{LexemeWithRole, lexemes_with_roles, next_line_level, next_role, has_break, comment_role, is_comment, has_no_space_before, has_no_space_after, indentation, gap_text_between, gap_between, gap_in_line, gap_text, white_space_lexeme, with_formatted_gaps_after, with_formatted_gaps, formatted_lexemes}
 use Rattle.ob0_layout.proofs.Pairs.{Calm, calm_next, calm_paren, is_paren, is_star, calm_spelled}
 
 -- holds if a lexeme is a token or comment
@@ -139,44 +139,44 @@ space_fits k first = by_space (record { alone = refl; unequal = refl; starless =
 
 -- states that two lexemes are tokens or comments, and that after a `(` the second one isn't a token
 -- that begins with `*`
-record Neighbours (a b : PlacedLexeme) : Type 0 where
+record Neighbours (a b : LexemeWithRole) : Type 0 where
   left : IsSolid a.lexeme.kind
   right : IsSolid b.lexeme.kind
   right_belongs : IsLexemeOfKind b.lexeme.kind b.lexeme.text
   starless : a.lexeme.kind ≡ left_paren → is_comment b.lexeme.kind ≡ false → (get_or b.lexeme.text 0 0 == 42) ≡ false
 
-joined_fits : (a b : PlacedLexeme) → Neighbours a b → is_comment b.lexeme.kind ≡ false
+joined_fits : (a b : LexemeWithRole) → Neighbours a b → is_comment b.lexeme.kind ≡ false
     → (has_no_space_before b.lexeme.kind b.role || has_no_space_after a.lexeme.kind a.role) ≡ true → Fits a.lexeme.kind (get_or b.lexeme.text 0 0) []
 joined_fits a b n uncommented h = directly (⊎_elim
     (λ f. quiet_ends a.lexeme.kind (get_or b.lexeme.text 0 0) n.left (quiet_first b.lexeme.kind b.lexeme.text b.role n.right_belongs f))
     (λ p. direct_ends a.lexeme.kind a.role (get_or b.lexeme.text 0 0) p (λ paren. n.starless paren uncommented))
     (either_true (has_no_space_before b.lexeme.kind b.role) (has_no_space_after a.lexeme.kind a.role) h))
 
-in_line_fits : (indent : Indent) (a b : PlacedLexeme) → Neighbours a b → (c d : Bool) → (is_comment a.lexeme.kind || is_comment b.lexeme.kind) ≡ c
+in_line_fits : (indent : Indent) (a b : LexemeWithRole) → Neighbours a b → (c d : Bool) → (is_comment a.lexeme.kind || is_comment b.lexeme.kind) ≡ c
     → (has_no_space_before b.lexeme.kind b.role || has_no_space_after a.lexeme.kind a.role) ≡ d
     → Fits a.lexeme.kind (get_or b.lexeme.text 0 0) (gap_text indent (cond c Space (cond d Nothing Space)))
 in_line_fits indent a b n false true e f = joined_fits a b n (both_false (is_comment a.lexeme.kind) (is_comment b.lexeme.kind) e) f
 in_line_fits indent a b n _ _ e f = space_fits a.lexeme.kind (get_or b.lexeme.text 0 0)
 
-gap_in_line_fits : (indent : Indent) (a b : PlacedLexeme) → Neighbours a b
+gap_in_line_fits : (indent : Indent) (a b : LexemeWithRole) → Neighbours a b
     → Fits a.lexeme.kind (get_or b.lexeme.text 0 0) (gap_text indent (gap_in_line a.lexeme.kind a.role b.lexeme.kind b.role))
 gap_in_line_fits indent a b n = in_line_fits indent a b n _ _ refl refl
 
-gap_between_fits : (indent : Indent) (a : PlacedLexeme) (l : Lexeme) (u : Span) (s : LineRole) → Neighbours a (record { lexeme = l; span = u; role = s })
+gap_between_fits : (indent : Indent) (a : LexemeWithRole) (l : Lexeme) (u : Span) (s : LineRole) → Neighbours a (record { lexeme = l; span = u; role = s })
     → Fits a.lexeme.kind (get_or l.text 0 0) (gap_text indent (gap_between a.lexeme.kind a.role l.kind s))
 gap_between_fits indent a l u (Begins level) n = line_fits a.lexeme.kind (get_or l.text 0 0) indent level
 gap_between_fits indent a l u Opening n = gap_in_line_fits indent a (record { lexeme = l; span = u; role = Opening }) n
 gap_between_fits indent a l u Joining n = gap_in_line_fits indent a (record { lexeme = l; span = u; role = Joining }) n
 gap_between_fits indent a l u Plain n = gap_in_line_fits indent a (record { lexeme = l; span = u; role = Plain }) n
 
-gap_fits : (indent : Indent) (a b : PlacedLexeme) → Neighbours a b → Fits a.lexeme.kind (get_or b.lexeme.text 0 0) (gap_text_between indent a b)
+gap_fits : (indent : Indent) (a b : LexemeWithRole) → Neighbours a b → Fits a.lexeme.kind (get_or b.lexeme.text 0 0) (gap_text_between indent a b)
 unfolding gap_text_between
 gap_fits indent a b n = gap_between_fits indent a b.lexeme b.span b.role n
 
 first_of : (l : Lexeme) (ls : List Lexeme) → IsLexemeOfKind l.kind l.text → get_or (text_of_lexemes (l ∷ ls)) 0 0 ≡ get_or l.text 0 0
 first_of l ls h = get_or_append_left l.text (text_of_lexemes ls) 0 0 (nonempty l.kind l.text h)
 
-fits_apart : (a b : PlacedLexeme) (rest : List Lexeme) (g : List ℕ) → Neighbours a b → IsLexemeOfKind a.lexeme.kind a.lexeme.text
+fits_apart : (a b : LexemeWithRole) (rest : List Lexeme) (g : List ℕ) → Neighbours a b → IsLexemeOfKind a.lexeme.kind a.lexeme.text
     → Fits a.lexeme.kind (get_or b.lexeme.text 0 0) g → EachEndsBeforeNext (b.lexeme ∷ rest) → EachEndsBeforeNext (a.lexeme ∷ (white_space_lexeme g ++ (b.lexeme ∷ rest)))
 fits_apart a b rest _ n h (directly e) more =
     (record { belongs = h; ends = ap (continues_lexeme a.lexeme.kind) (first_of b.lexeme rest n.right_belongs) ∙ e }, more)
@@ -206,21 +206,21 @@ paren_of : (k : TokenKind) (text : List ℕ) → lexeme.Token k ≡ left_paren �
 paren_of k text e = let same : k ≡ token.Symbol symbol.LeftParen = cc in ap (λ k. is_paren (terminal_of_kind text k)) same
 
 abbrev Spread : Indent → List Lexeme → Type 0
-Spread indent ls = (at level : ℕ) (broken : Bool) (ss : List LineRole) (a : PlacedLexeme) → IsSolid a.lexeme.kind → IsLexemeOfKind a.lexeme.kind a.lexeme.text
-    → (a.lexeme.kind ≡ left_paren → NoStar (spelled ls)) → Calm (spelled ls) → EachEndsBeforeNext ls → EachEndsBeforeNext (a.lexeme ∷ with_formatted_gaps_after indent a (placed_lexemes at level broken ss ls))
+Spread indent ls = (at level : ℕ) (broken : Bool) (ss : List LineRole) (a : LexemeWithRole) → IsSolid a.lexeme.kind → IsLexemeOfKind a.lexeme.kind a.lexeme.text
+    → (a.lexeme.kind ≡ left_paren → NoStar (spelled ls)) → Calm (spelled ls) → EachEndsBeforeNext ls → EachEndsBeforeNext (a.lexeme ∷ with_formatted_gaps_after indent a (lexemes_with_roles at level broken ss ls))
 
 comment_spread : (indent : Indent) (text : List ℕ) (ls : List Lexeme) → Spread indent ls → Spread indent (record { kind = lexeme.Comment; text = text } ∷ ls)
 comment_spread indent text ls rest at level broken ss a without_white_space h after calm apart =
-    let c : PlacedLexeme = record { lexeme = record { kind = lexeme.Comment; text = text }; span = span_from at (length text); role = comment_role broken (next_line_level level ss) } in
+    let c : LexemeWithRole = record { lexeme = record { kind = lexeme.Comment; text = text }; span = span_from at (length text); role = comment_role broken (next_line_level level ss) } in
     let n : Neighbours a c = record { left = without_white_space; right = tt; right_belongs = apart.0.belongs; starless = λ paren uncommented. absurd (differ (sym uncommented)) } in
-    fits_apart a c (with_formatted_gaps_after indent c (placed_lexemes (at + length text) level false ss ls)) (gap_text_between indent a c) n h (gap_fits indent a c n)
+    fits_apart a c (with_formatted_gaps_after indent c (lexemes_with_roles (at + length text) level false ss ls)) (gap_text_between indent a c) n h (gap_fits indent a c n)
     (rest (at + length text) level false ss c tt apart.0.belongs (λ e. cc) calm apart.1)
 
 token_spread : (indent : Indent) (k : TokenKind) (text : List ℕ) (ls : List Lexeme) → Spread indent ls → Spread indent (record { kind = lexeme.Token k; text = text } ∷ ls)
 token_spread indent k text ls rest at level broken ss a without_white_space h after calm apart =
-    let t : PlacedLexeme = record { lexeme = record { kind = lexeme.Token k; text = text }; span = span_from at (length text); role = next_role ss } in
+    let t : LexemeWithRole = record { lexeme = record { kind = lexeme.Token k; text = text }; span = span_from at (length text); role = next_role ss } in
     let n : Neighbours a t = record { left = without_white_space; right = tt; right_belongs = apart.0.belongs; starless = λ paren uncommented. token_first k text apart.0.belongs (after paren) } in
-    fits_apart a t (with_formatted_gaps_after indent t (placed_lexemes (at + length text) (next_line_level level ss) false (drop 1 ss) ls)) (gap_text_between indent a t) n h (gap_fits indent a t n)
+    fits_apart a t (with_formatted_gaps_after indent t (lexemes_with_roles (at + length text) (next_line_level level ss) false (drop 1 ss) ls)) (gap_text_between indent a t) n h (gap_fits indent a t n)
     (rest (at + length text) (next_line_level level ss) false (drop 1 ss) t tt apart.0.belongs (λ e. calm_first calm (paren_of k text e)) (calm_following calm) apart.1)
 
 kind_spread : (indent : Indent) (k : LexemeKind) (text : List ℕ) (ls : List Lexeme) → Spread indent ls → Spread indent (record { kind = k; text = text } ∷ ls)
@@ -239,15 +239,15 @@ following_spread indent [] = nothing_spread indent
 following_spread indent (l ∷ ls) = kind_spread indent l.kind l.text ls (following_spread indent ls)
 
 abbrev FirstSpread : Indent → List Lexeme → Type 0
-FirstSpread indent ls = (at level : ℕ) (broken : Bool) (ss : List LineRole) → Calm (spelled ls) → EachEndsBeforeNext ls → EachEndsBeforeNext (with_formatted_gaps indent (placed_lexemes at level broken ss ls))
+FirstSpread indent ls = (at level : ℕ) (broken : Bool) (ss : List LineRole) → Calm (spelled ls) → EachEndsBeforeNext ls → EachEndsBeforeNext (with_formatted_gaps indent (lexemes_with_roles at level broken ss ls))
 
 kind_first_spread : (indent : Indent) (k : LexemeKind) (text : List ℕ) (ls : List Lexeme) → FirstSpread indent ls → FirstSpread indent (record { kind = k; text = text } ∷ ls)
 kind_first_spread indent lexeme.Space text ls rest = λ at level broken ss calm apart. rest (at + length text) level (broken || has_break text) ss calm apart.1
 kind_first_spread indent lexeme.Comment text ls rest = λ at level broken ss calm apart.
-    let c : PlacedLexeme = record { lexeme = record { kind = lexeme.Comment; text = text }; span = span_from at (length text); role = comment_role broken (next_line_level level ss) } in
+    let c : LexemeWithRole = record { lexeme = record { kind = lexeme.Comment; text = text }; span = span_from at (length text); role = comment_role broken (next_line_level level ss) } in
     following_spread indent ls (at + length text) level false ss c tt apart.0.belongs (λ e. cc) calm apart.1
 kind_first_spread indent (lexeme.Token k) text ls rest = λ at level broken ss calm apart.
-    let t : PlacedLexeme = record { lexeme = record { kind = lexeme.Token k; text = text }; span = span_from at (length text); role = next_role ss } in
+    let t : LexemeWithRole = record { lexeme = record { kind = lexeme.Token k; text = text }; span = span_from at (length text); role = next_role ss } in
     following_spread indent ls (at + length text) (next_line_level level ss) false (drop 1 ss) t tt apart.0.belongs (λ e. calm_first calm (paren_of k text e)) (calm_following calm) apart.1
 
 first_spread : (indent : Indent) (ls : List Lexeme) → FirstSpread indent ls

@@ -20,8 +20,8 @@ use Rattle.ob0_layout.specs.declared.gap.Gap.TheVariants.{Nothing, Space, Line}
 use Rattle.ob0_layout.specs.declared.line_role.LineRole.{LineRole}
 use Rattle.ob0_layout.specs.declared.sites.GapSite.{GapSite}
 use Rattle.ob0_layout.specs.Cuts.{LiesIn, gap_cut}
-use Rattle.ob0_layout.specs.Gaps.{IsWhiteSpace, all_gaps, changed_gaps, gaps_of_lexemes, gaps_after, is_changed, formatted_len_from}
-use Rattle.ob0_layout.specs.Layout.{PlacedLexeme, placed_lexemes, indentation, gap_text_between, gap_text, white_space_lexeme, with_formatted_gaps_after, with_formatted_gaps}
+use Rattle.ob0_layout.specs.Gaps.{CutsWhiteSpace, all_gaps, changed_gaps, gaps_of_lexemes, gaps_after, is_changed, formatted_len_from}
+use Rattle.ob0_layout.specs.Layout.{LexemeWithRole, lexemes_with_roles, indentation, gap_text_between, gap_text, white_space_lexeme, with_formatted_gaps_after, with_formatted_gaps}
 use Rattle.ob0_layout.proofs.Apart.{indented}
 use Rattle.ob0_layout.proofs.InText.{AreIn, IsAt, IsSpaced, White, all_in, no_white}
 use Rattle.ob0_layout.proofs.Pieced.{pieced_here, pieced_later, two_parts}
@@ -43,7 +43,7 @@ laid_white indent Nothing = no_white
 laid_white indent Space = All-cons (λ b. is_space b ≡ true) 32 [] refl no_white
 laid_white indent (Line level) = All-cons (λ b. is_space b ≡ true) 10 (indentation indent level) refl (indented indent level)
 
-gap_white : (indent : Indent) (a b : PlacedLexeme) → White (gap_text_between indent a b)
+gap_white : (indent : Indent) (a b : LexemeWithRole) → White (gap_text_between indent a b)
 unfolding gap_text_between
 gap_white indent a b = laid_white indent _
 
@@ -62,10 +62,10 @@ module _ (text : List ℕ) where
   chain at [] are = tt
   chain at (c ∷ cs) are = (are.0.up, are.0.old.ordered, chain c.to cs are.1)
 
-  all_white : (at : ℕ) (cs : List Cut) → AreGaps text at cs → All (IsWhiteSpace text) cs
+  all_white : (at : ℕ) (cs : List Cut) → AreGaps text at cs → All (CutsWhiteSpace text) cs
   unfolding AreGaps
-  all_white at [] are = All-nil (IsWhiteSpace text)
-  all_white at (c ∷ cs) are = All-cons (IsWhiteSpace text) c cs are.0.old.white (all_white c.to cs are.1)
+  all_white at [] are = All-nil (CutsWhiteSpace text)
+  all_white at (c ∷ cs) are = All-cons (CutsWhiteSpace text) c cs are.0.old.white (all_white c.to cs are.1)
 
   new_white : (at : ℕ) (cs : List Cut) → AreGaps text at cs → All (λ (c : Cut). White c.new) cs
   unfolding AreGaps
@@ -113,7 +113,7 @@ module _ (text : List ℕ) where
       ∙ ap₂ (λ a b. a + b) kept (length-append c.new (text_with_cuts text c.to cs) ∙ ap (λ n. length c.new + n) (made_length c.to cs are.1))
 
   module _ (indent : Indent) where
-    after_are : (a : PlacedLexeme) (bs : List PlacedLexeme) → AreIn text a.span.end bs → AreGaps text a.span.end (gaps_after indent (length text) a bs)
+    after_are : (a : LexemeWithRole) (bs : List LexemeWithRole) → AreIn text a.span.end bs → AreGaps text a.span.end (gaps_after indent (length text) a bs)
     unfolding AreGaps AreIn
     after_are a [] h = (record { up = omega arith; old = h; new = All-cons (λ b. is_space b ≡ true) 10 [] refl no_white }, tt)
     after_are a (b ∷ bs) h = (
@@ -121,7 +121,7 @@ module _ (text : List ℕ) where
       earlier b.span.start b.span.end (gaps_after indent (length text) b bs) h.1.ordered (after_are b bs h.2),
     )
 
-    gaps_are : (bs : List PlacedLexeme) → AreIn text 0 bs → AreGaps text 0 (gaps_of_lexemes indent (length text) bs)
+    gaps_are : (bs : List LexemeWithRole) → AreIn text 0 bs → AreGaps text 0 (gaps_of_lexemes indent (length text) bs)
     unfolding AreGaps AreIn
     gaps_are [] h = (record { up = omega arith; old = h; new = no_white }, tt)
     gaps_are (b ∷ bs) h = (
@@ -135,13 +135,13 @@ module _ (text : List ℕ) where
 
     -- A token or comment and the gaps after it give the token or comment and the formatted lexemes
     -- after it.
-    over : (b : PlacedLexeme) (bs : List PlacedLexeme) → IsAt text b → AreIn text b.span.end bs → text_with_cuts text b.span.end (gaps_after indent (length text) b bs) ≡ text_of_lexemes (with_formatted_gaps_after indent b bs)
+    over : (b : LexemeWithRole) (bs : List LexemeWithRole) → IsAt text b → AreIn text b.span.end bs → text_with_cuts text b.span.end (gaps_after indent (length text) b bs) ≡ text_of_lexemes (with_formatted_gaps_after indent b bs)
         → text_with_cuts text b.span.start (gaps_after indent (length text) b bs) ≡ text_of_lexemes (b.lexeme ∷ with_formatted_gaps_after indent b bs)
     over b bs is h more =
         pieced_later text b.span.start b.span.end (gaps_after indent (length text) b bs) is.ordered (chain b.span.end (gaps_after indent (length text) b bs) (after_are b bs h))
         ∙ ap₂ (λ xs ys. xs ++ ys) is.here more
 
-    after_made : (a : PlacedLexeme) (bs : List PlacedLexeme) → AreIn text a.span.end bs → text_with_cuts text a.span.end (gaps_after indent (length text) a bs) ≡ text_of_lexemes (with_formatted_gaps_after indent a bs)
+    after_made : (a : LexemeWithRole) (bs : List LexemeWithRole) → AreIn text a.span.end bs → text_with_cuts text a.span.end (gaps_after indent (length text) a bs) ≡ text_of_lexemes (with_formatted_gaps_after indent a bs)
     unfolding AreIn
     after_made a [] h = pieced_here text a.span.end (length text) (10 ∷ []) [] ∙ ap (λ xs. 10 ∷ xs) nothing_after
     after_made a (b ∷ bs) h =
@@ -149,7 +149,7 @@ module _ (text : List ℕ) where
         ∙ ap (λ xs. gap_text_between indent a b ++ xs) (over b bs h.1 h.2 (after_made b bs h.2))
         ∙ sym (joined_spaced (gap_text_between indent a b) (b.lexeme ∷ with_formatted_gaps_after indent b bs))
 
-    gaps_made : (bs : List PlacedLexeme) → AreIn text 0 bs → text_with_cuts text 0 (gaps_of_lexemes indent (length text) bs) ≡ text_of_lexemes (with_formatted_gaps indent bs)
+    gaps_made : (bs : List LexemeWithRole) → AreIn text 0 bs → text_with_cuts text 0 (gaps_of_lexemes indent (length text) bs) ≡ text_of_lexemes (with_formatted_gaps indent bs)
     unfolding AreIn
     gaps_made [] h = pieced_here text 0 (length text) [] [] ∙ nothing_after
     gaps_made (b ∷ bs) h = pieced_here text 0 b.span.start [] (gaps_after indent (length text) b bs) ∙ over b bs h.1 h.2 (after_made b bs h.2)
@@ -157,25 +157,25 @@ module _ (text : List ℕ) where
 -- the gaps of a scanned text
 module _ (indent : Indent) (s : TextWithTokens) (scan : IsScan s) (ss : List LineRole) where
   pub all_are : AreGaps s.text 0 (all_gaps indent s.text ss scan.lexemes)
-  all_are = gaps_are s.text indent (placed_lexemes 0 0 true ss scan.lexemes) (all_in s scan ss)
+  all_are = gaps_are s.text indent (lexemes_with_roles 0 0 true ss scan.lexemes) (all_in s scan ss)
 
   pub all_changed_are : AreGaps s.text 0 (changed_gaps s.text (all_gaps indent s.text ss scan.lexemes))
   all_changed_are = changed_are s.text 0 (all_gaps indent s.text ss scan.lexemes) all_are
 
-  pub old_is_white : All (IsWhiteSpace s.text) (all_gaps indent s.text ss scan.lexemes)
+  pub old_is_white : All (CutsWhiteSpace s.text) (all_gaps indent s.text ss scan.lexemes)
   old_is_white = all_white s.text 0 (all_gaps indent s.text ss scan.lexemes) all_are
 
   pub new_is_white : All (λ (c : Cut). White c.new) (all_gaps indent s.text ss scan.lexemes)
   new_is_white = new_white s.text 0 (all_gaps indent s.text ss scan.lexemes) all_are
 
-  pub all_made : text_with_cuts s.text 0 (all_gaps indent s.text ss scan.lexemes) ≡ text_of_lexemes (with_formatted_gaps indent (placed_lexemes 0 0 true ss scan.lexemes))
-  all_made = gaps_made s.text indent (placed_lexemes 0 0 true ss scan.lexemes) (all_in s scan ss)
+  pub all_made : text_with_cuts s.text 0 (all_gaps indent s.text ss scan.lexemes) ≡ text_of_lexemes (with_formatted_gaps indent (lexemes_with_roles 0 0 true ss scan.lexemes))
+  all_made = gaps_made s.text indent (lexemes_with_roles 0 0 true ss scan.lexemes) (all_in s scan ss)
 
-  pub changed_made : text_with_cuts s.text 0 (changed_gaps s.text (all_gaps indent s.text ss scan.lexemes)) ≡ text_of_lexemes (with_formatted_gaps indent (placed_lexemes 0 0 true ss scan.lexemes))
+  pub changed_made : text_with_cuts s.text 0 (changed_gaps s.text (all_gaps indent s.text ss scan.lexemes)) ≡ text_of_lexemes (with_formatted_gaps indent (lexemes_with_roles 0 0 true ss scan.lexemes))
   changed_made = kept_or_changed s.text 0 (all_gaps indent s.text ss scan.lexemes) all_are ∙ all_made
 
-  pub all_length : formatted_len_from (length s.text) 0 (all_gaps indent s.text ss scan.lexemes) ≡ length (text_of_lexemes (with_formatted_gaps indent (placed_lexemes 0 0 true ss scan.lexemes)))
+  pub all_length : formatted_len_from (length s.text) 0 (all_gaps indent s.text ss scan.lexemes) ≡ length (text_of_lexemes (with_formatted_gaps indent (lexemes_with_roles 0 0 true ss scan.lexemes)))
   all_length = sym (made_length s.text 0 (all_gaps indent s.text ss scan.lexemes) all_are) ∙ ap length all_made
 
-  pub changed_length : formatted_len_from (length s.text) 0 (changed_gaps s.text (all_gaps indent s.text ss scan.lexemes)) ≡ length (text_of_lexemes (with_formatted_gaps indent (placed_lexemes 0 0 true ss scan.lexemes)))
+  pub changed_length : formatted_len_from (length s.text) 0 (changed_gaps s.text (all_gaps indent s.text ss scan.lexemes)) ≡ length (text_of_lexemes (with_formatted_gaps indent (lexemes_with_roles 0 0 true ss scan.lexemes)))
   changed_length = sym (made_length s.text 0 (changed_gaps s.text (all_gaps indent s.text ss scan.lexemes)) all_changed_are) ∙ ap length changed_made

@@ -16,7 +16,7 @@ use Rattle.ob0_scan.proofs.Cuts.{nonempty}
 use Rattle.ob0_edits_tokens.proofs.TextCuts.{IsBorder}
 use Rattle.ob0_scan.proofs.Spans.{LexemesFrom, next_from, lexeme_spanned}
 use Rattle.ob0_layout.specs.declared.line_role.LineRole.{LineRole}
-use Rattle.ob0_layout.specs.Layout.{PlacedLexeme, placed_lexemes, next_line_level, next_role, has_break, comment_role}
+use Rattle.ob0_layout.specs.Layout.{LexemeWithRole, lexemes_with_roles, next_line_level, next_role, has_break, comment_role}
 use Rattle.ob0_layout.proofs.Apart.{IsSolid, solid_first}
 use Rattle.ob0_layout.proofs.LastBytes.{last_byte, last_at, solid_last}
 use Rattle.ob0_layout.proofs.Pieced.{none_taken, two_parts}
@@ -36,12 +36,12 @@ pub record IsSpaced (text : List ℕ) (from to : ℕ) : Type 0 where
   pub end : IsBorder text to
 
 -- states that a token or comment is at its place in a text
-pub record IsAt (text : List ℕ) (a : PlacedLexeme) : Type 0 where
+pub record IsAt (text : List ℕ) (a : LexemeWithRole) : Type 0 where
   pub ordered : a.span.start ≤ a.span.end
   pub here : text_in_span text a.span ≡ a.lexeme.text
 
 -- holds if the text from this place has these tokens and comments, and otherwise only white space
-unfoldable pub AreIn : List ℕ → ℕ → List PlacedLexeme → Type 0
+unfoldable pub AreIn : List ℕ → ℕ → List LexemeWithRole → Type 0
 AreIn text from [] = IsSpaced text from (length text)
 AreIn text from (a ∷ bs) = IsSpaced text from a.span.start × IsAt text a × AreIn text a.span.end bs
 
@@ -93,11 +93,11 @@ module _ (text : List ℕ) where
   -- holds if the lexemes placed after a border are in the text, provided that only white space
   -- precedes them
   abbrev Placed : ℕ → List Lexeme → Type 0
-  Placed at rest = (from level : ℕ) (broken : Bool) (ss : List LineRole) → from ≤ at → IsBorder text from → White (slice_range text from at) → AreIn text from (placed_lexemes at level broken ss rest)
+  Placed at rest = (from level : ℕ) (broken : Bool) (ss : List LineRole) → from ≤ at → IsBorder text from → White (slice_range text from at) → AreIn text from (lexemes_with_roles at level broken ss rest)
 
   placed_solid : (k : LexemeKind) (at : ℕ) (t : List ℕ) (ls : List Lexeme) → IsSolid k → LexemesFrom text at (record { kind = k; text = t } ∷ ls) [] → Placed (at + length t) ls
       → (role : LineRole) (from level : ℕ) (ss : List LineRole) → from ≤ at → IsBorder text from → White (slice_range text from at)
-      → AreIn text from (record { lexeme = record { kind = k; text = t }; span = span_from at (length t); role = role } ∷ placed_lexemes (at + length t) level false ss ls)
+      → AreIn text from (record { lexeme = record { kind = k; text = t }; span = span_from at (length t); role = role } ∷ lexemes_with_roles (at + length t) level false ss ls)
   unfolding AreIn
   placed_solid k at t ls without_white_space s more role from level ss up start white = (
     record { ordered = up; within = s.place.0; white = white; start = start; end = before_solid k at t ls without_white_space s },
@@ -122,7 +122,7 @@ pub from_start : (s : TextWithTokens) (scan : IsScan s) → LexemesFrom s.text 0
 from_start s scan = record { utf8 = scan.utf8; place = IsCharBoundary-start s.text scan.utf8; each = scan.lexed.each; rest = sym (append-nil (text_of_lexemes scan.lexemes) ∙ scan.lexed.whole) }
 
 -- A scanned text has its tokens and comments.
-pub all_in : (s : TextWithTokens) (scan : IsScan s) (ss : List LineRole) → AreIn s.text 0 (placed_lexemes 0 0 true ss scan.lexemes)
+pub all_in : (s : TextWithTokens) (scan : IsScan s) (ss : List LineRole) → AreIn s.text 0 (lexemes_with_roles 0 0 true ss scan.lexemes)
 all_in s scan ss =
     let border : IsBorder s.text 0 = record { place = IsCharBoundary-start s.text scan.utf8; clear = λ ending. omega (arith, ending.cr, ending.lf, ap (λ n. get_or s.text n 0) zero_less) } in
     placed_from s.text scan.lexemes 0 (from_start s scan) 0 0 true ss (omega arith) border (empty s.text 0)

@@ -10,12 +10,12 @@ use Rattle.ob0_text.specs.declared.position_types.Range.{Range}
 use Rattle.ob0_text.specs.Patches.{Cut}
 use Rattle.ob0_text.specs.Texts.{position_of}
 use Rattle.ob0_layout.specs.declared.line_role.LineRole.{LineRole}
-use Rattle.ob0_layout.specs.Layout.{PlacedLexeme, placed_lexemes, gap_text_between}
+use Rattle.ob0_layout.specs.Layout.{LexemeWithRole, lexemes_with_roles, gap_text_between}
 
 -- Returns the gaps after the token or comment `a`. Each gap is given as a cut: its byte range, and
 -- the text that replaces it. The list has the tokens and comments after `a`, and `len` is the
 -- length of the text in bytes. The last gap becomes a line feed.
-abbrev pub gaps_after : Indent → ℕ → PlacedLexeme → List PlacedLexeme → List Cut
+abbrev pub gaps_after : Indent → ℕ → LexemeWithRole → List LexemeWithRole → List Cut
 gaps_after indent len a [] = record { from = a.span.end; to = len; new = 10 ∷ [] } ∷ []
 gaps_after indent len a (b ∷ bs) =
     record { from = a.span.end; to = b.span.start; new = gap_text_between indent a b }
@@ -24,7 +24,7 @@ gaps_after indent len a (b ∷ bs) =
 -- Returns all gaps of a text of `len` bytes. Each gap is given as a cut: its byte range, and the
 -- text that replaces it. The list has the tokens and comments of the text. The gap at the start of
 -- the text becomes empty.
-abbrev pub gaps_of_lexemes : Indent → ℕ → List PlacedLexeme → List Cut
+abbrev pub gaps_of_lexemes : Indent → ℕ → List LexemeWithRole → List Cut
 gaps_of_lexemes indent len [] = record { from = 0; to = len; new = [] } ∷ []
 gaps_of_lexemes indent len (a ∷ bs) =
     record { from = 0; to = a.span.start; new = [] } ∷ gaps_after indent len a bs
@@ -32,7 +32,7 @@ gaps_of_lexemes indent len (a ∷ bs) =
 -- Returns all gaps of a text as cuts. `lexemes` are all lexemes of the text, including white space,
 -- and `ss` has the line roles of its tokens.
 abbrev pub all_gaps : Indent → List ℕ → List LineRole → List Lexeme → List Cut
-all_gaps indent text ss lexemes = gaps_of_lexemes indent (length text) (placed_lexemes 0 0 true ss lexemes)
+all_gaps indent text ss lexemes = gaps_of_lexemes indent (length text) (lexemes_with_roles 0 0 true ss lexemes)
 
 -- Returns whether formatting changes the gap that the cut `c` replaces: the gap's bytes differ from
 -- the replacement.
@@ -70,5 +70,5 @@ formatted_len_from len at [] = len - at
 formatted_len_from len at (c ∷ cs) = (c.from - at) + (length c.new + formatted_len_from len c.to cs)
 
 -- States that the gap that the cut `c` replaces contains only white space before it is replaced.
-abbrev pub IsWhiteSpace : List ℕ → Cut → Type 0
-IsWhiteSpace text c = AllPass is_space (slice_range text c.from c.to)
+abbrev pub CutsWhiteSpace : List ℕ → Cut → Type 0
+CutsWhiteSpace text c = AllPass is_space (slice_range text c.from c.to)

@@ -11,7 +11,7 @@ ghost use Rattle.ob0_text.specs.declared.edits.Indent.{Indent};
 ghost use Rattle.ob0_tree.specs.Tree.{Tree, module_text};
 ghost use Rattle.ob0_tree.specs.Module.{ModuleOf};
 ghost use Rattle.ob0_layout.specs.Layout.{without_white_space, formatted_lexemes, layout};
-ghost use Rattle.ob0_layout.specs.Gaps.{IsWhiteSpace, all_gaps, changed_gaps, formatted_len_from};
+ghost use Rattle.ob0_layout.specs.Gaps.{CutsWhiteSpace, all_gaps, changed_gaps, formatted_len_from};
 ghost use Rattle.ob0_layout.specs.LineRoles.{line_roles};
 
 /// Proves two facts: scanning a formatted text gives `formatted_lexemes`, and formatting changes no
@@ -65,7 +65,7 @@ pub fn gaps_give_formatted_text()
 pub fn gaps_are_white_space()
     ensures before { (indent : Indent) (s : TextWithTokens) (scan : IsScan s)
         (tree : Tree (List ℕ) module_text)
-        → All (IsWhiteSpace s.text) (all_gaps indent s.text (line_roles 0 tree) scan.lexemes) }
+        → All (CutsWhiteSpace s.text) (all_gaps indent s.text (line_roles 0 tree) scan.lexemes) }
     ensures after { (indent : Indent) (s : TextWithTokens) (scan : IsScan s)
         (tree : Tree (List ℕ) module_text)
         → All (λ (c : Cut). AllPass is_space c.new)

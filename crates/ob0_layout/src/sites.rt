@@ -61,7 +61,7 @@ pub fn changed_sites(
     while let Some(next) = next_lexeme(left, comments) {
         match next {
             NextLexeme::Comment(span) => {
-                let broken = begins_line(before, &text[start..span.start as usize]);
+                let broken = comment_begins_line(before, &text[start..span.start as usize]);
                 let role = comment_role(broken, next_line_level(level, roles));
                 let kind = LexemeKind::Comment;
                 let gap = gap_before(before, kind, role);
@@ -210,7 +210,7 @@ fn comment_role(broken: bool, level: u32) -> LineRole
 
 /// Returns whether the token or comment after a gap begins a line. It does if the gap has a line
 /// break, or if the gap is at the start of the text (`before` is None).
-fn begins_line(before: Option<KindAndRole>, gap: &[u8]) -> bool
+fn comment_begins_line(before: Option<KindAndRole>, gap: &[u8]) -> bool
     ensures { result ≡ (is_none before || has_break gap.now) }
 {
     before.is_none() || has_break(gap)

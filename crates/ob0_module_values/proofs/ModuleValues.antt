@@ -16,7 +16,7 @@ use Rattle.ob0_parse.proofs.Whole.{indexes_again, module_spelled, texts}
 use Rattle.ob0_scope_table.proofs.FewTokens.{few_tokens}
 use Rattle.ob0_scope_table.specs.DuplicatesAndEndNames.{declaration_faults}
 use Rattle.ob0_scope_table.specs.Resolution.{IsResolution, Resolution, undeclared_faults_by_table}
-use Rattle.ob0_scope_numbering.specs.MarkWalk.{initial_walk, visit_module}
+use Rattle.ob0_scope_numbering.specs.MarkWalk.{initial_walk_state, visit_module}
 use Rattle.ob0_scope_numbering.specs.Marks.{with_marks}
 use Rattle.ob0_scope_numbering.specs.Written.{original_spellings}
 use Rattle.ob0_scope.proofs.Made.{resolution_made}
@@ -71,7 +71,7 @@ parsed_of tree_is_unique s scan t h =
 -- Returns the resolved module of a parsed module, in which the names are bound.
 pub resolution_of : (m : ParsedModule) → IsParsed m → (r : Resolution) × IsResolution r × (r.module_read ≡ m)
 resolution_of m parsed =
-    let visit = visit_module (tree_of m) (initial_walk (original_spellings m.source)) in
+    let visit = visit_module (tree_of m) (initial_walk_state (original_spellings m.source)) in
     let ordinals = with_marks (replicate (length m.source.tokens) None) visit.marks in
     let faults = declaration_faults m ++ undeclared_faults_by_table m.source ordinals visit.uses in (
       record { module_read = m; ordinals = ordinals; declaration_tokens = visit.declaration_tokens; uses = visit.uses; faults = faults },

@@ -35,8 +35,8 @@ lexemes_moved by i j (k ∷ ks) low same high =
 
 -- If the leaves of a tree are moved as far as its tokens, the tree is at its place with its leaves
 -- in place.
-pub moved_there : {s : Sort} (ts : List Token) (from at next : ℕ) (t u : Tree ℕ s) (by : LeafMove) → by.from ≡ from → by.to ≡ at → next ≤ most → u ≡ moved_tree by t → HasTokensAt ts from at next t → IsInPlace ts at next u
-moved_there ts from at next t u by first to inside is p =
+pub moved_tree_fits : {s : Sort} (ts : List Token) (from at next : ℕ) (t u : Tree ℕ s) (by : LeafMove) → by.from ≡ from → by.to ≡ at → next ≤ most → u ≡ moved_tree by t → HasTokensAt ts from at next t → IsInPlace ts at next u
+moved_tree_fits ts from at next t u by first to inside is p =
     let ks : List TokenKind = slice_range (kinds ts) at next in
     let count : at + length ks ≡ next = omega (arith, p.forward, count_slice ts at next (omega (arith, p.forward)) p.within) in
     record {

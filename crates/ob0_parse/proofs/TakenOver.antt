@@ -27,8 +27,8 @@ stops_alike n xs w h p =
 
 -- If a tree's tokens are here and the next token stops it, the descent reads that tree. No other
 -- tree of the sort has these tokens.
-taken_there : {s : Sort} (t : Tree ℕ s) (room : ℕ) (ts : List Token) (at next : ℕ) → EndsConstruct (level s) (rest ts next) → rest ts at ≡ spell t ++ rest ts next → nesting t ≤ room → at ≤ next → next ≤ length ts → IsReadTree t room ts at next
-taken_there {s = s} t room ts at next stops spelled shallow forward within =
+is_read_tree_at : {s : Sort} (t : Tree ℕ s) (room : ℕ) (ts : List Token) (at next : ℕ) → EndsConstruct (level s) (rest ts next) → rest ts at ≡ spell t ++ rest ts next → nesting t ≤ room → at ≤ next → next ≤ length ts → IsReadTree t room ts at next
+is_read_tree_at {s = s} t room ts at next stops spelled shallow forward within =
     let whole : at + length (spell t ++ rest ts next) ≡ next + length (rest ts next) =
     ap (λ (w : List (Terminal ℕ)). at + length w) (sym spelled) ∙ omega (arith, count_rest ts at (omega (arith, forward, within)), count_rest ts next within) in
     record {
@@ -48,7 +48,7 @@ taken_there {s = s} t room ts at next stops spelled shallow forward within =
 pub taken_kept : {s : Sort} (ts : List Token) (at next : ℕ) (t : Tree ℕ s) → EndsConstruct (level s) (rest ts next) → IsInPlace ts at next t → IsReadTree t max_nesting ts at next
 unfolding rest
 taken_kept ts at next t stops p =
-    taken_there t max_nesting ts at next stops
+    is_read_tree_at t max_nesting ts at next stops
     (pieces_of_rest ts at next (omega (arith, p.forward)) p.within ∙ ap (λ w. w ++ rest ts next) (sym p.spelled))
     p.shallow (omega (arith, p.forward)) p.within
 

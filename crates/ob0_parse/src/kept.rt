@@ -14,7 +14,7 @@
 //! the tree. No token can continue a procedure, because a procedure ends with a semicolon
 //! (`stops_zero`). The token after a reused body is END, which can't continue a body. In both cases
 //! no other tree has the same tokens (`same`). The descent reads every tree that the tokens spell
-//! (`finishes`), so `IsReadTree` follows from the spelling (`taken_there`).
+//! (`finishes`), so `IsReadTree` follows from the spelling (`is_read_tree_at`).
 //!
 //! The leaves of a procedure determine the range of its tokens. Its name is its second token, and
 //! its closing name is its last token but one. The leaves of a body don't determine the range of
@@ -25,7 +25,7 @@
 //! `move_leaves` adds to each leaf the distance that the tokens have moved, by a walk in
 //! `leaf_moves.rt`. So procedures and the body can be reused on both sides of a change in the text.
 //! The moved tree is the old tree with each leaf changed, so it spells the current tokens
-//! (`moved_there`). No moved leaf exceeds the largest `usize`, because each moved leaf is less than
+//! (`moved_tree_fits`). No moved leaf exceeds the largest `usize`, because each moved leaf is less than
 //! the tree's `next`, which is a `usize`.
 
 ghost use Rattle.std.specs.Prelude.{◌≡◌, ◌+◌, ◌≤◌, ◌++◌, [], List, IfOk, OnOk, IfSome};

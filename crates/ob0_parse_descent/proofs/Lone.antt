@@ -9,7 +9,7 @@ use Rattle.ob0_tree.specs.declared.tree.SimpleExpression.{SimpleExpression, out-
 use Rattle.ob0_tree.specs.declared.tree.Term.{out-Term}
 use Rattle.ob0_tree.specs.View.{items_of, simple_of, addend_of, term_of, multiplier_of, factor_of}
 use Rattle.ob0_tree.proofs.Viewed.{simple_parts, term_parts}
-use Rattle.ob0_parse_descent.specs.Follow.{rank, binding_strength, EndsConstruct, NextHasRank}
+use Rattle.ob0_parse_descent.specs.Follow.{rank, binding_rank, EndsConstruct, NextHasRank}
 use Rattle.ob0_parse_descent.specs.Reading.{terminal_or_end, rest, IsReadTree, IsSingleTokenFactor, HasNoSign, IsSignAt}
 use Rattle.ob0_parse_descent.proofs.NamedStatements.{true_not_false}
 use Rattle.ob0_parse_descent.proofs.Items.{taking_none, taking_done}
@@ -18,11 +18,11 @@ use Rattle.ob0_parse_descent.proofs.OneToken.{rank_of}
 use Rattle.ob0_parse_descent.proofs.Unique.{unsigned_term}
 
 -- The strength with which a token binds is at most its rank.
-binding_ranked : (next : Option TokenKind) (i : ℕ) → binding_strength next ≤ rank (terminal_or_end i next)
+binding_ranked : (next : Option TokenKind) (i : ℕ) → binding_rank next ≤ rank (terminal_or_end i next)
 binding_ranked None i = omega arith
 binding_ranked (Some k) i = omega (arith, rank_of i k)
 
-pub weaker_stops : (ts : List Token) (at level : ℕ) (next : Option TokenKind) → rest ts at ≡ terminal_or_end at next ∷ rest ts (at + 1) → level < binding_strength next → EndsConstruct level (rest ts at)
+pub weaker_stops : (ts : List Token) (at level : ℕ) (next : Option TokenKind) → rest ts at ≡ terminal_or_end at next ∷ rest ts (at + 1) → level < binding_rank next → EndsConstruct level (rest ts at)
 weaker_stops ts at level next here weaker =
     let ranked : level < rank (terminal_or_end at next) = omega (arith, binding_ranked next at) in
     subst (λ y. EndsConstruct level y) (sym here) ranked

@@ -8,7 +8,7 @@ ghost use Rattle.ob0_scan.specs.declared.lexeme.Symbol.TheVariants as symbol;
 ghost use Rattle.ob0_tree.specs.Lexeme.{add_operator_token, multiply_operator_token, relation_token};
 ghost use Rattle.ob0_tree.specs.Tree.{then_name, compares, none};
 ghost use Rattle.ob0_tree.specs.View.{names_of, expression_of, comparison_of, simple_of, addend_of, term_of, multiplier_of, factor_of, selector_of};
-ghost use Rattle.ob0_parse_descent.specs.Follow.{binding_strength};
+ghost use Rattle.ob0_parse_descent.specs.Follow.{binding_rank};
 ghost use Rattle.ob0_parse_descent.specs.Reading.{terminal_or_end, rest, Reads, ReadsItem, ReadsToken, ReadsIdentifier, TellsIfTokenAt, TellsIfIdentifierAt, IsSignAt, ReadsDesignator, IsOperatorOf, IsSingleTokenFactor, OpensLevel};
 ghost use Rattle.ob0_parse_descent.specs.declared.refusal.Expected.TheVariants as expected;
 ghost use Rattle.ob0_parse_descent.specs.declared.refusal.ParseRefusal.TheVariants.{Syntax};
@@ -22,22 +22,22 @@ use ob0_tree::{
 };
 use std::alloc::{AllocError, Global};
 
-/// The strength with which a selector binds the operand before it (see `binding_strength`). A
+/// The strength with which a selector binds the operand before it (see `binding_rank`). A
 /// smaller number binds more strongly.
-const SELECTOR_STRENGTH: u8 = 1;
+const SELECTOR_RANK: u8 = 1;
 
 /// The strength with which `*`, DIV, MOD and `&` bind the operand before them.
-const MULTIPLICATION_STRENGTH: u8 = 2;
+const MULTIPLICATION_RANK: u8 = 2;
 
 /// The strength with which `+`, `-` and OR bind the operand before them.
-const ADDITION_STRENGTH: u8 = 3;
+const ADDITION_RANK: u8 = 3;
 
 /// The strength with which a relation binds the operand before it.
-const COMPARISON_STRENGTH: u8 = 4;
+const COMPARISON_RANK: u8 = 4;
 
 /// The strength of each token that neither begins a selector nor is an operator. Such a token binds
 /// no operand before it.
-const WEAKEST_STRENGTH: u8 = 5;
+const NON_OPERATOR_RANK: u8 = 5;
 
 /// The result of parsing a construct: the construct and the index of the token after it, or a
 /// refusal with the reason.
@@ -170,7 +170,7 @@ impl<'t> Parser<'t> {
         requires { at ≤ length self.now.tokens.now }
         ensures { Reads expression_of room self.now.tokens.now at result }
     {
-        let Some(factor) = self.single_token_factor(at, COMPARISON_STRENGTH) else {
+        let Some(factor) = self.single_token_factor(at, COMPARISON_RANK) else {
             return self.parse_expression_parts(at, room);
         };
         Ok((Expression::Factor(factor), at + 1))
@@ -232,13 +232,13 @@ impl<'t> Parser<'t> {
     }
 
     /// Returns the factor that consists only of the token at `at`. Returns None if that token is
-    /// neither an identifier nor an integer. Also returns None if the `binding_strength` of the
+    /// neither an identifier nor an integer. Also returns None if the `binding_rank` of the
     /// next token is at most `level`: that token may then continue the construct that the caller
     /// parses.
     #[inline(always)]
     fn single_token_factor(&self, at: usize, level: u8) -> Option<Factor>
         requires within { at ≤ length self.now.tokens.now }
-        requires level { SELECTOR_STRENGTH ≤ level }
+        requires level { SELECTOR_RANK ≤ level }
         ensures within { IfSome result (λ _. at < length self.now.tokens.now) }
         ensures alone { IfSome result (λ f. IsSingleTokenFactor level (factor_of f) self.now.tokens.now at) }
     {
@@ -246,7 +246,7 @@ impl<'t> Parser<'t> {
             return None;
         };
         let next = self.kind(at + 1);
-        let bound = binding_strength(next);
+        let bound = binding_rank(next);
         if bound <= level {
             return None;
         }
@@ -275,7 +275,7 @@ impl<'t> Parser<'t> {
         requires { at ≤ length self.now.tokens.now }
         ensures { Reads simple_of room self.now.tokens.now at result }
     {
-        let Some(factor) = self.single_token_factor(at, ADDITION_STRENGTH) else {
+        let Some(factor) = self.single_token_factor(at, ADDITION_RANK) else {
             return self.parse_simple_expression(at, room);
         };
         let multipliers = Vec::new(self.alloc);
@@ -302,7 +302,7 @@ impl<'t> Parser<'t> {
         requires { at ≤ length self.now.tokens.now }
         ensures { Reads term_of room self.now.tokens.now at result }
     {
-        let Some(first) = self.single_token_factor(at, MULTIPLICATION_STRENGTH) else {
+        let Some(first) = self.single_token_factor(at, MULTIPLICATION_RANK) else {
             return self.parse_term(at, room);
         };
         let more = Vec::new(self.alloc);
@@ -317,7 +317,7 @@ impl<'t> Parser<'t> {
         requires { at ≤ length self.now.tokens.now }
         ensures { Reads factor_of room self.now.tokens.now at result }
     {
-        let Some(factor) = self.single_token_factor(at, SELECTOR_STRENGTH) else {
+        let Some(factor) = self.single_token_factor(at, SELECTOR_RANK) else {
             return self.parse_factor(at, room);
         };
         Ok((factor, at + 1))
@@ -491,34 +491,34 @@ impl<'t> Parser<'t> {
 }
 
 /// Returns the strength with which the token `next` binds the operand before it. A smaller number
-/// binds more strongly. At the end of the text (None) the strength is `WEAKEST_STRENGTH`.
+/// binds more strongly. At the end of the text (None) the strength is `NON_OPERATOR_RANK`.
 #[inline(always)]
-fn binding_strength(next: Option<TokenKind>) -> u8
-    ensures { result ≡ binding_strength next }
+fn binding_rank(next: Option<TokenKind>) -> u8
+    ensures { result ≡ binding_rank next }
 {
     match next {
-        Some(TokenKind::Symbol(Symbol::Dot)) => SELECTOR_STRENGTH,
-        Some(TokenKind::Symbol(Symbol::LeftBracket)) => SELECTOR_STRENGTH,
-        Some(TokenKind::Symbol(Symbol::Times)) => MULTIPLICATION_STRENGTH,
-        Some(TokenKind::Symbol(Symbol::And)) => MULTIPLICATION_STRENGTH,
-        Some(TokenKind::ReservedWord(ReservedWord::Div)) => MULTIPLICATION_STRENGTH,
-        Some(TokenKind::ReservedWord(ReservedWord::Mod)) => MULTIPLICATION_STRENGTH,
-        Some(TokenKind::Symbol(Symbol::Plus)) => ADDITION_STRENGTH,
-        Some(TokenKind::Symbol(Symbol::Minus)) => ADDITION_STRENGTH,
-        Some(TokenKind::ReservedWord(ReservedWord::Or)) => ADDITION_STRENGTH,
-        Some(TokenKind::Symbol(Symbol::Equal)) => COMPARISON_STRENGTH,
-        Some(TokenKind::Symbol(Symbol::NotEqual)) => COMPARISON_STRENGTH,
-        Some(TokenKind::Symbol(Symbol::Less)) => COMPARISON_STRENGTH,
-        Some(TokenKind::Symbol(Symbol::LessEqual)) => COMPARISON_STRENGTH,
-        Some(TokenKind::Symbol(Symbol::Greater)) => COMPARISON_STRENGTH,
-        Some(TokenKind::Symbol(Symbol::GreaterEqual)) => COMPARISON_STRENGTH,
-        _ => WEAKEST_STRENGTH,
+        Some(TokenKind::Symbol(Symbol::Dot)) => SELECTOR_RANK,
+        Some(TokenKind::Symbol(Symbol::LeftBracket)) => SELECTOR_RANK,
+        Some(TokenKind::Symbol(Symbol::Times)) => MULTIPLICATION_RANK,
+        Some(TokenKind::Symbol(Symbol::And)) => MULTIPLICATION_RANK,
+        Some(TokenKind::ReservedWord(ReservedWord::Div)) => MULTIPLICATION_RANK,
+        Some(TokenKind::ReservedWord(ReservedWord::Mod)) => MULTIPLICATION_RANK,
+        Some(TokenKind::Symbol(Symbol::Plus)) => ADDITION_RANK,
+        Some(TokenKind::Symbol(Symbol::Minus)) => ADDITION_RANK,
+        Some(TokenKind::ReservedWord(ReservedWord::Or)) => ADDITION_RANK,
+        Some(TokenKind::Symbol(Symbol::Equal)) => COMPARISON_RANK,
+        Some(TokenKind::Symbol(Symbol::NotEqual)) => COMPARISON_RANK,
+        Some(TokenKind::Symbol(Symbol::Less)) => COMPARISON_RANK,
+        Some(TokenKind::Symbol(Symbol::LessEqual)) => COMPARISON_RANK,
+        Some(TokenKind::Symbol(Symbol::Greater)) => COMPARISON_RANK,
+        Some(TokenKind::Symbol(Symbol::GreaterEqual)) => COMPARISON_RANK,
+        _ => NON_OPERATOR_RANK,
     }
 }
 
 /// Returns the relation that a token of this kind spells, or None if it spells no relation.
 fn relation_of(kind: TokenKind) -> Option<Relation>
-    ensures { IsOperatorOf relation_token COMPARISON_STRENGTH kind result }
+    ensures { IsOperatorOf relation_token COMPARISON_RANK kind result }
 {
     match kind {
         TokenKind::Symbol(Symbol::Equal) => Some(Relation::Equal),
@@ -534,7 +534,7 @@ fn relation_of(kind: TokenKind) -> Option<Relation>
 /// Returns the operator that a token of this kind spells if the token is `+`, `-` or OR, otherwise
 /// None.
 fn add_operator_of(kind: TokenKind) -> Option<AddOperator>
-    ensures { IsOperatorOf add_operator_token ADDITION_STRENGTH kind result }
+    ensures { IsOperatorOf add_operator_token ADDITION_RANK kind result }
 {
     match kind {
         TokenKind::Symbol(Symbol::Plus) => Some(AddOperator::Add),
@@ -547,7 +547,7 @@ fn add_operator_of(kind: TokenKind) -> Option<AddOperator>
 /// Returns the operator that a token of this kind spells if the token is `*`, DIV, MOD or `&`,
 /// otherwise None.
 fn multiply_operator_of(kind: TokenKind) -> Option<MultiplyOperator>
-    ensures { IsOperatorOf multiply_operator_token MULTIPLICATION_STRENGTH kind result }
+    ensures { IsOperatorOf multiply_operator_token MULTIPLICATION_RANK kind result }
 {
     match kind {
         TokenKind::Symbol(Symbol::Times) => Some(MultiplyOperator::Multiply),

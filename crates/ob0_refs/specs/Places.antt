@@ -17,5 +17,5 @@ declaring_span m ordinal =
 
 -- Returns the spans of the references to the declaration with the ordinal `d`, in text order. The
 -- declaring identifier is among the references if `include` is true.
-abbrev pub references_to : ParsedModule → ℕ → Bool → List Span
-references_to m d include = map (span_at m.source) (tokens_bound_to m d include)
+abbrev pub reference_spans_of : ParsedModule → ℕ → Bool → List Span
+reference_spans_of m d include = map (span_at m.source) (tokens_bound_to m d include)

@@ -17,7 +17,7 @@ use Rattle.ob0_types.specs.declared.meant.ResolvedIdentifier.{ResolvedIdentifier
 use Rattle.ob0_types.specs.declared.meant.IdentifierMeaning.{IdentifierMeaning}
 use Rattle.ob0_types.specs.declared.meant.IdentifierMeaning.TheVariants.{Name, Field}
 use Rattle.ob0_refs.specs.NameAnswers.{name_answer}
-use Rattle.ob0_refs.specs.Places.{declaring_span, references_to}
+use Rattle.ob0_refs.specs.Places.{declaring_span, reference_spans_of}
 use Rattle.ob0_refs.specs.Hovers.{field_text, type_text}
 use Rattle.ob0_refs.specs.NameHovers.{HoverText, hover_of_name}
 use Rattle.ob0_refs.specs.declared.answers.At as answer
@@ -107,7 +107,7 @@ field_reference_spans r include x = map (span_at r.module_read.source) (field_re
 -- Returns the spans of the references to the name or field that the identifier with this token index
 -- and this meaning refers to. The declaring identifier is among the references if `include` is true.
 abbrev pub references_of_identifier : Resolution → Bool → ℕ → IdentifierMeaning → List Span
-references_of_identifier r include token (Name ordinal) = references_to r.module_read ordinal include
+references_of_identifier r include token (Name ordinal) = reference_spans_of r.module_read ordinal include
 references_of_identifier r include token (Field k) = field_reference_spans r include (record { token = token; owner = k })
 
 -- Returns the spans of the references to the name or field that an identifier refers to. If there

@@ -2,7 +2,7 @@
 
 ghost use Rattle.std.specs.Prelude.{◌≡◌, IfOk, map};
 ghost use Rattle.ob0_scope_table.specs.Resolution.{span_at};
-ghost use Rattle.ob0_refs.specs.Places.{declaring_span, references_to};
+ghost use Rattle.ob0_refs.specs.Places.{declaring_span, reference_spans_of};
 
 use ob0_scan::{Span, Tokens};
 use ob0_scope::tokens_bound_to;
@@ -24,14 +24,14 @@ pub(crate) fn declaration_span(names: &Resolved, ordinal: usize) -> Option<Span>
 /// Returns the spans of all references to the declaration with the ordinal `declaration`, in text
 /// order. A procedure's closing name is also a reference. The declaring identifier is among the
 /// references if `include` is true.
-pub(crate) fn references_to(
+pub(crate) fn reference_spans_of(
     alloc: Global,
     names: &Resolved,
     declaration: usize,
     include: bool,
 ) -> Result<Vec<Span>, AllocError>
     ensures { IfOk result
-        (λ spans. spans.items ≡ references_to names.now.module_read declaration include) }
+        (λ spans. spans.items ≡ reference_spans_of names.now.module_read declaration include) }
 {
     let found = tokens_bound_to(alloc, names, declaration, include)?;
     spans_of(alloc, names.tokens(), &found)

@@ -135,7 +135,7 @@ fn procedure_hover_text(
         (hover_parameters (names_declared_after names.now.module_read name.ordinal)
         (signature_view known.now formals.now))) }
 {
-    let following = declarations_after(names, name.ordinal);
+    let following = declaring_tokens_after(names, name.ordinal);
     let parameters = hover_parameters_of(alloc, known, names.tokens(), following, formals)?;
     procedure_text(
         alloc,
@@ -146,7 +146,7 @@ fn procedure_hover_text(
 
 /// Returns the token indexes of the declaring identifiers that come after the declaration with this
 /// ordinal, in text order.
-fn declarations_after<'r>(names: &'r Resolved<'_>, ordinal: usize) -> &'r [usize]
+fn declaring_tokens_after<'r>(names: &'r Resolved<'_>, ordinal: usize) -> &'r [usize]
     ensures { result.now
         ≡ drop (ordinal + 1 - predeclared_count)
         (declaring_names (identifiers role.Declaring (tree_of names.now.module_read))) }

@@ -14,7 +14,7 @@ ghost use Rattle.std.specs.Prelude.{◌≡◌, IfOk, Some};
 ghost use Rattle.ob0_refs.specs.Questions.{AreReferencesAt, field_answer, answer_about_identifier, definition_of_identifier, definition_at, field_definition, field_reference_spans, field_reference_tokens, field_index, answer_at_offset, references_of_identifier, tokens_without, renamable_span_at, renamable_span_of_identifier};
 
 use crate::answers::{At, Of};
-use crate::declaration_spans::{declaration_span, references_to, spans_of};
+use crate::declaration_spans::{declaration_span, reference_spans_of, spans_of};
 use crate::names::name_answer;
 use ob0_scan::Span;
 use ob0_scope::Named;
@@ -179,7 +179,7 @@ fn references_of_identifier(
 {
     let token = found.token;
     match found.means {
-        IdentifierMeaning::Name(ordinal) => references_to(
+        IdentifierMeaning::Name(ordinal) => reference_spans_of(
             alloc,
             well_typed.resolved(),
             ordinal,

@@ -21,7 +21,7 @@ use Rattle.ob0_scope_table.specs.Resolution.{Resolution}
 use Rattle.ob0_types.specs.CheckedModules.{IsWellTyped}
 use Rattle.ob0_edits_tokens.specs.Changed.{is_in_list, words_of}
 use Rattle.ob0_edits_tokens.specs.OfTrees.{RenamingKeepsSpelling, number_at, renamed_word_text}
-use Rattle.ob0_edits_tokens.specs.Replaced.{AreIdentifierIndexes, ReplacesName, text_after_replacement}
+use Rattle.ob0_edits_tokens.specs.Replaced.{AreIdentifierIndexes, MayReplaceName, text_after_replacement}
 use Rattle.ob0_edits_tokens.specs.Written.{name_word}
 use Rattle.ob0_language_field_laws.specs.FieldLaws.{FreeFieldRenamingKeepsTypingAndRuns}
 use Rattle.ob0_types_fields.specs.declared.field_name.FieldName.{FieldName}
@@ -95,7 +95,7 @@ module _ (unit : counting.Unit) (text : List ℕ) (place : Position) (new : Name
       subst (IsFieldRefusal (requested_field r) k f) (sym is) (id, field_target r.module_read k f new ∙ found.0, ap (option_map (token_range (requested_field r))) found.1)
 
   pub field_answered : (r : Resolution) → IsWellTyped r → IsIdentifier new → IsFreeFieldName (named_tree_of r.module_read) k f new → FreeFieldRenamingKeepsTypingAndRuns → RenamingChangesFieldTokens → RenamingKeepsSpelling
-      → ((name : List ℕ) → IsIdentifier name → ReplacesName name (name_word name ∷ [])) → AreIdentifierIndexes r.module_read.source.tokens 0 (field_tokens_to_rename r k f new)
+      → ((name : List ℕ) → IsIdentifier name → MayReplaceName name (name_word name ∷ [])) → AreIdentifierIndexes r.module_read.source.tokens 0 (field_tokens_to_rename r k f new)
       → (result : Result (Vec Edit Global) EditRefusal) → Edited unit text new r.module_read.source (field_tokens_to_rename r k f new) result → AnswersForField (requested_field r) k f result
   field_answered r well id free keeps by_tokens spells identifier_with_meaning names (Ok edits) made =
       let m = r.module_read in

@@ -31,7 +31,7 @@ use Rattle.ob0_language_types.specs.WellTyped.{WellTyped}
 use Rattle.ob0_language_runs.specs.EditLaws.{FreeRenamingKeepsTypingAndRuns, HaveSameRuns}
 use Rattle.ob0_edits_tokens.specs.Changed.{changes_at, changed_words, words_of}
 use Rattle.ob0_edits_tokens.specs.OfTrees.{RenamingKeepsSpelling}
-use Rattle.ob0_edits_tokens.specs.Replaced.{AreIdentifierIndexes, LeavesWords, ReplacesName, replacement_at_token, range_and_text, text_after_replacement}
+use Rattle.ob0_edits_tokens.specs.Replaced.{AreIdentifierIndexes, LeavesWords, MayReplaceName, replacement_at_token, range_and_text, text_after_replacement}
 use Rattle.ob0_edits_tokens.specs.Written.{name_word}
 use Rattle.ob0_scope.specs.NamesAtPlaces.{name_at_offset, tokens_bound_to}
 use Rattle.ob0_scope.specs.declared.naming.Named as named
@@ -49,7 +49,7 @@ use Rattle.ob0_rename.proofs.Occurring.{occurrence_is_there}
 pub record Edited (unit : counting.Unit) (text : List ℕ) (new : Name) (s : TextWithTokens) (places : List ℕ) (result : Result (Vec Edit Global) EditRefusal) : Type 0 where
   pub edits : IfOk result (λ edits. map range_and_text edits.items ≡ map (replacement_at_token unit text s.tokens new) places)
   pub short : IfOk result (λ edits. length (text_after_replacement s places new) ≤ max_text)
-  pub leaves : (ws : List Word) → ReplacesName new ws → IfOk result (λ edits. LeavesWords unit text edits.items (changed_words (changes_at places ws) 0 (words_of s)))
+  pub leaves : (ws : List Word) → MayReplaceName new ws → IfOk result (λ edits. LeavesWords unit text edits.items (changed_words (changes_at places ws) 0 (words_of s)))
   pub too_long : IsErrOf result refusal.TooLong → max_text < length (text_after_replacement s places new)
   pub refusals : IfErr result (λ why. (why ≡ refusal.TooLong) ⊎ (why ≡ refusal.Memory))
 
@@ -84,7 +84,7 @@ module _ (unit : counting.Unit) (text : List ℕ) (place : Position) (new : Name
 
   -- Edits at some places leave a text of a tree that has the new name there. The tree must be
   -- well-typed and run like the module.
-  pub written : (r : Resolution) (tree : Tree Name module_text) (places : List ℕ) → IsIdentifier new → ((name : List ℕ) → IsIdentifier name → ReplacesName name (name_word name ∷ []))
+  pub written : (r : Resolution) (tree : Tree Name module_text) (places : List ℕ) → IsIdentifier new → ((name : List ℕ) → IsIdentifier name → MayReplaceName name (name_word name ∷ []))
       → ((after : TextWithTokens) → IsScan after → words_of after ≡ changed_words (changes_at places (name_word new ∷ [])) 0 (words_of r.module_read.source) → ModuleOf after tree)
       → WellTyped tree × HaveSameRuns tree (named_tree_of r.module_read)
       → (edits : Vec Edit Global) → Edited unit text new r.module_read.source places (Ok edits) → WritesNewName (requested r) places tree edits.items
@@ -102,7 +102,7 @@ module _ (unit : counting.Unit) (text : List ℕ) (place : Position) (new : Name
       }
 
   pub answered : (r : Resolution) → IsWellTyped r → IsIdentifier new → Free (named_tree_of r.module_read) d new → FreeRenamingKeepsTypingAndRuns → RenamingKeepsSpelling
-      → ((name : List ℕ) → IsIdentifier name → ReplacesName name (name_word name ∷ [])) → AreIdentifierIndexes r.module_read.source.tokens 0 (tokens_to_rename r.module_read d new)
+      → ((name : List ℕ) → IsIdentifier name → MayReplaceName name (name_word name ∷ [])) → AreIdentifierIndexes r.module_read.source.tokens 0 (tokens_to_rename r.module_read d new)
       → (result : Result (Vec Edit Global) EditRefusal) → Edited unit text new r.module_read.source (tokens_to_rename r.module_read d new) result → AnswersForDeclaration (requested r) d result
   answered r well id free keeps spells identifier_with_meaning names (Ok edits) made =
       let m = r.module_read in

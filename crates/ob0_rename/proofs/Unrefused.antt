@@ -12,7 +12,7 @@ use Rattle.ob0_language_names.specs.ConsistentNames.{are_distinct, block_names, 
 use Rattle.ob0_language_names.specs.Names.{Name, same_name}
 use Rattle.ob0_language_names.specs.Occurrences.{Free, bindings, scopes_in_block, scopes_in_procedure, scopes_in_procedures, declares_ordinal, another_declaration_has_name}
 use Rattle.ob0_language_names.specs.Parts.{constant_names, formal_names, formal_sections, module_block, declared_type_names, procedure_name, section_constants, section_types, section_variables, variable_names}
-use Rattle.ob0_scope.specs.Renames.{namesake, namesake_in, other_with_name}
+use Rattle.ob0_scope.specs.Renames.{namesake, namesake_in_scopes, other_with_name}
 use Rattle.ob0_language_names.specs.Scopes.{Scope, ordinal_after_block, ordinal_after_names, ordinal_after_procedure, ordinal_after_procedures, body_scope, declare_names, declare_procedure_names, first_procedure_ordinal, first_type_ordinal, first_variable_ordinal, procedures_scope, types_scope, variables_scope}
 use Rattle.ob0_language_names.proofs.DistinctNames.{distinct-onto, labels_in, onto, onto-append, own_name}
 use Rattle.ob0_language_names.proofs.Ordinals.{le-ordinal_after_block, le-ordinal_after_names, le-ordinal_after_procedure, le-ordinal_after_procedures}
@@ -195,11 +195,11 @@ other_within low high d new (b ∷ s) w = one (same_name b.0 new && not (b.1 == 
     one true later = (w.0, w.1)
     one false later = later
 
-named_within : (low high d : ℕ) (new : Name) (ss : List (Scope Name)) → AllWithin low high ss → OneWithin low high (namesake_in ss d new)
+named_within : (low high d : ℕ) (new : Name) (ss : List (Scope Name)) → AllWithin low high ss → OneWithin low high (namesake_in_scopes ss d new)
 named_within low high d new [] w = tt
 named_within low high d new (s ∷ ss) w = one (declares_ordinal s d) (other_with_name s d new) (other_within low high d new s w.0) (named_within low high d new ss w.1)
   where
-    one : (c : Bool) (found : Option ℕ) → OneWithin low high found → OneWithin low high (namesake_in ss d new) → OneWithin low high (option_or (if c then found else None) (namesake_in ss d new))
+    one : (c : Bool) (found : Option ℕ) → OneWithin low high found → OneWithin low high (namesake_in_scopes ss d new) → OneWithin low high (option_or (if c then found else None) (namesake_in_scopes ss d new))
     one true (Some k) here later = here
     one true None here later = later
     one false found here later = later

@@ -20,7 +20,7 @@ use Rattle.ob0_text.specs.Units.{width_of}
 use Rattle.ob0_tree_values.proofs.TreeValues.{vec_of}
 use Rattle.ob0_edits_tokens.specs.Changed.{changes_at, changed_words, words_of}
 use Rattle.ob0_edits_tokens.specs.Ranges.{range_of}
-use Rattle.ob0_edits_tokens.specs.Replaced.{AreIdentifierIndexes, LeavesWords, ReplacesName, replacement_cut, replacement_at_token, range_and_text, span_at, text_after_replacement}
+use Rattle.ob0_edits_tokens.specs.Replaced.{AreIdentifierIndexes, LeavesWords, MayReplaceName, replacement_cut, replacement_at_token, range_and_text, span_at, text_after_replacement}
 use Rattle.ob0_edits_tokens.specs.Written.{name_word}
 use Rattle.ob0_edits_tokens.proofs.Made.{leaves_words}
 use Rattle.ob0_rename.proofs.Outcomes.{Edited}
@@ -72,7 +72,7 @@ pub record Outcome (unit : Unit) (text new : List ℕ) (s : TextWithTokens) (pla
   pub settles : NoMemory result
   pub edited : Edited unit text new s places result
 
-module _ (unit : Unit) (text new : List ℕ) (s : TextWithTokens) (scan : IsScan s) (held : text ≡ chars s.text) (id : IsIdentifier new) (replaces : ReplacesName new (name_word new ∷ [])) (places : List ℕ) (names : AreIdentifierIndexes s.tokens 0 places) where
+module _ (unit : Unit) (text new : List ℕ) (s : TextWithTokens) (scan : IsScan s) (held : text ≡ chars s.text) (id : IsIdentifier new) (replaces : MayReplaceName new (name_word new ∷ [])) (places : List ℕ) (names : AreIdentifierIndexes s.tokens 0 places) where
   refused : max_text < length (text_after_replacement s places new) → Outcome unit text new s places
   refused long = record {
     result = Err refusal.TooLong;

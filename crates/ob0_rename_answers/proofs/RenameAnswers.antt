@@ -29,7 +29,7 @@ use Rattle.ob0_scope_table.specs.Resolution.{Resolution}
 use Rattle.ob0_types_fields.specs.Identifiers.{DuplicateHasDeclaringToken, RenamingChangesFieldTokens, field_declaring_token, field_identifiers, field_tokens}
 use Rattle.ob0_types_fields.proofs.FieldNameList.{fields_are_identifiers, fields_ascend, kept_are_identifiers, kept_ascend}
 use Rattle.ob0_edits_tokens.specs.OfTrees.{RenamingKeepsSpelling}
-use Rattle.ob0_edits_tokens.specs.Replaced.{AreIdentifierIndexes, ReplacesName}
+use Rattle.ob0_edits_tokens.specs.Replaced.{AreIdentifierIndexes, MayReplaceName}
 use Rattle.ob0_edits_tokens.specs.Written.{name_word}
 use Rattle.ob0_rename.specs.Answers.{RenameAnswers}
 use Rattle.ob0_rename.specs.Renaming.{TargetsField, TargetsDeclaration, Renaming, RenameTarget, declaration, declaring_token, field_of, field_tokens_to_rename, is_declared_as, renaming_target, nothing, conflicting_declaration_range, predeclared, renaming_of, token_range, tokens_to_rename}
@@ -51,7 +51,7 @@ use Rattle.ob0_rename_answers.specs.RenameAnswers.{WellTypedTextsHaveNames}
 use Rattle.ob0_rename_answers.proofs.NewNameEdits.{NoMemory, Outcome, outcome}
 
 abbrev pub NamesReplaceNames : Type 0
-NamesReplaceNames = (new : List ℕ) → IsIdentifier new → ReplacesName new (name_word new ∷ [])
+NamesReplaceNames = (new : List ℕ) → IsIdentifier new → MayReplaceName new (name_word new ∷ [])
 
 -- ---- no refusal is a failed allocation
 

@@ -8,7 +8,7 @@ use Rattle.ob0_text.specs.declared.position_types.Position.{Position}
 use Rattle.ob0_text.specs.declared.position_types.Range.{Range}
 use Rattle.ob0_text.specs.declared.edits.Indent.{Indent}
 use Rattle.ob0_text.specs.declared.edits.Indent.TheVariants.{Tab, Spaces}
-use Rattle.ob0_text.specs.Indents.{level_spaces}
+use Rattle.ob0_text.specs.Indents.{spaces_in_level}
 use Rattle.ob0_rpc.specs.Members.{is_absent_or_null, text_member, bool_member, unsigned_member, document_uri, position_member, range_member}
 use Rattle.ob0_rpc.specs.declared.clients.ClientFeatures.{ClientFeatures}
 use Rattle.ob0_rpc.specs.declared.incoming.RpcFault.{RpcFault}
@@ -170,9 +170,9 @@ code_action_request_of params =
     (option_and_then requested_kinds (get (codes "context") params))
 
 -- Returns the indentation for these values of `tabSize` and `insertSpaces`, or None if either is
--- None. If `insertSpaces` is true, a level is `level_spaces size` spaces, otherwise a tab.
+-- None. If `insertSpaces` is true, a level is `spaces_in_level size` spaces, otherwise a tab.
 abbrev pub indent_with : Option ℕ → Option Bool → Option Indent
-indent_with (Some size) (Some spaces) = Some (if spaces then Spaces (level_spaces size) else Tab)
+indent_with (Some size) (Some spaces) = Some (if spaces then Spaces (spaces_in_level size) else Tab)
 indent_with (Some size) None = None
 indent_with None spaces = None
 

@@ -80,10 +80,10 @@ pub fn write_range_before(buffer: &mut [u8], at: usize, start: Position, end: Po
         ≡ compact_text (range_value start end) ++ drop at buffer.old }
     ensures reads { ReadsBack (range_value start end) }
 {
-    let following_start = write_piece_before(buffer, at, b"}");
-    let at_start = write_position_before(buffer, following_start, start);
-    let following_end = write_piece_before(buffer, at_start, b",\"start\":");
-    let at_end = write_position_before(buffer, following_end, end);
+    let index_after_start = write_piece_before(buffer, at, b"}");
+    let at_start = write_position_before(buffer, index_after_start, start);
+    let index_after_end = write_piece_before(buffer, at_start, b",\"start\":");
+    let at_end = write_position_before(buffer, index_after_end, end);
     write_piece_before(buffer, at_end, b"{\"end\":")
 }
 
@@ -96,10 +96,10 @@ fn write_position_before(buffer: &mut [u8], at: usize, position: Position) -> us
         ≡ compact_text (position_value position) ++ drop at buffer.old }
     ensures reads { ReadsBack (position_value position) }
 {
-    let following_line = write_piece_before(buffer, at, b"}");
-    let at_line = write_digits_before(buffer, following_line, position.line);
-    let following_character = write_piece_before(buffer, at_line, b",\"line\":");
-    let at_character = write_digits_before(buffer, following_character, position.character);
+    let index_after_line = write_piece_before(buffer, at, b"}");
+    let at_line = write_digits_before(buffer, index_after_line, position.line);
+    let index_after_character = write_piece_before(buffer, at_line, b",\"line\":");
+    let at_character = write_digits_before(buffer, index_after_character, position.character);
     write_piece_before(buffer, at_character, b"{\"character\":")
 }
 

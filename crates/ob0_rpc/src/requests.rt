@@ -2,7 +2,7 @@
 ghost use Rattle.std.specs.Prelude.{◌≡◌, IfOk, option_map, option_and_then, map, string_bytes, codes};
 ghost use Rattle.serde_json.specs.Find.{get};
 ghost use Rattle.serde_json.specs.View.{view, items_view};
-ghost use Rattle.ob0_text.specs.Indents.{level_spaces};
+ghost use Rattle.ob0_text.specs.Indents.{spaces_in_level};
 ghost use Rattle.ob0_rpc.specs.Requesting as asks;
 ghost use Rattle.ob0_rpc.specs.Requesting.{document_place_of, request_by_method, references_request_of, rename_request_of, code_action_request_of, formatting_request_of, document_request_by_method, optional_texts, requested_kinds, texts_of as texts_in, indent_of as indent_in, or_bad_params, initialize_request_of};
 ghost use Rattle.ob0_rpc.specs.Members.{bool_member};
@@ -230,7 +230,7 @@ fn indent_of(params: &Value) -> Option<Indent>
 /// Returns the number of spaces for one level of indentation. That is the requested number `size`,
 /// raised to 1 or lowered to [`MAX_INDENT`] if it lies outside that range.
 fn spaces_per_level(size: u64) -> u8
-    ensures { result ≡ level_spaces size }
+    ensures { result ≡ spaces_in_level size }
 {
     size.min(MAX_INDENT as u64).max(1) as u8
 }

@@ -14,8 +14,8 @@ use Rattle.ob0_language_types.specs.WellTyped.{Signature, TypeEnvironment, Typed
 use Rattle.ob0_language_types.proofs.Literals.{some_inverse}
 use Rattle.ob0_language_values.specs.Values.{Place, Shape, Store}
 use Rattle.ob0_language_runs.specs.TypeAgreement.{ArgumentsMatchSignature, RunBindingAgrees, RunEnvironmentAgrees, StoreHasTypes, StoreTyping}
-use Rattle.ob0_language_runs.specs.Freed.{call_freeing, drop_variables}
-use Rattle.ob0_language_runs.specs.Runs.{Activation, Argument, ProcedureText, Frame, Progress, State, activate, bind_parameters, declare_block, execute_body, continue_in_frame, running, statement_meanings, stopped}
+use Rattle.ob0_language_runs.specs.Freed.{call_freeing_variables, drop_variables}
+use Rattle.ob0_language_runs.specs.Runs.{Activation, Argument, ProcedureText, Frame, Progress, State, activate, bind_parameters, declare_block, execute_body, continue_in_frame, running, meanings_for_statements, stopped}
 use Rattle.ob0_language_runs.proofs.SoundCalls.{from-fit, names-fit, parameters-of_typed}
 use Rattle.ob0_run_machine.specs.Evaluation.{Level, Levels}
 use Rattle.ob0_run_machine.specs.Execution as execution
@@ -31,7 +31,7 @@ use Rattle.ob0_run_cells.proofs.Variables.{variables_are_dropped}
 
 -- a relation that holds without room, and after an activation with room, holds after any activation
 pub with-cells : (P : execution.MachineProgress → Type 0) (n : ℕ) (next : execution.MachineState → execution.MachineProgress) (s : execution.MachineState) → P execution.no_room → (length s.cells + n < 2 ^ 64 → P (next record s { cells = s.cells ++ execution.zeros n }))
-    → P (execution.run_with_cells n next s)
+    → P (execution.run_with_added_cells n next s)
 with-cells P n next s without each =
     (elim (nat_lt (length s.cells + n) (2 ^ 64)) as (λ b. nat_lt (length s.cells + n) (2 ^ 64) ≡ b → P (if b then next record s { cells = s.cells ++ execution.zeros n } else execution.no_room))
     [ true ↦ λ e. each (ltb-true (length s.cells + n) (2 ^ 64) e) | false ↦ λ e. without ]) refl
@@ -52,7 +52,7 @@ drop_variables-represents typing now others old base _ _ e fits is h = absurd h
 
 module _ {N : Type 0} (table : RoutineTable N) where
   abbrev pub body_of : ℕ → ℕ → StoreTyping → Levels → Activation N → Body N
-  body_of c t typing ls active = record { typing = typing; active = statement_meanings table.naming active; levels = ls; enters = call_freeing table.naming c t active; lowered_enters = execution.call table.routines c t }
+  body_of c t typing ls active = record { typing = typing; active = meanings_for_statements table.naming active; levels = ls; enters = call_freeing_variables table.naming c t active; lowered_call_effect = execution.call table.routines c t }
 
   -- the facts about calls if c more may be open
   abbrev pub CallsKnown : ℕ → ℕ → Type 0
@@ -62,21 +62,21 @@ module _ {N : Type 0} (table : RoutineTable N) where
 
   pub body-represents : (c t : ℕ) → CallsKnown c t → (typing : StoreTyping) (ls : Levels) (checked : TypeEnvironment N) (placement : Placement N) (active : Activation N) → RunEnvironmentAgrees table.naming typing checked active → PlacementFits table typing ls checked placement active → store_size typing < 2 ^ 64
       → (code : lowered.Instructions) (statements : Tree N (maybe body)) → CodeMeansBody table.naming checked placement code statements → (low : execution.MachineState) (s : State) → Represents typing low s
-      → ProgressRepresents typing (execution.execute_sequence (execution.call table.routines c t) t ls code low) (execute_body table.naming active (call_freeing table.naming c t active) t statements s)
+      → ProgressRepresents typing (execution.execute_sequence (execution.call table.routines c t) t ls code low) (execute_body table.naming active (call_freeing_variables table.naming c t active) t statements s)
   unfolding execution.execute execute_body
   body-represents c t known typing ls checked placement active env placed few code none means low s h = subst (λ code. ProgressRepresents typing (execution.execute_sequence (execution.call table.routines c t) t ls code low) (running s)) (sym means) h
   body-represents c t known typing ls checked placement active env placed few code (one (begins statements)) means low s h =
       means (body_of c t typing ls active) record {
         names_fit = (names-fit table.naming typing checked active env, λ x. refl);
         variables_in_slots = λ x p e. slots-fit table typing ls (environment_from_binding table.naming checked x) (suffix_from_name table.naming placement x) (environment_from_binding table.naming active x) (from-placed table typing ls checked placement active x placed) p e;
-        has_addresses = few;
+        store_is_addressable = few;
         calls_represent = known typing ls checked placement active env placed;
       } t low s h
 
   pub activate-represents : (c t : ℕ) → CallsKnown c t → (typing : StoreTyping) (ls : Levels) (checked : TypeEnvironment N) (placement : Placement N) (active : Activation N) (signature : Signature) (args : List Argument) (low : execution.MachineState) (s : State) (p : execution.CallArguments)
       → RunEnvironmentAgrees table.naming typing checked active → PlacementFits table typing ls checked placement active → newest_object checked ≡ Some (a_procedure signature) → Represents typing low s → ArgumentsMatchSignature typing signature args
       → p.cells ≡ low.cells ++ argument_cells args → p.addresses ≡ argument_addresses typing args
-      → ProgressRepresents typing (execution.call table.routines (suc c) t (first_target placement).procedure (execution.levels_in_call ls (length low.cells) (first_target placement).up p) record low { cells = p.cells }) (drop_variables (length s.store) (activate table.naming (call_freeing table.naming c t) t active args s))
+      → ProgressRepresents typing (execution.call table.routines (suc c) t (first_target placement).procedure (execution.levels_in_call ls (length low.cells) (first_target placement).up p) record low { cells = p.cells }) (drop_variables (length s.store) (activate table.naming (call_freeing_variables table.naming c t) t active args s))
   unfolding execution.call activate block_is_well_typed
   activate-represents c t known typing ls [] placement active signature args low s p env placed e h fit cells there = absurd (cc)
   activate-represents c t known typing ls (b ∷ checked) [] (d ∷ active) signature args low s p env placed e h fit cells there = absurd placed
@@ -85,7 +85,7 @@ module _ {N : Type 0} (table : RoutineTable N) where
       of_text : (tg : Target) (outer : Placement N) (entry : lowered.Routine) (j : ℕ) (text : Tree N (item procedure)) (ps : List (TypedParameter N)) → PlacementFits table typing (drop tg.up ls) checked outer active → typed_parameters table.naming checked j (procedure_formals text) ≡ Some ps
           → slice_get table.routines tg.procedure ≡ Some entry → signature ≡ map (λ p. p.formal) ps → procedure_is_well_typed table.naming (bind_typed_parameters ps (bind_procedure x ps checked)) j text ≡ true
           → RoutineMeansProcedure table (bind_typed_parameters ps (bind_procedure x ps checked)) (parameter_placement ps ((x, local_target tg.procedure) ∷ outer)) j entry text
-          → ProgressRepresents typing (execution.call table.routines (suc c) t tg.procedure (execution.levels_in_call ls (length low.cells) tg.up p) record low { cells = p.cells }) (drop_variables (length s.store) (activate table.naming (call_freeing table.naming c t) t ((y, a_procedure record { constructors_before = j; text = text }) ∷ active) args s))
+          → ProgressRepresents typing (execution.call table.routines (suc c) t tg.procedure (execution.levels_in_call ls (length low.cells) tg.up p) record low { cells = p.cells }) (drop_variables (length s.store) (activate table.naming (call_freeing_variables table.naming c t) t ((y, a_procedure record { constructors_before = j; text = text }) ∷ active) args s))
       of_text tg outer entry j (declares_procedure q fs b closing) ps inside eps et sig fits means =
           let text : Tree N (item procedure) = declares_procedure q fs b closing in
           let l : Level = record { base = length low.cells; addresses = p.addresses } in
@@ -96,7 +96,7 @@ module _ {N : Type 0} (table : RoutineTable N) where
           let start : FramePlaced table typing (l ∷ seen) l.base (bind_procedure x ps checked) p₀ f = record {
             store_fits = h.store_fits;
             environment_fits = (env.0, (ps, eps, refl, fits), env.2);
-            placing_fits = inward_placement-fits table typing l seen (bind_procedure x ps checked) ((x, local_target tg.procedure) ∷ outer) f.env record { same_active = env.0; same_placed = refl; here = (outer, inside, record { parameters = ps; routine = entry; are_typed = eps; in_table = et; means = means }); further = inside };
+            placing_fits = inward_placement-fits table typing l seen (bind_procedure x ps checked) ((x, local_target tg.procedure) ∷ outer) f.env record { activation_name_agrees = env.0; placement_name_agrees = refl; here = (outer, inside, record { parameters = ps; routine = entry; are_typed = eps; in_table = et; means = means }); further = inside };
             cells_counted = omega (arith, sized);
           } in
           let (g, eg, part) = parameters-placed table typing l seen ps args (bind_procedure x ps checked) p₀ f start (subst (λ fs. ArgumentsMatchSignature typing fs args) sig fit) there in
@@ -114,17 +114,17 @@ module _ {N : Type 0} (table : RoutineTable N) where
           let all : length (p.cells ++ execution.zeros entry.cells) ≡ store_size rest.typing_now = ap length represents.same_cells ∙ store-size rest.typing_now k.store rest.frame.store_fits in
           let counted : length p.cells + entry.cells ≡ store_size rest.typing_now = omega (arith, longer, zeros, all) in
           let grown : rest.typing_now ≡ typing ++ (part.others ++ rest.others) = rest.is_grown ∙ (ap (λ l. l ++ rest.others) part.is_grown ∙ append_assoc typing part.others rest.others) in
-          let statements = execute_body table.naming k.env (call_freeing table.naming c t k.env) t (block_statements b) s₂ in
+          let statements = execute_body table.naming k.env (call_freeing_variables table.naming c t k.env) t (block_statements b) s₂ in
           let runs_body = execution.execute_sequence (execution.call table.routines c t) t (l ∷ seen) entry.body in
           let drops = with-cells (λ q. ProgressRepresents typing (execution.drop_variables l.base q) (drop_variables (length s.store) statements)) entry.cells runs_body (record low { cells = p.cells }) tt
           (λ room. drop_variables-represents typing rest.typing_now (part.others ++ rest.others) s.store l.base (runs_body low₂) statements grown h.store_fits (ap length h.same_cells)
           (body-represents c t known rest.typing_now (l ∷ seen) after q₂.placement k.env rest.frame.environment_fits rest.frame.placing_fits (omega (arith, counted, room)) entry.body (block_statements b) body_means low₂ s₂ represents)) in
           let frames = ap (λ l. option_and_then (declare_block table.naming (j + formals_constructor_count (formal_sections fs)) b) (bind_parameters l args f)) (parameters-of_typed table.naming checked j (formal_sections fs) ps eps) ∙ (ap (option_and_then (declare_block table.naming (j + formals_constructor_count (formal_sections fs)) b)) eg ∙ ek) in
-          subst (λ o. ProgressRepresents typing (execution.drop_variables l.base (execution.activate (execution.call table.routines c t) t (l ∷ seen) o record low { cells = p.cells })) (drop_variables (length s.store) (activate table.naming (call_freeing table.naming c t) t ((y, a_procedure record { constructors_before = j; text = text }) ∷ active) args s))) (sym et)
-          (subst (λ frame. ProgressRepresents typing (execution.drop_variables l.base (execution.run_with_cells entry.cells runs_body record low { cells = p.cells })) (drop_variables (length s.store) (continue_in_frame s frame (λ f. execute_body table.naming f.env (call_freeing table.naming c t f.env) t (block_statements b))))) (sym frames) drops)
+          subst (λ o. ProgressRepresents typing (execution.drop_variables l.base (execution.activate (execution.call table.routines c t) t (l ∷ seen) o record low { cells = p.cells })) (drop_variables (length s.store) (activate table.naming (call_freeing_variables table.naming c t) t ((y, a_procedure record { constructors_before = j; text = text }) ∷ active) args s))) (sym et)
+          (subst (λ frame. ProgressRepresents typing (execution.drop_variables l.base (execution.run_with_added_cells entry.cells runs_body record low { cells = p.cells })) (drop_variables (length s.store) (continue_in_frame s frame (λ f. execute_body table.naming f.env (call_freeing_variables table.naming c t f.env) t (block_statements b))))) (sym frames) drops)
 
       of_objects : (o : Object Shape Signature) (w : BindingPlace) (r : Object Place (ProcedureText N)) → RunBindingAgrees table.naming typing checked x o r → BindingIsPlaced table typing ls checked (λ ls placement. PlacementFits table typing ls checked placement active) x o w r → o ≡ a_procedure signature
-          → ProgressRepresents typing (execution.call table.routines (suc c) t (target_of w).procedure (execution.levels_in_call ls (length low.cells) (target_of w).up p) record low { cells = p.cells }) (drop_variables (length s.store) (activate table.naming (call_freeing table.naming c t) t ((y, r) ∷ active) args s))
+          → ProgressRepresents typing (execution.call table.routines (suc c) t (target_of w).procedure (execution.levels_in_call ls (length low.cells) (target_of w).up p) record low { cells = p.cells }) (drop_variables (length s.store) (activate table.naming (call_freeing_variables table.naming c t) t ((y, r) ∷ active) args s))
       of_objects (a_procedure sg) (at_target tg) (a_procedure code) bound at e =
           let (ps, eps, sig, fits) = bound in
           let (outer, inside, found) = at in
@@ -137,7 +137,7 @@ module _ {N : Type 0} (table : RoutineTable N) where
   activate-represents c t known typing ls (b ∷ checked) _ [] signature args low s p env placed e h fit cells there = absurd env
 
   pub calls-known : (c t : ℕ) → CallsKnown c t
-  unfolding call_freeing execution.call
+  unfolding call_freeing_variables execution.call
   calls-known zero t typing ls checked placement active env placed x signature e args low s p h fit cells there = (refl, h.same_output)
   calls-known (suc c) t typing ls checked placement active env placed x signature e args low s p h fit cells there =
       activate-represents c t (calls-known c t) typing ls (environment_from_binding table.naming checked x) (suffix_from_name table.naming placement x) (environment_from_binding table.naming active x) signature args low s p (from-fit table.naming typing checked active x env) (from-placed table typing ls checked placement active x placed) e h fit cells there

@@ -221,7 +221,7 @@ module _ {N : Type 0} (checked : TypeMeanings N) (slots : N → Slot) where
     (λ z shown. let (p, ep, fit) = variable-is z.typing s (z.active.object_for x) (subst (λ o. RunObjectAgrees z.typing o (z.active.object_for x)) e (shown.names_fit.0 x)) in
         let there : slot_address z.levels (slots x) ≡ address z.typing p = shown.variables_in_slots x p ep in
         let within = (places_are_slices z.typing z.store p s shown.store_fits fit).within in
-        let few : store_size z.typing < 2 ^ 64 = shown.has_addresses in
+        let few : store_size z.typing < 2 ^ 64 = shown.store_is_addressable in
         let bound : slot_address z.levels (slots x) < 2 ^ 64 = omega (arith, within, there, few) in (
           ap (outcome_of same) (slot-found z.levels (cells_in z) (slots x) bound) ∙ (ap succeeds_with there ∙ sym (ap (λ o. addresses z.typing (object_place {P = List Mode} o)) ep)),
           subst (λ o. PlaceOutcomeFits z.typing s (object_place {P = List Mode} o)) (sym ep) fit,
@@ -236,7 +236,7 @@ module _ {N : Type 0} (checked : TypeMeanings N) (slots : N → Slot) where
       let (v, hv, ev) = h in (
         (λ z. v z >>= (λ p. succeeds_with (extended_place p (at_field (checked.written x) ∷ [])))),
         (λ z shown. let l = led-then z.typing (record_shape k fs) t (machine.address z.levels (cells_in z) q) (v z) (λ a. machine.gives (machine.add_offset a (field_offset fs (checked.written x)))) (λ p. succeeds_with (extended_place p (at_field (checked.written x) ∷ [])))
-            (led-at q (record_shape k fs) v hv z shown) (λ p fit. step-led z.typing z.store shown.store_fits shown.has_addresses p (record_shape k fs) t (at_field (checked.written x)) fit e) in
+            (led-at q (record_shape k fs) v hv z shown) (λ p fit. step-led z.typing z.store shown.store_fits shown.store_is_addressable p (record_shape k fs) t (at_field (checked.written x)) fit e) in
             (ap (outcome_of same) (part-address z.levels (cells_in z) q (field_offset fs (checked.written x))) ∙ l.is_same, l.is_place)),
         λ z shown. grouped-then (v z) (λ p. succeeds_with (extended_place p (at_field (checked.written x) ∷ []))) (remaining_selectors rest z)
             ∙ (each-then (v z) (λ p. remaining_selectors rest z (extended_place p (at_field (checked.written x) ∷ []))) (remaining_selectors (more (field x) rest) z)
@@ -253,7 +253,7 @@ module _ {N : Type 0} (checked : TypeMeanings N) (slots : N → Slot) where
       let (v, hv, ev) = h in (
         (λ z. v z >>= (λ p. value_of_expression e z >>= (λ x. or_stuck (read_place z.store p) >>= (λ u. element_step u x >>= (λ s. succeeds_with (extended_place p (s ∷ []))))))),
         (λ z shown. let l = led-then z.typing (array_shape k n t) t (machine.address z.levels (cells_in z) q) (v z) (λ a. followed_by (machine.number z.levels (cells_in z) i) (machine.element_address a n (size t))) (λ p. value_of_expression e z >>= (λ x. or_stuck (read_place z.store p) >>= (λ u. element_step u x >>= (λ s. succeeds_with (extended_place p (s ∷ []))))))
-            (led-at q (array_shape k n t) v hv z shown) (λ p fit. index-led z.typing z.store shown.store_fits shown.has_addresses p k n t fit (machine.number z.levels (cells_in z) i) (value_of_expression e z) (hi z shown)) in
+            (led-at q (array_shape k n t) v hv z shown) (λ p fit. index-led z.typing z.store shown.store_fits shown.store_is_addressable p k n t fit (machine.number z.levels (cells_in z) i) (value_of_expression e z) (hi z shown)) in
             (ap (outcome_of same) (element-address z.levels (cells_in z) q i n (size t)) ∙ l.is_same, l.is_place)),
         λ z shown. grouped-then (v z) (λ p. value_of_expression e z >>= (λ x. or_stuck (read_place z.store p) >>= (λ u. element_step u x >>= (λ s. succeeds_with (extended_place p (s ∷ [])))))) (remaining_selectors rest z)
             ∙ (each-place z.typing (array_shape k n t) (v z) (λ p. (value_of_expression e z >>= (λ x. or_stuck (read_place z.store p) >>= (λ u. element_step u x >>= (λ s. succeeds_with (extended_place p (s ∷ [])))))) >>= remaining_selectors rest z) (remaining_selectors (more (index e) rest) z) (hv z shown).1

@@ -9,9 +9,9 @@ use Rattle.ob0_language_types.specs.Environments.{outermost_environment}
 use Rattle.ob0_language_types.specs.WellTyped.{WellTyped, passes_type_check}
 use Rattle.ob0_language_types.proofs.Proved.{numbering_keeps_type_check-holds}
 use Rattle.ob0_language_runs.specs.TypeAgreement.{StoreTyping}
-use Rattle.ob0_language_runs.specs.Freed.{call_freeing, run_freeing}
+use Rattle.ob0_language_runs.specs.Freed.{call_freeing_variables, run_freeing_variables}
 use Rattle.ob0_language_runs.specs.Runs.{Frame, Progress, Run, State, execute_body, run_result, continue_in_frame, run_numbered, run_with_naming, running, stopped}
-use Rattle.ob0_language_runs.proofs.KeptVariables.{freeing-keeps}
+use Rattle.ob0_language_runs.proofs.FreeingKeepsRuns.{freeing-keeps}
 use Rattle.ob0_language_runs.proofs.Proved.{numbering_keeps_runs-holds}
 use Rattle.ob0_run_machine.specs.Execution as execution
 use Rattle.ob0_run_machine.specs.Lowered as lowered
@@ -25,7 +25,7 @@ use Rattle.ob0_run_cells.proofs.PlacedDeclarations.{FramePlaced, block-placed}
 
 -- a predeclared name is nowhere
 predeclared : {N : Type 0} {x : N} {Further : Type 0} → Further → FirstBindingsAgree x x x (Unit {0}) Further
-predeclared h = record { same_active = refl; same_placed = refl; here = tt; further = h }
+predeclared h = record { activation_name_agrees = refl; placement_name_agrees = refl; here = tt; further = h }
 
 -- a run of lowered code that has room is this one
 abbrev pub ComesTo : execution.MachineProgress → Run → Type 0
@@ -37,8 +37,8 @@ run_result-same typing (execution.running low) (running s) h = ap (λ out. recor
 run_result-same typing (execution.stopped x out) (stopped y written) h = λ i. record { output = h.1 i; ending = h.0 i }
 run_result-same typing _ _ h = absurd h
 
-run-freed : {N : Type 0} (naming : Naming N) (m : Tree N module_text) (program : lowered.LoweredCode) (c t : ℕ) (input : List ℤ) → passes_type_check naming m ≡ true → ProgramMeans naming m program → IfSome (execution.run program input c t) (λ r. run_of r ≡ run_freeing naming m input c t)
-unfolding execution.run run_freeing passes_type_check
+run-freed : {N : Type 0} (naming : Naming N) (m : Tree N module_text) (program : lowered.LoweredCode) (c t : ℕ) (input : List ℤ) → passes_type_check naming m ≡ true → ProgramMeans naming m program → IfSome (execution.run program input c t) (λ r. run_of r ≡ run_freeing_variables naming m input c t)
+unfolding execution.run run_freeing_variables passes_type_check
 run-freed {N} naming (is_module x b closing) program c t input fits means =
     let start : State = record { store = []; input = input; output = [] } in
     let low : execution.MachineState = record { cells = execution.zeros program.cells; input = input; output = [] } in
@@ -54,14 +54,14 @@ run-freed {N} naming (is_module x b closing) program c t input fits means =
     let (g, after, q, eg, total, body_means, part) = block-placed table [] execution.module_levels 0 of_module (λ c. omega arith) 0 program.cells program.body b (outermost_environment naming) p f frame fits means in
     let counted : 0 + q.cells ≡ store_size part.typing_now = part.frame.cells_counted in
     let runs_body = execution.execute_sequence (execution.call program.procedures c t) t execution.module_levels program.body in
-    let statements = execute_body naming g.env (call_freeing naming c t g.env) t (block_statements b) record start { store = g.store } in
+    let statements = execute_body naming g.env (call_freeing_variables naming c t g.env) t (block_statements b) record start { store = g.store } in
     let represents : Represents part.typing_now low record start { store = g.store } = record {
       store_fits = part.frame.store_fits;
       same_cells = sym part.cells_added;
       same_input = refl;
       same_output = refl;
     } in
-    subst (λ o. ComesTo (execution.run_with_cells program.cells runs_body record { cells = []; input = input; output = [] }) (run_result (continue_in_frame start o (λ f. execute_body naming f.env (call_freeing naming c t f.env) t (block_statements b))))) (sym eg)
+    subst (λ o. ComesTo (execution.run_with_added_cells program.cells runs_body record { cells = []; input = input; output = [] }) (run_result (continue_in_frame start o (λ f. execute_body naming f.env (call_freeing_variables naming c t f.env) t (block_statements b))))) (sym eg)
     (with-cells (λ p. ComesTo p (run_result statements)) program.cells runs_body (record { cells = []; input = input; output = [] }) tt
     (λ room. run_result-same part.typing_now (runs_body low) statements
     (body-represents table c t (calls-known table c t) part.typing_now execution.module_levels after q.placement g.env part.frame.environment_fits part.frame.placing_fits (omega (arith, counted, total, room)) program.body (block_statements b) body_means low record start { store = g.store } represents)))

@@ -164,7 +164,7 @@ pub call-means : {N : Type 0} (checked : TypeMeanings N) (slots : N → Slot) (t
 unfolding execution.execute execute
 call-means {N} checked slots targets x es signature cs st ha b shown t low s h =
     let is_bound : b.active.object_for x ≡ Some (a_procedure (signature_modes signature)) = procedure-is b.typing signature (b.active.object_for x) (subst (λ o. RunObjectAgrees b.typing o (b.active.object_for x)) st (shown.names_fit.0 x)) in
-    let enter = λ (p : execution.CallArguments). b.lowered_enters (targets x).procedure (execution.levels_in_call b.levels (length low.cells) (targets x).up p) (record low { cells = p.cells }) in
+    let enter = λ (p : execution.CallArguments). b.lowered_call_effect (targets x).procedure (execution.levels_in_call b.levels (length low.cells) (targets x).up p) (record low { cells = p.cells }) in
     let start : execution.CallArguments = record { cells = low.cells; addresses = [] } in
     subst (λ o. ProgressRepresents b.typing (execution.use_result low (execution.pass_all b.levels cs start) enter) (use_result s (modes_of o >>= (λ modes. evaluate_arguments b.active s.store modes (arguments_listed es))) (λ args. perform_call o (b.enters x) args s))) (sym is_bound)
     (use-both b.typing (λ p args. Passes b.typing signature start p args) low s (execution.pass_all b.levels cs start) (evaluate_arguments b.active s.store (signature_modes signature) (arguments_listed es)) enter (λ args. b.enters x args s) h

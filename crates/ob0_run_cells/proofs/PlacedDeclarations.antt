@@ -73,7 +73,7 @@ module _ {N : Type 0} (table : RoutineTable N) where
   constants-placed typing ls (more (declares_constant x c) cs) checked after placement active d e e' h =
       let (v, ev, e₁) = then_some (constant_value (meanings table.naming checked) c) (λ v. declare_constants table.naming ((x, a_constant v) ∷ checked) cs) after e in
       let (w, ew, e₂) = then_some (constant_value (meanings table.naming active) c) (λ v. declare_constants table.naming ((x, a_constant v) ∷ active) cs) d e' in
-      constants-placed typing ls cs ((x, a_constant v) ∷ checked) after ((x, nowhere) ∷ placement) ((x, a_constant w) ∷ active) d e₁ e₂ record { same_active = refl; same_placed = refl; here = tt; further = h }
+      constants-placed typing ls cs ((x, a_constant v) ∷ checked) after ((x, nowhere) ∷ placement) ((x, a_constant w) ∷ active) d e₁ e₂ record { activation_name_agrees = refl; placement_name_agrees = refl; here = tt; further = h }
 
   pub types-placed : (typing : StoreTyping) (ls : Levels) (k : ℕ) (ds : Tree N (items type_definition)) (checked after : TypeEnvironment N) (placement : Placement N) (active d : Activation N) → declare_types table.naming checked k ds ≡ Some after → declare_types table.naming active k ds ≡ Some d
       → PlacementFits table typing ls checked placement active → PlacementFits table typing ls after (bind_without_place (declared_type_names ds) placement) d
@@ -83,7 +83,7 @@ module _ {N : Type 0} (table : RoutineTable N) where
   types-placed typing ls k (more (declares_type x u) ds) checked after placement active d e e' h =
       let (v, ev, e₁) = then_some (denoted_type (meanings table.naming checked) k u) (λ s. declare_types table.naming ((x, a_type s) ∷ checked) (k + constructor_count u) ds) after e in
       let (w, ew, e₂) = then_some (denoted_type (meanings table.naming active) k u) (λ s. declare_types table.naming ((x, a_type s) ∷ active) (k + constructor_count u) ds) d e' in
-      types-placed typing ls (k + constructor_count u) ds ((x, a_type v) ∷ checked) after ((x, nowhere) ∷ placement) ((x, a_type w) ∷ active) d e₁ e₂ record { same_active = refl; same_placed = refl; here = tt; further = h }
+      types-placed typing ls (k + constructor_count u) ds ((x, a_type v) ∷ checked) after ((x, nowhere) ∷ placement) ((x, a_type w) ∷ active) d e₁ e₂ record { activation_name_agrees = refl; placement_name_agrees = refl; here = tt; further = h }
 
   -- one variable more, at the end of the store
   pub variable-placed : (typing : StoreTyping) (ls : Levels) (base : ℕ) (checked : TypeEnvironment N) (p : PlacementState N) (f : Frame N) (x : N) (slot : Slot) (s : Shape) (v : Value) → slot_address ls slot ≡ base + p.cells → HasShape v s → FramePlaced table typing ls base checked p f
@@ -96,7 +96,7 @@ module _ {N : Type 0} (table : RoutineTable N) where
         record {
           store_fits = added.store_fits;
           environment_fits = (refl, added.place_fits, environments-grow table.naming typing (s ∷ []) checked f.env h.environment_fits);
-          placing_fits = record { same_active = refl; same_placed = refl; here = (added.place_fits, at ∙ (counted ∙ sym added.address_is)); further = placement-grows table typing (s ∷ []) checked f.env ls p.placement h.placing_fits };
+          placing_fits = record { activation_name_agrees = refl; placement_name_agrees = refl; here = (added.place_fits, at ∙ (counted ∙ sym added.address_is)); further = placement-grows table typing (s ∷ []) checked f.env ls p.placement h.placing_fits };
           cells_counted = omega (arith, counted, total);
         },
         added.cells_added,
@@ -150,7 +150,7 @@ module _ {N : Type 0} (table : RoutineTable N) where
       subst (λ o. option_satisfies o (λ ps. procedure_is_well_typed table.naming (bind_typed_parameters ps (bind_procedure (procedure_name p) ps checked)) k p && procedures_are_well_typed table.naming (bind_procedure (procedure_name p) ps checked) (k + procedure_constructor_count p) statements rest) ≡ true) first.are_typed e in
       let both = both_true (procedure_is_well_typed table.naming (bind_typed_parameters ps (bind_procedure (procedure_name p) ps checked)) k p) (procedures_are_well_typed table.naming (bind_procedure (procedure_name p) ps checked) (k + procedure_constructor_count p) statements rest) fits in
       procedures-placed typing ls (k + procedure_constructor_count p) code statements rest (bind_procedure (procedure_name p) ps checked) ((procedure_name p, local_target i) ∷ placement) ((procedure_name p, a_procedure record { constructors_before = k; text = p }) ∷ active)
-      (refl, (ps, first.are_typed, refl, both.0), env) record { same_active = refl; same_placed = refl; here = (placement, h, first); further = h } both.1 others
+      (refl, (ps, first.are_typed, refl, both.0), env) record { activation_name_agrees = refl; placement_name_agrees = refl; here = (placement, h, first); further = h } both.1 others
 
   -- a block: its frame, and its body
 
@@ -215,7 +215,7 @@ module _ {N : Type 0} (table : RoutineTable N) where
       let (first, rest) = index-of_drop l.addresses p.var_parameters_so_far (address typing place) (argument_addresses typing args) there in
       let p₁ : PlacementState N = record p { placement = (q.name, in_slot (by_reference 0 p.var_parameters_so_far)) ∷ p.placement; var_parameters_so_far = suc p.var_parameters_so_far } in
       let f₁ : Frame N = record { env = (q.name, a_variable place) ∷ f.env; store = f.store } in
-      let (g, eg, part) = parameters-placed typing l ls ps args ((q.name, a_variable q.formal.shape) ∷ checked) p₁ f₁ record { store_fits = h.store_fits; environment_fits = (refl, fit.1, h.environment_fits); placing_fits = record { same_active = refl; same_placed = refl; here = (fit.1, first); further = h.placing_fits }; cells_counted = h.cells_counted } fit.2 rest in (
+      let (g, eg, part) = parameters-placed typing l ls ps args ((q.name, a_variable q.formal.shape) ∷ checked) p₁ f₁ record { store_fits = h.store_fits; environment_fits = (refl, fit.1, h.environment_fits); placing_fits = record { activation_name_agrees = refl; placement_name_agrees = refl; here = (fit.1, first); further = h.placing_fits }; cells_counted = h.cells_counted } fit.2 rest in (
         g,
         ap (λ m. option_and_then (bind_parameters (map as_parameter ps) args) (bind_parameter m q.name (place_argument place) f)) fit.0 ∙ eg,
         subst (λ m. Extends table typing (l ∷ ls) l.base (bind_typed_parameters ps ((q.name, a_variable q.formal.shape) ∷ checked)) (place_parameters ps (place_name (in_activation 0) m q.name (size q.formal.shape) p)) f.store (argument_cells args) g) (sym fit.0) part,

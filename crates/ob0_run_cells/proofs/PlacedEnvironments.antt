@@ -5,7 +5,7 @@ use Rattle.ob0_language_types.specs.Expressions.{Object, a_constant, a_procedure
 use Rattle.ob0_language_types.specs.WellTyped.{Signature, TypeEnvironment}
 use Rattle.ob0_language_values.specs.Values.{Place, Shape}
 use Rattle.ob0_language_runs.specs.TypeAgreement.{StoreTyping}
-use Rattle.ob0_language_runs.specs.Runs.{Activation, ProcedureText, statement_object}
+use Rattle.ob0_language_runs.specs.Runs.{Activation, ProcedureText, object_for_statements}
 use Rattle.ob0_run_machine.specs.Evaluation.{Level, Levels}
 use Rattle.ob0_run_cells.specs.Activations.{BindingIsPlaced, RoutineTable, Placement, PlacementFits, BindingPlace, at_target, first_slot, suffix_from_name, in_slot, inward_placement, inward_slot, inward_binding_place, nowhere}
 use Rattle.ob0_run_cells.specs.Cells.{address}
@@ -18,14 +18,14 @@ module _ {N : Type 0} (table : RoutineTable N) where
       → PlacementFits table typing ls (environment_from_binding table.naming checked x) (suffix_from_name table.naming placement x) (environment_from_binding table.naming active x)
   from-placed typing ls [] [] [] x h = tt
   from-placed typing ls (b ∷ checked) (w ∷ placement) (d ∷ active) x h =
-      subst (λ y. PlacementFits table typing ls (elim (table.naming.same x b.0) [ true ↦ b ∷ checked | false ↦ environment_from_binding table.naming checked x ]) (elim (table.naming.same x y) [ true ↦ w ∷ placement | false ↦ suffix_from_name table.naming placement x ]) (elim (table.naming.same x d.0) [ true ↦ d ∷ active | false ↦ environment_from_binding table.naming active x ])) h.same_placed
-      (subst (λ y. PlacementFits table typing ls (elim (table.naming.same x b.0) [ true ↦ b ∷ checked | false ↦ environment_from_binding table.naming checked x ]) (elim (table.naming.same x b.0) [ true ↦ w ∷ placement | false ↦ suffix_from_name table.naming placement x ]) (elim (table.naming.same x y) [ true ↦ d ∷ active | false ↦ environment_from_binding table.naming active x ])) h.same_active
+      subst (λ y. PlacementFits table typing ls (elim (table.naming.same x b.0) [ true ↦ b ∷ checked | false ↦ environment_from_binding table.naming checked x ]) (elim (table.naming.same x y) [ true ↦ w ∷ placement | false ↦ suffix_from_name table.naming placement x ]) (elim (table.naming.same x d.0) [ true ↦ d ∷ active | false ↦ environment_from_binding table.naming active x ])) h.placement_name_agrees
+      (subst (λ y. PlacementFits table typing ls (elim (table.naming.same x b.0) [ true ↦ b ∷ checked | false ↦ environment_from_binding table.naming checked x ]) (elim (table.naming.same x b.0) [ true ↦ w ∷ placement | false ↦ suffix_from_name table.naming placement x ]) (elim (table.naming.same x y) [ true ↦ d ∷ active | false ↦ environment_from_binding table.naming active x ])) h.activation_name_agrees
       (elim (table.naming.same x b.0) as (λ v. PlacementFits table typing ls (elim v [ true ↦ b ∷ checked | false ↦ environment_from_binding table.naming checked x ]) (elim v [ true ↦ w ∷ placement | false ↦ suffix_from_name table.naming placement x ]) (elim v [ true ↦ d ∷ active | false ↦ environment_from_binding table.naming active x ]))
       [ true ↦ h | false ↦ from-placed typing ls checked placement active x h.further ]))
   from-placed typing ls _ _ _ x h = absurd h
 
   slot-here : (typing : StoreTyping) (ls : Levels) (checked : TypeEnvironment N) (Fits : Levels → Placement N → Type 0) (x : N) (o : Object Shape Signature) (w : BindingPlace) (r : Object Place (ProcedureText N)) (p : Place)
-      → BindingIsPlaced table typing ls checked Fits x o w r → statement_object (Some r) ≡ Some (a_variable p) → (rest : Placement N) → slot_address ls (first_slot ((x, w) ∷ rest)) ≡ address typing p
+      → BindingIsPlaced table typing ls checked Fits x o w r → object_for_statements (Some r) ≡ Some (a_variable p) → (rest : Placement N) → slot_address ls (first_slot ((x, w) ∷ rest)) ≡ address typing p
   slot-here typing ls checked Fits x (a_variable s) (in_slot slot) (a_variable q) p h e rest = h.1 ∙ ap (λ o. address typing (elim o [ None ↦ q | Some v ↦ elim v [ a_variable p ↦ p | _ ↦ q ] ])) e
   slot-here typing ls checked Fits x (a_procedure s) (at_target t) (a_procedure c) p h e rest = absurd (cc)
   slot-here typing ls checked Fits x (a_type s) nowhere (a_type u) p h e rest = absurd (cc)
@@ -33,7 +33,7 @@ module _ {N : Type 0} (table : RoutineTable N) where
   slot-here typing ls checked Fits x (a_standard q) nowhere (a_standard r) p h e rest = absurd (cc)
   slot-here typing ls checked Fits x _ _ _ p h e rest = absurd h
 
-  pub slots-fit : (typing : StoreTyping) (ls : Levels) (checked : TypeEnvironment N) (placement : Placement N) (active : Activation N) → PlacementFits table typing ls checked placement active → (p : Place) → statement_object (newest_object active) ≡ Some (a_variable p) → slot_address ls (first_slot placement) ≡ address typing p
+  pub slots-fit : (typing : StoreTyping) (ls : Levels) (checked : TypeEnvironment N) (placement : Placement N) (active : Activation N) → PlacementFits table typing ls checked placement active → (p : Place) → object_for_statements (newest_object active) ≡ Some (a_variable p) → slot_address ls (first_slot placement) ≡ address typing p
   slots-fit typing ls [] [] [] h p e = absurd (cc)
   slots-fit typing ls (b ∷ checked) (w ∷ placement) (d ∷ active) h p e = slot-here typing ls checked (λ ls placement. PlacementFits table typing ls checked placement active) b.0 b.1 w.1 d.1 p h.here e placement
   slots-fit typing ls _ _ _ h p e = absurd h
@@ -54,8 +54,8 @@ module _ {N : Type 0} (table : RoutineTable N) where
   placement-grows typing others [] [] ls [] h = tt
   placement-grows typing others (b ∷ checked) (d ∷ active) ls (w ∷ placement) h =
       record {
-        same_active = h.same_active;
-        same_placed = h.same_placed;
+        activation_name_agrees = h.activation_name_agrees;
+        placement_name_agrees = h.placement_name_agrees;
         here = grows-here typing others ls checked (λ ls placement. PlacementFits table typing ls checked placement active) (λ ls placement. PlacementFits table (typing ++ others) ls checked placement active) (placement-grows typing others checked active) b.0 b.1 w.1 d.1 h.here;
         further = placement-grows typing others checked active ls placement h.further;
       }
@@ -82,8 +82,8 @@ module _ {N : Type 0} (table : RoutineTable N) where
   inward_placement-fits typing l ls [] [] [] h = tt
   inward_placement-fits typing l ls (b ∷ checked) (w ∷ placement) (d ∷ active) h =
       record {
-        same_active = h.same_active;
-        same_placed = h.same_placed;
+        activation_name_agrees = h.activation_name_agrees;
+        placement_name_agrees = h.placement_name_agrees;
         here = inward_placement-here typing l ls checked (λ ls placement. PlacementFits table typing ls checked placement active) b.0 b.1 w.1 d.1 h.here;
         further = inward_placement-fits typing l ls checked placement active h.further;
       }

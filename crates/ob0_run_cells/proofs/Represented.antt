@@ -122,7 +122,7 @@ module _ {N : Type 0} (checked : TypeMeanings N) (slots : N → Slot) (targets :
     store_fits = fits;
     names_fit = shown.names_fit;
     variables_in_slots = shown.variables_in_slots;
-    has_addresses = shown.has_addresses;
+    store_is_addressable = shown.store_is_addressable;
   }
 
   pub number-at : (n : lowered.Number) (w : OutcomeByMoment N Value) → NumberMeans checked slots n w → (store : Store) (passed cells : List ℤ) → StoreHasTypes b.typing store → cells ≡ all_cells store ++ passed

@@ -307,8 +307,8 @@ BindingIsPlaced table typing ls checked Fits x _ _ _ = ⊥
 -- bindings.
 pub record FirstBindingsAgree {N : Type 0} (checked placed active : N) (Here Further : Type 0)
     : Type 0 where
-  pub same_active : checked ≡ active
-  pub same_placed : checked ≡ placed
+  pub activation_name_agrees : checked ≡ active
+  pub placement_name_agrees : checked ≡ placed
   pub here : Here
   pub further : Further
 

@@ -66,7 +66,7 @@ pub record Body (N : Type 0) : Type 0 where
   pub active : Meanings N Place (List Mode)
   pub levels : Levels
   pub enters : CallFunction N
-  pub lowered_enters : execution.CallEffect
+  pub lowered_call_effect : execution.CallEffect
 
 -- states that lowered calls have the effect of the module's calls, if both have the same arguments
 abbrev pub CallsRepresent : {N : Type 0} → TypeMeanings N → (N → Target) → Body N → Type 0
@@ -78,7 +78,7 @@ CallsRepresent {N} checked targets b =
     → ArgumentsMatchSignature b.typing signature args
     → p.cells ≡ low.cells ++ argument_cells args
     → p.addresses ≡ argument_addresses b.typing args
-    → ProgressRepresents b.typing (b.lowered_enters (targets x).procedure
+    → ProgressRepresents b.typing (b.lowered_call_effect (targets x).procedure
     (execution.levels_in_call b.levels (length low.cells) (targets x).up p) record low
     { cells = p.cells }) (b.enters x args s)
 
@@ -91,7 +91,7 @@ pub record IsBodyOfModule {N : Type 0} (checked : TypeMeanings N) (slots : N →
   pub variables_in_slots : (x : N) (p : Place)
       → b.active.object_for x ≡ Some (a_variable p)
       → slot_address b.levels (slots x) ≡ address b.typing p
-  pub has_addresses : store_size b.typing < 2 ^ 64
+  pub store_is_addressable : store_size b.typing < 2 ^ 64
   pub calls_represent : CallsRepresent checked targets b
 
 -- states that a lowered step has the effect of a step of the module, in each body and for each
@@ -119,7 +119,7 @@ abbrev pub CodeMeansStatement : {N : Type 0}
     → Tree N statement
     → Type 0
 CodeMeansStatement checked slots targets c a =
-    StepRepresents checked slots targets (λ b t. execution.execute b.lowered_enters t b.levels c)
+    StepRepresents checked slots targets (λ b t. execution.execute b.lowered_call_effect t b.levels c)
     (λ b t. execute b.active b.enters t a)
 
 -- states that instructions have the effect of a sequence of statements
@@ -131,7 +131,7 @@ abbrev pub CodeMeansSequence : {N : Type 0}
     → Tree N sequence
     → Type 0
 CodeMeansSequence checked slots targets cs a =
-    StepRepresents checked slots targets (λ b t. execution.execute_sequence b.lowered_enters t b.levels cs)
+    StepRepresents checked slots targets (λ b t. execution.execute_sequence b.lowered_call_effect t b.levels cs)
     (λ b t. execute_sequence b.active b.enters t a)
 
 -- States that instructions have the effect of the statements after the first one of a sequence.
@@ -143,7 +143,7 @@ abbrev pub CodeMeansFurtherStatements : {N : Type 0}
     → Tree N (items further_statement)
     → Type 0
 CodeMeansFurtherStatements checked slots targets cs rest =
-    StepRepresents checked slots targets (λ b t. execution.execute_sequence b.lowered_enters t b.levels cs)
+    StepRepresents checked slots targets (λ b t. execution.execute_sequence b.lowered_call_effect t b.levels cs)
     (λ b t. execute_further_statements b.active b.enters t rest)
 
 -- States that instructions have the effect of an ELSE part. If there is no ELSE part, the
@@ -156,7 +156,7 @@ abbrev pub CodeMeansElse : {N : Type 0}
     → Tree N (maybe else_part)
     → Type 0
 CodeMeansElse checked slots targets cs last =
-    StepRepresents checked slots targets (λ b t. execution.execute_sequence b.lowered_enters t b.levels cs)
+    StepRepresents checked slots targets (λ b t. execution.execute_sequence b.lowered_call_effect t b.levels cs)
     (λ b t. execute_else b.active b.enters t last)
 
 -- States that branches have the effect of ELSIF parts, followed by an ELSE part. The instructions
@@ -171,8 +171,8 @@ abbrev pub CodeMeansElsifs : {N : Type 0}
     → Tree N (maybe else_part)
     → Type 0
 CodeMeansElsifs checked slots targets bs cs rest last =
-    StepRepresents checked slots targets (λ b t. execution.execute_branches b.lowered_enters t b.levels bs
-    (execution.execute_sequence b.lowered_enters t b.levels cs))
+    StepRepresents checked slots targets (λ b t. execution.execute_branches b.lowered_call_effect t b.levels bs
+    (execution.execute_sequence b.lowered_call_effect t b.levels cs))
     (λ b t. execute_elsifs b.active b.enters t rest (execute_else b.active b.enters t last))
 
 -- States that an expression is only a designator of a variable, and that a place of lowered code

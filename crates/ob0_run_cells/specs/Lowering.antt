@@ -73,7 +73,7 @@ pub record IsMomentOfModule {N : Type 0} (checked : TypeMeanings N) (slots : N �
   pub variables_in_slots : (x : N) (p : Place)
       → m.active.object_for x ≡ Some (a_variable p)
       → slot_address m.levels (slots x) ≡ address m.typing p
-  pub has_addresses : store_size m.typing < 2 ^ 64
+  pub store_is_addressable : store_size m.typing < 2 ^ 64
 
 -- converts an end of the machine's run to an end of a module's run
 abbrev pub end_of : machine.Halt → End

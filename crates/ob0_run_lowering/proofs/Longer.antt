@@ -3,9 +3,9 @@ use Rattle.std.proofs.Common.{◌≡◌, List, [], ◌∷◌, ◌++◌, refl}
 use Rattle.ob0_run_machine.specs.Lowered as lowered
 use Rattle.ob0_run_machine.specs.declared.code.Link.{Link}
 use Rattle.ob0_run_machine.specs.declared.code.Truth.{Truth}
-use Rattle.ob0_run_machine.specs.View.{conjunction_from, disjunction_from, operation_with_link, chain_on_operand, truth_of}
+use Rattle.ob0_run_machine.specs.View.{conjunction_from, disjunction_from, operation_with_link, operation_with_links, truth_of}
 
-pub chained_more : (left : lowered.Number) (links : List Link) (l : Link) → chain_on_operand left (links ++ l ∷ []) ≡ operation_with_link l (chain_on_operand left links)
+pub chained_more : (left : lowered.Number) (links : List Link) (l : Link) → operation_with_links left (links ++ l ∷ []) ≡ operation_with_link l (operation_with_links left links)
 chained_more left [] l = refl
 chained_more left (k ∷ links) l = chained_more (operation_with_link k left) links l
 

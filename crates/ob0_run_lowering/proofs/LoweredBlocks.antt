@@ -32,15 +32,15 @@ use Rattle.ob0_run_machine.specs.declared.code.LoweredCode.{LoweredCode}
 use Rattle.ob0_run_cells.specs.Activations.{CodeMeansBlock, PlacementState, Placement, RoutinesMeanProcedures, ProgramMeans, at_target, parameter_placement, bind_without_place, inward_placement, label_table, outermost_placement, local_target, place_parameters, place_variables}
 use Rattle.ob0_run_cells.specs.Lowering.{in_activation, of_module}
 use Rattle.ob0_run_lowering.specs.LoweredBodies.{LowersBody}
-use Rattle.ob0_run_lowering.specs.Scenes.{place_seen_from, site_at}
+use Rattle.ob0_run_lowering.specs.Scenes.{place_seen_from, location_at}
 use Rattle.ob0_run_lowering.specs.declared.scene.Scene.{Scene}
-use Rattle.ob0_run_lowering.specs.declared.scene.Site.TheVariants as site
+use Rattle.ob0_run_lowering.specs.declared.scene.LoweredLocation.TheVariants as site
 use Rattle.ob0_run_lowering.specs.KnownBlocks.{AreDeclared, BlockIsDeclared, ObjectByOrdinal}
 use Rattle.ob0_run_lowering.specs.Blocks.{LowersProcedures, KeepsRoutines, HasRoutinesFrom, LowersBlock, MeansBlock, IsReadyToLower, BlockState}
-use Rattle.ob0_run_lowering.specs.PlacedNames.{HidesMoreSites, IsRestored, LocatesAll, IsFrame, PlacementMatches, PlacesNames, declared_size, place_variable_declarations, place_sections, sites_with_binding, variable_slot}
+use Rattle.ob0_run_lowering.specs.PlacedNames.{HidesMoreLocations, IsRestored, LocationsMatchPlacement, FrameMatchesPlacement, PlacementMatches, PlacesNames, declared_size, place_variable_declarations, place_sections, locations_with_binding, variable_slot}
 use Rattle.ob0_run_lowering.specs.declared.programs.Lowering.{Lowering}
-use Rattle.ob0_run_lowering.specs.declared.visible_sites.Frame.{Frame}
-use Rattle.ob0_run_lowering.specs.declared.visible_sites.VisibleSites.{VisibleSites}
+use Rattle.ob0_run_lowering.specs.declared.visible_locations.Frame.{Frame}
+use Rattle.ob0_run_lowering.specs.declared.visible_locations.VisibleLocations.{VisibleLocations}
 use Rattle.ob0_run_lowering.proofs.DeclaredBlocks.{module-declared}
 use Rattle.ob0_run_lowering.proofs.Placings.{first_match, groups_match, groups_placed, holds_bound, holds_hidden, holds_inward, holds_same, matches_inward, parameters_match, sections_placed, sees, typed_before}
 use Rattle.ob0_run_lowering.proofs.FollowingSites.{follows_back, follows_itself, follows_then}
@@ -113,11 +113,11 @@ kept-later table a b c d i e k later = λ j x le get.
 -- a procedure announced, its parameters placed, its block lowered, and its code kept
 pub record IsProcedure (t : Tables) (w v u after : Lowering) (depth index : ℕ) (o : Option ℕ) (name : Name) (fs : Tree Label (maybe formals)) (b : Tree Label block) (first f : Frame) (entry : Routine) : Type 0 where
   pub index_is : index ≡ length w.procedures.items
-  pub sites : (k : ℕ) → site_at v.visible.sites.items k ≡ sites_with_binding o (site.Procedure depth index) (site_at w.visible.sites.items) k
-  pub announced : HidesMoreSites w.visible v.visible
+  pub sites : (k : ℕ) → location_at v.visible.sites.items k ≡ locations_with_binding o (site.Procedure depth index) (location_at w.visible.sites.items) k
+  pub announced : HidesMoreLocations w.visible v.visible
   pub pushed : (e : Routine) × (v.procedures.items ≡ w.procedures.items ++ e ∷ [])
   pub first_is : first ≡ record { depth = suc depth; cells = 0; var_parameter_count = 0 }
-  pub placed : (inside : VisibleSites) × PlacesNames v.visible inside first (place_sections (variable_slot first.depth) (declared_size t) (formal_sections fs)) f × LowersBlock t (record { visible = inside; procedures = v.procedures }) u f b entry
+  pub placed : (inside : VisibleLocations) × PlacesNames v.visible inside first (place_sections (variable_slot first.depth) (declared_size t) (formal_sections fs)) f × LowersBlock t (record { visible = inside; procedures = v.procedures }) u f b entry
   pub back : IsRestored v.visible u.visible after.visible
   pub kept : after.procedures.items ≡ set u.procedures.items index entry
 
@@ -143,18 +143,18 @@ procedure_goes t w v u after depth index o name fs b closing rest first f entry 
           let outer : Placement Label = (x, local_target index) ∷ s.placement in
           let none : depth - depth ≡ 0 = omega arith in
           let seen : place_seen_from depth (site.Procedure depth index) ≡ local_target index = ap (λ n. at_target (record { procedure = index; up = n })) none in
-          let held_there : LocatesAll v.visible.sites.items depth outer = holds_bound w.visible.sites.items v.visible.sites.items depth s.placement o name (site.Procedure depth index) (local_target index) (le_refl depth, seen) is.sites ready.holds in
+          let held_there : LocationsMatchPlacement v.visible.sites.items depth outer = holds_bound w.visible.sites.items v.visible.sites.items depth s.placement o name (site.Procedure depth index) (local_target index) (le_refl depth, seen) is.sites ready.holds in
           let matched : PlacementMatches headed outer = (refl, (record { procedure = index; up = 0 }, refl), ready.matches) in
           let now : BlockState = record { env = headed; placement = outer; next = s.next + procedure_constructor_count (declares_procedure x fs b closing) } in
           let empty : PlacementState Label = record { placement = inward_placement outer; cells = 0; var_parameters_so_far = 0 } in
-          let begun : IsFrame v.visible.sites.items first empty = record {
-            holds = subst (λ d. LocatesAll v.visible.sites.items d (inward_placement outer)) (sym deep) (holds_inward v.visible.sites.items depth outer held_there);
+          let begun : FrameMatchesPlacement v.visible.sites.items first empty = record {
+            holds = subst (λ d. LocationsMatchPlacement v.visible.sites.items d (inward_placement outer)) (sym deep) (holds_inward v.visible.sites.items depth outer held_there);
             cells = ap (λ (z : Frame). z.cells) is.first_is;
             var_parameters_so_far = ap (λ (z : Frame). z.var_parameter_count) is.first_is;
           } in
           let all_placed : place_parameters ps empty ≡ place_sections (variable_slot first.depth) (declared_size t) (formal_sections fs) empty =
           sections_placed t (formal_sections fs) s.next s.env headed ps empty parts.typed known.0 ∙ ap (λ d. place_sections (variable_slot d) (declared_size t) (formal_sections fs) empty) (sym deep) in
-          let entered : IsFrame is.placed.0.sites.items f (parameter_placement ps outer) = subst (IsFrame is.placed.0.sites.items f) (sym all_placed) (places.placed empty begun) in
+          let entered : FrameMatchesPlacement is.placed.0.sites.items f (parameter_placement ps outer) = subst (FrameMatchesPlacement is.placed.0.sites.items f) (sym all_placed) (places.placed empty begun) in
           let inner_matches : PlacementMatches (bind_typed_parameters ps headed) (parameter_placement ps outer).placement = parameters_match ps headed empty (matches_inward headed outer matched) in
           let slots : variable_slot f.depth ≡ in_activation 0 = ap variable_slot (places.depth ∙ deep) in
           let at : ℕ = s.next + formals_constructor_count (formal_sections fs) in
@@ -191,7 +191,7 @@ body-fits : (env : TypeEnvironment Label) (k : ℕ) (statements : Tree Label (ma
 unfolding block_is_well_typed
 body-fits env k statements h = h
 
-pub block_lowers : (t : Tables) (w v : Lowering) (inside : VisibleSites) (cs : Tree Label (maybe constants)) (ts : Tree Label (maybe type_definitions)) (vs : Tree Label (maybe variables)) (ps : Tree Label (items procedure)) (statements : Tree Label (maybe body)) (f own : Frame) (scene : Scene) (entry : Routine)
+pub block_lowers : (t : Tables) (w v : Lowering) (inside : VisibleLocations) (cs : Tree Label (maybe constants)) (ts : Tree Label (maybe type_definitions)) (vs : Tree Label (maybe variables)) (ps : Tree Label (items procedure)) (statements : Tree Label (maybe body)) (f own : Frame) (scene : Scene) (entry : Routine)
     → PlacesNames w.visible inside f (place_variable_declarations (variable_slot f.depth) (declared_size t) (section_variables vs)) own → LowersProcedures t (record { visible = inside; procedures = w.procedures }) v own.depth ps end
     → scene.types.now ≡ t → scene.sites.now ≡ v.visible.sites.items → scene.depth ≡ own.depth → LowersBody scene (sequence_of entry.body.items) statements → entry.cells ≡ own.cells - f.cells
     → LowersBlock t w v f (forms_block (declares cs ts vs ps) statements) entry
@@ -207,8 +207,8 @@ block_lowers t w v inside cs ts vs ps statements f own scene entry places goes t
       let hidden : Placement Label = bind_without_place (declared_type_names (section_types ts)) (bind_without_place (constant_names (section_constants cs)) p.placement) in
       let start : PlacementState Label = record p { placement = hidden } in
       let q : PlacementState Label = place_variable_declarations at (declared_size t) (section_variables vs) start in
-      let begun : IsFrame w.visible.sites.items f start = record { holds = holds_hidden w.visible.sites.items f.depth (declared_type_names (section_types ts)) (bind_without_place (constant_names (section_constants cs)) p.placement) (holds_hidden w.visible.sites.items f.depth (constant_names (section_constants cs)) p.placement frame.holds); cells = frame.cells; var_parameters_so_far = frame.var_parameters_so_far } in
-      let laid : IsFrame inside.sites.items own q = places.placed start begun in
+      let begun : FrameMatchesPlacement w.visible.sites.items f start = record { holds = holds_hidden w.visible.sites.items f.depth (declared_type_names (section_types ts)) (bind_without_place (constant_names (section_constants cs)) p.placement) (holds_hidden w.visible.sites.items f.depth (constant_names (section_constants cs)) p.placement frame.holds); cells = frame.cells; var_parameters_so_far = frame.var_parameters_so_far } in
+      let laid : FrameMatchesPlacement inside.sites.items own q = places.placed start begun in
       let ready : IsReadyToLower t inside.sites.items own.depth (record { env = inner; placement = q.placement; next = constructors_before_procedures k b }) statements ps = record {
         environment_is_declared = known_parts.0;
         matches = groups_match at (declared_size t) (section_variables vs) (constructors_before_variables k b) first inner start declared_parts.2 (first_match b k env first p.placement declared_parts.1 matches);
@@ -220,7 +220,7 @@ block_lowers t w v inside cs ts vs ps statements f own scene entry places goes t
       let now : BlockState = gone.now in
       let last = gone.ready in
       let seen = sees scene now.env now.placement (subst (λ z. AreDeclared (declared_object_in z) now.env) (sym types) last.environment_is_declared) last.matches
-      (subst (λ d. LocatesAll scene.sites.now d now.placement) (sym deep) (subst (λ xs. LocatesAll xs own.depth now.placement) (sym sites) last.holds)) in record {
+      (subst (λ d. LocationsMatchPlacement scene.sites.now d now.placement) (sym deep) (subst (λ xs. LocationsMatchPlacement xs own.depth now.placement) (sym sites) last.holds)) in record {
         means = λ table later. record {
           first = first;
           inner = inner;
@@ -228,7 +228,7 @@ block_lowers t w v inside cs ts vs ps statements f own scene entry places goes t
           first_declared = declared_parts.1;
           variables_declared = declared_parts.2;
           variables_placed = groups_placed t at (section_variables vs) (constructors_before_variables k b) first inner start declared_parts.2 known_parts.0;
-          cells_counted = omega (arith, cells, laid.cells, frame.cells, places.more_cells);
+          cells_counted = omega (arith, cells, laid.cells, frame.cells, places.has_no_fewer_cells);
           inside = gone.composes_meaning table (sequence_of entry.body.items) later (lowers now.env now.placement seen (body-fits now.env now.next statements last.fits));
         };
       };
@@ -246,7 +246,7 @@ goes_on t w v u d r xs done x all a less here b =
     goes_then t w v u d all (tree_with_labels r (items_of tree_procedure_of (drop done xs))) rest a
     (subst (λ ys. LowersProcedures t v u d (tree_with_labels r (items_of tree_procedure_of ys)) rest) (sym (split done xs x less here)) (b rest))
 
-pub block_means : (t : Tables) (w v : Lowering) (inside : VisibleSites) (b : tree_block.Block) (xs : List tree.Procedure) (done : ℕ) (f own : Frame) (scene : Scene) (entry : Routine) (r : Resolution)
+pub block_means : (t : Tables) (w v : Lowering) (inside : VisibleLocations) (b : tree_block.Block) (xs : List tree.Procedure) (done : ℕ) (f own : Frame) (scene : Scene) (entry : Routine) (r : Resolution)
     → PlacesNames w.visible inside f (place_variable_declarations (variable_slot f.depth) (declared_size t) (section_variables (tree_with_labels r (variables_of (tree_block.out-Block b).variables)))) own
     → LowersProcedures t (record { visible = inside; procedures = w.procedures }) v own.depth (tree_with_labels r (items_of tree_procedure_of xs)) (tree_with_labels r (items_of tree_procedure_of (drop done xs))) → length xs ≤ done → xs ≡ (tree_block.out-Block b).procedures.items
     → scene.types.now ≡ t → scene.sites.now ≡ v.visible.sites.items → scene.depth ≡ own.depth → LowersBody scene (sequence_of entry.body.items) (tree_with_labels r (body_of (tree_block.out-Block b).body)) → entry.cells ≡ own.cells - f.cells
@@ -272,7 +272,7 @@ procedure_means t w v u after depth index p r first f entry rest is =
 outermost-matches : PlacementMatches (outermost_environment naming_by_label) (outermost_placement naming_by_label)
 outermost-matches = (refl, tt, (refl, tt, (refl, tt, (refl, tt, (refl, tt, (refl, tt, (refl, tt, tt)))))))
 
-outermost-holds : LocatesAll [] 0 (outermost_placement naming_by_label)
+outermost-holds : LocationsMatchPlacement [] 0 (outermost_placement naming_by_label)
 outermost-holds = holds_hidden [] 0 (naming_by_label.predeclared 0 ∷ naming_by_label.predeclared 1 ∷ naming_by_label.predeclared 2 ∷ naming_by_label.predeclared 3 ∷ naming_by_label.predeclared 4 ∷ naming_by_label.predeclared 5 ∷ naming_by_label.predeclared 6 ∷ []) [] (λ k. tt)
 
 all-later : (ps : List Routine) → HasRoutinesFrom (map procedure_of ps) 0 ps
@@ -290,7 +290,7 @@ module_means : (t : Tables) (m : Tree Name module_text) (w v : Lowering) (b : Tr
 module_means t m w v b entry well known is sites lowers =
     let known_blocks : BlockIsDeclared (declared_object_in t) (outermost_environment naming_by_label) 0 (module_block (numbered m)) = subst (λ (objects : ObjectByOrdinal). BlockIsDeclared objects (outermost_environment naming_by_label) 0 (module_block (numbered m))) (λ i k. sym (known k) i) (module-declared m well) in
     lowers.lowers_from (outermost_environment naming_by_label) outermost_placed 0 outermost-matches
-    (record { holds = subst (λ xs. LocatesAll xs 0 (outermost_placement naming_by_label)) (sym sites) outermost-holds; cells = refl; var_parameters_so_far = refl })
+    (record { holds = subst (λ xs. LocationsMatchPlacement xs 0 (outermost_placement naming_by_label)) (sym sites) outermost-holds; cells = refl; var_parameters_so_far = refl })
     (subst (λ z. block_is_well_typed naming_by_label (outermost_environment naming_by_label) 0 z ≡ true) is (module-fits m well)) (subst (λ z. BlockIsDeclared (declared_object_in t) (outermost_environment naming_by_label) 0 z) is known_blocks)
 
 pub program_means : (t : Tables) (m : Tree Name module_text) (w v : Lowering) (b : Tree Label block) (entry : Routine) (program : LoweredCode) → WellTyped m → ((k : ℕ) → declared_object_in t k ≡ declared_object m k) → module_block (numbered m) ≡ b

@@ -17,49 +17,49 @@ use Rattle.ob0_run_cells.specs.Activations.{PlacementState, Placement, BindingPl
 use Rattle.ob0_run_cells.specs.Cells.{size}
 use Rattle.ob0_run_cells.specs.LoweredStatements.{Target}
 use Rattle.ob0_run_cells.specs.Lowering.{Slot, in_activation, by_reference}
-use Rattle.ob0_run_lowering.specs.Scenes.{SceneAgrees, object_at, place_seen_from, site_at, slot_at, target_at}
+use Rattle.ob0_run_lowering.specs.Scenes.{SceneAgrees, object_at, place_seen_from, location_at, slot_at, target_at}
 use Rattle.ob0_run_lowering.specs.declared.scene.Scene.{Scene}
-use Rattle.ob0_run_lowering.specs.declared.scene.Site.{Site}
-use Rattle.ob0_run_lowering.specs.declared.scene.Site.TheVariants as site
+use Rattle.ob0_run_lowering.specs.declared.scene.LoweredLocation.{LoweredLocation}
+use Rattle.ob0_run_lowering.specs.declared.scene.LoweredLocation.TheVariants as site
 use Rattle.ob0_run_lowering.specs.KnownBlocks.{AreDeclared, ObjectByOrdinal}
-use Rattle.ob0_run_lowering.specs.PlacedNames.{LocatesAll, PlacementMatches, PlaceSuits, LocatesAs, declared_size, first_binding_place, binding_place_in, place_each, place_variable_declarations, place_sections, sites_with_binding, optional_shape_size, site_depth}
+use Rattle.ob0_run_lowering.specs.PlacedNames.{LocationsMatchPlacement, PlacementMatches, PlaceMatchesObject, LocationMatchesPlace, declared_size, first_binding_place, binding_place_in, place_each, place_variable_declarations, place_sections, locations_with_binding, optional_shape_size, depth_of_location}
 
 -- bindings
 
-pub holds_bound : (sites later : List Site) (d : ℕ) (placement : Placement Label) (o : Option ℕ) (name : Name) (s : Site) (w : BindingPlace) → LocatesAs d s w → ((k : ℕ) → site_at later k ≡ sites_with_binding o s (site_at sites) k) → LocatesAll sites d placement → LocatesAll later d ((label_from_ordinal naming_by_spelling o name, w) ∷ placement)
-holds_bound sites later d placement None name s w new put h = λ k. subst (λ z. LocatesAs d z (binding_place_in placement (declared k))) (sym (put k)) (h k)
+pub holds_bound : (sites later : List LoweredLocation) (d : ℕ) (placement : Placement Label) (o : Option ℕ) (name : Name) (s : LoweredLocation) (w : BindingPlace) → LocationMatchesPlace d s w → ((k : ℕ) → location_at later k ≡ locations_with_binding o s (location_at sites) k) → LocationsMatchPlacement sites d placement → LocationsMatchPlacement later d ((label_from_ordinal naming_by_spelling o name, w) ∷ placement)
+holds_bound sites later d placement None name s w new put h = λ k. subst (λ z. LocationMatchesPlace d z (binding_place_in placement (declared k))) (sym (put k)) (h k)
 holds_bound sites later d placement (Some j) name s w new put h = λ k.
-    subst (λ z. LocatesAs d z (binding_place_in ((declared j, w) ∷ placement) (declared k))) (sym (put k))
+    subst (λ z. LocationMatchesPlace d z (binding_place_in ((declared j, w) ∷ placement) (declared k))) (sym (put k))
     (by k (k == j))
   where
-    by : (k : ℕ) (t : Bool) → LocatesAs d (if t then s else site_at sites k) (first_binding_place (elim t [ true ↦ (declared j, w) ∷ placement | false ↦ suffix_from_name naming_by_label placement (declared k) ]))
+    by : (k : ℕ) (t : Bool) → LocationMatchesPlace d (if t then s else location_at sites k) (first_binding_place (elim t [ true ↦ (declared j, w) ∷ placement | false ↦ suffix_from_name naming_by_label placement (declared k) ]))
     by k true = new
     by k false = h k
 
-pub holds_same : (sites later : List Site) (d : ℕ) (placement : Placement Label) → ((k : ℕ) → site_at later k ≡ site_at sites k) → LocatesAll sites d placement → LocatesAll later d placement
-holds_same sites later d placement same h = λ k. subst (λ z. LocatesAs d z (binding_place_in placement (declared k))) (sym (same k)) (h k)
+pub holds_same : (sites later : List LoweredLocation) (d : ℕ) (placement : Placement Label) → ((k : ℕ) → location_at later k ≡ location_at sites k) → LocationsMatchPlacement sites d placement → LocationsMatchPlacement later d placement
+holds_same sites later d placement same h = λ k. subst (λ z. LocationMatchesPlace d z (binding_place_in placement (declared k))) (sym (same k)) (h k)
 
 -- what is nowhere needs no site
-holds_nowhere : (sites : List Site) (d : ℕ) (x : Label) (placement : Placement Label) → LocatesAll sites d placement → LocatesAll sites d ((x, nowhere) ∷ placement)
+holds_nowhere : (sites : List LoweredLocation) (d : ℕ) (x : Label) (placement : Placement Label) → LocationsMatchPlacement sites d placement → LocationsMatchPlacement sites d ((x, nowhere) ∷ placement)
 holds_nowhere sites d x placement h = λ k. by k (same_label (declared k) x)
   where
-    by : (k : ℕ) (t : Bool) → LocatesAs d (site_at sites k) (first_binding_place (elim t [ true ↦ (x, nowhere) ∷ placement | false ↦ suffix_from_name naming_by_label placement (declared k) ]))
+    by : (k : ℕ) (t : Bool) → LocationMatchesPlace d (location_at sites k) (first_binding_place (elim t [ true ↦ (x, nowhere) ∷ placement | false ↦ suffix_from_name naming_by_label placement (declared k) ]))
     by k true = tt
     by k false = h k
 
-pub holds_hidden : (sites : List Site) (d : ℕ) (xs : List Label) (placement : Placement Label) → LocatesAll sites d placement → LocatesAll sites d (bind_without_place xs placement)
+pub holds_hidden : (sites : List LoweredLocation) (d : ℕ) (xs : List Label) (placement : Placement Label) → LocationsMatchPlacement sites d placement → LocationsMatchPlacement sites d (bind_without_place xs placement)
 holds_hidden sites d [] placement h = h
 holds_hidden sites d (x ∷ xs) placement h = holds_hidden sites d xs ((x, nowhere) ∷ placement) (holds_nowhere sites d x placement h)
 
 -- one activation further in
 
-seen_inward : (d : ℕ) (s : Site) → site_depth s ≤ d → place_seen_from (suc d) s ≡ inward_binding_place (place_seen_from d s)
+seen_inward : (d : ℕ) (s : LoweredLocation) → depth_of_location s ≤ d → place_seen_from (suc d) s ≡ inward_binding_place (place_seen_from d s)
 seen_inward d (site.InActivation at offset) le = let e : suc d - at ≡ suc (d - at) = omega arith in ap (λ up. in_slot (in_activation up offset)) e
 seen_inward d (site.ByReference at index) le = let e : suc d - at ≡ suc (d - at) = omega arith in ap (λ up. in_slot (by_reference up index)) e
 seen_inward d (site.Procedure at index) le = let e : suc d - at ≡ suc (d - at) = omega arith in ap (λ up. at_target (record { procedure = index; up = up })) e
 seen_inward d _ le = refl
 
-reports_inward : (d : ℕ) (s : Site) (w : BindingPlace) → LocatesAs d s w → LocatesAs (suc d) s (inward_binding_place w)
+reports_inward : (d : ℕ) (s : LoweredLocation) (w : BindingPlace) → LocationMatchesPlace d s w → LocationMatchesPlace (suc d) s (inward_binding_place w)
 reports_inward d s nowhere h = tt
 reports_inward d s _ h = (omega (arith, h.0), seen_inward d s h.0 ∙ ap inward_binding_place h.1)
 
@@ -69,10 +69,10 @@ found_inward (b ∷ placement) x =
     elim (same_label x b.0) as (λ t. first_binding_place (elim t [ true ↦ (b.0, inward_binding_place b.1) ∷ inward_placement placement | false ↦ suffix_from_name naming_by_label (inward_placement placement) x ]) ≡ inward_binding_place (first_binding_place (elim t [ true ↦ b ∷ placement | false ↦ suffix_from_name naming_by_label placement x ])))
     [ true ↦ refl | false ↦ found_inward placement x ]
 
-pub holds_inward : (sites : List Site) (d : ℕ) (placement : Placement Label) → LocatesAll sites d placement → LocatesAll sites (suc d) (inward_placement placement)
-holds_inward sites d placement h = λ k. subst (LocatesAs (suc d) (site_at sites k)) (sym (found_inward placement (declared k))) (reports_inward d (site_at sites k) (binding_place_in placement (declared k)) (h k))
+pub holds_inward : (sites : List LoweredLocation) (d : ℕ) (placement : Placement Label) → LocationsMatchPlacement sites d placement → LocationsMatchPlacement sites (suc d) (inward_placement placement)
+holds_inward sites d placement h = λ k. subst (LocationMatchesPlace (suc d) (location_at sites k)) (sym (found_inward placement (declared k))) (reports_inward d (location_at sites k) (binding_place_in placement (declared k)) (h k))
 
-suits_inward : (o : Object Shape Signature) (w : BindingPlace) → PlaceSuits o w → PlaceSuits o (inward_binding_place w)
+suits_inward : (o : Object Shape Signature) (w : BindingPlace) → PlaceMatchesObject o w → PlaceMatchesObject o (inward_binding_place w)
 suits_inward (a_variable s) w h = (inward_slot h.0, ap inward_binding_place h.1)
 suits_inward (a_procedure p) w h = (record h.0 { up = suc h.0.up }, ap inward_binding_place h.1)
 suits_inward _ w h = tt
@@ -84,13 +84,13 @@ matches_inward _ _ m = absurd m
 
 -- names looked up
 
-matches_found : (env : TypeEnvironment Label) (placement : Placement Label) → PlacementMatches env placement → (x : Label) (o : Object Shape Signature) → newest_object (environment_from_binding naming_by_label env x) ≡ Some o → PlaceSuits o (binding_place_in placement x)
+matches_found : (env : TypeEnvironment Label) (placement : Placement Label) → PlacementMatches env placement → (x : Label) (o : Object Shape Signature) → newest_object (environment_from_binding naming_by_label env x) ≡ Some o → PlaceMatchesObject o (binding_place_in placement x)
 matches_found [] [] m x o h = absurd (cc)
 matches_found (b ∷ env) (w ∷ placement) m x o h =
-    subst (λ (y : Label). PlaceSuits o (first_binding_place (elim (same_label x y) [ true ↦ w ∷ placement | false ↦ suffix_from_name naming_by_label placement x ]))) m.0 (by (matches_found env placement m.2 x o) (same_label x b.0) h)
+    subst (λ (y : Label). PlaceMatchesObject o (first_binding_place (elim (same_label x y) [ true ↦ w ∷ placement | false ↦ suffix_from_name naming_by_label placement x ]))) m.0 (by (matches_found env placement m.2 x o) (same_label x b.0) h)
   where
-    by : (newest_object (environment_from_binding naming_by_label env x) ≡ Some o → PlaceSuits o (binding_place_in placement x)) → (t : Bool) → newest_object (elim t [ true ↦ b ∷ env | false ↦ environment_from_binding naming_by_label env x ]) ≡ Some o → PlaceSuits o (first_binding_place (elim t [ true ↦ w ∷ placement | false ↦ suffix_from_name naming_by_label placement x ]))
-    by following true e = subst (λ (z : Object Shape Signature). PlaceSuits z w.1) (some_inverse e) m.1
+    by : (newest_object (environment_from_binding naming_by_label env x) ≡ Some o → PlaceMatchesObject o (binding_place_in placement x)) → (t : Bool) → newest_object (elim t [ true ↦ b ∷ env | false ↦ environment_from_binding naming_by_label env x ]) ≡ Some o → PlaceMatchesObject o (first_binding_place (elim t [ true ↦ w ∷ placement | false ↦ suffix_from_name naming_by_label placement x ]))
+    by following true e = subst (λ (z : Object Shape Signature). PlaceMatchesObject z w.1) (some_inverse e) m.1
     by following false e = following e
 matches_found _ _ m x o h = absurd m
 
@@ -114,14 +114,14 @@ target_found : (placement : Placement Label) → first_target placement ≡ targ
 target_found [] = refl
 target_found (b ∷ placement) = refl
 
-reports_slot : (d : ℕ) (s : Site) (w : BindingPlace) (slot : Slot) → w ≡ in_slot slot → LocatesAs d s w → place_seen_from d s ≡ w
-reports_slot d s w slot e h = (subst (LocatesAs d s) e h).1 ∙ sym e
+reports_slot : (d : ℕ) (s : LoweredLocation) (w : BindingPlace) (slot : Slot) → w ≡ in_slot slot → LocationMatchesPlace d s w → place_seen_from d s ≡ w
+reports_slot d s w slot e h = (subst (LocationMatchesPlace d s) e h).1 ∙ sym e
 
-reports_target : (d : ℕ) (s : Site) (w : BindingPlace) (t : Target) → w ≡ at_target t → LocatesAs d s w → place_seen_from d s ≡ w
-reports_target d s w t e h = (subst (LocatesAs d s) e h).1 ∙ sym e
+reports_target : (d : ℕ) (s : LoweredLocation) (w : BindingPlace) (t : Target) → w ≡ at_target t → LocationMatchesPlace d s w → place_seen_from d s ≡ w
+reports_target d s w t e h = (subst (LocationMatchesPlace d s) e h).1 ∙ sym e
 
 -- a scene is right at a body whose names are known and whose placing is held
-pub sees : (scene : Scene) (env : TypeEnvironment Label) (placement : Placement Label) → AreDeclared (declared_object_in scene.types.now) env → PlacementMatches env placement → LocatesAll scene.sites.now scene.depth placement → SceneAgrees scene (meanings naming_by_label env) (slot_in_placement naming_by_label placement) (target_in_placement naming_by_label placement)
+pub sees : (scene : Scene) (env : TypeEnvironment Label) (placement : Placement Label) → AreDeclared (declared_object_in scene.types.now) env → PlacementMatches env placement → LocationsMatchPlacement scene.sites.now scene.depth placement → SceneAgrees scene (meanings naming_by_label env) (slot_in_placement naming_by_label placement) (target_in_placement naming_by_label placement)
 sees scene env placement known m h = record {
   bound = λ x o e. let f = declared_found (declared_object_in scene.types.now) env known x o e in ap (object_at scene.types.now) f.1 ∙ f.2;
   written = refl;
@@ -129,12 +129,12 @@ sees scene env placement known m h = record {
       let f = declared_found (declared_object_in scene.types.now) env known x (a_variable s) e in
       let suits = matches_found env placement m x (a_variable s) e in
       subst (λ y. slot_in_placement naming_by_label placement y ≡ slot_at scene y) (sym f.1)
-      (slot_found (suffix_from_name naming_by_label placement (declared f.0)) ∙ ap slot_of (sym (reports_slot scene.depth (site_at scene.sites.now f.0) (binding_place_in placement (declared f.0)) suits.0 (ap (binding_place_in placement) (sym f.1) ∙ suits.1) (h f.0))));
+      (slot_found (suffix_from_name naming_by_label placement (declared f.0)) ∙ ap slot_of (sym (reports_slot scene.depth (location_at scene.sites.now f.0) (binding_place_in placement (declared f.0)) suits.0 (ap (binding_place_in placement) (sym f.1) ∙ suits.1) (h f.0))));
   procedures = λ x p e.
       let f = declared_found (declared_object_in scene.types.now) env known x (a_procedure p) e in
       let suits = matches_found env placement m x (a_procedure p) e in
       subst (λ y. target_in_placement naming_by_label placement y ≡ target_at scene y) (sym f.1)
-      (target_found (suffix_from_name naming_by_label placement (declared f.0)) ∙ ap target_of (sym (reports_target scene.depth (site_at scene.sites.now f.0) (binding_place_in placement (declared f.0)) suits.0 (ap (binding_place_in placement) (sym f.1) ∙ suits.1) (h f.0))));
+      (target_found (suffix_from_name naming_by_label placement (declared f.0)) ∙ ap target_of (sym (reports_target scene.depth (location_at scene.sites.now f.0) (binding_place_in placement (declared f.0)) suits.0 (ap (binding_place_in placement) (sym f.1) ∙ suits.1) (h f.0))));
 }
 
 -- constants and types

@@ -17,11 +17,11 @@ use Rattle.ob0_run_machine.specs.View.{procedure_of, sequence_of}
 use Rattle.ob0_run_machine.specs.declared.code.Routine.{Routine}
 use Rattle.ob0_run_cells.specs.Activations.{CodeMeansBlock, PlacementState, Placement, RoutinesMeanProcedures, label_table}
 use Rattle.ob0_run_cells.specs.Lowering.{Slot}
-use Rattle.ob0_run_lowering.specs.declared.scene.Site.{Site}
+use Rattle.ob0_run_lowering.specs.declared.scene.LoweredLocation.{LoweredLocation}
 use Rattle.ob0_run_lowering.specs.KnownBlocks.{AreDeclared, BlockIsDeclared, ProceduresAreDeclared}
-use Rattle.ob0_run_lowering.specs.PlacedNames.{HidesMoreSites, LocatesAll, IsFrame, PlacementMatches, variable_slot}
+use Rattle.ob0_run_lowering.specs.PlacedNames.{HidesMoreLocations, LocationsMatchPlacement, FrameMatchesPlacement, PlacementMatches, variable_slot}
 use Rattle.ob0_run_lowering.specs.declared.programs.Lowering.{Lowering}
-use Rattle.ob0_run_lowering.specs.declared.visible_sites.Frame.{Frame}
+use Rattle.ob0_run_lowering.specs.declared.visible_locations.Frame.{Frame}
 
 -- states that a table has the same procedures as the list `ps`, at each index in `ps` that is at
 -- least `n`
@@ -47,11 +47,11 @@ pub record BlockState : Type 0 where
 -- States that the remaining procedures `ps` and the statements of a block are well-typed in a
 -- state. The table of declarations has the object of each name in scope, and of each name that
 -- these procedures declare. The table of sites has the place of each name in scope.
-pub record IsReadyToLower (t : Tables) (sites : List Site) (depth : ℕ) (s : BlockState)
+pub record IsReadyToLower (t : Tables) (sites : List LoweredLocation) (depth : ℕ) (s : BlockState)
     (statements : Tree Label (maybe body)) (ps : Tree Label (items procedure)) : Type 0 where
   pub environment_is_declared : AreDeclared (declared_object_in t) s.env
   pub matches : PlacementMatches s.env s.placement
-  pub holds : LocatesAll sites depth s.placement
+  pub holds : LocationsMatchPlacement sites depth s.placement
   pub fits : procedures_are_well_typed naming_by_label s.env s.next statements ps ≡ true
   pub procedures_are_declared : ProceduresAreDeclared (declared_object_in t) s.env s.next ps
 
@@ -88,7 +88,7 @@ pub record LowersProcedures (t : Tables) (w v : Lowering) (depth : ℕ) (ps left
   pub lowers_from : (s : BlockState) (statements : Tree Label (maybe body))
       → IsReadyToLower t w.visible.sites.items depth s statements ps
       → LowersFromState t w v depth s statements ps left
-  pub follows : HidesMoreSites w.visible v.visible
+  pub follows : HidesMoreLocations w.visible v.visible
   pub longer : length w.procedures.items ≤ length v.procedures.items
   pub grown : KeepsRoutines w.procedures.items v.procedures.items
 
@@ -108,10 +108,10 @@ pub record LowersBlock (t : Tables) (w v : Lowering) (f : Frame) (b : Tree Label
     (entry : Routine) : Type 0 where
   pub lowers_from : (env : TypeEnvironment Label) (p : PlacementState Label) (k : ℕ)
       → PlacementMatches env p.placement
-      → IsFrame w.visible.sites.items f p
+      → FrameMatchesPlacement w.visible.sites.items f p
       → block_is_well_typed naming_by_label env k b ≡ true
       → BlockIsDeclared (declared_object_in t) env k b
       → MeansBlock w v f b entry env p k
-  pub follows : HidesMoreSites w.visible v.visible
+  pub follows : HidesMoreLocations w.visible v.visible
   pub longer : length w.procedures.items ≤ length v.procedures.items
   pub grown : KeepsRoutines w.procedures.items v.procedures.items

@@ -30,8 +30,8 @@ abbrev pub LoweredMeans : TypeMeanings Label → (Label → Slot) → LoweredExp
 LoweredMeans checked slots l s value = CodeMeans checked slots (code_of l) s value
 
 -- States that `P` holds for all checked names and slots that agree with a scene (`SceneAgrees`).
-abbrev pub ForAllSeen : Scene → (TypeMeanings Label → (Label → Slot) → Type 0) → Type 0
-ForAllSeen scene P =
+abbrev pub ForAllAgreeingNames : Scene → (TypeMeanings Label → (Label → Slot) → Type 0) → Type 0
+ForAllAgreeingNames scene P =
     (checked : TypeMeanings Label) (slots : Label → Slot) (targets : Label → Target)
     → SceneAgrees scene checked slots targets
     → P checked slots
@@ -40,7 +40,7 @@ ForAllSeen scene P =
 -- claimed.
 abbrev pub LowersExpression : Scene → Tree ℕ expression → LoweredExpression → Type 0
 LowersExpression scene e l =
-    ForAllSeen scene (λ checked slots. (s : Shape)
+    ForAllAgreeingNames scene (λ checked slots. (s : Shape)
     → type_of checked (tree_with_labels scene.resolved.now e) ≡ Some s
     → LoweredMeans checked slots l s (value_of_expression (tree_with_labels scene.resolved.now e)))
 
@@ -48,7 +48,7 @@ LowersExpression scene e l =
 -- nothing is claimed.
 abbrev pub LowersNumber : Scene → Tree ℕ expression → Number → Type 0
 LowersNumber scene e n =
-    ForAllSeen scene (λ checked slots. type_of checked (tree_with_labels scene.resolved.now e)
+    ForAllAgreeingNames scene (λ checked slots. type_of checked (tree_with_labels scene.resolved.now e)
     ≡ Some integer_shape
     → NumberMeans checked slots (number_of n)
     (value_of_expression (tree_with_labels scene.resolved.now e)))
@@ -57,7 +57,7 @@ LowersNumber scene e n =
 -- nothing is claimed.
 abbrev pub LowersTruth : Scene → Tree ℕ expression → Truth → Type 0
 LowersTruth scene e t =
-    ForAllSeen scene (λ checked slots. type_of checked (tree_with_labels scene.resolved.now e)
+    ForAllAgreeingNames scene (λ checked slots. type_of checked (tree_with_labels scene.resolved.now e)
     ≡ Some boolean_shape
     → TruthMeans checked slots (truth_of t)
     (value_of_expression (tree_with_labels scene.resolved.now e)))
@@ -66,7 +66,7 @@ LowersTruth scene e t =
 -- selectors `path`. If the designator isn't a variable with a type, nothing is claimed.
 abbrev pub LocatesDesignator : Scene → ℕ → Tree ℕ (items selector) → TypedPlace → Type 0
 LocatesDesignator scene x path l =
-    ForAllSeen scene (λ checked slots. (s : Shape)
+    ForAllAgreeingNames scene (λ checked slots. (s : Shape)
     → variable_type checked
     (Some (label_at_token scene.resolved.now x, tree_with_labels scene.resolved.now path)) ≡ Some s
     → (type_shape (shapes_of scene.types.now) l.type_id ≡ s)
@@ -77,7 +77,7 @@ LocatesDesignator scene x path l =
 -- expressions, nothing is claimed.
 abbrev pub LocatesLoneDesignator : Scene → Tree ℕ expression → TypedPlace → Type 0
 LocatesLoneDesignator scene e l =
-    ForAllSeen scene (λ checked slots. (s : Shape)
+    ForAllAgreeingNames scene (λ checked slots. (s : Shape)
     → variable_type checked (lone_designator (tree_with_labels scene.resolved.now e)) ≡ Some s
     → (type_shape (shapes_of scene.types.now) l.type_id ≡ s)
     × IsLoneDesignatorAt checked slots (place_of l.place) s (tree_with_labels scene.resolved.now e))
@@ -86,7 +86,7 @@ LocatesLoneDesignator scene e l =
 -- parameter, nothing is claimed.
 abbrev pub LowersArgument : Scene → FormalParameter → Tree ℕ expression → Argument → Type 0
 LowersArgument scene f e a =
-    ForAllSeen scene (λ checked slots. argument_matches checked
+    ForAllAgreeingNames scene (λ checked slots. argument_matches checked
     (formal_view (shapes_of scene.types.now) f) (tree_with_labels scene.resolved.now e) ≡ true
     → CodeMeansArgument checked slots (formal_view (shapes_of scene.types.now) f) (argument_of a)
     (tree_with_labels scene.resolved.now e))

@@ -2,11 +2,11 @@
 -- one: a variable gets cells, a VAR parameter gets an index. The site of a name has the depth of
 -- the activation to which the name belongs. The place of a name has the number of levels out
 -- instead, as seen from one activation. Constants and types need no code, so their place is
--- `nowhere`, and `LocatesAll` claims nothing about them. `place_variable_declarations` and
+-- `nowhere`, and `LocationsMatchPlacement` claims nothing about them. `place_variable_declarations` and
 -- `place_sections` depend only on names and their sizes, so loops over names need no types or
 -- environments. The lemmas `groups_placed` and `sections_placed` show that these sizes are the
 -- sizes of the declared types, if the declarations are well-typed. A frame (`Frame`: depth, cells,
--- VAR parameters) has the counts of a placement so far, without its names (`IsFrame`).
+-- VAR parameters) has the counts of a placement so far, without its names (`FrameMatchesPlacement`).
 -- Rule: none; for contracts of lowering.
 use Rattle.std.specs.Prelude.{◌≡◌, ℕ, zero, suc, ◌≤◌, List, [], ◌∷◌, ◌++◌, length, if◌then◌else◌, ◌==◌, Some, None, Option}
 use Rattle.ob0_tree.specs.Tree.{Tree, declares_variable, end, further_section, items, more, then_section, variable}
@@ -21,12 +21,12 @@ use Rattle.ob0_run_cells.specs.Activations.{PlacementState, Placement, BindingPl
 use Rattle.ob0_run_cells.specs.Cells.{size}
 use Rattle.ob0_run_cells.specs.LoweredStatements.{Target}
 use Rattle.ob0_run_cells.specs.Lowering.{Slot, in_activation, of_module}
-use Rattle.ob0_run_lowering.specs.Scenes.{object_at, place_seen_from, site_at}
-use Rattle.ob0_run_lowering.specs.declared.scene.Site.{Site}
-use Rattle.ob0_run_lowering.specs.declared.scene.Site.TheVariants as site
-use Rattle.ob0_run_lowering.specs.declared.visible_sites.Frame.{Frame}
-use Rattle.ob0_run_lowering.specs.declared.visible_sites.HiddenSite.{HiddenSite}
-use Rattle.ob0_run_lowering.specs.declared.visible_sites.VisibleSites.{VisibleSites}
+use Rattle.ob0_run_lowering.specs.Scenes.{object_at, place_seen_from, location_at}
+use Rattle.ob0_run_lowering.specs.declared.scene.LoweredLocation.{LoweredLocation}
+use Rattle.ob0_run_lowering.specs.declared.scene.LoweredLocation.TheVariants as site
+use Rattle.ob0_run_lowering.specs.declared.visible_locations.Frame.{Frame}
+use Rattle.ob0_run_lowering.specs.declared.visible_locations.HiddenLocation.{HiddenLocation}
+use Rattle.ob0_run_lowering.specs.declared.visible_locations.VisibleLocations.{VisibleLocations}
 
 -- returns the place of the first name of a placement, or `nowhere` if the placement is empty
 abbrev pub first_binding_place : Placement Label → BindingPlace
@@ -38,38 +38,38 @@ abbrev pub binding_place_in : Placement Label → Label → BindingPlace
 binding_place_in placement x = first_binding_place (suffix_from_name naming_by_label placement x)
 
 -- returns the depth of the activation to which a site belongs, or 0 for `Nowhere`
-abbrev pub site_depth : Site → ℕ
-site_depth site.Nowhere = 0
-site_depth (site.Module offset) = 0
-site_depth (site.InActivation at offset) = at
-site_depth (site.ByReference at index) = at
-site_depth (site.Procedure at index) = at
+abbrev pub depth_of_location : LoweredLocation → ℕ
+depth_of_location site.Nowhere = 0
+depth_of_location (site.Module offset) = 0
+depth_of_location (site.InActivation at offset) = at
+depth_of_location (site.ByReference at index) = at
+depth_of_location (site.Procedure at index) = at
 
 -- States that a site, seen from an activation of this depth, is the given place of a name, and that
 -- the site isn't deeper than this activation. If the place is `nowhere`, nothing is claimed.
-abbrev pub LocatesAs : ℕ → Site → BindingPlace → Type 0
-LocatesAs depth s nowhere = Unit {0}
-LocatesAs depth s (in_slot slot) = (site_depth s ≤ depth) × (place_seen_from depth s ≡ in_slot slot)
-LocatesAs depth s (at_target t) = (site_depth s ≤ depth) × (place_seen_from depth s ≡ at_target t)
+abbrev pub LocationMatchesPlace : ℕ → LoweredLocation → BindingPlace → Type 0
+LocationMatchesPlace depth s nowhere = Unit {0}
+LocationMatchesPlace depth s (in_slot slot) = (depth_of_location s ≤ depth) × (place_seen_from depth s ≡ in_slot slot)
+LocationMatchesPlace depth s (at_target t) = (depth_of_location s ≤ depth) × (place_seen_from depth s ≡ at_target t)
 
 -- States that a table of sites has the place of each placed name, at the name's ordinal, as seen
 -- from an activation of this depth.
-abbrev pub LocatesAll : List Site → ℕ → Placement Label → Type 0
-LocatesAll sites depth placement =
-    (k : ℕ) → LocatesAs depth (site_at sites k) (binding_place_in placement (declared k))
+abbrev pub LocationsMatchPlacement : List LoweredLocation → ℕ → Placement Label → Type 0
+LocationsMatchPlacement sites depth placement =
+    (k : ℕ) → LocationMatchesPlace depth (location_at sites k) (binding_place_in placement (declared k))
 
 -- States that a place suits an object: a variable has a slot, and a procedure has a target. Nothing
 -- is claimed about other objects.
-abbrev pub PlaceSuits : Object Shape Signature → BindingPlace → Type 0
-PlaceSuits (a_variable s) w = (slot : Slot) × (w ≡ in_slot slot)
-PlaceSuits (a_procedure p) w = (t : Target) × (w ≡ at_target t)
-PlaceSuits _ w = Unit {0}
+abbrev pub PlaceMatchesObject : Object Shape Signature → BindingPlace → Type 0
+PlaceMatchesObject (a_variable s) w = (slot : Slot) × (w ≡ in_slot slot)
+PlaceMatchesObject (a_procedure p) w = (t : Target) × (w ≡ at_target t)
+PlaceMatchesObject _ w = Unit {0}
 
 -- states that an environment and a placement bind the same names in the same order, and that each
 -- name's place suits its object
 abbrev pub PlacementMatches : TypeEnvironment Label → Placement Label → Type 0
 PlacementMatches [] [] = Unit {0}
-PlacementMatches (b ∷ env) (w ∷ placement) = (b.0 ≡ w.0) × PlaceSuits b.1 w.1 × PlacementMatches env placement
+PlacementMatches (b ∷ env) (w ∷ placement) = (b.0 ≡ w.0) × PlaceMatchesObject b.1 w.1 × PlacementMatches env placement
 PlacementMatches _ _ = ⊥
 
 -- returns the number of cells of a variable with this type, or 0 for None
@@ -89,9 +89,9 @@ variable_slot (suc depth) = in_activation 0
 
 -- states that a site is the slot of the next variable of a frame, which comes after the cells so
 -- far
-abbrev pub IsNextSite : Frame → Site → Type 0
-IsNextSite f s =
-    (site_depth s ≤ f.depth) × (place_seen_from f.depth s ≡ in_slot (variable_slot f.depth f.cells))
+abbrev pub IsLocationOfNextVariable : Frame → LoweredLocation → Type 0
+IsLocationOfNextVariable f s =
+    (depth_of_location s ≤ f.depth) × (place_seen_from f.depth s ≡ in_slot (variable_slot f.depth f.cells))
 
 -- Adds the names of one declaration to a placement, one by one. `size_of` returns the number of
 -- cells of a name.
@@ -122,57 +122,57 @@ place_sections at size_of (more (then_section f) fs) p =
 
 -- Returns the site of the ordinal `k`, once the site of `ordinal` is set to `s`. `sites` returns
 -- the site of each ordinal before this change.
-abbrev pub sites_with : ℕ → Site → (ℕ → Site) → ℕ → Site
-sites_with ordinal s sites k = if k == ordinal then s else sites k
+abbrev pub locations_with : ℕ → LoweredLocation → (ℕ → LoweredLocation) → ℕ → LoweredLocation
+locations_with ordinal s sites k = if k == ordinal then s else sites k
 
 -- Returns the site of each ordinal, once the site of one ordinal is set to `s`. For None, all sites
 -- are unchanged.
-abbrev pub sites_with_binding : Option ℕ → Site → (ℕ → Site) → ℕ → Site
-sites_with_binding None s sites = sites
-sites_with_binding (Some ordinal) s sites = sites_with ordinal s sites
+abbrev pub locations_with_binding : Option ℕ → LoweredLocation → (ℕ → LoweredLocation) → ℕ → LoweredLocation
+locations_with_binding None s sites = sites
+locations_with_binding (Some ordinal) s sites = locations_with ordinal s sites
 
 -- Returns the site of each ordinal, once all hidden sites are restored. The list begins with the
 -- site that was hidden first.
-abbrev pub sites_before_hiding : List HiddenSite → (ℕ → Site) → ℕ → Site
-sites_before_hiding [] sites = sites
-sites_before_hiding (h ∷ later) sites = sites_with h.ordinal h.earlier_site (sites_before_hiding later sites)
+abbrev pub locations_before_hiding : List HiddenLocation → (ℕ → LoweredLocation) → ℕ → LoweredLocation
+locations_before_hiding [] sites = sites
+locations_before_hiding (h ∷ later) sites = locations_with h.ordinal h.earlier_location (locations_before_hiding later sites)
 
 -- states that the ordinals of all hidden sites are below `n`
-abbrev pub OrdinalsAreBelow : ℕ → List HiddenSite → Type 0
+abbrev pub OrdinalsAreBelow : ℕ → List HiddenLocation → Type 0
 OrdinalsAreBelow n [] = Unit {0}
 OrdinalsAreBelow n (h ∷ hs) = (suc h.ordinal ≤ n) × OrdinalsAreBelow n hs
 
 -- States that the table `v` results from the table `w` by hiding more sites, and that restoring
 -- these sites in `v` results in the sites of `w`.
-pub record HidesMoreSites (w v : VisibleSites) : Type 0 where
-  pub more : List HiddenSite
+pub record HidesMoreLocations (w v : VisibleLocations) : Type 0 where
+  pub more : List HiddenLocation
   pub added : v.hidden.items ≡ w.hidden.items ++ more
   pub within : OrdinalsAreBelow (length v.sites.items) more
   pub longer : length w.sites.items ≤ length v.sites.items
-  pub restores_sites : (k : ℕ) → sites_before_hiding more (site_at v.sites.items) k ≡ site_at w.sites.items k
+  pub restores_locations : (k : ℕ) → locations_before_hiding more (location_at v.sites.items) k ≡ location_at w.sites.items k
 
 -- States that the table `v` is a restored table. It has the sites and the hidden sites of `w`,
 -- which is the table before sites were hidden. It is as long as `u`, which is the table after they
 -- were hidden.
-abbrev pub IsRestored : VisibleSites → VisibleSites → VisibleSites → Type 0
+abbrev pub IsRestored : VisibleLocations → VisibleLocations → VisibleLocations → Type 0
 IsRestored w u v =
     (v.hidden.items ≡ w.hidden.items)
-    × ((k : ℕ) → site_at v.sites.items k ≡ site_at w.sites.items k)
+    × ((k : ℕ) → location_at v.sites.items k ≡ location_at w.sites.items k)
     × (length v.sites.items ≡ length u.sites.items)
 
 -- States that a frame has the counts of a placement: the numbers of its cells and of its VAR
 -- parameters. Also states that the table of sites has the places of all names of the placement.
-pub record IsFrame (sites : List Site) (f : Frame) (p : PlacementState Label) : Type 0 where
-  pub holds : LocatesAll sites f.depth p.placement
+pub record FrameMatchesPlacement (sites : List LoweredLocation) (f : Frame) (p : PlacementState Label) : Type 0 where
+  pub holds : LocationsMatchPlacement sites f.depth p.placement
   pub cells : f.cells ≡ p.cells
   pub var_parameters_so_far : f.var_parameter_count ≡ p.var_parameters_so_far
 
 -- States that names are placed in a table of sites and a frame. `w` and `f` are the table and the
 -- frame before, `v` and `g` are the table and the frame after. If `w` and `f` match a placement,
 -- `v` and `g` match the result of `step` on this placement.
-pub record PlacesNames (w v : VisibleSites) (f : Frame) (step : PlacementState Label → PlacementState Label) (g : Frame)
+pub record PlacesNames (w v : VisibleLocations) (f : Frame) (step : PlacementState Label → PlacementState Label) (g : Frame)
     : Type 0 where
-  pub placed : (p : PlacementState Label) → IsFrame w.sites.items f p → IsFrame v.sites.items g (step p)
-  pub follows : HidesMoreSites w v
+  pub placed : (p : PlacementState Label) → FrameMatchesPlacement w.sites.items f p → FrameMatchesPlacement v.sites.items g (step p)
+  pub follows : HidesMoreLocations w v
   pub depth : g.depth ≡ f.depth
-  pub more_cells : f.cells ≤ g.cells
+  pub has_no_fewer_cells : f.cells ≤ g.cells

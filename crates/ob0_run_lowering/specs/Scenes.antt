@@ -12,11 +12,11 @@ use Rattle.ob0_run_cells.specs.Activations.{BindingPlace, at_target, in_slot, no
 use Rattle.ob0_run_cells.specs.LoweredStatements.{Target}
 use Rattle.ob0_run_cells.specs.Lowering.{Slot, in_activation, by_reference, of_module}
 use Rattle.ob0_run_lowering.specs.declared.scene.Scene.{Scene}
-use Rattle.ob0_run_lowering.specs.declared.scene.Site.{Site}
-use Rattle.ob0_run_lowering.specs.declared.scene.Site.TheVariants as site
+use Rattle.ob0_run_lowering.specs.declared.scene.LoweredLocation.{LoweredLocation}
+use Rattle.ob0_run_lowering.specs.declared.scene.LoweredLocation.TheVariants as site
 
 -- returns the place of a declaration with this site, as seen from an activation of this depth
-abbrev pub place_seen_from : ℕ → Site → BindingPlace
+abbrev pub place_seen_from : ℕ → LoweredLocation → BindingPlace
 place_seen_from depth site.Nowhere = nowhere
 place_seen_from depth (site.Module offset) = in_slot (of_module offset)
 place_seen_from depth (site.InActivation at offset) = in_slot (in_activation (depth - at) offset)
@@ -26,13 +26,13 @@ place_seen_from depth (site.Procedure at index) =
 
 -- returns the site of an ordinal in a table of sites, or `Nowhere` if the table has no entry for
 -- the ordinal
-abbrev pub site_at : List Site → ℕ → Site
-site_at sites k = slice_index_or sites k site.Nowhere
+abbrev pub location_at : List LoweredLocation → ℕ → LoweredLocation
+location_at sites k = slice_index_or sites k site.Nowhere
 
 -- Returns the place of the declaration that a label refers to, as seen from a scene. Returns
 -- `nowhere` if the label isn't bound.
 abbrev pub binding_place : Scene → Label → BindingPlace
-binding_place scene (declared k) = place_seen_from scene.depth (site_at scene.sites.now k)
+binding_place scene (declared k) = place_seen_from scene.depth (location_at scene.sites.now k)
 binding_place scene (as_written x) = nowhere
 
 -- Returns the slot of the variable that a label refers to, as seen from a scene. If the label

@@ -56,7 +56,7 @@ fn by_value_argument(lowered: LoweredExpression) -> Argument
     }
 }
 
-fn unknown_place() -> TypedPlace {
+fn fallback_place() -> TypedPlace {
     TypedPlace {
         place: Place::Variable(Variable::Module(0)),
         type_id: TypeId::Unknown,
@@ -65,12 +65,12 @@ fn unknown_place() -> TypedPlace {
 
 /// Returns the place that was found. For None, returns the module's first cell, with an unknown
 /// type.
-fn found_or_unknown_place(found: Option<TypedPlace>) -> TypedPlace
+fn found_or_fallback_place(found: Option<TypedPlace>) -> TypedPlace
     ensures { KeepsFoundPlace found result }
 {
     match found {
         Some(located) => located,
-        None => unknown_place(),
+        None => fallback_place(),
     }
 }
 
@@ -116,7 +116,7 @@ impl<'s, 'k, 't> Scene<'s, 'k, 't> {
         ensures { IfOk result (LocatesDesignator self.now (out-Designator d.now).name (selectors_in d.now)) }
     {
         let found = self.locate(alloc, d)?;
-        Ok(found_or_unknown_place(found))
+        Ok(found_or_fallback_place(found))
     }
 
     /// Returns the place of an argument for a VAR parameter. If the argument isn't just a
@@ -126,7 +126,7 @@ impl<'s, 'k, 't> Scene<'s, 'k, 't> {
     {
         match lone_designator(e) {
             Some(d) => self.lower_to_place(alloc, d),
-            None => Ok(unknown_place()),
+            None => Ok(fallback_place()),
         }
     }
 

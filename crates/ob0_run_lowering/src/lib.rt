@@ -24,10 +24,10 @@ mod programs;
 mod scene;
 mod statements;
 mod types;
-mod visible_sites;
+mod visible_locations;
 
 pub(crate) use lowered::{LoweredExpression, TypedPlace};
 pub use programs::{Program, lower};
-pub(crate) use scene::{Scene, Site};
+pub(crate) use scene::{LoweredLocation, Scene};
 pub(crate) use statements::lower_body;
 pub(crate) use types::TypeLayouts;

@@ -317,7 +317,7 @@ fn relate_numbers(
 }
 
 /// Returns the code of `=` or `#` between two truths. Returns `Nothing` for any other relation.
-fn relate_truths(
+fn compare_truths(
     alloc: Global,
     relation: Relation,
     left: Truth,
@@ -378,7 +378,7 @@ fn lower_truth_relation(
     let Some(second) = truth_in(right) else {
         return Ok(LoweredExpression::Nothing);
     };
-    relate_truths(alloc, relation, left, second)
+    compare_truths(alloc, relation, left, second)
 }
 
 pub(crate) fn lower_relation(

@@ -1,4 +1,4 @@
-//! Defines `Scene`, the data that is needed to lower a body, and `Site`, which says where lowered
+//! Defines `Scene`, the data that is needed to lower a body, and `LoweredLocation`, which says where lowered
 //! code finds a declaration.
 
 ghost use Rattle.std.specs.Prelude.{◌≡◌, IfOk};
@@ -16,7 +16,7 @@ use std::alloc::{AllocError, Global};
 /// The site of a declaration, which says where lowered code finds the declaration. `depth` is the
 /// depth of an activation: 0 for the module, 1 for the procedures that the module declares.
 #[derive(Clone, Copy, PartialEq, Eq)]
-pub enum Site {
+pub enum LoweredLocation {
     /// The declaration isn't in lowered code, for example because it is a constant or a type.
     Nowhere,
     /// A variable, at an offset in the cells of the module.
@@ -57,7 +57,7 @@ impl CallTarget {
 pub struct Scene<'s, 'k, 't> {
     pub resolved: &'s Resolved<'t>,
     pub types: &'s TypeLayouts<'k>,
-    pub sites: &'s [Site],
+    pub sites: &'s [LoweredLocation],
     pub depth: usize,
 }
 
@@ -80,14 +80,14 @@ impl<'s, 'k, 't> Scene<'s, 'k, 't> {
 
     /// Returns the site of the declaration that the name at a token refers to, or `Nowhere` if the
     /// name refers to no declaration with a site.
-    fn site(&self, name: usize) -> Site
+    fn site(&self, name: usize) -> LoweredLocation
         ensures { place_seen_from self.now.depth result
             ≡ binding_place self.now (label_at_token self.now.resolved.now name) }
     {
         match self.resolved.ordinal_at(name) {
-            None => Site::Nowhere,
+            None => LoweredLocation::Nowhere,
             Some(ordinal) => match self.sites.get(ordinal) {
-                None => Site::Nowhere,
+                None => LoweredLocation::Nowhere,
                 Some(site) => *site,
             },
         }
@@ -100,14 +100,14 @@ impl<'s, 'k, 't> Scene<'s, 'k, 't> {
             ≡ target_at self.now (label_at_token self.now.resolved.now name) }
     {
         match self.site(name) {
-            Site::Procedure { depth, index } => CallTarget {
+            LoweredLocation::Procedure { depth, index } => CallTarget {
                 procedure: index,
                 up: self.depth.saturating_sub(depth),
             },
-            Site::Nowhere => CallTarget::none(),
-            Site::Module(_) => CallTarget::none(),
-            Site::InActivation { .. } => CallTarget::none(),
-            Site::ByReference { .. } => CallTarget::none(),
+            LoweredLocation::Nowhere => CallTarget::none(),
+            LoweredLocation::Module(_) => CallTarget::none(),
+            LoweredLocation::InActivation { .. } => CallTarget::none(),
+            LoweredLocation::ByReference { .. } => CallTarget::none(),
         }
     }
 
@@ -118,15 +118,15 @@ impl<'s, 'k, 't> Scene<'s, 'k, 't> {
             ≡ slot_place (slot_at self.now (label_at_token self.now.resolved.now name))) }
     {
         match self.site(name) {
-            Site::Module(offset) => Ok(Place::Variable(Variable::Module(offset))),
-            Site::InActivation { depth, offset } => {
+            LoweredLocation::Module(offset) => Ok(Place::Variable(Variable::Module(offset))),
+            LoweredLocation::InActivation { depth, offset } => {
                 Ok(place_in_activation(self.depth.saturating_sub(depth), offset))
             }
-            Site::ByReference { depth, index } => {
+            LoweredLocation::ByReference { depth, index } => {
                 reference(alloc, self.depth.saturating_sub(depth), index, 0)
             }
-            Site::Nowhere => Ok(Place::Variable(Variable::Module(0))),
-            Site::Procedure { .. } => Ok(Place::Variable(Variable::Module(0))),
+            LoweredLocation::Nowhere => Ok(Place::Variable(Variable::Module(0))),
+            LoweredLocation::Procedure { .. } => Ok(Place::Variable(Variable::Module(0))),
         }
     }
 }

@@ -10,7 +10,7 @@ use Rattle.ob0_run_machine.specs.declared.code.FirstOperand.TheBlock.{hidden-the
 use Rattle.ob0_run_machine.specs.Evaluation.{Levels, StepResult, ends, gives, number, ◌>>=◌}
 use Rattle.ob0_run_machine.specs.Lowered as lowered
 use Rattle.ob0_run_machine.specs.Answers.{outcome_of_applied_link}
-use Rattle.ob0_run_machine.specs.View.{operation_with_link, chain_by_row, chain_on_operand, chain_of, first_of, number_of, variable_of}
+use Rattle.ob0_run_machine.specs.View.{operation_with_link, chain_by_row, operation_with_links, chain_of, first_of, number_of, variable_of}
 
 pub bind_gives : {A : Type 0} (o : StepResult A) → (o >>= (λ a. gives a)) ≡ o
 bind_gives (gives a) = refl
@@ -38,7 +38,7 @@ applied_to ls cells left (link.VariableDifference v) = after_variable ls cells l
 applied_to ls cells left (link.VariableProduct v) = after_variable ls cells lowered.product v left
 applied_to ls cells left _ = refl
 
-pub chained : (ls : Levels) (cells : List ℤ) (left : lowered.Number) (links : List Link) → number ls cells (chain_on_operand left links) ≡ (number ls cells left >>= continued ls cells links)
+pub chained : (ls : Levels) (cells : List ℤ) (left : lowered.Number) (links : List Link) → number ls cells (operation_with_links left links) ≡ (number ls cells left >>= continued ls cells links)
 chained ls cells left [] = sym (bind_gives (number ls cells left))
 chained ls cells left (l ∷ rest) = chained ls cells (operation_with_link l left) rest
     ∙ ap (λ o. o >>= continued ls cells rest) (applied_to ls cells left l)
@@ -48,16 +48,16 @@ chained ls cells left (l ∷ rest) = chained ls cells (operation_with_link l lef
 pub record Continuing (ls : Levels) (cells : List ℤ) (whole : StepResult ℤ) (links : List Link) (done : ℕ) (left : ℤ) : Type 0 where
   pub so_far : whole ≡ continued ls cells (drop done links) left
 
-pub chain_fails : (ls : Levels) (cells : List ℤ) (first : lowered.Number) (links : List Link) (o : StepResult ℤ) → o ≡ number ls cells first → (o >>= continued ls cells links) ≡ number ls cells (chain_on_operand first links)
+pub chain_fails : (ls : Levels) (cells : List ℤ) (first : lowered.Number) (links : List Link) (o : StepResult ℤ) → o ≡ number ls cells first → (o >>= continued ls cells links) ≡ number ls cells (operation_with_links first links)
 chain_fails ls cells first links o h = ap (λ o. o >>= continued ls cells links) h ∙ sym (chained ls cells first links)
 
-pub chain_begins : (ls : Levels) (cells : List ℤ) (first : lowered.Number) (links : List Link) (a : ℤ) → gives a ≡ number ls cells first → Continuing ls cells (number ls cells (chain_on_operand first links)) links 0 a
+pub chain_begins : (ls : Levels) (cells : List ℤ) (first : lowered.Number) (links : List Link) (a : ℤ) → gives a ≡ number ls cells first → Continuing ls cells (number ls cells (operation_with_links first links)) links 0 a
 chain_begins ls cells first links a h = record { so_far = sym (chain_fails ls cells first links (gives a) h) }
 
-chained_listed : (n : _) (row : Row_of-Link n) (left : lowered.Number) → chain_by_row row left ≡ chain_on_operand left (items-the_row-Link n row)
+chained_listed : (n : _) (row : Row_of-Link n) (left : lowered.Number) → chain_by_row row left ≡ operation_with_links left (items-the_row-Link n row)
 chained_listed _ end_of-Link left = refl
 chained_listed _ (more_of-Link l row) left = chained_listed _ row (operation_with_link l left)
 
 pub chain_made : (c : _) → number_of (Chain c) ≡ chain_of c.value
 chain_made c = chained_listed _ (hidden-the_row-Link-0 (out-Chain c.value).rest) (first_of (out-Chain c.value).first)
-    ∙ ap (chain_on_operand (first_of (out-Chain c.value).first)) (items_hidden-the_row-Link-0 (out-Chain c.value).rest)
+    ∙ ap (operation_with_links (first_of (out-Chain c.value).first)) (items_hidden-the_row-Link-0 (out-Chain c.value).rest)

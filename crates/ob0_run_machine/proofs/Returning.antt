@@ -10,7 +10,7 @@ use Rattle.ob0_run_machine.specs.declared.machine.Machine.{Machine}
 use Rattle.ob0_run_machine.specs.Answers.{end_of_stop}
 use Rattle.ob0_run_machine.specs.Evaluation as ending
 use Rattle.ob0_run_machine.specs.Evaluation.{CallBound, Levels, innermost_level}
-use Rattle.ob0_run_machine.specs.Execution.{MachineProgress, MachineState, OutputItem, activate, call, execute_sequence, run_result, drop_variables, no_room, module_levels, run, running, stopped, run_with_cells, zeros}
+use Rattle.ob0_run_machine.specs.Execution.{MachineProgress, MachineState, OutputItem, activate, call, execute_sequence, run_result, drop_variables, no_room, module_levels, run, running, stopped, run_with_added_cells, zeros}
 use Rattle.ob0_run_machine.specs.Levels.{levels_of}
 use Rattle.ob0_run_machine.specs.Lowered.{Routine}
 use Rattle.ob0_run_machine.specs.Machines.{StepHasEffect, IsProgressAfterCall, StopsRun, PerformsCalls, CallPostcondition, IsProgressAfterStep, activation_effect, sequence_effect, output_items, state_of}
@@ -65,10 +65,10 @@ has_room cells more n same few =
     let long : length more ≡ length cells + n = ap length same ∙ (length-append cells (zeros n) ∙ ap (λ k. length cells + k) (length-replicate n (pos 0))) in
     lt-ltb (length cells + n) (2 ^ 64) (omega (arith, long, few))
 
-pub with-room : (n : ℕ) (next : MachineState → MachineProgress) (s : MachineState) (more : List ℤ) → more ≡ s.cells ++ zeros n → length more < 2 ^ 64 → run_with_cells n next s ≡ next (record s { cells = s.cells ++ zeros n })
+pub with-room : (n : ℕ) (next : MachineState → MachineProgress) (s : MachineState) (more : List ℤ) → more ≡ s.cells ++ zeros n → length more < 2 ^ 64 → run_with_added_cells n next s ≡ next (record s { cells = s.cells ++ zeros n })
 with-room n next s more same few = ap (λ b. if b then next (record s { cells = s.cells ++ zeros n }) else no_room) (has_room s.cells more n same few)
 
-activate-goes : (enters : _) (t : ℕ) (ls : Levels) (o : Option Routine) (p : Routine) (s : MachineState) → o ≡ Some p → activate enters t ls o s ≡ run_with_cells p.cells (execute_sequence enters t ls p.body) s
+activate-goes : (enters : _) (t : ℕ) (ls : Levels) (o : Option Routine) (p : Routine) (s : MachineState) → o ≡ Some p → activate enters t ls o s ≡ run_with_added_cells p.cells (execute_sequence enters t ls p.body) s
 unfolding activate
 activate-goes enters t ls o p s e = ap (λ o. activate enters t ls o s) e
 

@@ -204,8 +204,8 @@ drop_variables n no_room = no_room
 
 -- Adds `n` cells with the value 0 at the end, and continues the run with `next`. If the number of
 -- cells then has more than 64 bits, the run has no room.
-abbrev pub run_with_cells : ℕ → (MachineState → MachineProgress) → MachineState → MachineProgress
-run_with_cells n next s =
+abbrev pub run_with_added_cells : ℕ → (MachineState → MachineProgress) → MachineState → MachineProgress
+run_with_added_cells n next s =
     if nat_lt (length s.cells + n) (2 ^ 64)
     then next record s { cells = s.cells ++ zeros n }
     else no_room
@@ -215,7 +215,7 @@ run_with_cells n next s =
 unfoldable pub activate : CallEffect → ℕ → Levels → Option Routine → MachineState → MachineProgress
 unfolding execute_sequence
 activate enter t ls None s = running s
-activate enter t ls (Some p) s = run_with_cells p.cells (execute_sequence enter t ls p.body) s
+activate enter t ls (Some p) s = run_with_added_cells p.cells (execute_sequence enter t ls p.body) s
 
 -- Returns the effect of a call of one of the procedures in a list, if `c` calls may still be
 -- opened, including this call. The procedure's body runs, and then the cells of its activation are
@@ -248,6 +248,6 @@ module_levels = record { base = 0; addresses = [] } ∷ []
 unfoldable pub run : LoweredCode → List ℤ → ℕ → ℕ → Option MachineRun
 unfolding execute_sequence call
 run program input c t =
-    run_result (run_with_cells program.cells
+    run_result (run_with_added_cells program.cells
     (execute_sequence (call program.procedures c t) t module_levels program.body) record
     { cells = []; input = input; output = [] })

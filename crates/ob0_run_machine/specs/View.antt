@@ -137,13 +137,13 @@ operation_of o = operation_with_link (out-Operation o).link (first_of (out-Opera
 
 -- returns the lowered operations that apply a list of links to the number `left`, one link after
 -- the other
-abbrev pub chain_on_operand : lowered.Number → List Link → lowered.Number
-chain_on_operand left [] = left
-chain_on_operand left (l ∷ ls) = chain_on_operand (operation_with_link l left) ls
+abbrev pub operation_with_links : lowered.Number → List Link → lowered.Number
+operation_with_links left [] = left
+operation_with_links left (l ∷ ls) = operation_with_links (operation_with_link l left) ls
 
 -- converts a `Chain` to a lowered number
 abbrev pub chain_of : chain.Chain → lowered.Number
-chain_of c = chain_on_operand (first_of (chain.out-Chain c).first) (chain.out-Chain c).rest.items
+chain_of c = operation_with_links (first_of (chain.out-Chain c).first) (chain.out-Chain c).rest.items
 
 -- converts a `Comparator` to a lowered relation
 abbrev pub relation_of : Comparator → lowered.Comparator

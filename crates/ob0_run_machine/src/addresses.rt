@@ -19,7 +19,7 @@ pub(crate) enum VarAddresses {
 }
 
 /// Returns a `VarAddresses` with three addresses, which are in a list.
-fn three_addresses(
+fn var_addresses_from_three(
     memory: &mut Memory,
     a: usize,
     b: usize,
@@ -52,7 +52,7 @@ impl VarAddresses {
             }
             VarAddresses::Two(a, b) => {
                 let (a, b) = (*a, *b);
-                *self = three_addresses(memory, a, b, address)?;
+                *self = var_addresses_from_three(memory, a, b, address)?;
             }
             VarAddresses::More(all) => memory.push(all, address)?,
         }

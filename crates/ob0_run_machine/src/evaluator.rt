@@ -15,7 +15,7 @@ use crate::code::{
     Truth, TruthList, TruthPair, Variable, VariableElement,
 };
 use crate::ending::EvaluationFault;
-use crate::flat_outcome::{FlatOutcome, into_flat, into_result};
+use crate::flat_outcome::{FlatOutcome, into_flat_outcome, into_result};
 use crate::level::{Level, base_at, outer_var_parameter_at, var_parameter_at};
 use crate::operators::{
     add, add_offset, compare, divide, element_address, equal_truths, is_true, modulo, multiply,
@@ -99,7 +99,7 @@ pub(crate) fn locate(
 fn locate_element_flat(e: &Element, level: &Level<'_>, cells: &[i32]) -> FlatOutcome<usize>
     ensures { outcome_of result ≡ address (levels_of level.now) cells.now (element_of e.now) }
 {
-    into_flat(locate_element(e, level, cells))
+    into_flat_outcome(locate_element(e, level, cells))
 }
 
 #[inline(always)]
@@ -165,8 +165,8 @@ fn evaluate_negative(operand: &Number, level: &Level<'_>, cells: &[i32]) -> Flat
         ≡ number (levels_of level.now) cells.now (lowered.negative (number_of operand.now)) }
 {
     match evaluate_number(operand, level, cells) {
-        Ok(a) => into_flat(negate(a)),
-        Err(ending) => into_flat(Err(ending)),
+        Ok(a) => into_flat_outcome(negate(a)),
+        Err(ending) => into_flat_outcome(Err(ending)),
     }
 }
 
@@ -179,7 +179,7 @@ fn evaluate_operation(o: &Operation, level: &Level<'_>, cells: &[i32]) -> FlatOu
     ensures { outcome_of result ≡ number (levels_of level.now) cells.now (operation_of o.now) }
 {
     match &o.first {
-        FirstOperand::Variable(v) => into_flat(apply(
+        FirstOperand::Variable(v) => into_flat_outcome(apply(
             &o.link,
             value_of(*v, level, cells),
             level,
@@ -195,8 +195,8 @@ fn evaluate_general_operation(o: &Operation, level: &Level<'_>, cells: &[i32]) -
     ensures { outcome_of result ≡ number (levels_of level.now) cells.now (operation_of o.now) }
 {
     match evaluate_first_operand(&o.first, level, cells) {
-        Ok(left) => into_flat(apply(&o.link, left, level, cells)),
-        Err(ending) => into_flat(Err(ending)),
+        Ok(left) => into_flat_outcome(apply(&o.link, left, level, cells)),
+        Err(ending) => into_flat_outcome(Err(ending)),
     }
 }
 
@@ -205,7 +205,7 @@ fn evaluate_general_operation(o: &Operation, level: &Level<'_>, cells: &[i32]) -
 fn evaluate_chain_flat(c: &Chain, level: &Level<'_>, cells: &[i32]) -> FlatOutcome<i32>
     ensures { outcome_of result ≡ number (levels_of level.now) cells.now (chain_of c.now) }
 {
-    into_flat(evaluate_chain(c, level, cells))
+    into_flat_outcome(evaluate_chain(c, level, cells))
 }
 
 /// Returns the value of a chain of operations, which are evaluated from left to right. Returns the
@@ -268,8 +268,8 @@ fn apply_to_expression(
         (lowered.operation (operator_of operator) (lowered.literal left) (number_of n.now)) }
 {
     match evaluate_number(n, level, cells) {
-        Ok(right) => into_flat(operate(operator, left, right)),
-        Err(ending) => into_flat(Err(ending)),
+        Ok(right) => into_flat_outcome(operate(operator, left, right)),
+        Err(ending) => into_flat_outcome(Err(ending)),
     }
 }
 
@@ -298,14 +298,18 @@ fn evaluate_flag(place: &Place, level: &Level<'_>, cells: &[i32]) -> FlatOutcome
 {
     match locate(place, level, cells) {
         Ok(a) => FlatOutcome::Value(is_true(cell_at(cells, a))),
-        Err(ending) => into_flat(Err(ending)),
+        Err(ending) => into_flat_outcome(Err(ending)),
     }
 }
 
 /// Returns whether the cell at a place is FALSE, or the fault that ends the evaluation of the
 /// place.
 #[inline(always)]
-fn is_unset(place: &Place, level: &Level<'_>, cells: &[i32]) -> Result<bool, EvaluationFault>
+fn evaluate_negated_flag(
+    place: &Place,
+    level: &Level<'_>,
+    cells: &[i32],
+) -> Result<bool, EvaluationFault>
     ensures { outcome_of_result result
         ≡ truth (levels_of level.now) cells.now
         (lowered.negation (lowered.flag (place_of place.now))) }
@@ -328,7 +332,7 @@ pub(crate) fn evaluate_truth(
     match t {
         Truth::Constant(b) => Ok(*b),
         Truth::Flag(place) => into_result(evaluate_flag(place, level, cells)),
-        Truth::Unset(place) => is_unset(place, level, cells),
+        Truth::Unset(place) => evaluate_negated_flag(place, level, cells),
         Truth::LessThanLiteral(v, n) => {
             Ok(compare_variable(Comparator::Less, *v, *n, level, cells))
         }
@@ -359,7 +363,7 @@ fn evaluate_truth_out_of_line(
 fn evaluate_truth_flat(t: &Truth, level: &Level<'_>, cells: &[i32]) -> FlatOutcome<bool>
     ensures { outcome_of result ≡ truth (levels_of level.now) cells.now (truth_of t.now) }
 {
-    into_flat(evaluate_general_truth(t, level, cells))
+    into_flat_outcome(evaluate_general_truth(t, level, cells))
 }
 
 #[inline(always)]
@@ -374,7 +378,7 @@ fn evaluate_general_truth(
     match t {
         Truth::Constant(b) => Ok(*b),
         Truth::Flag(place) => into_result(evaluate_flag(place, level, cells)),
-        Truth::Unset(place) => is_unset(place, level, cells),
+        Truth::Unset(place) => evaluate_negated_flag(place, level, cells),
         Truth::Negation(operand) => {
             let a = evaluate_truth_out_of_line(operand, level, cells)?;
             Ok(!a)
@@ -431,7 +435,7 @@ fn compare_element(
             let right = value_of(right, level, cells);
             FlatOutcome::Value(compare(relation, cell_at(cells, a), right))
         }
-        Err(ending) => into_flat(Err(ending)),
+        Err(ending) => into_flat_outcome(Err(ending)),
     }
 }
 

@@ -3,7 +3,7 @@
 //! A `Result` with a number or an address is returned through memory. A `FlatOutcome` has a payload
 //! in only one case, and is therefore returned in registers. The functions of the evaluator that
 //! are marked `#[inline(never)]` (`evaluate_operation`, `evaluate_truth_flat`, ..) return a
-//! `FlatOutcome`. The inlined functions that can fail return a `Result` and use `?`. `into_flat`
+//! `FlatOutcome`. The inlined functions that can fail return a `Result` and use `?`. `into_flat_outcome`
 //! and `into_result` convert between the two types.
 //!
 //! The functions that run statements return a `Result<(), Stop>`. A `Stop` has no payload, so this
@@ -27,7 +27,7 @@ pub(crate) enum FlatOutcome<T> {
 
 /// Converts a `Result` to a `FlatOutcome` with the same value or the same fault.
 #[inline(always)]
-pub(crate) fn into_flat<T: Copy>(given: Result<T, EvaluationFault>) -> FlatOutcome<T>
+pub(crate) fn into_flat_outcome<T: Copy>(given: Result<T, EvaluationFault>) -> FlatOutcome<T>
     ensures { outcome_of result ≡ outcome_of_result given }
 {
     match given {

@@ -95,8 +95,8 @@ module _ (old : TextWithTokens) (o : IsScan old) (new : List ℕ) (from removed 
         tokens_after = All-weaker (λ (x : Token). t.at + removed - added ≤ x.span.start) (λ (x : Token). from + removed ≤ x.span.start) (λ x later. omega (arith, later, w.met.behind_change)) (drop b.old_end.tokens old.tokens)
             (All-same (λ (x : Token). t.at + removed - added ≤ x.span.start) (drop b.old_end.tokens old.tokens) (tokens_beginning_from (t.at + removed - added) old.tokens) (ts.back ∙ w.met.tokens_are)
             (back_later (λ (x : Token). x.span.start) (t.at + removed - added) old.tokens (subst (AreAscending (λ (x : Token). x.span.start)) (sym o.tokens) (ascending of_tokens (λ (v : Span). v.start) starts_after 0 o.lexemes (full o.lexemes [] o.lexed.each)))));
-        tokens_move = All-same (λ (x : Token). IsMovable removed added x.span) (drop b.old_end.tokens old.tokens) rs ts.back w.tokens_move;
-        comments_move = All-same (λ (x : Span). IsMovable removed added x) (drop b.old_end.comments old.comments) qs cs.back w.comments_move;
+        tokens_are_movable = All-same (λ (x : Token). IsMovable removed added x.span) (drop b.old_end.tokens old.tokens) rs ts.back w.tokens_are_movable;
+        comments_are_movable = All-same (λ (x : Span). IsMovable removed added x) (drop b.old_end.comments old.comments) qs cs.back w.comments_are_movable;
         scan = subst (λ (x : List Token). IsScan (record { text = new; tokens = x; comments = (scan_with_new_middle old new removed added b).comments })) (sym tokens)
             (subst (λ (y : List Span). IsScan (record { text = new; tokens = (fs ++ t.tokens.items) ++ map (token_after_shift removed added) rs; comments = y })) (sym comments)
             (subst (λ (x : List Token). IsScan (record { text = new; tokens = (x ++ t.tokens.items) ++ map (token_after_shift removed added) rs; comments = (gs ++ t.comments.items) ++ map (span_after_shift removed added) qs })) tf

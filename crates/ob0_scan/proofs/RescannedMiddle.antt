@@ -36,8 +36,8 @@ reads_none old from removed added s = record {
   comments = [];
   tokens_are = sym (append-nil s.tokens.items);
   comments_are = sym (append-nil s.comments.items);
-  tokens_new = All-nil (λ (t : Token). IsNewBehindChange old from removed added t.span);
-  comments_new = All-nil (λ (c : Span). IsNewBehindChange old from removed added c);
+  tokens_new_behind_change = All-nil (λ (t : Token). IsNewBehindChange old from removed added t.span);
+  comments_new_behind_change = All-nil (λ (c : Span). IsNewBehindChange old from removed added c);
 }
 
 pub reads_more : (old : TextWithTokens) (from removed added : ℕ) (s t u : Scanner) → AddsNewLexemes old from removed added s t → AddsOneLexeme t u → (from + added ≤ t.at → NoLexemeBeginsAt old (t.at + removed - added)) → AddsNewLexemes old from removed added s u
@@ -48,8 +48,8 @@ reads_more old from removed added s t u r w new =
       comments = r.comments ++ comment_at w.kind place;
       tokens_are = w.tokens ∙ ap (λ x. x ++ token_at w.kind place) r.tokens_are ∙ append_assoc s.tokens.items r.tokens (token_at w.kind place);
       comments_are = w.comments ∙ ap (λ x. x ++ comment_at w.kind place) r.comments_are ∙ append_assoc s.comments.items r.comments (comment_at w.kind place);
-      tokens_new = All-append (λ (x : Token). IsNewBehindChange old from removed added x.span) r.tokens (token_at w.kind place) r.tokens_new (token_with (λ (x : Token). IsNewBehindChange old from removed added x.span) w.kind place (λ kind. new));
-      comments_new = All-append (λ (x : Span). IsNewBehindChange old from removed added x) r.comments (comment_at w.kind place) r.comments_new (comment_with (λ (x : Span). IsNewBehindChange old from removed added x) w.kind place new);
+      tokens_new_behind_change = All-append (λ (x : Token). IsNewBehindChange old from removed added x.span) r.tokens (token_at w.kind place) r.tokens_new_behind_change (token_with (λ (x : Token). IsNewBehindChange old from removed added x.span) w.kind place (λ kind. new));
+      comments_new_behind_change = All-append (λ (x : Span). IsNewBehindChange old from removed added x) r.comments (comment_at w.kind place) r.comments_new_behind_change (comment_with (λ (x : Span). IsNewBehindChange old from removed added x) w.kind place new);
     }
 
 module _ (old : TextWithTokens) (o : IsScan old) where
@@ -115,16 +115,16 @@ reused old new from removed added s t tokens comments end fs gs ft fc st sc r m 
       tokens = et ∙ ap₂ (λ x y. x ++ map (token_after_shift removed added) y) (ap₂ (λ x y. x ++ y) ft read_tokens) m.tokens_are;
       comments = ec ∙ ap₂ (λ x y. x ++ map (span_after_shift removed added) y) (ap₂ (λ x y. x ++ y) fc read_comments) m.comments_are;
       read_count = omega (arith, e, ap length read_tokens, ap length read_comments);
-      tokens_new = r.tokens_new;
-      comments_new = r.comments_new;
+      tokens_new_behind_change = r.tokens_new_behind_change;
+      comments_new_behind_change = r.comments_new_behind_change;
     }
 
 -- Holds if the scanner t has stopped without error, and its tokens and comments can be completed
 -- with the remaining old ones, shifted, to a scan of the new text.
 pub record Settled (old : TextWithTokens) (new : List ℕ) (from removed added : ℕ) (t : Scanner) (tokens : List Token) (comments : List Span) : Type 0 where
   pub met : CanStopAt old (length new) from removed added t.at tokens comments
-  pub tokens_move : All (λ (x : Token). IsMovable removed added x.span) tokens
-  pub comments_move : All (λ (x : Span). IsMovable removed added x) comments
+  pub tokens_are_movable : All (λ (x : Token). IsMovable removed added x.span) tokens
+  pub comments_are_movable : All (λ (x : Span). IsMovable removed added x) comments
   pub scan : IsScan (record { text = new; tokens = (t.front.tokens.now ++ t.tokens.items) ++ map (token_after_shift removed added) tokens; comments = (t.front.comments.now ++ t.comments.items) ++ map (span_after_shift removed added) comments })
 
 abbrev make_scan : List ℕ → List Token → List Span → TextWithTokens
@@ -145,8 +145,8 @@ settled old o new from removed added r t tokens comments text under none short f
     let whole = finished old o new from removed added r t.at place ts cs p.utf8 short p.place.0 met.behind_change same (p.cut none) border in
     record {
       met = met;
-      tokens_move = All-same (λ (x : Token). IsMovable removed added x.span) tokens (tokens_beginning_from place old.tokens) met.tokens_are move.0;
-      comments_move = All-same (λ (x : Span). IsMovable removed added x) comments (comments_beginning_from place old.comments) met.comments_are move.1;
+      tokens_are_movable = All-same (λ (x : Token). IsMovable removed added x.span) tokens (tokens_beginning_from place old.tokens) met.tokens_are move.0;
+      comments_are_movable = All-same (λ (x : Span). IsMovable removed added x) comments (comments_beginning_from place old.comments) met.comments_are move.1;
       scan = subst (λ x. IsScan (make_scan new (ts ++ map (token_after_shift removed added) x) (cs ++ map (span_after_shift removed added) comments))) (sym met.tokens_are)
           (subst (λ x. IsScan (make_scan new (ts ++ map (token_after_shift removed added) (tokens_beginning_from place old.tokens)) (cs ++ map (span_after_shift removed added) x))) (sym met.comments_are) whole);
     }

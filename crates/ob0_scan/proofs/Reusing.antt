@@ -8,10 +8,10 @@ use Rattle.ob0_scan.specs.declared.lexeme.Span.{Span}
 use Rattle.ob0_scan.specs.declared.lexeme.Token.{Token}
 use Rattle.ob0_scan.specs.declared.fault.Fault.{Fault}
 use Rattle.ob0_scan.specs.Lexed.{Lexeme, text_of_lexemes, IsFirstLexeme, AreLexemes}
-use Rattle.ob0_scan.specs.Ends.{EndsBefore}
+use Rattle.ob0_scan.specs.Ends.{EndsBeforeByte}
 use Rattle.ob0_scan.specs.TextWithTokens.{tokens_from, comments_from, IsRangeOf, TextWithTokens, IsScan, max_text}
 use Rattle.ob0_scan.specs.Faults.{AreFaultsFrom, lexeme}
-use Rattle.ob0_scan.specs.Progress.{IsCutTo, ScanProgress}
+use Rattle.ob0_scan.specs.Progress.{IsCutIntoLexemesTo, ScanProgress}
 use Rattle.ob0_scan.specs.Reused.{ReplacesRange, span_after_shift, token_after_shift, tokens_before_change, comments_before_change, tokens_beginning_from, comments_beginning_from}
 use Rattle.ob0_scan.specs.RescanState.{last_end, IsMovable}
 use Rattle.ob0_scan.proofs.Borders.{first_from_end, end_from_first}
@@ -32,7 +32,7 @@ first_byte (x ∷ w) a b e = refl
 same_following : (ls : List Lexeme) (a b : List ℕ) → get_or a 0 0 ≡ get_or b 0 0 → AreLexemes ls a → AreLexemes ls b
 same_following [] a b e f = tt
 same_following (l ∷ ls) a b e f =
-    (first_from_end l (text_of_lexemes ls ++ b) (subst (EndsBefore l) (first_byte (text_of_lexemes ls) a b e) (end_from_first l (text_of_lexemes ls ++ a) f.0)), same_following ls a b e f.1)
+    (first_from_end l (text_of_lexemes ls ++ b) (subst (EndsBeforeByte l) (first_byte (text_of_lexemes ls) a b e) (end_from_first l (text_of_lexemes ls ++ a) f.0)), same_following ls a b e f.1)
 
 stay : (ls : List Lexeme) (a b : List ℕ) → (0 < length ls → get_or a 0 0 ≡ get_or b 0 0) → AreLexemes ls a → AreLexemes ls b
 stay [] a b e f = tt
@@ -74,7 +74,7 @@ reported_following {room = room} {faults = faults} s text (l ∷ ls) after f e h
     (reported_following (s + length l.text) (text_of_lexemes ls ++ after) ls after f.1 refl (subst (λ n. AreFaultsFrom room n after faults) place h))
 
 -- If a part of a text is already cut, a scanner can begin after that part.
-pub progress_following : (text : List ℕ) (at : ℕ) (tokens : List Token) (comments : List Span) → IsUtf8 text → length text ≤ max_text → at ≤ length text → IsCutTo text at tokens comments → ScanProgress text at tokens comments []
+pub progress_following : (text : List ℕ) (at : ℕ) (tokens : List Token) (comments : List Span) → IsUtf8 text → length text ≤ max_text → at ≤ length text → IsCutIntoLexemesTo text at tokens comments → ScanProgress text at tokens comments []
 progress_following text at tokens comments utf8 short inside cut =
     let whole : text_of_lexemes cut.lexemes ++ drop at text ≡ text = ap (λ t. t ++ drop at text) cut.front ∙ take-append-drop at text in
     let place : 0 + length (text_of_lexemes cut.lexemes) ≡ at = omega (arith, ap length cut.front, length-take-le at text inside) in
@@ -96,7 +96,7 @@ module _ (old : TextWithTokens) (o : IsScan old) (new : List ℕ) (from removed 
 
   -- Up to the end of the last token or comment before the change, the new text has the tokens and
   -- comments of the old one.
-  pub front_cut : (last_end (tokens_before_change from old.tokens) (comments_before_change from old.comments) ≤ length new) × IsCutTo new (last_end (tokens_before_change from old.tokens) (comments_before_change from old.comments)) (tokens_before_change from old.tokens) (comments_before_change from old.comments)
+  pub front_cut : (last_end (tokens_before_change from old.tokens) (comments_before_change from old.comments) ≤ length new) × IsCutIntoLexemesTo new (last_end (tokens_before_change from old.tokens) (comments_before_change from old.comments)) (tokens_before_change from old.tokens) (comments_before_change from old.comments)
   front_cut =
       let f = find_front from 0 o.lexemes some_each in
       let parts = full_parts f.front f.back (subst Full f.split some_each) in
@@ -149,7 +149,7 @@ module _ (old : TextWithTokens) (o : IsScan old) (new : List ℕ) (from removed 
 
   -- If a scan stopped at a border of the old lexemes, it can be completed with the old tokens and
   -- comments after that border, shifted. The result is a scan of the new text.
-  pub finished : (at p : ℕ) (tokens : List Token) (comments : List Span) → IsUtf8 new → length new ≤ max_text → at ≤ length new → from + added ≤ at → at + removed ≡ p + added → IsCutTo new at tokens comments → Border 0 o.lexemes p
+  pub finished : (at p : ℕ) (tokens : List Token) (comments : List Span) → IsUtf8 new → length new ≤ max_text → at ≤ length new → from + added ≤ at → at + removed ≡ p + added → IsCutIntoLexemesTo new at tokens comments → Border 0 o.lexemes p
       → IsScan (record { text = new; tokens = tokens ++ map (token_after_shift removed added) (tokens_beginning_from p old.tokens); comments = comments ++ map (span_after_shift removed added) (comments_beginning_from p old.comments) })
   finished at p tokens comments utf8 short inside following e cut b =
       let facts = border_facts p b in
@@ -169,7 +169,7 @@ module _ (old : TextWithTokens) (o : IsScan old) (new : List ℕ) (from removed 
       }
 
   movable_lies : (p q : ℕ) (s : Span) → removed ≤ p → q ≤ max_text → length new ≤ max_text → Lies p q s → IsMovable removed added s
-  movable_lies p q s low most short w = record { start_suffices = omega (arith, w.starts); ordered = omega (arith, w.some); small = omega (arith, w.ends, r.inside_new) }
+  movable_lies p q s low most short w = record { start_at_least_removed = omega (arith, w.starts); ordered = omega (arith, w.some); small = omega (arith, w.ends, r.inside_new) }
 
   pub movable : (p : ℕ) → length new ≤ max_text → removed ≤ p → Border 0 o.lexemes p → All (λ (t : Token). IsMovable removed added t.span) (tokens_beginning_from p old.tokens) × All (λ (c : Span). IsMovable removed added c) (comments_beginning_from p old.comments)
   movable p short low b =

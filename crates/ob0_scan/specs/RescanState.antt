@@ -50,7 +50,7 @@ pub record AreInOrder (tokens : List Token) (comments : List Span) : Type 0 wher
 -- States that the span can be shifted by `added - removed` bytes without leaving the numbers from 0
 -- to 2^32 - 1: its start is at least `removed`, and its end plus `added` is below 2^32.
 pub record IsMovable (removed added : ℕ) (span : Span) : Type 0 where
-  pub start_suffices : removed ≤ span.start
+  pub start_at_least_removed : removed ≤ span.start
   pub ordered : span.start ≤ span.end
   pub small : span.end + added < 2 ^ 32
 
@@ -72,8 +72,8 @@ pub record AddsNewLexemes (old : TextWithTokens) (from removed added : ℕ) (s t
   pub comments : List Span
   pub tokens_are : t.tokens.items ≡ s.tokens.items ++ tokens
   pub comments_are : t.comments.items ≡ s.comments.items ++ comments
-  pub tokens_new : All (λ (t : Token). IsNewBehindChange old from removed added t.span) tokens
-  pub comments_new : All (λ (c : Span). IsNewBehindChange old from removed added c) comments
+  pub tokens_new_behind_change : All (λ (t : Token). IsNewBehindChange old from removed added t.span) tokens
+  pub comments_new_behind_change : All (λ (c : Span). IsNewBehindChange old from removed added c) comments
 
 -- States that a scan of the new text can stop at the byte offset `at`. This offset is behind the
 -- change. Either the new text ends there (`end` is its length in bytes), or an old token or comment
@@ -113,9 +113,9 @@ pub record IsRescannedMiddle (old : TextWithTokens) (new : List ℕ) (from remov
   pub tokens_before : All (λ (t : Token). t.span.end ≤ from) (take b.old_start.tokens old.tokens)
   pub tokens_after : All (λ (t : Token). from + removed ≤ t.span.start)
       (drop b.old_end.tokens old.tokens)
-  pub tokens_move : All (λ (t : Token). IsMovable removed added t.span)
+  pub tokens_are_movable : All (λ (t : Token). IsMovable removed added t.span)
       (drop b.old_end.tokens old.tokens)
-  pub comments_move : All (λ (c : Span). IsMovable removed added c)
+  pub comments_are_movable : All (λ (c : Span). IsMovable removed added c)
       (drop b.old_end.comments old.comments)
   pub scan : IsScan (scan_with_new_middle old new removed added b)
   pub reuses : Reuses old (scan_with_new_middle old new removed added b) from removed added

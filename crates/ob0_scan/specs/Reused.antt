@@ -102,5 +102,5 @@ pub record Reuses (old new : TextWithTokens) (from removed added read : ℕ) : T
       ≡ (comments_before_change from old.comments ++ comments_between)
       ++ map (span_after_shift removed added) (comments_beginning_from place old.comments)
   pub read_count : read ≡ length tokens_between + length comments_between
-  pub tokens_new : All (λ (t : Token). IsNewBehindChange old from removed added t.span) tokens_between
-  pub comments_new : All (λ (c : Span). IsNewBehindChange old from removed added c) comments_between
+  pub tokens_new_behind_change : All (λ (t : Token). IsNewBehindChange old from removed added t.span) tokens_between
+  pub comments_new_behind_change : All (λ (c : Span). IsNewBehindChange old from removed added c) comments_between

@@ -16,11 +16,11 @@
 //! tokens have the same kinds and spellings.
 //!
 //! Binary search finds the old tokens and comments in front of the change
-//! (`LexemeSlices::front_before`). A scanner continues at the end of the last of them. White space
+//! (`LexemeSlices::lexemes_ending_before`). A scanner continues at the end of the last of them. White space
 //! isn't kept, so the white space there is read again. Once the scanner is behind the change, it
 //! tests before each step whether an old token or comment begins at the scanner's place. Binary
-//! search also finds the first old tokens and comments behind the change (`rest_from`). Before each
-//! step, `skip_to` skips the old ones that begin before the scanner's place. So all these tests
+//! search also finds the first old tokens and comments behind the change (`lexemes_beginning_from`). Before each
+//! step, `skip_lexemes_before` skips the old ones that begin before the scanner's place. So all these tests
 //! together visit each old token at most once. The spans of a scan are in order (`AreInOrder`), so
 //! binary search finds the same number as visiting them one by one (`proofs/Halved`).
 //!
@@ -87,7 +87,7 @@ pub(crate) struct RescannedMiddle {
 
 impl RescannedMiddle {
     /// Returns whether the new tokens have the same kinds as the old tokens that they replace.
-    fn has_kinds_of(&self, old: &[Token]) -> bool
+    fn has_kinds_of_replaced(&self, old: &[Token]) -> bool
         requires ordered { self.now.old_start.tokens ≤ self.now.old_end.tokens }
         requires inside { self.now.old_end.tokens ≤ length old.now }
         ensures { result ≡ true → kinds self.now.tokens.items
@@ -102,7 +102,7 @@ impl RescannedMiddle {
 
     /// Returns whether the new tokens and the old tokens that they replace are equally many, with
     /// the same identifiers at the same places in the two lists.
-    fn has_names_of(&self, new_text: &str, old: &Tokens) -> bool
+    fn has_names_of_replaced(&self, new_text: &str, old: &Tokens) -> bool
         requires ordered { self.now.old_start.tokens ≤ self.now.old_end.tokens }
         requires inside { self.now.old_end.tokens ≤ length old.now.tokens }
         ensures { result ≡ true → names_in new_text.now self.now.tokens.items
@@ -120,7 +120,7 @@ impl RescannedMiddle {
 
     /// Returns whether the new tokens have the same kinds and spellings as the old tokens that they
     /// replace.
-    fn has_words_of(&self, new_text: &str, old: &Tokens) -> bool
+    fn has_words_of_replaced(&self, new_text: &str, old: &Tokens) -> bool
         requires ordered { self.now.old_start.tokens ≤ self.now.old_end.tokens }
         requires inside { self.now.old_end.tokens ≤ length old.now.tokens }
         ensures { result ≡ true → words_of_tokens new_text.now self.now.tokens.items
@@ -339,9 +339,9 @@ pub fn rescan_in_place(
     match scan_changed_part(alloc, &old, new_text, change) {
         Ok(between) => {
             let read = between.tokens.len() + between.comments.len();
-            let same_kinds = between.has_kinds_of(old.tokens());
-            let same_names = between.has_names_of(new_text, &old);
-            let same_words = between.has_words_of(new_text, &old);
+            let same_kinds = between.has_kinds_of_replaced(old.tokens());
+            let same_names = between.has_names_of_replaced(new_text, &old);
+            let same_words = between.has_words_of_replaced(new_text, &old);
             let (prefix, old_suffix) = (between.old_start.tokens, between.old_end.tokens);
             let suffix_len = old.tokens().len() - old_suffix;
             let tokens = old.replace_middle(new_text, between, change)?;
@@ -398,7 +398,7 @@ fn scan_changed_part(
         return Err(ScanRefusal::Faults(too_long_faults(alloc)?));
     }
     let all = old.lexeme_slices();
-    let front = all.front_before(change.from);
+    let front = all.lexemes_ending_before(change.from);
     let mut scanner = Scanner::scanner_after(alloc, new_text, front);
     let rest = continue_scan(&mut scanner, old, change)?;
     let Scanner {
@@ -436,8 +436,8 @@ fn continue_scan<'o>(
 ) -> Result<LexemeSlices<'o>, AllocError>
     requires replaced { ReplacesRange old.now.text scanner.old.text.now change.from change.removed
         change.added }
-    requires under_way { IsConsistentScanner scanner.old }
-    ensures under_way { OnOk result (IsConsistentScanner scanner.new) }
+    requires consistent_scanner { IsConsistentScanner scanner.old }
+    ensures consistent_scanner { OnOk result (IsConsistentScanner scanner.new) }
     ensures text { scanner.new.text ≡ scanner.old.text }
     ensures front { scanner.new.front ≡ scanner.old.front }
     ensures reads { OnOk result (length scanner.new.faults.items ≡ 0
@@ -448,12 +448,14 @@ fn continue_scan<'o>(
     ensures end { OnOk result
         (0 < length scanner.new.faults.items → length scanner.new.text.now ≤ scanner.new.at) }
 {
-    let mut rest = old.lexeme_slices().rest_from(change.from + change.removed);
+    let mut rest = old
+        .lexeme_slices()
+        .lexemes_beginning_from(change.from + change.removed);
     while scanner.at < scanner.text.len() {
         if scanner.faults.is_empty() && scanner.at >= change.from + change.added {
-            let place = change.old_offset(scanner.at);
-            rest = rest.skip_to(place);
-            if rest.first_begins_at(place) {
+            let place = change.offset_in_old_text(scanner.at);
+            rest = rest.skip_lexemes_before(place);
+            if rest.first_lexeme_begins_at(place) {
                 return Ok(rest);
             }
         }

@@ -31,7 +31,7 @@ pub(crate) struct ReplacedRange {
 impl ReplacedRange {
     /// Returns the byte offset in the old text of the place that is at the byte offset `offset` in
     /// the new text. The place must be behind the changed bytes.
-    pub(crate) fn old_offset(self, offset: usize) -> usize
+    pub(crate) fn offset_in_old_text(self, offset: usize) -> usize
         requires following { self.added ≤ offset }
         requires small { offset + self.removed < 2 ^ 64 }
         ensures { result + self.added ≡ offset + self.removed }
@@ -81,7 +81,7 @@ pub(crate) struct LexemeSlices<'t> {
 impl<'t> LexemeSlices<'t> {
     /// Returns the leading tokens and comments that end before the byte offset `offset`, by binary
     /// search. A token or comment that ends at `offset` isn't included.
-    pub(crate) fn front_before(self, offset: usize) -> LexemeSlices<'t>
+    pub(crate) fn lexemes_ending_before(self, offset: usize) -> LexemeSlices<'t>
         requires { AreInOrder self.tokens.now self.comments.now }
         ensures tokens { result.tokens.now ≡ tokens_before_change offset self.entry.tokens.now }
         ensures comments { result.comments.now
@@ -97,7 +97,7 @@ impl<'t> LexemeSlices<'t> {
 
     /// Returns the tokens and comments without the leading ones that begin before the byte offset
     /// `offset`, by binary search.
-    pub(crate) fn rest_from(self, offset: usize) -> LexemeSlices<'t>
+    pub(crate) fn lexemes_beginning_from(self, offset: usize) -> LexemeSlices<'t>
         requires { AreInOrder self.tokens.now self.comments.now }
         ensures tokens { result.tokens.now ≡ tokens_beginning_from offset self.entry.tokens.now }
         ensures comments { result.comments.now ≡ comments_beginning_from offset self.entry.comments.now }
@@ -112,7 +112,7 @@ impl<'t> LexemeSlices<'t> {
 
     /// Returns the tokens and comments without the leading ones that begin before the byte offset
     /// `offset`. The skipped ones should be few, because they are visited one by one.
-    pub(crate) fn skip_to(self, offset: usize) -> LexemeSlices<'t>
+    pub(crate) fn skip_lexemes_before(self, offset: usize) -> LexemeSlices<'t>
         ensures tokens { result.tokens.now ≡ tokens_beginning_from offset self.entry.tokens.now }
         ensures comments { result.comments.now ≡ comments_beginning_from offset self.entry.comments.now }
     {
@@ -125,7 +125,7 @@ impl<'t> LexemeSlices<'t> {
     }
 
     /// Returns whether the first token or the first comment begins at the byte offset `offset`.
-    pub(crate) fn first_begins_at(self, offset: usize) -> bool
+    pub(crate) fn first_lexeme_begins_at(self, offset: usize) -> bool
         ensures { result
             ≡ first_token_begins_at offset self.entry.tokens.now
             || first_comment_begins_at offset self.entry.comments.now }

@@ -9,8 +9,8 @@ use Rattle.ob0_tree.specs.Order.{AreAscending, identifier_names, names_without_r
 use Rattle.ob0_tree.specs.Tree.{Tree, block, body, declares, declares_procedure, end, forms_block, identifiers, is_module, item, items, maybe, module_text, more, none, procedure}
 use Rattle.ob0_tree.specs.FirstIdentifier.{token_of_first_identifier}
 use Rattle.ob0_tree.proofs.AscendingNumbers.{AllBelow, AllFrom, ascend_first, ascend_second, ascending_from, below_second, from_second, leaves_append}
-use Rattle.ob0_scope_table.specs.BodyReplaced.{PathToBody, body_at_path_in_procedures, body_at_path, body_at_path_in_block, body_at_path_in_procedure, closing_name_in_procedures, closing_name_in_module, closing_name_in_block, closing_name_in_procedure, shift_path, path_to_body_in_procedures, path_to_body_in_block, path_to_body_in_procedure, path_to_body_in_module}
-use Rattle.ob0_scope_table.specs.OneBody.{begins_at_or_before, closing_name, is_in_block, is_in_body, is_in_procedure, is_in_procedures}
+use Rattle.ob0_scope_table.specs.BodyReplaced.{PathToBody, body_at_path_in_procedures, body_at_path, body_at_path_in_block, body_at_path_in_procedure, closing_name_at_path_in_procedures, closing_name_at_path, closing_name_at_path_in_block, closing_name_at_path_in_procedure, path_after_insertion_in_front, path_to_body_in_procedures, path_to_body_in_block, path_to_body_in_procedure, path_to_body_in_module}
+use Rattle.ob0_scope_table.specs.OneBody.{first_identifier_is_at_or_before, closing_name, is_range_in_body_of_block, is_range_in_one_body, is_range_in_body_of_procedure, is_range_in_body_of_procedures}
 use Rattle.ob0_scope.proofs.Bodies.{Place, among, one_later}
 use Rattle.ob0_scope.proofs.BodySplit.{split_among, split_inside}
 use Rattle.ob0_scope.proofs.CarriedLists.{some_first}
@@ -20,7 +20,7 @@ first_from : (n first : ℕ) (ids : List (Role × ℕ)) (others : List ℕ) → 
 first_from n first [] others e h = absurd (cc)
 first_from n first (x ∷ ids) others e h = subst (λ m. n ≤ m) (some_first e) h.0
 
-begins_so : (first : ℕ) (ids : List (Role × ℕ)) → token_of_first_identifier ids ≡ Some first → begins_at_or_before first ids ≡ true
+begins_so : (first : ℕ) (ids : List (Role × ℕ)) → token_of_first_identifier ids ≡ Some first → first_identifier_is_at_or_before first ids ≡ true
 begins_so first [] e = absurd (cc)
 begins_so first (x ∷ ids) e = let same = some_first e in le-leb x.1 first (omega (arith, same))
 
@@ -34,7 +34,7 @@ body_first : (n first k : ℕ) (path : PathToBody) (ps : Tree ℕ (items procedu
 body_first n first k path ps statements e h =
     let s = split_among k path role.ClosingName n (identifiers role.Declaring statements) [] ps in
     let ids = identifiers role.Declaring (body_at_path_in_procedures k path ps) in
-    let last : List (Role × ℕ) = (s.closes, closing_name_in_procedures k path n ps) ∷ s.after in
+    let last : List (Role × ℕ) = (s.closes, closing_name_at_path_in_procedures k path n ps) ∷ s.after in
     let own : List (Role × ℕ) = (role.ClosingName, n) ∷ [] in
     let whole : (identifier_names ps ++ identifier_names statements) ++ (n ∷ []) ≡ names_without_roles s.before ++ (names_without_roles ids ++ names_without_roles last) =
     append_assoc (identifier_names ps) (identifier_names statements) (n ∷ [])
@@ -50,11 +50,11 @@ first_among (k ∷ path) n first own ps statements e h = body_first n first k pa
 
 -- The closing name of a body's block isn't after the closing name of the procedure that contains
 -- it.
-closing_last : (path : PathToBody) (q : Tree ℕ (item procedure)) (from to : ℕ) → AreAscending from (identifier_names q) to → closing_name_in_procedure path q ≤ closing_name q
+closing_last : (path : PathToBody) (q : Tree ℕ (item procedure)) (from to : ℕ) → AreAscending from (identifier_names q) to → closing_name_at_path_in_procedure path q ≤ closing_name q
 closing_last path q from to h =
     let s = split_inside path [] q in
     let ids = identifiers role.Declaring (body_at_path_in_procedure path q) in
-    let last : List (Role × ℕ) = (s.closes, closing_name_in_procedure path q) ∷ s.after in
+    let last : List (Role × ℕ) = (s.closes, closing_name_at_path_in_procedure path q) ∷ s.after in
     let whole : identifier_names q ≡ names_without_roles s.before ++ (names_without_roles ids ++ names_without_roles last) =
     ap names_without_roles (sym (append-nil (identifiers role.Declaring q)) ∙ s.whole_is) ∙ (leaves_append s.before (ids ++ last) ∙ ap (λ z. names_without_roles s.before ++ z) (leaves_append ids last)) in
     let below = below_second (closing_name q + 1) (names_without_roles ids) (names_without_roles last) (below_second (closing_name q + 1) (names_without_roles s.before) (names_without_roles ids ++ names_without_roles last) (subst (AllBelow (closing_name q + 1)) whole (all_before q from to h))) in
@@ -83,8 +83,8 @@ ordinal_after_procedure (declares_procedure x fs b closing) rest from to h =
 
 module _ (low high first closing : ℕ) (less : first < low) where
   mutual
-    block_exact : (b : Tree ℕ block) (own from to : ℕ) → is_in_block low high b ≡ true → AreAscending from (identifier_names b) to → token_of_first_identifier (identifiers role.Declaring (body_at_path_in_block (path_to_body_in_block low b) b)) ≡ Some first → closing ≡ closing_name_in_block (path_to_body_in_block low b) own b
-        → is_in_block first closing b ≡ true
+    block_exact : (b : Tree ℕ block) (own from to : ℕ) → is_range_in_body_of_block low high b ≡ true → AreAscending from (identifier_names b) to → token_of_first_identifier (identifiers role.Declaring (body_at_path_in_block (path_to_body_in_block low b) b)) ≡ Some first → closing ≡ closing_name_at_path_in_block (path_to_body_in_block low b) own b
+        → is_range_in_body_of_block first closing b ≡ true
     block_exact (forms_block (declares cs ts vs ps) statements) own from to lies rising e f =
         let c = identifier_names cs in
         let t = identifier_names ts in
@@ -97,12 +97,12 @@ module _ (low high first closing : ℕ) (less : first < low) where
         first_is [] e = e
         first_is (k ∷ path) e = e
 
-        closing_is : (path : PathToBody) → closing ≡ closing_name_in_block path own (forms_block (declares cs ts vs ps) statements) → closing ≡ (among path own ps statements).closing
+        closing_is : (path : PathToBody) → closing ≡ closing_name_at_path_in_block path own (forms_block (declares cs ts vs ps) statements) → closing ≡ (among path own ps statements).closing
         closing_is [] f = f
         closing_is (k ∷ path) f = f
 
-    procedures_exact : (ps : Tree ℕ (items procedure)) (statements : Tree ℕ (maybe body)) (own from to : ℕ) → is_in_procedures low high ps statements ≡ true → AreAscending from (identifier_names ps ++ identifier_names statements) to
-        → token_of_first_identifier (identifiers role.Declaring (among (path_to_body_in_procedures low ps) own ps statements).statements) ≡ Some first → closing ≡ (among (path_to_body_in_procedures low ps) own ps statements).closing → is_in_procedures first closing ps statements ≡ true
+    procedures_exact : (ps : Tree ℕ (items procedure)) (statements : Tree ℕ (maybe body)) (own from to : ℕ) → is_range_in_body_of_procedures low high ps statements ≡ true → AreAscending from (identifier_names ps ++ identifier_names statements) to
+        → token_of_first_identifier (identifiers role.Declaring (among (path_to_body_in_procedures low ps) own ps statements).statements) ≡ Some first → closing ≡ (among (path_to_body_in_procedures low ps) own ps statements).closing → is_range_in_body_of_procedures first closing ps statements ≡ true
     procedures_exact end statements own from to lies rising e f = begins_so first (identifiers role.Declaring statements) e
     procedures_exact (more p ps) statements own from to lies rising e f = one (procedures_exact ps statements own) (procedure_exact p) (nat_lt (closing_name p) low) refl lies e f
       where
@@ -112,37 +112,37 @@ module _ (low high first closing : ℕ) (less : first < low) where
         after : AreAscending (closing_name p + 1) (identifier_names ps ++ identifier_names statements) to
         after = ordinal_after_procedure p (identifier_names ps ++ identifier_names statements) from to rise
 
-        one : ((from to : ℕ) → is_in_procedures low high ps statements ≡ true → AreAscending from (identifier_names ps ++ identifier_names statements) to → token_of_first_identifier (identifiers role.Declaring (among (path_to_body_in_procedures low ps) own ps statements).statements) ≡ Some first → closing ≡ (among (path_to_body_in_procedures low ps) own ps statements).closing → is_in_procedures first closing ps statements ≡ true)
-            → ((from to : ℕ) → is_in_procedure low high p ≡ true → AreAscending from (identifier_names p) to → token_of_first_identifier (identifiers role.Declaring (body_at_path_in_procedure (path_to_body_in_procedure low p) p)) ≡ Some first → closing ≡ closing_name_in_procedure (path_to_body_in_procedure low p) p → is_in_procedure first closing p ≡ true)
-            → (b : Bool) → nat_lt (closing_name p) low ≡ b → (if b then is_in_procedures low high ps statements else nat_le high (closing_name p) && is_in_procedure low high p) ≡ true
-            → token_of_first_identifier (identifiers role.Declaring (among (if b then shift_path (path_to_body_in_procedures low ps) else zero ∷ path_to_body_in_procedure low p) own (more p ps) statements).statements) ≡ Some first
-            → closing ≡ (among (if b then shift_path (path_to_body_in_procedures low ps) else zero ∷ path_to_body_in_procedure low p) own (more p ps) statements).closing
-            → (if nat_lt (closing_name p) first then is_in_procedures first closing ps statements else nat_le closing (closing_name p) && is_in_procedure first closing p) ≡ true
+        one : ((from to : ℕ) → is_range_in_body_of_procedures low high ps statements ≡ true → AreAscending from (identifier_names ps ++ identifier_names statements) to → token_of_first_identifier (identifiers role.Declaring (among (path_to_body_in_procedures low ps) own ps statements).statements) ≡ Some first → closing ≡ (among (path_to_body_in_procedures low ps) own ps statements).closing → is_range_in_body_of_procedures first closing ps statements ≡ true)
+            → ((from to : ℕ) → is_range_in_body_of_procedure low high p ≡ true → AreAscending from (identifier_names p) to → token_of_first_identifier (identifiers role.Declaring (body_at_path_in_procedure (path_to_body_in_procedure low p) p)) ≡ Some first → closing ≡ closing_name_at_path_in_procedure (path_to_body_in_procedure low p) p → is_range_in_body_of_procedure first closing p ≡ true)
+            → (b : Bool) → nat_lt (closing_name p) low ≡ b → (if b then is_range_in_body_of_procedures low high ps statements else nat_le high (closing_name p) && is_range_in_body_of_procedure low high p) ≡ true
+            → token_of_first_identifier (identifiers role.Declaring (among (if b then path_after_insertion_in_front (path_to_body_in_procedures low ps) else zero ∷ path_to_body_in_procedure low p) own (more p ps) statements).statements) ≡ Some first
+            → closing ≡ (among (if b then path_after_insertion_in_front (path_to_body_in_procedures low ps) else zero ∷ path_to_body_in_procedure low p) own (more p ps) statements).closing
+            → (if nat_lt (closing_name p) first then is_range_in_body_of_procedures first closing ps statements else nat_le closing (closing_name p) && is_range_in_body_of_procedure first closing p) ≡ true
         one further inside true is lies e f =
             let here = one_later (path_to_body_in_procedures low ps) own p ps statements in
             let e' = sym (ap (λ (q : Place). token_of_first_identifier (identifiers role.Declaring q.statements)) here) ∙ e in
             let f' = f ∙ ap (λ (q : Place). q.closing) here in
             let past = first_among (path_to_body_in_procedures low ps) (closing_name p + 1) first own ps statements e' (ascending_from (closing_name p + 1) (identifier_names ps ++ identifier_names statements) to after) in
-            ap (λ b. if b then is_in_procedures first closing ps statements else nat_le closing (closing_name p) && is_in_procedure first closing p) (lt-ltb (closing_name p) first (omega (arith, past)))
+            ap (λ b. if b then is_range_in_body_of_procedures first closing ps statements else nat_le closing (closing_name p) && is_range_in_body_of_procedure first closing p) (lt-ltb (closing_name p) first (omega (arith, past)))
             ∙ further (closing_name p + 1) to lies after e' f'
         one further inside false is lies e f =
-            let both = and_parts (nat_le high (closing_name p)) (is_in_procedure low high p) lies in
+            let both = and_parts (nat_le high (closing_name p)) (is_range_in_body_of_procedure low high p) lies in
             let le : low ≤ closing_name p = grind (arith, nat_tests) in
             let rising_p = ascend_first from (identifier_names p) (identifier_names ps ++ identifier_names statements) to rise in
             let last = closing_last (path_to_body_in_procedure low p) p from to rising_p in
-            ap (λ b. if b then is_in_procedures first closing ps statements else nat_le closing (closing_name p) && is_in_procedure first closing p) (le-ltb (closing_name p) first (omega (arith, less, le)))
+            ap (λ b. if b then is_range_in_body_of_procedures first closing ps statements else nat_le closing (closing_name p) && is_range_in_body_of_procedure first closing p) (le-ltb (closing_name p) first (omega (arith, less, le)))
             ∙ (λ i. le-leb closing (closing_name p) (omega (arith, f, last)) i && inside from to both.1 rising_p e f i)
 
-    procedure_exact : (p : Tree ℕ (item procedure)) (from to : ℕ) → is_in_procedure low high p ≡ true → AreAscending from (identifier_names p) to → token_of_first_identifier (identifiers role.Declaring (body_at_path_in_procedure (path_to_body_in_procedure low p) p)) ≡ Some first → closing ≡ closing_name_in_procedure (path_to_body_in_procedure low p) p
-        → is_in_procedure first closing p ≡ true
+    procedure_exact : (p : Tree ℕ (item procedure)) (from to : ℕ) → is_range_in_body_of_procedure low high p ≡ true → AreAscending from (identifier_names p) to → token_of_first_identifier (identifiers role.Declaring (body_at_path_in_procedure (path_to_body_in_procedure low p) p)) ≡ Some first → closing ≡ closing_name_at_path_in_procedure (path_to_body_in_procedure low p) p
+        → is_range_in_body_of_procedure first closing p ≡ true
     procedure_exact (declares_procedure x fs b closing') from to lies rising e f =
         let split : identifier_names (declares_procedure x fs b closing') ≡ (x ∷ identifier_names fs) ++ (identifier_names b ++ (closing' ∷ [])) = simp (leaves_append, append_assoc) in
         let parts = ascend_second from (x ∷ identifier_names fs) (identifier_names b ++ (closing' ∷ [])) to (subst (λ l. AreAscending from l to) split rising) in
         block_exact b closing' from to lies (ascend_first from (identifier_names b) (closing' ∷ []) to parts) e f
 
-  pub module_exact : (t : Tree ℕ module_text) (to : ℕ) → is_in_body low high t ≡ true → AreAscending 0 (identifier_names t) to → token_of_first_identifier (identifiers role.Declaring (body_at_path (path_to_body_in_module low t) t)) ≡ Some first → closing ≡ closing_name_in_module (path_to_body_in_module low t) t → is_in_body first closing t ≡ true
+  pub module_exact : (t : Tree ℕ module_text) (to : ℕ) → is_range_in_one_body low high t ≡ true → AreAscending 0 (identifier_names t) to → token_of_first_identifier (identifiers role.Declaring (body_at_path (path_to_body_in_module low t) t)) ≡ Some first → closing ≡ closing_name_at_path (path_to_body_in_module low t) t → is_range_in_one_body first closing t ≡ true
   module_exact (is_module x b closing') to lies rising e f =
-      let both = and_parts (nat_le high closing') (is_in_block low high b) lies in
+      let both = and_parts (nat_le high closing') (is_range_in_body_of_block low high b) lies in
       let ids = identifiers role.Declaring b in
       let as_procedure : identifier_names (is_module x b closing') ≡ identifier_names (declares_procedure x none b closing') = ap (λ l. x ∷ l) (leaves_append ids ((role.ModuleName, closing') ∷ []) ∙ sym (leaves_append ids ((role.ClosingName, closing') ∷ []))) in
       let last = closing_last (path_to_body_in_block low b) (declares_procedure x none b closing') 0 to (subst (λ l. AreAscending 0 l to) as_procedure rising) in

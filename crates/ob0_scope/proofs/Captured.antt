@@ -8,7 +8,7 @@ use Rattle.ob0_scope.specs.declared.name_conflicts.FirstConflict.TheVariants as 
 use Rattle.ob0_language_names.specs.Names.{Name, same_name}
 use Rattle.ob0_language_names.specs.Occurrences.{Free, at_declaration, at_occurrence, bindings, scopes_in_block, declares_ordinal, first_name_conflict, first_difference, is_duplicate_name, another_declaration_has_name}
 use Rattle.ob0_language_names.specs.Parts.{module_block}
-use Rattle.ob0_scope.specs.Renames.{namesake, namesake_in, other_with_name, conflict_of}
+use Rattle.ob0_scope.specs.Renames.{namesake, namesake_in_scopes, other_with_name, conflict_of}
 use Rattle.ob0_language_names.specs.Scopes.{Scope, renamed}
 use Rattle.ob0_scope.proofs.FirstCaptures.{free_means_no_conflict-holds}
 
@@ -20,10 +20,10 @@ other_is (b ∷ own) d new = one (same_name b.0 new && not (b.1 == d)) (other_wi
     one true found rest e = refl
     one false found rest e = e
 
-namesake_is : (blocks : List (Scope Name)) (d : ℕ) (new : Name) → is_some (namesake_in blocks d new) ≡ list_any (λ own. declares_ordinal own d && another_declaration_has_name own d new) blocks
+namesake_is : (blocks : List (Scope Name)) (d : ℕ) (new : Name) → is_some (namesake_in_scopes blocks d new) ≡ list_any (λ own. declares_ordinal own d && another_declaration_has_name own d new) blocks
 namesake_is [] d new = refl
 namesake_is (own ∷ blocks) d new =
-    both (if declares_ordinal own d then other_with_name own d new else None) (namesake_in blocks d new)
+    both (if declares_ordinal own d then other_with_name own d new else None) (namesake_in_scopes blocks d new)
     ∙ (λ i. (here (declares_ordinal own d) ∙ ap (λ b. declares_ordinal own d && b) (other_is own d new)) i || namesake_is blocks d new i)
   where
     both : (o p : Option ℕ) → is_some (option_or o p) ≡ (is_some o || is_some p)

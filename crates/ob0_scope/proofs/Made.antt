@@ -18,7 +18,7 @@ use Rattle.ob0_language_names.specs.Names.{Name, naming_by_spelling}
 use Rattle.ob0_scope_table.specs.Resolution.{AreNameFaultsOf, IsNumberingTable, IsResolution, OnlyNamesHaveOrdinals, declaring_names, is_duplicate_or_end_name, is_undeclared_fault, is_unbound, label_at, ordinal_in, span_at, undeclared_faults_by_labels, undeclared_faults, undeclared_faults_by_table, ordinal_and_spelling}
 use Rattle.ob0_language_names.specs.Scopes.{label_from_ordinal}
 use Rattle.ob0_scope_numbering.specs.Marks.{with_marks}
-use Rattle.ob0_scope_numbering.specs.MarkWalk.{WalkState, initial_walk, visit_module}
+use Rattle.ob0_scope_numbering.specs.MarkWalk.{WalkState, initial_walk_state, visit_module}
 use Rattle.ob0_scope_numbering.specs.Written.{original_spellings}
 use Rattle.ob0_scope_table.proofs.Bound.{bindings_by_table}
 use Rattle.ob0_scope_numbering.proofs.Passing.{HasMarks, at_start, module_passed}
@@ -93,12 +93,12 @@ faults_reported m ordinals numbering =
     }
 
 -- A module with its faults and a table that has all its marks is resolved.
-pub resolution_marked : (m : ParsedModule) (ordinals : List (Option ℕ)) (declaration_tokens uses : List ℕ) (once faults : List Fault) → IsParsed m → HasMarks (ordinal_in ordinals) (visit_module (tree_of m) (initial_walk (original_spellings m.source))).marks → OnlyNamesHaveOrdinals m ordinals
+pub resolution_marked : (m : ParsedModule) (ordinals : List (Option ℕ)) (declaration_tokens uses : List ℕ) (once faults : List Fault) → IsParsed m → HasMarks (ordinal_in ordinals) (visit_module (tree_of m) (initial_walk_state (original_spellings m.source))).marks → OnlyNamesHaveOrdinals m ordinals
     → declaration_tokens ≡ declaring_names (identifiers role.Declaring (tree_of m)) → uses ≡ occurrences (tree_of m) → once ≡ declaration_faults m → faults ≡ once ++ undeclared_faults_by_table m.source ordinals uses
     → IsResolution (record { module_read = m; ordinals = ordinals; declaration_tokens = declaration_tokens; uses = uses; faults = faults })
 resolution_marked m ordinals declaration_tokens uses once faults parsed are_there alone declaring occurring twice all =
-    let numbered_so = module_passed (ordinal_in ordinals) (label_from_ordinal naming_by_spelling) (original_spellings m.source) (tree_of m) (initial_walk (original_spellings m.source)) (at_start (original_spellings m.source)) in
-    let paired = module_passed (ordinal_in ordinals) ordinal_and_spelling (original_spellings m.source) (tree_of m) (initial_walk (original_spellings m.source)) (at_start (original_spellings m.source)) in
+    let numbered_so = module_passed (ordinal_in ordinals) (label_from_ordinal naming_by_spelling) (original_spellings m.source) (tree_of m) (initial_walk_state (original_spellings m.source)) (at_start (original_spellings m.source)) in
+    let paired = module_passed (ordinal_in ordinals) ordinal_and_spelling (original_spellings m.source) (tree_of m) (initial_walk_state (original_spellings m.source)) (at_start (original_spellings m.source)) in
     let numbering : IsNumberingTable m ordinals = (numbered_so.agree are_there).1 in
     record {
       parsed = parsed;
@@ -111,14 +111,14 @@ resolution_marked m ordinals declaration_tokens uses once faults parsed are_ther
     }
 
 -- A visited module with its faults and the table of its marks is resolved.
-pub resolution_made : (m : ParsedModule) (v : WalkState) (ordinals : List (Option ℕ)) (declaration_tokens uses : List ℕ) (once faults : List Fault) → IsParsed m → v ≡ visit_module (tree_of m) (initial_walk (original_spellings m.source))
+pub resolution_made : (m : ParsedModule) (v : WalkState) (ordinals : List (Option ℕ)) (declaration_tokens uses : List ℕ) (once faults : List Fault) → IsParsed m → v ≡ visit_module (tree_of m) (initial_walk_state (original_spellings m.source))
     → ordinals ≡ with_marks (replicate (length m.source.tokens) None) v.marks → declaration_tokens ≡ v.declaration_tokens → uses ≡ v.uses → once ≡ declaration_faults m → faults ≡ once ++ undeclared_faults_by_table m.source ordinals uses
     → IsResolution (record { module_read = m; ordinals = ordinals; declaration_tokens = declaration_tokens; uses = uses; faults = faults })
 resolution_made m v ordinals declaration_tokens uses once faults parsed gone tabled declares occurs twice all =
     let w = original_spellings m.source in
-    let passed = module_passed (ordinal_in ordinals) (label_from_ordinal naming_by_spelling) w (tree_of m) (initial_walk w) (at_start w) in
-    let table : ordinals ≡ with_marks (replicate (length m.source.tokens) None) (visit_module (tree_of m) (initial_walk w)).marks = tabled ∙ ap (λ (v : WalkState). with_marks (replicate (length m.source.tokens) None) v.marks) gone in
-    let marks = (visit_module (tree_of m) (initial_walk w)).marks in
+    let passed = module_passed (ordinal_in ordinals) (label_from_ordinal naming_by_spelling) w (tree_of m) (initial_walk_state w) (at_start w) in
+    let table : ordinals ≡ with_marks (replicate (length m.source.tokens) None) (visit_module (tree_of m) (initial_walk_state w)).marks = tabled ∙ ap (λ (v : WalkState). with_marks (replicate (length m.source.tokens) None) v.marks) gone in
+    let marks = (visit_module (tree_of m) (initial_walk_state w)).marks in
     let nothing : List (Option ℕ) = replicate (length m.source.tokens) None in
     resolution_marked m ordinals declaration_tokens uses once faults parsed (marks_in_table m w v ordinals parsed gone tabled)
     (λ token e.

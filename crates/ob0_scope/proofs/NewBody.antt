@@ -27,23 +27,23 @@ use Rattle.ob0_language_names.specs.Scopes.{relabel_module}
 use Rattle.ob0_tree.specs.FirstIdentifier.{token_of_first_identifier}
 use Rattle.ob0_tree.proofs.AscendingNumbers.{AllBelow, AllFrom, below_more, from_less, leaves_append}
 use Rattle.ob0_tree.proofs.MappedIdentifiers.{beside_role, identifiers-mapped_tree, leaves_mapped}
-use Rattle.ob0_scope_table.specs.BodyReplaced.{IsBodyReplaced, PathToBody, body_at_path, closing_name_in_module, moved_token_index, path_to_body_in_module, module_without_body}
+use Rattle.ob0_scope_table.specs.BodyReplaced.{IsBodyReplaced, PathToBody, body_at_path, closing_name_at_path, moved_token_index, path_to_body_in_module, module_without_body}
 use Rattle.ob0_scope_table.specs.DuplicatesAndEndNames.{declaration_faults}
-use Rattle.ob0_scope_table.specs.OneBody.{is_outside}
-use Rattle.ob0_scope_table.specs.Resolution.{IsBindingTable, IsResolution, binding_at, declaring_names, ordinal_in, undeclared_faults_by_table, ordinal_and_spelling}
+use Rattle.ob0_scope_table.specs.OneBody.{is_outside_range}
+use Rattle.ob0_scope_table.specs.Resolution.{IsBindingTable, IsResolution, ordinal_and_spelling_at, declaring_names, ordinal_in, undeclared_faults_by_table, ordinal_and_spelling}
 use Rattle.ob0_scope_table.specs.declared.resolved.Bindings.{Bindings}
 use Rattle.ob0_scope_table.proofs.BodyReplaced.{names_outside, without_mapped}
 use Rattle.ob0_scope_table.proofs.Moved.{moved_above, moved_below}
 use Rattle.ob0_scope_table.proofs.Plain.{declares_nothing}
-use Rattle.ob0_scope_numbering.specs.MarkWalk.{initial_walk, visit_module}
+use Rattle.ob0_scope_numbering.specs.MarkWalk.{initial_walk_state, visit_module}
 use Rattle.ob0_scope_numbering.specs.Marks.{OrdinalMark, with_marks}
-use Rattle.ob0_scope_numbering.specs.BodyWalk.{renumber_module, initial_walk_over}
+use Rattle.ob0_scope_numbering.specs.BodyWalk.{renumber_module, initial_walk_state_with_table}
 use Rattle.ob0_scope_numbering.specs.Written.{original_spellings}
 use Rattle.ob0_scope_numbering.proofs.BodyTables.{HasMarksAt, body_renumbered}
 use Rattle.ob0_scope_table.proofs.FewTokens.{few_tokens}
 use Rattle.ob0_scope_numbering.proofs.Passing.{HasMarks, at_start, module_passed, tokens_of}
 use Rattle.ob0_scope_numbering.proofs.Tables.{marks_in_table}
-use Rattle.ob0_scope.specs.Carried.{IsNewBody, carried_tokens, carried_ordinals, no_names, old_closing_token, with_identifier}
+use Rattle.ob0_scope.specs.Carried.{IsRangeOfNewBody, carried_tokens, carried_ordinals, no_names, old_closing_token, with_identifier}
 use Rattle.ob0_scope.specs.declared.body_range.BodyRange.{BodyRange}
 use Rattle.ob0_scope.proofs.BodyExact.{module_exact}
 use Rattle.ob0_scope.proofs.BodySplit.{split_module}
@@ -110,10 +110,10 @@ record Known (old new : ParsedModule) (path : PathToBody) (range : BodyRange) : 
 
 module _ (old new : ParsedModule) (path : PathToBody) (s : SameParts) (r : IsBodyReplaced old new path s) where
   abbrev old_closing : ℕ
-  old_closing = closing_name_in_module path (tree_of old)
+  old_closing = closing_name_at_path path (tree_of old)
 
   abbrev new_closing : ℕ
-  new_closing = closing_name_in_module path (tree_of new)
+  new_closing = closing_name_at_path path (tree_of new)
 
   abbrev exact : BodyRange
   exact = record { first = r.first; old_closing = old_closing; closing = new_closing }
@@ -177,7 +177,7 @@ module _ (old new : ParsedModule) (path : PathToBody) (s : SameParts) (r : IsBod
       let there : new_closing - s.new_suffix + s.old_suffix ≡ old_closing = omega (arith, closing, back) in
       min-eq_left (let small : new_closing - s.new_suffix + s.old_suffix ≤ 2 ^ 64 - 1 = omega (arith, there, few, inside) in small) ∙ there
 
-known_in : (old new : ParsedModule) (path : PathToBody) (s : SameParts) (range : BodyRange) (r : IsBodyReplaced old new path s) → range.first ≡ r.first → range.closing ≡ closing_name_in_module path (tree_of new) → range.old_closing ≡ old_closing_token s range.closing → Known old new path range
+known_in : (old new : ParsedModule) (path : PathToBody) (s : SameParts) (range : BodyRange) (r : IsBodyReplaced old new path s) → range.first ≡ r.first → range.closing ≡ closing_name_at_path path (tree_of new) → range.old_closing ≡ old_closing_token s range.closing → Known old new path range
 known_in old new path s range r first closing place =
     let there = place ∙ (ap (old_closing_token s) closing ∙ place_is old new path s r) in
     let is : exact old new path s r ≡ range = λ i. record { first = sym first i; old_closing = sym there i; closing = sym closing i } in
@@ -198,7 +198,7 @@ both_each : (f g : ℕ → Option ℕ) (h : ℕ → ℕ) (xs ys : List ℕ) → 
 both_each f g h [] ys e = (tt, each_of f g h ys e)
 both_each f g h (x ∷ xs) ys e = let rest = both_each f g h xs ys (ap (drop 1) e) in ((ap (λ l. get_or l 0 None) e, rest.0), rest.1)
 
-ordinals_at : (source : TextWithTokens) (ordinals : List (Option ℕ)) (xs : List ℕ) → map (λ (p : Option ℕ × List ℕ). p.0) (map (binding_at source ordinals) xs) ≡ map (ordinal_in ordinals) xs
+ordinals_at : (source : TextWithTokens) (ordinals : List (Option ℕ)) (xs : List ℕ) → map (λ (p : Option ℕ × List ℕ). p.0) (map (ordinal_and_spelling_at source ordinals) xs) ≡ map (ordinal_in ordinals) xs
 ordinals_at source ordinals [] = refl
 ordinals_at source ordinals (x ∷ xs) = ap (λ l. ordinal_in ordinals x ∷ l) (ordinals_at source ordinals xs)
 
@@ -206,13 +206,13 @@ ordinals_at source ordinals (x ∷ xs) = ap (λ l. ordinal_in ordinals x ∷ l) 
 same_outside : (old new : ParsedModule) (path : PathToBody) (s : SameParts) (before now : List (Option ℕ)) → IsBodyReplaced old new path s → IsBindingTable old before → IsBindingTable new now
     → map (ordinal_in now) (identifier_names (module_without_body path (tree_of new))) ≡ map (ordinal_in before) (identifier_names (module_without_body path (tree_of old)))
 same_outside old new path s before now r was is =
-    let outside : (m : ParsedModule) (ordinals : List (Option ℕ)) → IsBindingTable m ordinals → relabel_module naming_by_spelling ordinal_and_spelling (tree_with_names m.source (module_without_body path (tree_of m))) ≡ mapped_tree (binding_at m.source ordinals) (token_value_at m.source) (module_without_body path (tree_of m)) =
+    let outside : (m : ParsedModule) (ordinals : List (Option ℕ)) → IsBindingTable m ordinals → relabel_module naming_by_spelling ordinal_and_spelling (tree_with_names m.source (module_without_body path (tree_of m))) ≡ mapped_tree (ordinal_and_spelling_at m.source ordinals) (token_value_at m.source) (module_without_body path (tree_of m)) =
     λ m ordinals bound.
     ap (relabel_module naming_by_spelling ordinal_and_spelling) (sym (without_mapped (token_text_at m.source) (token_value_at m.source) path (tree_of m)))
     ∙ (sym (without_relabelled naming_by_spelling ordinal_and_spelling path (named_tree_of m))
-    ∙ (ap (module_without_body path) bound ∙ without_mapped (binding_at m.source ordinals) (token_value_at m.source) path (tree_of m))) in
-    let listed : (m : ParsedModule) (ordinals : List (Option ℕ)) → map (λ (p : Option ℕ × List ℕ). p.0) (identifier_names (mapped_tree (binding_at m.source ordinals) (token_value_at m.source) (module_without_body path (tree_of m)))) ≡ map (ordinal_in ordinals) (identifier_names (module_without_body path (tree_of m))) =
-    λ m ordinals. ap (map (λ (p : Option ℕ × List ℕ). p.0)) (leaves_mapped (binding_at m.source ordinals) (token_value_at m.source) (module_without_body path (tree_of m))) ∙ ordinals_at m.source ordinals (identifier_names (module_without_body path (tree_of m))) in
+    ∙ (ap (module_without_body path) bound ∙ without_mapped (ordinal_and_spelling_at m.source ordinals) (token_value_at m.source) path (tree_of m))) in
+    let listed : (m : ParsedModule) (ordinals : List (Option ℕ)) → map (λ (p : Option ℕ × List ℕ). p.0) (identifier_names (mapped_tree (ordinal_and_spelling_at m.source ordinals) (token_value_at m.source) (module_without_body path (tree_of m)))) ≡ map (ordinal_in ordinals) (identifier_names (module_without_body path (tree_of m))) =
+    λ m ordinals. ap (map (λ (p : Option ℕ × List ℕ). p.0)) (leaves_mapped (ordinal_and_spelling_at m.source ordinals) (token_value_at m.source) (module_without_body path (tree_of m))) ∙ ordinals_at m.source ordinals (identifier_names (module_without_body path (tree_of m))) in
     sym (listed new now)
     ∙ (ap (λ t. map (λ (p : Option ℕ × List ℕ). p.0) (identifier_names t)) (sym (outside new now is) ∙ (ap (relabel_module naming_by_spelling ordinal_and_spelling) (names_outside old new path s r) ∙ outside old before was))
     ∙ listed old before)
@@ -232,7 +232,7 @@ marks_at : (out : ℕ → Bool) (f g : ℕ → Option ℕ) (ms : List OrdinalMar
 marks_at out f g [] has agree = tt
 marks_at out f g (m ∷ ms) has agree = ((λ e. agree.0 e ∙ has.0), marks_at out f g ms has.1 agree.1)
 
-not_out : (low high i : ℕ) → low ≤ i → i < high → is_outside low high i ≡ true → ⊥
+not_out : (low high i : ℕ) → low ≤ i → i < high → is_outside_range low high i ≡ true → ⊥
 not_out low high i le less e = one (nat_lt i low) (nat_le high i) refl refl e
   where
     one : (b c : Bool) → nat_lt i low ≡ b → nat_le high i ≡ c → (b || c) ≡ true → ⊥
@@ -244,15 +244,15 @@ module _ (range : BodyRange) (table : List (Option ℕ)) (now : ℕ → Option �
   abbrev kept : ℕ → Option ℕ
   kept = ordinal_in (carried_ordinals range table)
 
-  agree_before : (xs : List ℕ) → AllBelow range.first xs → Each (λ i. now i ≡ ordinal_in table i) xs → AgreeAt (is_outside range.first range.closing) kept now xs
+  agree_before : (xs : List ℕ) → AllBelow range.first xs → Each (λ i. now i ≡ ordinal_in table i) xs → AgreeAt (is_outside_range range.first range.closing) kept now xs
   agree_before [] h k = tt
   agree_before (x ∷ xs) h k = ((λ e. table_before range table (omega (arith, less)) x h.0 ∙ sym k.0), agree_before xs h.1 k.1)
 
-  agree_within : (xs : List ℕ) → AllFrom range.first xs → AllBelow range.closing xs → AgreeAt (is_outside range.first range.closing) kept now xs
+  agree_within : (xs : List ℕ) → AllFrom range.first xs → AllBelow range.closing xs → AgreeAt (is_outside_range range.first range.closing) kept now xs
   agree_within [] h k = tt
   agree_within (x ∷ xs) h k = ((λ e. absurd (not_out range.first range.closing x h.0 k.0 e)), agree_within xs h.1 k.1)
 
-  agree_after : (xs : List ℕ) → AllFrom range.old_closing xs → Each (λ i. now (far range i) ≡ ordinal_in table i) xs → AgreeAt (is_outside range.first range.closing) kept now (map (far range) xs)
+  agree_after : (xs : List ℕ) → AllFrom range.old_closing xs → Each (λ i. now (far range i) ≡ ordinal_in table i) xs → AgreeAt (is_outside_range range.first range.closing) kept now (map (far range) xs)
   agree_after [] h k = tt
   agree_after (x ∷ xs) h k =
       let back : range.old_closing + (far range x - range.closing) ≡ x = omega (arith, h.0) in
@@ -345,9 +345,9 @@ module _ (old new : ParsedModule) (path : PathToBody) (range : BodyRange) (known
 
 -- ---- the complete result
 
-pub new_body_bound : (m : ParsedModule) (b : Bindings) (range : BodyRange) (own : List ℕ) (ordinals : List (Option ℕ)) (declaration_tokens uses : List ℕ) (once faults : List Fault) → IsNewBody m b range own
+pub new_body_bound : (m : ParsedModule) (b : Bindings) (range : BodyRange) (own : List ℕ) (ordinals : List (Option ℕ)) (declaration_tokens uses : List ℕ) (once faults : List Fault) → IsRangeOfNewBody m b range own
     → length m.source.tokens ≤ length (carried_ordinals range b.ordinals.items) → declaration_tokens ≡ carried_tokens range b.declaration_tokens.items []
-    → ordinals ≡ (renumber_module declaration_tokens range.first (tree_of m) (initial_walk_over (original_spellings m.source) (carried_ordinals range b.ordinals.items))).marks → uses ≡ carried_tokens range b.occurrences.items own
+    → ordinals ≡ (renumber_module declaration_tokens range.first (tree_of m) (initial_walk_state_with_table (original_spellings m.source) (carried_ordinals range b.ordinals.items))).marks → uses ≡ carried_tokens range b.occurrences.items own
     → once ≡ declaration_faults m → faults ≡ once ++ undeclared_faults_by_table m.source ordinals uses
     → IsResolution (record { module_read = m; ordinals = ordinals; declaration_tokens = declaration_tokens; uses = uses; faults = faults })
 new_body_bound m b range own ordinals declaration_tokens uses once faults n long declared numbered used twice all =
@@ -362,13 +362,13 @@ new_body_bound m b range own ordinals declaration_tokens uses once faults n long
     let first : range.first ≡ r.first = some_first (sym n.first ∙ (ap (λ y. token_of_first_identifier (identifiers role.Declaring (body_at_path y (tree_of m)))) there ∙ r.first_identifier_of_new_body)) in
     let front = r.front in
     let lies = module_exact s.prefix s.new_suffix range.first range.closing (omega (arith, first, front)) (tree_of m) (length m.source.tokens) r.new_in_body (leaves_ascend m r.new_parsed) n.first n.closing in
-    let known = known_in old m path s range r first (n.closing ∙ ap (λ y. closing_name_in_module y (tree_of m)) there) n.old_closing in
+    let known = known_in old m path s range r first (n.closing ∙ ap (λ y. closing_name_at_path y (tree_of m)) there) n.old_closing in
     let table = b.ordinals.items in
     let kept_table = carried_ordinals range table in
-    let marks = (visit_module (tree_of m) (initial_walk w)).marks in
+    let marks = (visit_module (tree_of m) (initial_walk_state w)).marks in
     let full = with_marks (replicate (length m.source.tokens) None) marks in
-    let has : HasMarks (ordinal_in full) marks = marks_in_table m w (visit_module (tree_of m) (initial_walk w)) full r.new_parsed refl refl in
-    let paired = module_passed (ordinal_in full) ordinal_and_spelling w (tree_of m) (initial_walk w) (at_start w) in
+    let has : HasMarks (ordinal_in full) marks = marks_in_table m w (visit_module (tree_of m) (initial_walk_state w)) full r.new_parsed refl refl in
+    let paired = module_passed (ordinal_in full) ordinal_and_spelling w (tree_of m) (initial_walk_state w) (at_start w) in
     let binding : IsBindingTable m full = (paired.agree has).1 in
     let before = names_without_roles known.before in
     let after = names_without_roles known.after in
@@ -377,7 +377,7 @@ new_body_bound m b range own ordinals declaration_tokens uses once faults n long
     ∙ (same_outside old m path s table full r res.binding binding ∙ ap (map (ordinal_in table)) (ap names_without_roles known.old_rest ∙ leaves_append known.before known.after)) in
     let each = both_each (ordinal_in full) (ordinal_in table) (far range) before after same in
     let less = known.new_parts.less in
-    let out = is_outside range.first range.closing in
+    let out = is_outside_range range.first range.closing in
     let agree : AgreeAt out (ordinal_in kept_table) (ordinal_in full) (before ++ (names_without_roles known.others ++ map (far range) after)) =
     agree_both out (ordinal_in kept_table) (ordinal_in full) before (names_without_roles known.others ++ map (far range) after) (agree_before range table (ordinal_in full) less before known.new_parts.before_below each.0)
     (agree_both out (ordinal_in kept_table) (ordinal_in full) (names_without_roles known.others) (map (far range) after) (agree_within range table (ordinal_in full) less (names_without_roles known.others) known.new_parts.own_from known.new_parts.own_below)

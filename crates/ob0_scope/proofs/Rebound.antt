@@ -8,10 +8,10 @@ use Rattle.ob0_tree.specs.ParsedModule.{ParsedModule, tree_of}
 use Rattle.ob0_language_names.specs.Names.{naming_by_spelling}
 use Rattle.ob0_language_names.specs.Scopes.{label_from_ordinal}
 use Rattle.ob0_scope_table.specs.Bindings.{resolution_with}
-use Rattle.ob0_scope_table.specs.OneBody.{IsBodyChange, is_outside}
+use Rattle.ob0_scope_table.specs.OneBody.{IsBodyChange, is_outside_range}
 use Rattle.ob0_scope_table.specs.Resolution.{IsResolution, ordinal_in}
 use Rattle.ob0_scope_table.specs.declared.resolved.Bindings.{Bindings}
-use Rattle.ob0_scope_numbering.specs.MarkWalk.{initial_walk, visit_module}
+use Rattle.ob0_scope_numbering.specs.MarkWalk.{initial_walk_state, visit_module}
 use Rattle.ob0_scope_numbering.specs.Marks.{OrdinalMark}
 use Rattle.ob0_scope_numbering.specs.Written.{original_spellings}
 use Rattle.ob0_scope_numbering.proofs.Alongside.{Alike}
@@ -33,14 +33,14 @@ same_at out f g (o ∷ os) (m ∷ ms) h k alike i e there = one (same_at out f g
     one later false here at = later at
 
 pub ordinals_outside : (old : TextWithTokens) (m : ParsedModule) (low high : ℕ) (b c : Bindings) → IsBodyChange old m low high → IsResolution (resolution_with (record m { source = old }) b) → IsResolution (resolution_with m c)
-    → (i : ℕ) → is_outside low high i ≡ true → ordinal_in c.ordinals.items i ≡ ordinal_in b.ordinals.items i
+    → (i : ℕ) → is_outside_range low high i ≡ true → ordinal_in c.ordinals.items i ≡ ordinal_in b.ordinals.items i
 ordinals_outside old m low high b c change was is i e = one (list_any (λ j. j == i) (identifier_names (tree_of m))) refl
   where
     one : (found : Bool) → list_any (λ j. j == i) (identifier_names (tree_of m)) ≡ found → ordinal_in c.ordinals.items i ≡ ordinal_in b.ordinals.items i
     one true there =
         let w = original_spellings m.source in
-        let passed = module_passed (λ k. None) (label_from_ordinal naming_by_spelling) w (tree_of m) (initial_walk w) (at_start w) in
-        same_at (is_outside low high) (ordinal_in b.ordinals.items) (ordinal_in c.ordinals.items) (visit_module (tree_of m) (initial_walk (original_spellings old))).marks (visit_module (tree_of m) (initial_walk w)).marks
+        let passed = module_passed (λ k. None) (label_from_ordinal naming_by_spelling) w (tree_of m) (initial_walk_state w) (at_start w) in
+        same_at (is_outside_range low high) (ordinal_in b.ordinals.items) (ordinal_in c.ordinals.items) (visit_module (tree_of m) (initial_walk_state (original_spellings old))).marks (visit_module (tree_of m) (initial_walk_state w)).marks
         (marks_resolved (resolution_with (record m { source = old }) b) was) (marks_resolved (resolution_with m c) is) (body_alike old m low high is.parsed change) i e
         (ap (list_any (λ j. j == i)) passed.tokens ∙ there)
     one false absent = is.ordinals_only_at_names i absent ∙ sym (was.ordinals_only_at_names i absent)

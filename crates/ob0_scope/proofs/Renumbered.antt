@@ -7,12 +7,12 @@ use Rattle.ob0_tree.specs.Places.{token_text_at, token_value_at}
 use Rattle.ob0_tree.specs.Tree.{mapped_tree, occurrences}
 use Rattle.ob0_language_names.specs.Names.{Label, Name, naming_by_spelling, as_written}
 use Rattle.ob0_language_names.specs.Occurrences.{bindings, first_difference, label_ordinal, same_binding}
-use Rattle.ob0_scope.specs.Renames.{IsRenumbering, have_same_binding, spellings_after_rename}
-use Rattle.ob0_scope_table.specs.Resolution.{IsResolution, Resolution, binding_at, label_at, ordinal_in, ordinal_and_spelling}
+use Rattle.ob0_scope.specs.Renames.{AreOrdinalsAfterRename, have_same_binding, spellings_after_rename}
+use Rattle.ob0_scope_table.specs.Resolution.{IsResolution, Resolution, ordinal_and_spelling_at, label_at, ordinal_in, ordinal_and_spelling}
 use Rattle.ob0_language_names.specs.Scopes.{label_from_ordinal, numbered, renamed, same_ordinal}
 use Rattle.ob0_scope_numbering.specs.Marks.{with_marks}
-use Rattle.ob0_scope_numbering.specs.MarkWalk.{WalkState, initial_walk, visit_module}
-use Rattle.ob0_scope_numbering.specs.Written.{spelling_at, spelled_tree}
+use Rattle.ob0_scope_numbering.specs.MarkWalk.{WalkState, initial_walk_state, visit_module}
+use Rattle.ob0_scope_numbering.specs.Written.{spelling_at, tree_with_spellings}
 use Rattle.ob0_scope_table.proofs.Bound.{bindings_by_table}
 use Rattle.ob0_scope.proofs.FirstCaptures.{same_binding-refl}
 use Rattle.ob0_scope.proofs.Fused.{mapped_tree-mapped_tree, relabel_module-mapped_tree}
@@ -24,22 +24,22 @@ abbrev new_or : ℕ → Name → Option ℕ × Name → Name
 new_or d new p = if same_ordinal p.0 d then new else p.1
 
 -- The renamed module is the tree with its names as they are spelled.
-pub renamed_spelled : (r : Resolution) (d : ℕ) (new : Name) → IsResolution r → renamed (named_tree_of r.module_read) d new ≡ spelled_tree (spellings_after_rename r d new) (tree_of r.module_read)
+pub renamed_spelled : (r : Resolution) (d : ℕ) (new : Name) → IsResolution r → renamed (named_tree_of r.module_read) d new ≡ tree_with_spellings (spellings_after_rename r d new) (tree_of r.module_read)
 renamed_spelled r d new is =
     let m = r.module_read in
     relabel_module-mapped_tree naming_by_spelling (new_or d new) ordinal_and_spelling (named_tree_of m)
-    ∙ (ap (mapped_tree (new_or d new) (λ n. n)) is.binding ∙ mapped_tree-mapped_tree (new_or d new) (binding_at m.source r.ordinals) (token_value_at m.source) (tree_of m))
+    ∙ (ap (mapped_tree (new_or d new) (λ n. n)) is.binding ∙ mapped_tree-mapped_tree (new_or d new) (ordinal_and_spelling_at m.source r.ordinals) (token_value_at m.source) (tree_of m))
 
-pub renumbered : (r : Resolution) (d : ℕ) (new : Name) (v : WalkState) (ordinals : List (Option ℕ)) → IsResolution r → v ≡ visit_module (tree_of r.module_read) (initial_walk (spellings_after_rename r d new))
-    → ordinals ≡ with_marks (replicate (length r.module_read.source.tokens) None) v.marks → IsRenumbering r d new ordinals
+pub renumbered : (r : Resolution) (d : ℕ) (new : Name) (v : WalkState) (ordinals : List (Option ℕ)) → IsResolution r → v ≡ visit_module (tree_of r.module_read) (initial_walk_state (spellings_after_rename r d new))
+    → ordinals ≡ with_marks (replicate (length r.module_read.source.tokens) None) v.marks → AreOrdinalsAfterRename r d new ordinals
 renumbered r d new v ordinals is gone tabled =
     let m = r.module_read in
     let w = spellings_after_rename r d new in
-    let passed = module_passed (ordinal_in ordinals) (label_from_ordinal naming_by_spelling) w (tree_of m) (initial_walk w) (at_start w) in
+    let passed = module_passed (ordinal_in ordinals) (label_from_ordinal naming_by_spelling) w (tree_of m) (initial_walk_state w) (at_start w) in
     ap numbered (renamed_spelled r d new is) ∙ (passed.agree (marks_in_table m w v ordinals is.parsed gone tabled)).1
 
 -- The bindings of the renamed module are the table's labels at the occurrences.
-renamed_bindings : (r : Resolution) (d : ℕ) (new : Name) (ordinals : List (Option ℕ)) → IsResolution r → IsRenumbering r d new ordinals
+renamed_bindings : (r : Resolution) (d : ℕ) (new : Name) (ordinals : List (Option ℕ)) → IsResolution r → AreOrdinalsAfterRename r d new ordinals
     → bindings (renamed (named_tree_of r.module_read) d new) ≡ map (λ i. label_from_ordinal naming_by_spelling (ordinal_in ordinals i) (spelling_at (spellings_after_rename r d new) i)) r.uses
 renamed_bindings r d new ordinals is numbering =
     let m = r.module_read in
@@ -55,7 +55,7 @@ ordinals_back written ordinals (i ∷ is) = λ j. back (ordinal_in ordinals i) (
     back (Some k) x = refl
 
 -- The table has the ordinals to which the occurrences are bound in the renamed module.
-pub ordinals_renamed : (r : Resolution) (d : ℕ) (new : Name) (ordinals : List (Option ℕ)) → IsResolution r → IsRenumbering r d new ordinals
+pub ordinals_renamed : (r : Resolution) (d : ℕ) (new : Name) (ordinals : List (Option ℕ)) → IsResolution r → AreOrdinalsAfterRename r d new ordinals
     → map (ordinal_in ordinals) r.uses ≡ map label_ordinal (bindings (renamed (named_tree_of r.module_read) d new))
 ordinals_renamed r d new ordinals is numbering =
     sym (ap (map label_ordinal) (renamed_bindings r d new ordinals is numbering) ∙ ordinals_back (spelling_at (spellings_after_rename r d new)) ordinals r.uses)
@@ -91,7 +91,7 @@ first_by_index d new text ordinals old k (i ∷ is) =
     one true rest e = e ∙ onward-suc k rest
     one false rest e = ap Some (omega arith)
 
-pub first_changed_is : (r : Resolution) (d : ℕ) (new : Name) (ordinals : List (Option ℕ)) → IsResolution r → IsRenumbering r d new ordinals
+pub first_changed_is : (r : Resolution) (d : ℕ) (new : Name) (ordinals : List (Option ℕ)) → IsResolution r → AreOrdinalsAfterRename r d new ordinals
     → position_from (λ i. not (have_same_binding (ordinal_in ordinals i) (ordinal_in r.ordinals i))) 0 r.uses ≡ first_difference (bindings (renamed (named_tree_of r.module_read) d new)) (bindings (named_tree_of r.module_read))
 first_changed_is r d new ordinals is numbering =
     let m = r.module_read in

@@ -29,8 +29,8 @@ use Rattle.ob0_language_names.specs.Names.{Name, naming_by_spelling}
 use Rattle.ob0_scope_table.specs.Resolution.{AreNameFaultsOf, IsBindingTable, IsNumberingTable, IsResolution, OnlyNamesHaveOrdinals, is_duplicate_or_end_name, is_undeclared_fault, ordinal_in, undeclared_faults, undeclared_faults_by_table, ordinal_and_spelling}
 use Rattle.ob0_language_names.specs.Scopes.{Labelling, label_from_ordinal, relabel_module}
 use Rattle.ob0_scope_table.specs.declared.resolved.Bindings.{Bindings}
-use Rattle.ob0_scope_numbering.specs.MarkWalk.{initial_walk}
-use Rattle.ob0_scope.specs.Respelled.{AreBindingsWithMovedFaults, AreNamedAlike, BindingsMoveWithTokens, BindingsDependOnNames}
+use Rattle.ob0_scope_numbering.specs.MarkWalk.{initial_walk_state}
+use Rattle.ob0_scope.specs.Respelled.{AreBindingsWithMovedFaults, HaveSameKindsAndNames, BindingsMoveWithTokens, BindingsDependOnNames}
 use Rattle.ob0_scope_numbering.specs.Written.{original_spellings}
 use Rattle.ob0_scope.proofs.Alike.{AllAlike, alike}
 use Rattle.ob0_scope.proofs.Made.{faults_reported, undeclared_unbound}
@@ -57,7 +57,7 @@ texts a b (t ∷ ts) [] i k n less h = absurd (omega (arith, ap length k))
 texts a b (t ∷ ts) (u ∷ us) zero k n less h = same_text u t (text_in_span b u.span) (text_in_span a t.span) (ap (λ l. get_or l 0 kind.Identifier) k) (h t) (ap (λ l. get_or l 0 []) n)
 texts a b (t ∷ ts) (u ∷ us) (suc i) k n less h = texts a b ts us i (ap (drop 1) k) (ap (drop 1) n) (omega (arith, less)) h
 
-all_texts : (old new : TextWithTokens) → AreNamedAlike old new → (g : ℕ → ℕ) (xs : List (Role × ℕ)) → AreIdentifierTokens old.tokens (names_without_roles xs) → AllAlike (token_text_at new) (token_text_at old) g xs
+all_texts : (old new : TextWithTokens) → HaveSameKindsAndNames old new → (g : ℕ → ℕ) (xs : List (Role × ℕ)) → AreIdentifierTokens old.tokens (names_without_roles xs) → AllAlike (token_text_at new) (token_text_at old) g xs
 all_texts old new w g [] h = tt
 all_texts old new w g (x ∷ xs) h = (texts old.text new.text old.tokens new.tokens x.1 w.same_kinds w.same_names h.0.0 h.0.1, all_texts old new w g xs h.1)
 
@@ -86,7 +86,7 @@ none_reported (f ∷ fs) e h = absurd (neither (is_duplicate_or_end_name f) (lis
 
 -- ---- the bindings are unchanged
 
-module _ (old new : TextWithTokens) (tree : ModuleTree) (b : Bindings) (w : AreNamedAlike old new) (r : IsResolution (resolution_with (parsed_module old tree) b)) where
+module _ (old new : TextWithTokens) (tree : ModuleTree) (b : Bindings) (w : HaveSameKindsAndNames old new) (r : IsResolution (resolution_with (parsed_module old tree) b)) where
   abbrev read : Tree ℕ module_text
   read = tree_of (parsed_module old tree)
 
@@ -99,7 +99,7 @@ module _ (old new : TextWithTokens) (tree : ModuleTree) (b : Bindings) (w : AreN
   labelled : {M : Type 0} (label : Labelling Name M) → relabel_module naming_by_spelling label (named_tree_of (parsed_module new tree)) ≡ mapped_tree (λ i. label (ordinal_in b.ordinals.items i) (token_text_at new i)) (token_value_at new) read
   labelled {M} label =
       let by : ℕ → Name → M = λ i x. label (ordinal_in b.ordinals.items i) x in
-      let passed = module_passed_with (ordinal_in b.ordinals.items) label (original_spellings old) (token_value_at new) read (initial_walk (original_spellings old)) (at_start (original_spellings old)) in
+      let passed = module_passed_with (ordinal_in b.ordinals.items) label (original_spellings old) (token_value_at new) read (initial_walk_state (original_spellings old)) (at_start (original_spellings old)) in
       ap (relabel_module naming_by_spelling label) same_names
       ∙ ((passed.agree (marks_resolved (resolution_with (parsed_module old tree) b) r)).1
       ∙ (alike (λ i. by i (token_text_at old i)) (λ i. by i (token_text_at new i)) (token_value_at new) role.Declaring read).reads (all_through by (token_text_at new) (token_text_at old) (token_value_at new) (identifiers role.Declaring read) written_alike))
@@ -137,7 +137,7 @@ bindings_depend_on_names old new tree b w parsed r none = record {
 
 -- ---- all tokens have the same spellings
 
-pub named_alike : (old new : TextWithTokens) → AreWrittenAlike old new → AreNamedAlike old new
+pub named_alike : (old new : TextWithTokens) → AreWrittenAlike old new → HaveSameKindsAndNames old new
 named_alike old new w = record {
   same_kinds = sym (map-map (λ (x : Word). kind_without_value x.kind) (word_of_token new.text) new.tokens) ∙ (ap (map (λ (x : Word). kind_without_value x.kind)) w.same_words ∙ map-map (λ (x : Word). kind_without_value x.kind) (word_of_token old.text) old.tokens);
   same_names = sym (map-map (λ (x : Word). name_or_empty x.kind x.text) (word_of_token new.text) new.tokens)

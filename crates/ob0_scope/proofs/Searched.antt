@@ -10,8 +10,8 @@ use Rattle.ob0_language_names.specs.ConsistentNames.{block_names, procedure_name
 use Rattle.ob0_language_names.specs.Names.{Name, naming_by_spelling, same_name}
 use Rattle.ob0_language_names.specs.Occurrences.{scopes_in_block, scopes_in_procedure, scopes_in_procedures, declares_ordinal}
 use Rattle.ob0_language_names.specs.Parts.{constant_names, formal_names, formal_sections, further_names, module_block, declared_type_names, names_in_list, procedure_name, section_constants, section_names, section_types, section_variables, variable_names}
-use Rattle.ob0_scope.specs.Renames.{namesake, namesake_in, other_with_name}
-use Rattle.ob0_scope_table.specs.Resolution.{IsResolution, Resolution, binding_at, ordinal_in, ordinal_and_spelling}
+use Rattle.ob0_scope.specs.Renames.{namesake, namesake_in_scopes, other_with_name}
+use Rattle.ob0_scope_table.specs.Resolution.{IsResolution, Resolution, ordinal_and_spelling_at, ordinal_in, ordinal_and_spelling}
 use Rattle.ob0_language_names.specs.Scopes.{Scope, ordinal_after_names, ordinal_after_procedure, body_scope, declare_names, first_procedure_ordinal, predeclared_scope, procedures_scope, relabel_block, relabel_formals, relabel_procedure, relabel_procedures, relabel_module, same_ordinal}
 use Rattle.ob0_scope.specs.BlockSearches.{BlockSearch, namesake_in_block, namesake_in_procedure, namesake_in_procedures, is_bound_to_declaration, last_namesake, namesake_among}
 use Rattle.ob0_scope.proofs.Finding.{or_assoc}
@@ -117,7 +117,7 @@ module _ (d : ℕ) (new : Name) where
 
   module _ (r : Resolution) where
     abbrev bound : ℕ → Bound
-    bound i = binding_at r.module_read.source r.ordinals i
+    bound i = ordinal_and_spelling_at r.module_read.source r.ordinals i
 
     abbrev value : ℕ → ℕ
     value i = token_value_at r.module_read.source i
@@ -185,28 +185,28 @@ module _ (d : ℕ) (new : Name) where
       let named = other_first own ∙ (ap first_new e ∙ first-onto ps []) in
       λ i. if declared i then named i else None
 
-  namesake-append : (xs ys : List (Scope Name)) → namesake_in (xs ++ ys) d new ≡ option_or (namesake_in xs d new) (namesake_in ys d new)
+  namesake-append : (xs ys : List (Scope Name)) → namesake_in_scopes (xs ++ ys) d new ≡ option_or (namesake_in_scopes xs d new) (namesake_in_scopes ys d new)
   namesake-append [] ys = refl
   namesake-append (own ∷ xs) ys =
       let here : Option ℕ = if declares_ordinal own d then other_with_name own d new else None in
-      ap (option_or here) (namesake-append xs ys) ∙ sym (or_assoc here (namesake_in xs d new) (namesake_in ys d new))
+      ap (option_or here) (namesake-append xs ys) ∙ sym (or_assoc here (namesake_in_scopes xs d new) (namesake_in_scopes ys d new))
 
   mutual
     block_scopes : (visible : Scope Name) (k : ℕ) (own : Scope Name) (ps : List Bound) (b : Tree Name block) → labels_in ordinal_and_spelling own ≡ onto ps []
-        → new_in_block ps (relabel_block naming_by_spelling ordinal_and_spelling visible k b) ≡ namesake_in (scopes_in_block k own b) d new
+        → new_in_block ps (relabel_block naming_by_spelling ordinal_and_spelling visible k b) ≡ namesake_in_scopes (scopes_in_block k own b) d new
     block_scopes visible k own ps (forms_block (declares cs ts vs procedures) statements) e =
         let b : Tree Name block = forms_block (declares cs ts vs procedures) statements in
         let declared = block_names (relabel_block naming_by_spelling ordinal_and_spelling visible k b) in
         let labels = labels_in-block naming_by_spelling ordinal_and_spelling visible k b own ∙ (ap (onto declared) e ∙ sym (onto-append ps declared [])) in
         λ i. option_or (sym (scope_among (body_scope k b own) (ps ++ declared) labels) i) (procedures_scopes (procedures_scope k b visible) (first_procedure_ordinal k b) procedures i)
 
-    procedures_scopes : (visible : Scope Name) (k : ℕ) (ps : Tree Name (items procedure)) → new_in_procedures (relabel_procedures naming_by_spelling ordinal_and_spelling visible k ps) ≡ namesake_in (scopes_in_procedures k ps) d new
+    procedures_scopes : (visible : Scope Name) (k : ℕ) (ps : Tree Name (items procedure)) → new_in_procedures (relabel_procedures naming_by_spelling ordinal_and_spelling visible k ps) ≡ namesake_in_scopes (scopes_in_procedures k ps) d new
     procedures_scopes visible k end = refl
     procedures_scopes visible k (more p rest) =
         (λ i. option_or (procedure_scopes visible k p i) (procedures_scopes ((procedure_name p, k) ∷ visible) (ordinal_after_procedure (suc k) p) rest i))
         ∙ sym (namesake-append (scopes_in_procedure (suc k) p) (scopes_in_procedures (ordinal_after_procedure (suc k) p) rest))
 
-    procedure_scopes : (visible : Scope Name) (k : ℕ) (p : Tree Name (item procedure)) → new_in_procedure (relabel_procedure naming_by_spelling ordinal_and_spelling visible k p) ≡ namesake_in (scopes_in_procedure (suc k) p) d new
+    procedure_scopes : (visible : Scope Name) (k : ℕ) (p : Tree Name (item procedure)) → new_in_procedure (relabel_procedure naming_by_spelling ordinal_and_spelling visible k p) ≡ namesake_in_scopes (scopes_in_procedure (suc k) p) d new
     procedure_scopes visible k (declares_procedure x fs b closing) =
         let own = formal_names (formal_sections fs) in
         let labelled = ap formal_names (formals-section naming_by_spelling ordinal_and_spelling visible (suc k) fs) ∙ sections-labels naming_by_spelling ordinal_and_spelling visible (suc k) (formal_sections fs) in

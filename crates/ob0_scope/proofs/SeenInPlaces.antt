@@ -24,7 +24,7 @@ use Rattle.ob0_language_names.specs.Scopes.{Labelling, Scope, ordinal_after_bloc
 use Rattle.ob0_language_names.specs.OccurrenceLookup.{naming_for_lookup_of, resolve_at_occurrences, resolve_at_occurrence}
 use Rattle.ob0_scope_numbering.specs.Marks.{zero_mark_at}
 use Rattle.ob0_scope_numbering.specs.Marks.{with_marks}
-use Rattle.ob0_scope_numbering.specs.MarkWalk.{WalkState, initial_walk, visit_module}
+use Rattle.ob0_scope_numbering.specs.MarkWalk.{WalkState, initial_walk_state, visit_module}
 use Rattle.ob0_scope_numbering.specs.Written.{Spellings, spelling_at}
 use Rattle.ob0_scope.proofs.Fused.{relabel_module-mapped_tree}
 use Rattle.ob0_language_names.proofs.OccurrenceNames.{occurrences-map_names}
@@ -394,13 +394,13 @@ all_sought source table y ((role.ModuleName, i) ∷ xs) a = (ap (λ o. if same_o
 -- Visiting a module with one name at all occurrences gives the bindings of that name in place of
 -- each.
 pub seen_in_places : (r : Resolution) (y : Name) (v : WalkState) (sought ordinals : List (Option ℕ)) → IsResolution r → sought ≡ with_marks (replicate (length r.module_read.source.tokens) None) (map zero_mark_at r.uses)
-    → v ≡ visit_module (tree_of r.module_read) (initial_walk (record { source = r.module_read.source; ordinals = sought; declaration = Some 0; new = y }))
+    → v ≡ visit_module (tree_of r.module_read) (initial_walk_state (record { source = r.module_read.source; ordinals = sought; declaration = Some 0; new = y }))
     → ordinals ≡ with_marks (replicate (length r.module_read.source.tokens) None) v.marks → map (ordinal_in ordinals) r.uses ≡ resolve_at_occurrences (named_tree_of r.module_read) y
 seen_in_places r y v sought ordinals is table gone tabled =
     let m = r.module_read in
     let w : Spellings = record { source = m.source; ordinals = sought; declaration = Some 0; new = y } in
     let ids = identifiers role.Declaring (tree_of m) in
-    let passed = module_passed (ordinal_in ordinals) forget w (tree_of m) (initial_walk w) (at_start w) in
+    let passed = module_passed (ordinal_in ordinals) forget w (tree_of m) (initial_walk_state w) (at_start w) in
     let agree = (passed.agree (marks_in_table m w v ordinals is.parsed gone tabled)).1 in
     let reported_so : AllMarked sought ids = subst (λ (t : List (Option ℕ)). AllMarked t ids) (sym table) (uses_reported r is) in
     ap (map (ordinal_in ordinals)) is.occurring

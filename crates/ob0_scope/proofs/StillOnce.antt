@@ -13,7 +13,7 @@ use Rattle.ob0_language_names.specs.Names.{Name, same_name}
 use Rattle.ob0_language_names.specs.Parts.{constant_names, formal_names, formal_sections, declared_type_names, procedure_name, section_constants, section_types, section_variables, variable_names}
 use Rattle.ob0_scope_table.specs.BodyReplaced.{IsBodyReplaced, PathToBody, block_without, procedure_without, procedures_without, path_to_body_in_module, module_without_body}
 use Rattle.ob0_scope_table.specs.DuplicatesAndEndNames.{declaration_faults}
-use Rattle.ob0_scope_table.specs.OneBody.{IsBodyChange, is_outside}
+use Rattle.ob0_scope_table.specs.OneBody.{IsBodyChange, is_outside_range}
 use Rattle.ob0_scope_table.specs.Resolution.{is_duplicate_or_end_name}
 use Rattle.ob0_scope_table.proofs.BodyOutside.{module_outside}
 use Rattle.ob0_scope_table.proofs.BodyReplaced.{names_outside, text_by_word, value_by_word, without_mapped}
@@ -65,9 +65,9 @@ pub still_once_written : (old : TextWithTokens) (m : ParsedModule) (low high : �
 still_once_written old m low high parsed change =
     let path = path_to_body_in_module low (tree_of m) in
     once_outside path m.source old (tree_of m) (tree_of m)
-    (mapped_alike (λ i. is_outside low high i ≡ true) (token_text_at m.source) (token_text_at old) (token_value_at m.source) (token_value_at old)
+    (mapped_alike (λ i. is_outside_range low high i ≡ true) (token_text_at m.source) (token_text_at old) (token_value_at m.source) (token_value_at old)
     (λ i e. text_by_word old m.source i i (change.same_words i e)) (λ i e. value_by_word old m.source i i (change.same_words i e)) (module_without_body path (tree_of m))
-    (module_outside low high (λ i. is_outside low high i ≡ true) (λ k e. e) 0 (length m.source.tokens) (tree_of m) (places_ascend m parsed) change.in_body))
+    (module_outside low high (λ i. is_outside_range low high i ≡ true) (λ k e. e) 0 (length m.source.tokens) (tree_of m) (places_ascend m parsed) change.in_body))
 
 -- ---- the reported faults
 

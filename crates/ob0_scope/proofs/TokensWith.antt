@@ -21,7 +21,7 @@ use Rattle.ob0_language_names.specs.Occurrences.{label_ordinal}
 use Rattle.ob0_scope_table.specs.Resolution.{IsResolution, Resolution, declaring_names, label_at, ordinal_in, declaration_token}
 use Rattle.ob0_language_names.specs.Scopes.{label_from_ordinal, same_ordinal}
 use Rattle.ob0_scope.specs.Listing.{first_bound_token, omitted_token, tokens_bound_from, tokens_with_ordinal}
-use Rattle.ob0_scope_numbering.specs.MarkWalk.{initial_walk, visit_module}
+use Rattle.ob0_scope_numbering.specs.MarkWalk.{initial_walk_state, visit_module}
 use Rattle.ob0_scope_numbering.specs.Marks.{OrdinalMark, with_marks}
 use Rattle.ob0_scope.specs.NamesAtPlaces.{is_declaring, tokens_bound_to}
 use Rattle.ob0_scope_numbering.specs.Written.{original_spellings}
@@ -37,14 +37,14 @@ marks_same f g [] e h = tt
 marks_same f g (m ∷ ms) e h = (sym (ap (λ l. get_or l 0 None) e) ∙ h.0, marks_same f g ms (ap (drop 1) e) h.1)
 
 -- The table of a resolution has all marks of its module.
-pub marks_resolved : (r : Resolution) → IsResolution r → HasMarks (ordinal_in r.ordinals) (visit_module (tree_of r.module_read) (initial_walk (original_spellings r.module_read.source))).marks
+pub marks_resolved : (r : Resolution) → IsResolution r → HasMarks (ordinal_in r.ordinals) (visit_module (tree_of r.module_read) (initial_walk_state (original_spellings r.module_read.source))).marks
 marks_resolved r is =
     let m = r.module_read in
     let w = original_spellings m.source in
-    let marks = (visit_module (tree_of m) (initial_walk w)).marks in
+    let marks = (visit_module (tree_of m) (initial_walk_state w)).marks in
     let made = with_marks (replicate (length m.source.tokens) None) marks in
-    let are_there = marks_in_table m w (visit_module (tree_of m) (initial_walk w)) made is.parsed refl refl in
-    let passed = module_passed (ordinal_in made) (label_from_ordinal naming_by_spelling) w (tree_of m) (initial_walk w) (at_start w) in
+    let are_there = marks_in_table m w (visit_module (tree_of m) (initial_walk_state w)) made is.parsed refl refl in
+    let passed = module_passed (ordinal_in made) (label_from_ordinal naming_by_spelling) w (tree_of m) (initial_walk_state w) (at_start w) in
     let same : mapped_tree (label_at m.source made) (token_value_at m.source) (tree_of m) ≡ mapped_tree (label_at m.source r.ordinals) (token_value_at m.source) (tree_of m) = sym (passed.agree are_there).1 ∙ is.numbering in
     let read : (ordinals : List (Option ℕ)) → map label_ordinal (identifier_names (mapped_tree (label_at m.source ordinals) (token_value_at m.source) (tree_of m))) ≡ map (ordinal_in ordinals) (identifier_names (tree_of m)) =
     λ ordinals. ap (map label_ordinal) (leaves_mapped (label_at m.source ordinals) (token_value_at m.source) (tree_of m)) ∙ ordinals_back (λ i. token_text_at m.source i) ordinals (identifier_names (tree_of m)) in
@@ -56,7 +56,7 @@ in_order r is =
     let m = r.module_read in
     let w = original_spellings m.source in
     let ids = identifiers role.Declaring (tree_of m) in
-    let all = (module_passed (ordinal_in r.ordinals) (label_from_ordinal naming_by_spelling) w (tree_of m) (initial_walk w) (at_start w)).in_order (marks_resolved r is) [] tt in
+    let all = (module_passed (ordinal_in r.ordinals) (label_from_ordinal naming_by_spelling) w (tree_of m) (initial_walk_state w) (at_start w)).in_order (marks_resolved r is) [] tt in
     subst (AreInOrder (ordinal_in r.ordinals) 7) (append-nil ids) all
 
 -- ---- the entries of a table at identifiers that ascend; it has no other entries

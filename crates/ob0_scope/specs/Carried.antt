@@ -8,7 +8,7 @@ use Rattle.ob0_tree.specs.declared.tree.Role.TheVariants as role
 use Rattle.ob0_tree.specs.ParsedModule.{ParsedModule, tree_of}
 use Rattle.ob0_tree.specs.Tree.{identifiers, occurrences}
 use Rattle.ob0_tree.specs.FirstIdentifier.{token_of_first_identifier}
-use Rattle.ob0_scope_table.specs.BodyReplaced.{body_at_path, closing_name_in_module, path_to_body_in_module}
+use Rattle.ob0_scope_table.specs.BodyReplaced.{body_at_path, closing_name_at_path, path_to_body_in_module}
 use Rattle.ob0_scope_table.specs.declared.resolved.Bindings.{Bindings}
 use Rattle.ob0_scope.specs.NewBody.{WasBoundBeforeNewBody}
 use Rattle.ob0_scope.specs.declared.body_range.BodyRange.{BodyRange}
@@ -79,11 +79,11 @@ old_closing_token same closing = min (closing - same.new_suffix + same.old_suffi
 
 -- States that `range` is the range of the new statements in a module in which one body's statements were replaced.
 -- `own` has the occurrences in these statements, and `b` has the bindings of the old module.
-pub record IsNewBody (m : ParsedModule) (b : Bindings) (range : BodyRange) (own : List ℕ) : Type 0 where
+pub record IsRangeOfNewBody (m : ParsedModule) (b : Bindings) (range : BodyRange) (own : List ℕ) : Type 0 where
   pub same : SameParts
   pub was_bound : WasBoundBeforeNewBody m b same
   pub first : token_of_first_identifier (identifiers role.Declaring (body_at_path (path_to_body_in_module same.prefix (tree_of m)) (tree_of m)))
       ≡ Some range.first
-  pub closing : range.closing ≡ closing_name_in_module (path_to_body_in_module same.prefix (tree_of m)) (tree_of m)
+  pub closing : range.closing ≡ closing_name_at_path (path_to_body_in_module same.prefix (tree_of m)) (tree_of m)
   pub old_closing : range.old_closing ≡ old_closing_token same range.closing
   pub uses : own ≡ occurrences (body_at_path (path_to_body_in_module same.prefix (tree_of m)) (tree_of m))

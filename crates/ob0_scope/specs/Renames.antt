@@ -26,16 +26,16 @@ other_with_name (b ∷ own) d new =
 -- Searches a list of scopes, each with the declarations of one block. The first scope counts that has both the
 -- declaration with ordinal `d` and another declaration with the name `new`. Returns the ordinal of this other
 -- declaration, or None if there is no such scope.
-abbrev pub namesake_in : List (Scope Name) → ℕ → Name → Option ℕ
-namesake_in [] d new = None
-namesake_in (own ∷ others) d new =
+abbrev pub namesake_in_scopes : List (Scope Name) → ℕ → Name → Option ℕ
+namesake_in_scopes [] d new = None
+namesake_in_scopes (own ∷ others) d new =
     option_or (if declares_ordinal own d then other_with_name own d new else None)
-    (namesake_in others d new)
+    (namesake_in_scopes others d new)
 
 -- returns the ordinal of the last declaration with the name `new`, other than `d`, in the block
 -- that declares `d`; None if there is none
 abbrev pub namesake : Tree Name module_text → ℕ → Name → Option ℕ
-namesake m d new = namesake_in (scopes_in_block predeclared_count [] (module_block m)) d new
+namesake m d new = namesake_in_scopes (scopes_in_block predeclared_count [] (module_block m)) d new
 
 -- converts a conflict of the code to a conflict of the definitions; this drops the ordinal of the other declaration
 abbrev pub conflict_of : reported.FirstConflict → NameConflict
@@ -67,8 +67,8 @@ OccursNowhere source x = (i : ℕ) → same_name (token_text_at source i) x ≡ 
 
 -- States that the table `ordinals` has, for each identifier, the ordinal to which it is bound after the declaration `d`
 -- is renamed to `new`.
-abbrev pub IsRenumbering : Resolution → ℕ → Name → List (Option ℕ) → Type 0
-IsRenumbering r d new ordinals =
+abbrev pub AreOrdinalsAfterRename : Resolution → ℕ → Name → List (Option ℕ) → Type 0
+AreOrdinalsAfterRename r d new ordinals =
     numbered (renamed (named_tree_of r.module_read) d new)
     ≡ mapped_tree (λ i. label_from_ordinal naming_by_spelling (ordinal_in ordinals i) (spelling_at (spellings_after_rename r d new) i))
     (token_value_at r.module_read.source) (tree_of r.module_read)

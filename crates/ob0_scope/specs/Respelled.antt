@@ -12,7 +12,7 @@ use Rattle.ob0_scope_table.specs.Resolution.{IsResolution}
 use Rattle.ob0_scope_table.specs.declared.resolved.Bindings.{Bindings}
 
 -- states that the tokens of two texts have the same kinds, one by one, and their identifiers the same spellings
-pub record AreNamedAlike (old new : TextWithTokens) : Type 0 where
+pub record HaveSameKindsAndNames (old new : TextWithTokens) : Type 0 where
   pub same_kinds : kinds new.tokens ≡ kinds old.tokens
   pub same_names : names_in new.text new.tokens ≡ names_in old.text old.tokens
 
@@ -22,7 +22,7 @@ pub record AreNamedAlike (old new : TextWithTokens) : Type 0 where
 abbrev pub BindingsDependOnNames : Type 0
 BindingsDependOnNames =
     (old new : TextWithTokens) (tree : ModuleTree) (b : Bindings)
-    → AreNamedAlike old new
+    → HaveSameKindsAndNames old new
     → IsParsed (parsed_module new tree)
     → IsResolution (resolution_with (parsed_module old tree) b)
     → b.faults.items ≡ []

@@ -2,7 +2,7 @@
 
 ghost use Rattle.std.specs.Prelude.{◌≡◌, ◌++◌, ◌∷◌, [], IfOk, OnOk};
 ghost use Rattle.ob0_tree.specs.View.{block_of, body_of, procedure_of};
-ghost use Rattle.ob0_scope_table.specs.BodyReplaced.{body_at_path_in_block, body_at_path_in_procedure, closing_name_in_block, closing_name_in_procedure, path_to_body_in_block, path_to_body_in_procedure};
+ghost use Rattle.ob0_scope_table.specs.BodyReplaced.{body_at_path_in_block, body_at_path_in_procedure, closing_name_at_path_in_block, closing_name_at_path_in_procedure, path_to_body_in_block, path_to_body_in_procedure};
 ghost use Rattle.ob0_scope.specs.Carried.{tokens_after_body, tokens_before_body, carried_tokens, carried_ordinals, old_closing_token, shifted_token, with_occurrence};
 
 use ob0_scan::SameParts;
@@ -54,7 +54,7 @@ impl Visitor for BodyNames {
             self.first = Some(token);
         }
         match role {
-            Role::LookedUp => self.append_use(token),
+            Role::LookedUp => self.append_occurrence(token),
             Role::Declaring => Ok(()),
             Role::ClosingName => Ok(()),
             Role::FieldName => Ok(()),
@@ -65,7 +65,7 @@ impl Visitor for BodyNames {
 
 impl BodyNames {
     /// Appends an occurrence to the body's occurrences.
-    fn append_use(&mut self, token: usize) -> Result<(), AllocError>
+    fn append_occurrence(&mut self, token: usize) -> Result<(), AllocError>
         ensures { OnOk result (self.new ≡ with_occurrence token self.old) }
     {
         self.uses.push(token)?;
@@ -82,7 +82,7 @@ pub(crate) fn find_body_in_block<'t>(inner: &'t Block, own: usize, low: usize) -
     ensures statements { body_of result.statements.now
         ≡ body_at_path_in_block (path_to_body_in_block low (block_of inner.now)) (block_of inner.now) }
     ensures closing { result.closing
-        ≡ closing_name_in_block (path_to_body_in_block low (block_of inner.now)) own (block_of inner.now) }
+        ≡ closing_name_at_path_in_block (path_to_body_in_block low (block_of inner.now)) own (block_of inner.now) }
 {
     for p in &inner.procedures {
         if p.closing >= low {
@@ -102,7 +102,7 @@ fn find_body_in_procedure<'t>(p: &'t Procedure, low: usize) -> ReplacedBody<'t>
     ensures statements { body_of result.statements.now
         ≡ body_at_path_in_procedure (path_to_body_in_procedure low (procedure_of p.now)) (procedure_of p.now) }
     ensures closing { result.closing
-        ≡ closing_name_in_procedure (path_to_body_in_procedure low (procedure_of p.now)) (procedure_of p.now) }
+        ≡ closing_name_at_path_in_procedure (path_to_body_in_procedure low (procedure_of p.now)) (procedure_of p.now) }
 {
     find_body_in_block(&p.block, p.closing, low)
 }

@@ -6,7 +6,7 @@ ghost use Rattle.ob0_scope_table.specs.Resolution.{IsResolution};
 ghost use Rattle.ob0_scope_table.specs.Bindings.{resolution_with};
 ghost use Rattle.ob0_scope.specs.Rebound.{WasBoundBeforeChange};
 ghost use Rattle.ob0_scope.specs.NewBody.{WasBoundBeforeNewBody};
-ghost use Rattle.ob0_scope.specs.Carried.{IsNewBody};
+ghost use Rattle.ob0_scope.specs.Carried.{IsRangeOfNewBody};
 
 use crate::body_range::{BodyNames, BodyRange, find_body_in_block, old_closing_token};
 use crate::checks::recheck_declarations;
@@ -93,7 +93,7 @@ fn carry_unchanged_bindings(
     range: BodyRange,
     own: &[usize],
 ) -> Result<Bindings, AllocError>
-    requires { IsNewBody read.now old.now range own.now }
+    requires { IsRangeOfNewBody read.now old.now range own.now }
     ensures { IfOk result (λ b. IsResolution (resolution_with read.now b)) }
 {
     let tokens = read.tokens();

@@ -27,7 +27,7 @@ use std::marker::Model;
 
 /// The greatest number of names in a block or record that are compared with one another. If there
 /// are more names, they are inserted into a set.
-const MAX_PAIRWISE: usize = 16;
+const MAX_NAMES_COMPARED_PAIRWISE: usize = 16;
 
 /// The duplicate declarations and wrong closing names that were found so far.
 #[derive(Drop)]
@@ -274,7 +274,7 @@ impl FoundFaults {
     fn report_duplicates(&mut self, tokens: &Tokens, names: &[usize]) -> Result<(), AllocError>
         ensures { OnOk result (self.new ≡ self.old ++ duplicate_faults tokens.now [] names.now) }
     {
-        if names.len() <= MAX_PAIRWISE {
+        if names.len() <= MAX_NAMES_COMPARED_PAIRWISE {
             self.report_duplicates_pairwise(tokens, names)
         } else {
             self.report_duplicates_by_set(tokens, names)
@@ -335,7 +335,7 @@ impl FoundFaults {
     fn check_record_fields(&mut self, tokens: &Tokens, r: &RecordType) -> Result<(), AllocError>
         ensures { OnOk result (self.new ≡ self.old ++ duplicate_field_faults tokens.now (record_type_of r.now)) }
     {
-        let mut names = Vec::with_capacity(self.alloc, MAX_PAIRWISE)?;
+        let mut names = Vec::with_capacity(self.alloc, MAX_NAMES_COMPARED_PAIRWISE)?;
         for group in &r.groups {
             append_field_names(&mut names, group)?;
         }
@@ -418,7 +418,7 @@ impl FoundFaults {
     {
         self.check_closing_name(tokens, p.name, p.closing)?;
         self.check_formal_fields(tokens, &p.formals)?;
-        let mut own = Vec::with_capacity(self.alloc, MAX_PAIRWISE)?;
+        let mut own = Vec::with_capacity(self.alloc, MAX_NAMES_COMPARED_PAIRWISE)?;
         append_formal_names(&mut own, &p.formals)?;
         self.check_block(tokens, own, &p.block)
     }

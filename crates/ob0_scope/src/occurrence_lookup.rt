@@ -24,12 +24,12 @@ pub fn resolve_at_occurrences(
     ensures { IfOk result
         (λ found. found.items ≡ resolve_at_occurrences (named_tree_of names.now.module_read) name.now) }
 {
-    let ordinals = number_with_replacement(alloc, names, name)?;
+    let ordinals = ordinals_with_replacement(alloc, names, name)?;
     ordinals_at(alloc, &ordinals, names.occurrences())
 }
 
 /// Returns the table of ordinals, by token, of the module in which `name` replaces each occurrence.
-fn number_with_replacement(
+fn ordinals_with_replacement(
     alloc: Global,
     names: &Resolved,
     name: &str,

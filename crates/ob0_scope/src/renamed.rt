@@ -4,7 +4,7 @@ ghost use Rattle.std.specs.Prelude.{◌≡◌, IfOk, map};
 ghost use Rattle.ob0_tree.specs.ParsedModule.{named_tree_of};
 ghost use Rattle.ob0_language_names.specs.Occurrences.{bindings, label_ordinal};
 ghost use Rattle.ob0_language_names.specs.Scopes.{renamed};
-ghost use Rattle.ob0_scope.specs.Renames.{IsRenumbering};
+ghost use Rattle.ob0_scope.specs.Renames.{AreOrdinalsAfterRename};
 ghost use Rattle.ob0_scope_table.specs.Resolution.{IsResolution, ordinal_in};
 
 use ob0_scope_numbering::{Spellings, number_identifiers};
@@ -38,7 +38,7 @@ pub(crate) fn ordinals_after_rename(
     new: &str,
 ) -> Result<Vec<OrdinalEntry>, AllocError>
     ensures renumbered { IfOk result
-        (λ ordinals. IsRenumbering names.now declaration new.now ordinals.items) }
+        (λ ordinals. AreOrdinalsAfterRename names.now declaration new.now ordinals.items) }
     ensures resolved { IsResolution names.now }
 {
     let writing = Spellings {

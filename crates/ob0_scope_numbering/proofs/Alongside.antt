@@ -9,7 +9,7 @@ use Rattle.ob0_tree.specs.Tree.{Sort, Tree, block, constant, constants, declares
 use Rattle.ob0_language_names.specs.Names.{naming_by_spelling}
 use Rattle.ob0_language_names.specs.Parts.{further_names, names_in_list}
 use Rattle.ob0_language_names.specs.Scopes.{declare_names, ordinal_of}
-use Rattle.ob0_scope_numbering.specs.MarkWalk.{WalkState, state_after_heading, visit_identifier, visit_identifiers, leave_block, truncate_scope, with_mark, number_declarations, number_declaration, visit_part, with_visible_names_from, visit_block, visit_constant, visit_constant_section, visit_constants, visit_formals, visit_procedure, visit_procedures, visit_section, visit_sections, visit_type, visit_type_section, visit_types, visit_variable, visit_variable_section, visit_variables}
+use Rattle.ob0_scope_numbering.specs.MarkWalk.{WalkState, state_after_heading, visit_identifier, visit_identifiers, state_after_procedure_block, with_oldest_bindings, with_mark, number_declarations, number_declaration, visit_part, with_visible_names_from, visit_block, visit_constant, visit_constant_section, visit_constants, visit_formals, visit_procedure, visit_procedures, visit_section, visit_sections, visit_type, visit_type_section, visit_types, visit_variable, visit_variable_section, visit_variables}
 use Rattle.ob0_scope_numbering.specs.Marks.{OrdinalMark}
 use Rattle.ob0_scope_numbering.specs.Written.{Spellings, spelling_at}
 
@@ -285,7 +285,7 @@ module _ (out : ℕ → Bool) (a b : Spellings) (same_name : (i : ℕ) → out i
       let r = variable_section_goes vs (visit_type_section ts (visit_constant_section cs x)) (visit_type_section ts (visit_constant_section cs y)) v q.at in
       goes_then p (goes_then q r)
 
-  left_goes : (n m : ℕ) (x y : WalkState) → n ≡ m → Beside x y → Beside (truncate_scope n x) (truncate_scope m y)
+  left_goes : (n m : ℕ) (x y : WalkState) → n ≡ m → Beside x y → Beside (with_oldest_bindings n x) (with_oldest_bindings m y)
   left_goes n m x y e at = record { first = at.first; second = at.second; scope = λ j. drop (length (at.scope j) - e j) (at.scope j); declaration_tokens = at.declaration_tokens; outside = at.outside }
 
   -- Two walks through a procedure's name and parameters end at the same place.
@@ -297,23 +297,23 @@ module _ (out : ℕ → Bool) (a b : Spellings) (same_name : (i : ℕ) → out i
       let x₁ = visit_formals fs (number_declaration n x) in
       let y₁ = visit_formals fs (number_declaration n y) in
       let left = left_goes (length x.scope) (length y.scope) x₁ y₁ (ap length at.scope) q.at in
-      let kept : Goes x y (truncate_scope (length x.scope) x₁) (truncate_scope (length y.scope) y₁) = record { at = left; adds = record { firsts = q.adds.firsts; seconds = q.adds.seconds; first_is = q.adds.first_is; second_is = q.adds.second_is; alike = q.adds.alike } } in
+      let kept : Goes x y (with_oldest_bindings (length x.scope) x₁) (with_oldest_bindings (length y.scope) y₁) = record { at = left; adds = record { firsts = q.adds.firsts; seconds = q.adds.seconds; first_is = q.adds.first_is; second_is = q.adds.second_is; alike = q.adds.alike } } in
       then_shown (length x.declaration_tokens) (length y.declaration_tokens) (ap length at.declaration_tokens) kept
 
   -- Two walks over the end of a procedure's block end at the same place. Its name is visible again,
   -- and its closing name is marked.
   pub ending_goes : (n closing k l outer out_too : ℕ) (x y : WalkState) → out n ≡ true → k ≡ l → outer ≡ out_too → Beside x y
-      → Goes x y (with_mark closing (Some k) (leave_block n k outer x)) (with_mark closing (Some l) (leave_block n l out_too y))
+      → Goes x y (with_mark closing (Some k) (state_after_procedure_block n k outer x)) (with_mark closing (Some l) (state_after_procedure_block n l out_too y))
   ending_goes n closing k l outer out_too x y o e f at =
       let left = left_goes outer out_too x y f at in
-      let shown : Beside (leave_block n k outer x) (leave_block n l out_too y) = record {
+      let shown : Beside (state_after_procedure_block n k outer x) (state_after_procedure_block n l out_too y) = record {
         first = at.first;
         second = at.second;
         scope = λ j. ((ap (λ w. spelling_at w n) at.first ∙ (same_name n o ∙ ap (λ w. spelling_at w n) (sym at.second))) j, e j) ∷ left.scope j;
         declaration_tokens = at.declaration_tokens;
         outside = at.outside;
       } in
-      let last = marked_goes closing (Some k) (Some l) (leave_block n k outer x) (leave_block n l out_too y) (ap Some e) shown in
+      let last = marked_goes closing (Some k) (Some l) (state_after_procedure_block n k outer x) (state_after_procedure_block n l out_too y) (ap Some e) shown in
       record { at = last.at; adds = record { firsts = last.adds.firsts; seconds = last.adds.seconds; first_is = last.adds.first_is; second_is = last.adds.second_is; alike = last.adds.alike } }
 
   mutual

@@ -12,10 +12,10 @@ use Rattle.ob0_tree.specs.Tree.{Tree, block, body, declares, declares_procedure,
 use Rattle.ob0_tree.proofs.AscendingNumbers.{AllBelow, ascend_first, ascend_past, ascend_second, before_one, below_more, below_second, leaves_append}
 use Rattle.ob0_language_names.specs.Names.{Name}
 use Rattle.ob0_language_names.specs.Parts.{procedure_name}
-use Rattle.ob0_scope_table.specs.OneBody.{closing_name, is_in_block, is_in_body, is_in_procedure, is_in_procedures, is_outside}
+use Rattle.ob0_scope_table.specs.OneBody.{closing_name, is_range_in_body_of_block, is_range_in_one_body, is_range_in_body_of_procedure, is_range_in_body_of_procedures, is_outside_range}
 use Rattle.ob0_scope_table.specs.Resolution.{declaring_names}
 use Rattle.ob0_scope_table.proofs.Plain.{declares_nothing, declaring_names-append}
-use Rattle.ob0_scope_numbering.specs.MarkWalk.{WalkState, state_after_heading, with_mark, number_declaration, put_ordinal, initial_walk, visit_part, visit_block, visit_constant_section, visit_formals, visit_module, visit_procedure, visit_procedures, visit_type_section, visit_variable_section}
+use Rattle.ob0_scope_numbering.specs.MarkWalk.{WalkState, state_after_heading, with_mark, number_declaration, put_ordinal, initial_walk_state, visit_part, visit_block, visit_constant_section, visit_formals, visit_module, visit_procedure, visit_procedures, visit_type_section, visit_variable_section}
 use Rattle.ob0_scope_numbering.specs.Marks.{OrdinalMark}
 use Rattle.ob0_scope_numbering.specs.BodyWalk.{with_declarations_before, prefix_before, with_procedure_skipped, renumber_block, renumber_procedure, renumber_procedures}
 use Rattle.ob0_scope_numbering.specs.Written.{Spellings, spelling_at}
@@ -82,9 +82,9 @@ ascend_after p rest from to h =
 
 -- ---- the walks
 
-module _ (old new : Spellings) (all : List ℕ) (bound low high : ℕ) (same : (i : ℕ) → is_outside low high i ≡ true → spelling_at old i ≡ spelling_at new i) (rise : AreAscending 0 all bound) where
+module _ (old new : Spellings) (all : List ℕ) (bound low high : ℕ) (same : (i : ℕ) → is_outside_range low high i ≡ true → spelling_at old i ≡ spelling_at new i) (rise : AreAscending 0 all bound) where
   abbrev out : ℕ → Bool
-  out = is_outside low high
+  out = is_outside_range low high
 
   -- holds if the complete walks through the old text and through the new one are at the same place
   abbrev pub Near : WalkState → WalkState → Type 0
@@ -177,13 +177,13 @@ module _ (old new : Spellings) (all : List ℕ) (bound low high : ℕ) (same : (
   -- one procedure
   abbrev Rest : Tree ℕ (items procedure) → Tree ℕ (maybe body) → Type 0
   Rest ps statements =
-      (o w v : WalkState) (from to : ℕ) (extra : List ℕ) → is_in_procedures low high ps statements ≡ true → AreAscending from (identifier_names ps ++ identifier_names statements) to
+      (o w v : WalkState) (from to : ℕ) (extra : List ℕ) → is_range_in_body_of_procedures low high ps statements ≡ true → AreAscending from (identifier_names ps ++ identifier_names statements) to
       → all ≡ w.declaration_tokens ++ (declaring_names (identifiers role.Declaring ps) ++ extra) → Itself w → Near o w → Behind v w
       → Reaches o w v (visit_part statements (visit_procedures ps o)) (visit_part statements (visit_procedures ps w)) (renumber_procedures put_ordinal all low ps statements v)
 
   abbrev Here : Tree ℕ (item procedure) → Type 0
   Here q =
-      (o w v : WalkState) (from to : ℕ) (extra : List ℕ) → is_in_procedure low high q ≡ true → high ≤ closing_name q → AreAscending from (identifier_names q) to
+      (o w v : WalkState) (from to : ℕ) (extra : List ℕ) → is_range_in_body_of_procedure low high q ≡ true → high ≤ closing_name q → AreAscending from (identifier_names q) to
       → all ≡ w.declaration_tokens ++ (declaring_names (identifiers role.Declaring q) ++ extra) → Itself w → Near o w → On v w
       → Reaches o w v (visit_procedure q o) (visit_procedure q w) (renumber_procedure put_ordinal all low q v)
 
@@ -191,7 +191,7 @@ module _ (old new : Spellings) (all : List ℕ) (bound low high : ℕ) (same : (
   one_procedure : (q : Tree ℕ (item procedure)) (ps : Tree ℕ (items procedure)) (statements : Tree ℕ (maybe body)) (o w v : WalkState) (from to : ℕ) (rest : List ℕ) → Rest ps statements → Here q
       → all ≡ w.declaration_tokens ++ (declaring_names (identifiers role.Declaring q) ++ (declaring_names (identifiers role.Declaring ps) ++ rest)) → Itself w → Near o w → On (with_declarations_before all (procedure_name q) v) w
       → AreAscending from (identifier_names q ++ (identifier_names ps ++ identifier_names statements)) to → (b : Bool) → nat_lt (closing_name q) low ≡ b
-      → (if b then is_in_procedures low high ps statements else nat_le high (closing_name q) && is_in_procedure low high q) ≡ true
+      → (if b then is_range_in_body_of_procedures low high ps statements else nat_le high (closing_name q) && is_range_in_body_of_procedure low high q) ≡ true
       → Reaches o w v (visit_part statements (visit_procedures ps (visit_procedure q o))) (visit_part statements (visit_procedures ps (visit_procedure q w)))
       (if b then renumber_procedures put_ordinal all low ps statements (with_procedure_skipped (procedure_name q) (with_declarations_before all (procedure_name q) v)) else renumber_procedure put_ordinal all low q (with_declarations_before all (procedure_name q) v))
   one_procedure q ps statements o w v from to rest later here first at near on parts true e inside_them =
@@ -219,7 +219,7 @@ module _ (old new : Spellings) (all : List ℕ) (bound low high : ℕ) (same : (
       record { near = goes_then out old new same n r.near; added = r.added; is = r.is; covers = covers_both out covered r.covers }
   one_procedure q ps statements o w v from to rest later here first at near on parts false e inside_it =
       let v₁ = with_declarations_before all (procedure_name q) v in
-      let both = and_parts (nat_le high (closing_name q)) (is_in_procedure low high q) inside_it in
+      let both = and_parts (nat_le high (closing_name q)) (is_range_in_body_of_procedure low high q) inside_it in
       let reaches_end = both.0 in
       let le : high ≤ closing_name q = grind (arith, nat_tests) in
       let passed = procedure_passed nowhere written new value q w w.scope (7 + length w.declaration_tokens) at in
@@ -244,7 +244,7 @@ module _ (old new : Spellings) (all : List ℕ) (bound low high : ℕ) (same : (
       }
 
   mutual
-    pub block_reached : (b : Tree ℕ block) (o w v : WalkState) (from to : ℕ) (extra : List ℕ) → is_in_block low high b ≡ true → AreAscending from (identifier_names b) to
+    pub block_reached : (b : Tree ℕ block) (o w v : WalkState) (from to : ℕ) (extra : List ℕ) → is_range_in_body_of_block low high b ≡ true → AreAscending from (identifier_names b) to
         → all ≡ w.declaration_tokens ++ (declaring_names (identifiers role.Declaring b) ++ extra) → Itself w → Near o w → On v w → Reaches o w v (visit_block b o) (visit_block b w) (renumber_block put_ordinal all low b v)
     block_reached (forms_block (declares cs ts vs ps) statements) o w v from to extra inside_it rising declared at near on =
         let c = identifiers role.Declaring cs in
@@ -280,7 +280,7 @@ module _ (old new : Spellings) (all : List ℕ) (bound low high : ℕ) (same : (
         let rest = procedures_reached ps statements o₃ w₃ v₃ from to extra inside_it (ascend_second from (names_without_roles (c ++ (t ++ g))) (names_without_roles p ++ names_without_roles s) to parts) here (at_itself passed.at) n.at (on_behind v₃ w₃ m.at) in
         joined_reach o w v o₃ w₃ v₃ _ _ _ n m.adds rest
 
-    pub procedures_reached : (ps : Tree ℕ (items procedure)) (statements : Tree ℕ (maybe body)) (o w v : WalkState) (from to : ℕ) (extra : List ℕ) → is_in_procedures low high ps statements ≡ true → AreAscending from (identifier_names ps ++ identifier_names statements) to
+    pub procedures_reached : (ps : Tree ℕ (items procedure)) (statements : Tree ℕ (maybe body)) (o w v : WalkState) (from to : ℕ) (extra : List ℕ) → is_range_in_body_of_procedures low high ps statements ≡ true → AreAscending from (identifier_names ps ++ identifier_names statements) to
         → all ≡ w.declaration_tokens ++ (declaring_names (identifiers role.Declaring ps) ++ extra) → Itself w → Near o w → Behind v w
         → Reaches o w v (visit_part statements (visit_procedures ps o)) (visit_part statements (visit_procedures ps w)) (renumber_procedures put_ordinal all low ps statements v)
     procedures_reached end statements o w v from to extra inside_it rising declared at near behind =
@@ -297,7 +297,7 @@ module _ (old new : Spellings) (all : List ℕ) (bound low high : ℕ) (same : (
         let on = caught (procedure_name q) (others_declared q ++ (declaring_names ips ++ rest)) v w behind (first ∙ ap (λ l. w.declaration_tokens ++ (l ++ (declaring_names ips ++ rest))) (name_first q)) in
         one_procedure q ps statements o w v from to rest (procedures_reached ps statements) (procedure_reached q) first at near on parts (nat_lt (closing_name q) low) refl inside_it
 
-    pub procedure_reached : (q : Tree ℕ (item procedure)) (o w v : WalkState) (from to : ℕ) (extra : List ℕ) → is_in_procedure low high q ≡ true → high ≤ closing_name q → AreAscending from (identifier_names q) to
+    pub procedure_reached : (q : Tree ℕ (item procedure)) (o w v : WalkState) (from to : ℕ) (extra : List ℕ) → is_range_in_body_of_procedure low high q ≡ true → high ≤ closing_name q → AreAscending from (identifier_names q) to
         → all ≡ w.declaration_tokens ++ (declaring_names (identifiers role.Declaring q) ++ extra) → Itself w → Near o w → On v w
         → Reaches o w v (visit_procedure q o) (visit_procedure q w) (renumber_procedure put_ordinal all low q v)
     procedure_reached (declares_procedure x fs b closing) o w v from to extra inside_it le rising declared at near on =
@@ -339,17 +339,17 @@ module _ (old new : Spellings) (all : List ℕ) (bound low high : ℕ) (same : (
 
   -- states how the marks of all three walks through a module agree
   pub record Marked (m : Tree ℕ module_text) : Type 0 where
-    pub alike : Alike out (visit_module m (initial_walk old)).marks (visit_module m (initial_walk new)).marks
-    pub covers : Covers out (visit_module m (initial_walk new)).marks (marks_again all low m new)
+    pub alike : Alike out (visit_module m (initial_walk_state old)).marks (visit_module m (initial_walk_state new)).marks
+    pub covers : Covers out (visit_module m (initial_walk_state new)).marks (marks_again all low m new)
 
-  pub module_marked : (m : Tree ℕ module_text) (to : ℕ) → is_in_body low high m ≡ true → AreAscending 0 (identifier_names m) to → all ≡ declaring_names (identifiers role.Declaring m) → Marked m
+  pub module_marked : (m : Tree ℕ module_text) (to : ℕ) → is_range_in_one_body low high m ≡ true → AreAscending 0 (identifier_names m) to → all ≡ declaring_names (identifiers role.Declaring m) → Marked m
   module_marked (is_module x b closing) to lies rising declared =
       let i = identifiers role.Declaring b in
       let last : List (Role × ℕ) = (role.ModuleName, closing) ∷ [] in
-      let both = and_parts (nat_le high closing) (is_in_block low high b) lies in
+      let both = and_parts (nat_le high closing) (is_range_in_body_of_block low high b) lies in
       let le : high ≤ closing = grind (arith, nat_tests) in
-      let o = initial_walk old in
-      let w = initial_walk new in
+      let o = initial_walk_state old in
+      let w = initial_walk_state new in
       let near : Near o w = record { first = refl; second = refl; scope = refl; declaration_tokens = refl; outside = tt } in
       let n = marked_goes out old new same x None None o w refl near in
       let o₁ = with_mark x None o in

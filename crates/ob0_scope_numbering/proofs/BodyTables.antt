@@ -11,12 +11,12 @@ use Rattle.ob0_tree.specs.Tree.{identifiers}
 use Rattle.ob0_tree.proofs.Leaves.{ascending_bounds, ascending_lower, leaves_ascend}
 use Rattle.ob0_language_names.specs.Names.{naming_by_spelling}
 use Rattle.ob0_language_names.specs.Scopes.{label_from_ordinal}
-use Rattle.ob0_scope_table.specs.OneBody.{IsBodyChange, is_in_body, is_outside}
+use Rattle.ob0_scope_table.specs.OneBody.{IsBodyChange, is_range_in_one_body, is_outside_range}
 use Rattle.ob0_scope_table.specs.Resolution.{declaring_names, ordinal_in}
 use Rattle.ob0_scope_table.proofs.OneBody.{text_out}
-use Rattle.ob0_scope_numbering.specs.MarkWalk.{initial_walk, visit_module}
+use Rattle.ob0_scope_numbering.specs.MarkWalk.{initial_walk_state, visit_module}
 use Rattle.ob0_scope_numbering.specs.Marks.{OrdinalMark, with_marks}
-use Rattle.ob0_scope_numbering.specs.BodyWalk.{renumber_module, initial_walk_over}
+use Rattle.ob0_scope_numbering.specs.BodyWalk.{renumber_module, initial_walk_state_with_table}
 use Rattle.ob0_scope_numbering.specs.Written.{original_spellings}
 use Rattle.ob0_scope_numbering.proofs.Alongside.{Alike}
 use Rattle.ob0_scope_numbering.proofs.BodyMarks.{module_marked}
@@ -90,7 +90,7 @@ covered_marks out table low high has (covers_more {ms} {ns} m e p) ascend within
 
 -- The marks of the two texts are alike except in the range.
 pub body_alike : (old : TextWithTokens) (m : ParsedModule) (low high : ℕ) → IsParsed m → IsBodyChange old m low high
-    → Alike (is_outside low high) (visit_module (tree_of m) (initial_walk (original_spellings old))).marks (visit_module (tree_of m) (initial_walk (original_spellings m.source))).marks
+    → Alike (is_outside_range low high) (visit_module (tree_of m) (initial_walk_state (original_spellings old))).marks (visit_module (tree_of m) (initial_walk_state (original_spellings m.source))).marks
 body_alike old m low high parsed change =
     let all = declaring_names (identifiers role.Declaring (tree_of m)) in
     let rising = leaves_ascend m parsed in
@@ -99,38 +99,38 @@ body_alike old m low high parsed change =
 
 -- states that a table has all marks after a body was numbered again
 pub record Renumbered (m : ParsedModule) (table : List (Option ℕ)) (made : List (Option ℕ)) : Type 0 where
-  pub marks : HasMarks (ordinal_in made) (visit_module (tree_of m) (initial_walk (original_spellings m.source))).marks
+  pub marks : HasMarks (ordinal_in made) (visit_module (tree_of m) (initial_walk_state (original_spellings m.source))).marks
   pub elsewhere : (i : ℕ) → list_any (λ j. j == i) (identifier_names (tree_of m)) ≡ false → ordinal_in made i ≡ ordinal_in table i
 
 -- If a table has the marks outside a range, it has all marks after the body with the range is
 -- numbered again.
-pub body_renumbered : (m : ParsedModule) (low high : ℕ) (table : List (Option ℕ)) (all : List ℕ) → IsParsed m → IsScan m.source → is_in_body low high (tree_of m) ≡ true
-    → HasMarksAt (is_outside low high) (ordinal_in table) (visit_module (tree_of m) (initial_walk (original_spellings m.source))).marks
+pub body_renumbered : (m : ParsedModule) (low high : ℕ) (table : List (Option ℕ)) (all : List ℕ) → IsParsed m → IsScan m.source → is_range_in_one_body low high (tree_of m) ≡ true
+    → HasMarksAt (is_outside_range low high) (ordinal_in table) (visit_module (tree_of m) (initial_walk_state (original_spellings m.source))).marks
     → all ≡ declaring_names (identifiers role.Declaring (tree_of m)) → length m.source.tokens ≤ length table
-    → Renumbered m table (renumber_module all low (tree_of m) (initial_walk_over (original_spellings m.source) table)).marks
+    → Renumbered m table (renumber_module all low (tree_of m) (initial_walk_state_with_table (original_spellings m.source) table)).marks
 body_renumbered m low high table all parsed scan lies has declared within =
-    let out = is_outside low high in
+    let out = is_outside_range low high in
     let w = original_spellings m.source in
     let n = length m.source.tokens in
     let rising = leaves_ascend m parsed in
     let declared_rise = subst (λ l. AreAscending 0 l n) (sym declared) (declaring_ascend (identifiers role.Declaring (tree_of m)) 0 n rising) in
     let with_mark = module_marked w w all n low high (λ i e. refl) declared_rise (tree_of m) n lies rising declared in
-    let news = (visit_module (tree_of m) (initial_walk w)).marks in
+    let news = (visit_module (tree_of m) (initial_walk_state w)).marks in
     let again = marks_again all low (tree_of m) w in
-    let passed = module_passed (λ i. None) (label_from_ordinal naming_by_spelling) w (tree_of m) (initial_walk w) (at_start w) in
+    let passed = module_passed (λ i. None) (label_from_ordinal naming_by_spelling) w (tree_of m) (initial_walk_state w) (at_start w) in
     let ascend : AreAscending 0 (tokens_of news) n = subst (λ ts. AreAscending 0 ts n) (sym passed.tokens) rising in
     let few = marks_few m w parsed scan in
     let kept : with_entries table again ≡ with_marks table again = entries_kept few.read few.bound again table few.small (covers_before out few.read few.bound with_mark.covers few.before) in
-    let made : (renumber_module all low (tree_of m) (initial_walk_over w table)).marks ≡ with_marks table again = body_tabled all low (tree_of m) w table ∙ kept in
+    let made : (renumber_module all low (tree_of m) (initial_walk_state_with_table w table)).marks ≡ with_marks table again = body_tabled all low (tree_of m) w table ∙ kept in
     record {
       marks = subst (λ (t : List (Option ℕ)). HasMarks (ordinal_in t) news) (sym made) (covered_marks out table 0 n has with_mark.covers ascend within);
       elsewhere = λ i e. ap (λ (t : List (Option ℕ)). ordinal_in t i) made ∙ kept_elsewhere again table i (covers_absent out i with_mark.covers (ap (list_any (λ j. j == i)) passed.tokens ∙ e));
     }
 
-pub body_numbered : (old : TextWithTokens) (m : ParsedModule) (low high : ℕ) (table : List (Option ℕ)) (all : List ℕ) → IsParsed m → IsBodyChange old m low high → HasMarks (ordinal_in table) (visit_module (tree_of m) (initial_walk (original_spellings old))).marks
+pub body_numbered : (old : TextWithTokens) (m : ParsedModule) (low high : ℕ) (table : List (Option ℕ)) (all : List ℕ) → IsParsed m → IsBodyChange old m low high → HasMarks (ordinal_in table) (visit_module (tree_of m) (initial_walk_state (original_spellings old))).marks
     → all ≡ declaring_names (identifiers role.Declaring (tree_of m)) → length m.source.tokens ≤ length table
-    → Renumbered m table (renumber_module all low (tree_of m) (initial_walk_over (original_spellings m.source) table)).marks
+    → Renumbered m table (renumber_module all low (tree_of m) (initial_walk_state_with_table (original_spellings m.source) table)).marks
 body_numbered old m low high table all parsed change has declared within =
-    let olds = (visit_module (tree_of m) (initial_walk (original_spellings old))).marks in
-    let news = (visit_module (tree_of m) (initial_walk (original_spellings m.source))).marks in
-    body_renumbered m low high table all parsed change.new_scan change.in_body (marks_alike (is_outside low high) (ordinal_in table) olds news has (body_alike old m low high parsed change)) declared within
+    let olds = (visit_module (tree_of m) (initial_walk_state (original_spellings old))).marks in
+    let news = (visit_module (tree_of m) (initial_walk_state (original_spellings m.source))).marks in
+    body_renumbered m low high table all parsed change.new_scan change.in_body (marks_alike (is_outside_range low high) (ordinal_in table) olds news has (body_alike old m low high parsed change)) declared within

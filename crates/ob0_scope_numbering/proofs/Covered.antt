@@ -10,7 +10,7 @@ use Rattle.ob0_tree.specs.Order.{AreAscending, identifier_names, names_without_r
 use Rattle.ob0_tree.specs.Tree.{Tree, block, body, declares, declares_procedure, end, forms_block, identifiers, item, items, maybe, more, procedure}
 use Rattle.ob0_tree.proofs.Leaves.{ascending_lower}
 use Rattle.ob0_tree.proofs.AscendingNumbers.{AllBelow, ascend_first, ascend_second, before_one, below_first, below_more, leaves_append}
-use Rattle.ob0_scope_table.specs.OneBody.{begins_at_or_before, closing_name, is_in_block, is_in_procedure, is_in_procedures, is_outside}
+use Rattle.ob0_scope_table.specs.OneBody.{first_identifier_is_at_or_before, closing_name, is_range_in_body_of_block, is_range_in_body_of_procedure, is_range_in_body_of_procedures, is_outside_range}
 use Rattle.ob0_scope_table.specs.Resolution.{declaring_names}
 use Rattle.ob0_scope_numbering.specs.Marks.{OrdinalMark}
 use Rattle.ob0_scope_numbering.proofs.Alongside.{AllOut}
@@ -25,14 +25,14 @@ declaring_ascend ((role.ClosingName, n) ∷ xs) low high h = ascending_lower low
 declaring_ascend ((role.FieldName, n) ∷ xs) low high h = ascending_lower low (n + 1) (declaring_names xs) high (omega (arith, h.0)) (declaring_ascend xs (n + 1) high h.1)
 declaring_ascend ((role.ModuleName, n) ∷ xs) low high h = ascending_lower low (n + 1) (declaring_names xs) high (omega (arith, h.0)) (declaring_ascend xs (n + 1) high h.1)
 
-is_below_out : (low high i : ℕ) → i < low → is_outside low high i ≡ true
+is_below_out : (low high i : ℕ) → i < low → is_outside_range low high i ≡ true
 is_below_out low high i less = one (nat_lt i low) refl
   where
     one : (b : Bool) → nat_lt i low ≡ b → (b || nat_le high i) ≡ true
     one true e = refl
     one false e = absurd (grind (arith, nat_tests))
 
-pub is_above_out : (low high i : ℕ) → high ≤ i → is_outside low high i ≡ true
+pub is_above_out : (low high i : ℕ) → high ≤ i → is_outside_range low high i ≡ true
 is_above_out low high i le = one (nat_lt i low) (nat_le high i) refl
   where
     one : (b c : Bool) → nat_le high i ≡ c → (b || c) ≡ true
@@ -40,17 +40,17 @@ is_above_out low high i le = one (nat_lt i low) (nat_le high i) refl
     one false true e = refl
     one false false e = absurd (grind (arith, nat_tests))
 
-pub below_out : (low high : ℕ) (xs : List ℕ) → AllBelow low xs → AllOut (is_outside low high) xs
+pub below_out : (low high : ℕ) (xs : List ℕ) → AllBelow low xs → AllOut (is_outside_range low high) xs
 below_out low high [] h = tt
 below_out low high (x ∷ xs) h = (is_below_out low high x h.0, below_out low high xs h.1)
 
-pub above_out : (low high from : ℕ) (xs : List ℕ) (to : ℕ) → high ≤ from → AreAscending from xs to → AllOut (is_outside low high) xs
+pub above_out : (low high from : ℕ) (xs : List ℕ) (to : ℕ) → high ≤ from → AreAscending from xs to → AllOut (is_outside_range low high) xs
 above_out low high from [] to le h = tt
 above_out low high from (x ∷ xs) to le h = (is_above_out low high x (omega (arith, le, h.0)), above_out low high (x + 1) xs to (omega (arith, le, h.0)) h.1)
 
 -- ---- the tokens before the body are before the range
 
-begun : (low high : ℕ) (pre : List ℕ) (xs : List (Role × ℕ)) (from to : ℕ) → begins_at_or_before low xs ≡ true → AreAscending from (pre ++ names_without_roles xs) to → AllBelow low pre
+begun : (low high : ℕ) (pre : List ℕ) (xs : List (Role × ℕ)) (from to : ℕ) → first_identifier_is_at_or_before low xs ≡ true → AreAscending from (pre ++ names_without_roles xs) to → AllBelow low pre
 begun low high pre [] from to e h = absurd (cc)
 begun low high pre (x ∷ xs) from to e h = let le : x.1 ≤ low = grind (arith, nat_tests) in below_more x.1 low pre le (before_one from pre x.1 (names_without_roles xs) to h)
 
@@ -60,7 +60,7 @@ sections (forms_block (declares cs ts vs ps) statements) = identifiers role.Decl
 
 module _ (low high : ℕ) where
   mutual
-    pub below_block : (b : Tree ℕ block) (pre : List ℕ) (from to : ℕ) → is_in_block low high b ≡ true → AreAscending from (pre ++ identifier_names b) to → AllBelow low pre
+    pub below_block : (b : Tree ℕ block) (pre : List ℕ) (from to : ℕ) → is_range_in_body_of_block low high b ≡ true → AreAscending from (pre ++ identifier_names b) to → AllBelow low pre
     below_block (forms_block (declares cs ts vs ps) statements) pre from to e h =
         let c = identifiers role.Declaring cs in
         let t = identifiers role.Declaring ts in
@@ -72,22 +72,22 @@ module _ (low high : ℕ) where
         below_first low pre (names_without_roles (c ++ (t ++ v)))
         (below_procedures ps statements (pre ++ names_without_roles (c ++ (t ++ v))) from to e (subst (λ l. AreAscending from l to) split h))
 
-    pub below_procedures : (ps : Tree ℕ (items procedure)) (statements : Tree ℕ (maybe body)) (pre : List ℕ) (from to : ℕ) → is_in_procedures low high ps statements ≡ true → AreAscending from (pre ++ (identifier_names ps ++ identifier_names statements)) to → AllBelow low pre
+    pub below_procedures : (ps : Tree ℕ (items procedure)) (statements : Tree ℕ (maybe body)) (pre : List ℕ) (from to : ℕ) → is_range_in_body_of_procedures low high ps statements ≡ true → AreAscending from (pre ++ (identifier_names ps ++ identifier_names statements)) to → AllBelow low pre
     below_procedures end statements pre from to e h = begun low high pre (identifiers role.Declaring statements) from to e h
     below_procedures (more p ps) statements pre from to e h =
         one (below_procedures ps statements (pre ++ identifier_names p) from to) (below_procedure p pre from to) (nat_lt (closing_name p) low) e
       where
-        one : (is_in_procedures low high ps statements ≡ true → AreAscending from ((pre ++ identifier_names p) ++ (identifier_names ps ++ identifier_names statements)) to → AllBelow low (pre ++ identifier_names p))
-            → (is_in_procedure low high p ≡ true → AreAscending from (pre ++ identifier_names p) to → AllBelow low pre)
-            → (b : Bool) → (if b then is_in_procedures low high ps statements else nat_le high (closing_name p) && is_in_procedure low high p) ≡ true → AllBelow low pre
+        one : (is_range_in_body_of_procedures low high ps statements ≡ true → AreAscending from ((pre ++ identifier_names p) ++ (identifier_names ps ++ identifier_names statements)) to → AllBelow low (pre ++ identifier_names p))
+            → (is_range_in_body_of_procedure low high p ≡ true → AreAscending from (pre ++ identifier_names p) to → AllBelow low pre)
+            → (b : Bool) → (if b then is_range_in_body_of_procedures low high ps statements else nat_le high (closing_name p) && is_range_in_body_of_procedure low high p) ≡ true → AllBelow low pre
         one later here true g =
             let split : pre ++ (names_without_roles (identifiers role.Declaring p ++ identifiers role.Declaring ps) ++ identifier_names statements) ≡ (pre ++ identifier_names p) ++ (identifier_names ps ++ identifier_names statements) = simp (leaves_append, append_assoc) in
             below_first low pre (identifier_names p) (later g (subst (λ l. AreAscending from l to) split h))
         one later here false g =
             let split : pre ++ (names_without_roles (identifiers role.Declaring p ++ identifiers role.Declaring ps) ++ identifier_names statements) ≡ (pre ++ identifier_names p) ++ (identifier_names ps ++ identifier_names statements) = simp (leaves_append, append_assoc) in
-            here (and_parts (nat_le high (closing_name p)) (is_in_procedure low high p) g).1 (ascend_first from (pre ++ identifier_names p) (identifier_names ps ++ identifier_names statements) to (subst (λ l. AreAscending from l to) split h))
+            here (and_parts (nat_le high (closing_name p)) (is_range_in_body_of_procedure low high p) g).1 (ascend_first from (pre ++ identifier_names p) (identifier_names ps ++ identifier_names statements) to (subst (λ l. AreAscending from l to) split h))
 
-    pub below_procedure : (p : Tree ℕ (item procedure)) (pre : List ℕ) (from to : ℕ) → is_in_procedure low high p ≡ true → AreAscending from (pre ++ identifier_names p) to → AllBelow low pre
+    pub below_procedure : (p : Tree ℕ (item procedure)) (pre : List ℕ) (from to : ℕ) → is_range_in_body_of_procedure low high p ≡ true → AreAscending from (pre ++ identifier_names p) to → AllBelow low pre
     below_procedure (declares_procedure x fs b closing) pre from to e h =
         let f = identifiers role.Declaring fs in
         let i = identifiers role.Declaring b in

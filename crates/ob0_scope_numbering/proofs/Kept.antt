@@ -14,7 +14,7 @@ use Rattle.ob0_language_names.specs.Names.{naming_by_spelling}
 use Rattle.ob0_scope_table.specs.Resolution.{ordinal_in}
 use Rattle.ob0_scope_table.proofs.FewTokens.{few_tokens}
 use Rattle.ob0_language_names.specs.Scopes.{label_from_ordinal}
-use Rattle.ob0_scope_numbering.specs.MarkWalk.{initial_walk, visit_module}
+use Rattle.ob0_scope_numbering.specs.MarkWalk.{initial_walk_state, visit_module}
 use Rattle.ob0_scope_numbering.specs.Marks.{OrdinalMark, with_marks}
 use Rattle.ob0_scope_numbering.specs.Written.{Spellings}
 use Rattle.ob0_scope_numbering.proofs.Passing.{AreInOrder, HasMarks, IsBefore, at_start, module_passed, tokens_of}
@@ -77,16 +77,16 @@ pub record MarksFew (m : ParsedModule) (w : Spellings) : Type 0 where
   pub read : ℕ → Option ℕ
   pub bound : ℕ
   pub small : bound ≤ greatest_ordinal
-  pub before : AreMarksBefore read bound (visit_module (tree_of m) (initial_walk w)).marks
+  pub before : AreMarksBefore read bound (visit_module (tree_of m) (initial_walk_state w)).marks
 
 pub marks_few : (m : ParsedModule) (w : Spellings) → IsParsed m → IsScan m.source → MarksFew m w
 marks_few m w parsed scan =
-    let v = visit_module (tree_of m) (initial_walk w) in
+    let v = visit_module (tree_of m) (initial_walk_state w) in
     let ids = identifiers role.Declaring (tree_of m) in
     let nothing : List (Option ℕ) = replicate (length m.source.tokens) None in
     let read = ordinal_in (with_marks nothing v.marks) in
     let has : HasMarks read v.marks = marks_in_table m w v (with_marks nothing v.marks) parsed refl refl in
-    let passed = module_passed read (label_from_ordinal naming_by_spelling) w (tree_of m) (initial_walk w) (at_start w) in
+    let passed = module_passed read (label_from_ordinal naming_by_spelling) w (tree_of m) (initial_walk_state w) (at_start w) in
     let order : AreInOrder read 7 ids = subst (AreInOrder read 7) (append-nil ids) (passed.in_order has [] tt) in
     let few = few_between 0 (names_without_roles ids) (length m.source.tokens) (leaves_ascend m parsed) in
     let tokens = few_tokens m.source scan in
@@ -96,7 +96,7 @@ marks_few m w parsed scan =
 
 -- Entries have the ordinals of all marks of a module.
 pub all_kept : (m : ParsedModule) (w : Spellings) (table : List (Option ℕ)) → IsParsed m → IsScan m.source
-    → with_entries table (visit_module (tree_of m) (initial_walk w)).marks ≡ with_marks table (visit_module (tree_of m) (initial_walk w)).marks
+    → with_entries table (visit_module (tree_of m) (initial_walk_state w)).marks ≡ with_marks table (visit_module (tree_of m) (initial_walk_state w)).marks
 all_kept m w table parsed scan =
     let few = marks_few m w parsed scan in
-    entries_kept few.read few.bound (visit_module (tree_of m) (initial_walk w)).marks table few.small few.before
+    entries_kept few.read few.bound (visit_module (tree_of m) (initial_walk_state w)).marks table few.small few.before

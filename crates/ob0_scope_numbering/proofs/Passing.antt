@@ -8,14 +8,14 @@ use Rattle.ob0_tree.specs.declared.tree.Role.TheVariants as role
 use Rattle.ob0_tree.specs.Tree.{Sort, Tree, block, constant, constants, declares, declares_constant, declares_constants, declares_procedure, declares_type, declares_types, declares_variable, declares_variables, end, formals, further_name, further_section, forms_block, identifiers, is_module, item, items, listed, mapped_tree, maybe, module_text, more, names, no_formals, none, one, procedure, section, some_formals, then_name, then_section, type_definition, type_definitions, value_section, variable, variable_section, variables, written_type}
 use Rattle.ob0_tree.specs.Order.{names_without_roles}
 use Rattle.ob0_tree.specs.Places.{token_value_at}
-use Rattle.ob0_scope_numbering.specs.Written.{Spellings, spelling_at, spelled_tree}
+use Rattle.ob0_scope_numbering.specs.Written.{Spellings, spelling_at, tree_with_spellings}
 use Rattle.ob0_tree.proofs.Occurring.{looked_up_only, looked_up_only-append}
 use Rattle.ob0_scope_numbering.specs.Marks.{OrdinalMark}
 use Rattle.ob0_language_names.specs.Names.{Name, naming_by_spelling, same_name}
 use Rattle.ob0_language_names.specs.Parts.{constant_names, formal_names, formal_sections, further_names, module_block, declared_type_names, names_in_list, procedure_name, section_constants, section_names, section_types, section_variables, variable_names}
 use Rattle.ob0_scope_table.specs.Resolution.{declaring_names}
 use Rattle.ob0_language_names.specs.Scopes.{Labelling, Scope, ordinal_after_block, ordinal_after_names, ordinal_after_procedure, ordinal_after_procedures, body_scope, declare_names, declare_procedure_names, ordinal_of, predeclared_scope, relabel_block, relabel_constant_section, relabel_constants, relabel_formals, relabel_further_names, relabel_names, relabel_procedure, relabel_procedures, relabel_section, relabel_sections, relabel_type_section, relabel_types, relabel_uses, relabel_variable_section, relabel_variables, relabel_module}
-use Rattle.ob0_scope_numbering.specs.MarkWalk.{WalkState, initial_walk, leave_block, state_after_heading, visit_identifier, visit_identifiers, truncate_scope, with_mark, number_declarations, number_declaration, with_visible_names_from, visit_part, visit_block, visit_constant, visit_constant_section, visit_constants, visit_formals, visit_module, visit_procedure, visit_procedures, visit_section, visit_sections, visit_type, visit_type_section, visit_types, visit_variable, visit_variable_section, visit_variables}
+use Rattle.ob0_scope_numbering.specs.MarkWalk.{WalkState, initial_walk_state, state_after_procedure_block, state_after_heading, visit_identifier, visit_identifiers, with_oldest_bindings, with_mark, number_declarations, number_declaration, with_visible_names_from, visit_part, visit_block, visit_constant, visit_constant_section, visit_constants, visit_formals, visit_module, visit_procedure, visit_procedures, visit_section, visit_sections, visit_type, visit_type_section, visit_types, visit_variable, visit_variable_section, visit_variables}
 use Rattle.ob0_scope_numbering.proofs.Agreed.{AllFit, agreed}
 use Rattle.ob0_language_names.proofs.Ordinals.{ordinal_after_names-append, declare_names-append, le-ordinal_after_block, le-ordinal_after_names}
 use Rattle.ob0_language_names.proofs.OccurrenceNames.{length-map}
@@ -99,7 +99,7 @@ pub record At (v : WalkState) (src : Spellings) (s : Scope Name) (k : ℕ) : Typ
 pub at_itself : {v : WalkState} {src : Spellings} {s : Scope Name} {k : ℕ} → At v src s k → At v src v.scope (7 + length v.declaration_tokens)
 at_itself {v = v} {k = k} at = record { writing = at.writing; scope = refl; next = refl; before = subst (λ n. AreBefore n v.scope) (sym at.next) (subst (AreBefore k) (sym at.scope) at.before) }
 
-pub at_start : (src : Spellings) → At (initial_walk src) src (predeclared_scope naming_by_spelling) 7
+pub at_start : (src : Spellings) → At (initial_walk_state src) src (predeclared_scope naming_by_spelling) 7
 at_start src = record { writing = refl; scope = refl; next = refl; before = names_before 0 (map naming_by_spelling.predeclared (0 ∷ 1 ∷ 2 ∷ 3 ∷ 4 ∷ 5 ∷ 6 ∷ [])) [] 7 (omega arith) tt }
 
 joined : {X Y : Type 0} (f : List X → List Y) (xs ys : List X) (a b c : List Y) → f (xs ++ ys) ≡ f xs ++ f ys → b ≡ a ++ f xs → c ≡ b ++ f ys → c ≡ a ++ f (xs ++ ys)
@@ -468,7 +468,7 @@ module _ {M : Type 0} (table : ℕ → Option ℕ) (label : Labelling Name M) (s
   variable_section_passed none v s k at = pass_to (pass_nothing v s k at) (λ h. refl)
   variable_section_passed (one (declares_variables vs)) v s k at = pass_to (variables_passed vs v s k at) (λ p i. one (declares_variables (p i)))
 
-  left_passed : {a b : WalkState} {xs : List (Role × ℕ)} {s s' : Scope Name} {k' : ℕ} {P : Type 0} (outer : ℕ) → outer ≡ length s → Extends s s' → Passes a b xs s' k' P → Passes a (truncate_scope outer b) xs s k' P
+  left_passed : {a b : WalkState} {xs : List (Role × ℕ)} {s s' : Scope Name} {k' : ℕ} {P : Type 0} (outer : ℕ) → outer ≡ length s → Extends s s' → Passes a b xs s' k' P → Passes a (with_oldest_bindings outer b) xs s k' P
   left_passed {b = b} {s = s} {k' = k'} outer count extends p =
       record {
         at = record { writing = p.at.writing; scope = (λ i. drop (length (p.at.scope i) - count i) (p.at.scope i)) ∙ left_extends extends; next = p.at.next; before = older_before k' extends.newer s (subst (AreBefore k') extends.is p.at.before) };
@@ -538,11 +538,11 @@ module _ {M : Type 0} (table : ℕ → Option ℕ) (label : Labelling Name M) (s
         let e = extends_then (extends_then (one_extends (name, k) s) (names_extend (suc k) formal ((name, k) ∷ s))) (block_extends k₁ (spelled b) inside) in
         let following = left_passed outside count e whole in
         let low : k < ordinal_after_block k₁ (spelled b) = omega (arith, le-ordinal_after_names (suc k) formal, le-ordinal_after_block k₁ (spelled b)) in
-        let shown_again : At (leave_block x (7 + own) outside (visit_block b v₃)) src ((name, k) ∷ s) (ordinal_after_block k₁ (spelled b)) =
+        let shown_again : At (state_after_procedure_block x (7 + own) outside (visit_block b v₃)) src ((name, k) ∷ s) (ordinal_after_block k₁ (spelled b)) =
         record { writing = following.at.writing; scope = (λ i. (spelling_at (following.at.writing i) x, at.next i) ∷ following.at.scope i); next = following.at.next; before = (low, following.at.before) } in
-        let visible : Passes v (leave_block x (7 + own) outside (visit_block b v₃)) (((role.Declaring, x) ∷ identifiers role.Declaring fs) ++ identifiers role.Declaring b) ((name, k) ∷ s) (ordinal_after_block k₁ (spelled b)) _ =
+        let visible : Passes v (state_after_procedure_block x (7 + own) outside (visit_block b v₃)) (((role.Declaring, x) ∷ identifiers role.Declaring fs) ++ identifiers role.Declaring b) ((name, k) ∷ s) (ordinal_after_block k₁ (spelled b)) _ =
         record { at = shown_again; declared = following.declared; used = following.used; tokens = following.tokens; agree = following.agree; in_order = following.in_order } in
-        let last = mark_passed role.ClosingName closing (Some (7 + own)) (leave_block x (7 + own) outside (visit_block b v₃)) ((name, k) ∷ s) (ordinal_after_block k₁ (spelled b)) refl refl (omega (arith, low, at.next)) shown_again in
+        let last = mark_passed role.ClosingName closing (Some (7 + own)) (state_after_procedure_block x (7 + own) outside (visit_block b v₃)) ((name, k) ∷ s) (ordinal_after_block k₁ (spelled b)) refl refl (omega (arith, low, at.next)) shown_again in
         pass_is (append_assoc ((role.Declaring, x) ∷ identifiers role.Declaring fs) (identifiers role.Declaring b) ((role.ClosingName, closing) ∷ []) ∙ append_assoc ((role.Declaring, x) ∷ []) (identifiers role.Declaring fs) (identifiers role.Declaring b ++ ((role.ClosingName, closing) ∷ []))) refl refl
         (pass_to (pass_then visible last)
         (λ p i. declares_procedure (label (sym p.first.first.first i) name) (p.first.first.second i) (p.first.second i) (label (sym (p.second ∙ ap Some at.next) i) (spelling_at src closing))))
@@ -559,6 +559,6 @@ module _ {M : Type 0} (table : ℕ → Option ℕ) (label : Labelling Name M) (s
       (λ p i. is_module (label (sym p.first i) (spelling_at src x)) (p.second.first i) (label (sym p.second.second i) (spelling_at src closing)))
 
 pub module_passed : {M : Type 0} (table : ℕ → Option ℕ) (label : Labelling Name M) (src : Spellings) (m : Tree ℕ module_text) (v : WalkState) → At v src (predeclared_scope naming_by_spelling) 7
-    → Passed table src v (visit_module m v) (identifiers role.Declaring m) (body_scope 7 (module_block (spelled_tree src m)) (predeclared_scope naming_by_spelling)) (ordinal_after_block 7 (module_block (spelled_tree src m)))
-    (relabel_module naming_by_spelling label (spelled_tree src m) ≡ mapped_tree (λ i. label (table i) (spelling_at src i)) (token_value_at src.source) m)
+    → Passed table src v (visit_module m v) (identifiers role.Declaring m) (body_scope 7 (module_block (tree_with_spellings src m)) (predeclared_scope naming_by_spelling)) (ordinal_after_block 7 (module_block (tree_with_spellings src m)))
+    (relabel_module naming_by_spelling label (tree_with_spellings src m) ≡ mapped_tree (λ i. label (table i) (spelling_at src i)) (token_value_at src.source) m)
 module_passed table label src = module_passed_with table label src (token_value_at src.source)

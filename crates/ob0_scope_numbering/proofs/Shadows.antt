@@ -9,7 +9,7 @@ use Rattle.ob0_scope_numbering.specs.declared.visible.Binding.{Binding}
 use Rattle.ob0_language_names.specs.Names.{Name, naming_by_spelling, same_name}
 use Rattle.ob0_scope_numbering.specs.NewestNames.{SetsNewestBinding, KeepsNewestBindings, KeepsNamePositions, newest_binding_in, position_of_name}
 use Rattle.ob0_language_names.specs.Scopes.{ordinal_of}
-use Rattle.ob0_scope_numbering.specs.StoredScopes.{HaveHiddenIndexes, HaveNamePositions, HasNewestBindings, newest_binding_index, scope_of}
+use Rattle.ob0_scope_numbering.specs.StoredScopes.{HaveHiddenBindingIndexes, HaveNamePositions, HasNewestBindings, newest_binding_index, scope_of}
 use Rattle.ob0_language_names.proofs.NameEquality.{same_name-comm}
 
 abbrev pub shown : Binding → Name × ℕ
@@ -65,15 +65,15 @@ chosen true false a b c d e f g = absurd (cc)
 chosen false true a b c d e f g = absurd (cc)
 chosen false false a b c d e f g = g
 
-pub bound_again : (newest next : List NameEntry) (items : List Binding) (b : Binding) → HasNewestBindings newest items → b.hidden_index ≡ newest_binding_index b.name.now (reverse items)
+pub bound_again : (newest next : List NameEntry) (items : List Binding) (b : Binding) → HasNewestBindings newest items → b.hidden_binding_index ≡ newest_binding_index b.name.now (reverse items)
     → SetsNewestBinding newest next b.name.now (Some (length items)) → HasNewestBindings next (items ++ (b ∷ []))
-bound_again newest next items b w hidden_index renewed =
+bound_again newest next items b w hidden_binding_index renewed =
     let turned : reverse (items ++ (b ∷ [])) ≡ b ∷ reverse items = reverse-append items (b ∷ []) in
     record {
       found = λ x. renewed x
           ∙ (chosen (same_name b.name.now x) (same_name x b.name.now) (Some (length items)) (newest_binding_in newest x) (Some (length (reverse items))) (newest_binding_index x (reverse items)) (same_name-comm b.name.now x) (ap Some (sym (length-reverse items))) (w.found x)
           ∙ ap (newest_binding_index x) (sym turned));
-      hidden_index = subst HaveHiddenIndexes (sym turned) (hidden_index, w.hidden_index);
+      hidden_binding_index = subst HaveHiddenBindingIndexes (sym turned) (hidden_binding_index, w.hidden_binding_index);
     }
 
 left_step : (p q : Bool) (a b c : Option ℕ) (n : ℕ) → p ≡ q → (p ≡ true → a ≡ c) → b ≡ (if q then Some n else c) → (if p then a else b) ≡ c
@@ -82,15 +82,15 @@ left_step true false a b c n e f g = absurd (cc)
 left_step false true a b c n e f g = absurd (cc)
 left_step false false a b c n e f g = g
 
-pub binding_dropped : (newest next : List NameEntry) (items : List Binding) (b : Binding) → HasNewestBindings newest (items ++ (b ∷ [])) → SetsNewestBinding newest next b.name.now b.hidden_index → HasNewestBindings next items
+pub binding_dropped : (newest next : List NameEntry) (items : List Binding) (b : Binding) → HasNewestBindings newest (items ++ (b ∷ [])) → SetsNewestBinding newest next b.name.now b.hidden_binding_index → HasNewestBindings next items
 binding_dropped newest next items b w renewed =
     let turned : reverse (items ++ (b ∷ [])) ≡ b ∷ reverse items = reverse-append items (b ∷ []) in
-    let trail : HaveHiddenIndexes (b ∷ reverse items) = subst HaveHiddenIndexes turned w.hidden_index in
+    let trail : HaveHiddenBindingIndexes (b ∷ reverse items) = subst HaveHiddenBindingIndexes turned w.hidden_binding_index in
     record {
       found = λ x. renewed x
-          ∙ left_step (same_name b.name.now x) (same_name x b.name.now) b.hidden_index (newest_binding_in newest x) (newest_binding_index x (reverse items)) (length (reverse items)) (same_name-comm b.name.now x)
+          ∙ left_step (same_name b.name.now x) (same_name x b.name.now) b.hidden_binding_index (newest_binding_in newest x) (newest_binding_index x (reverse items)) (length (reverse items)) (same_name-comm b.name.now x)
           (λ e. trail.0 ∙ ap (λ y. newest_binding_index y (reverse items)) ((bytes_eq-Decides b.name.now x).0 e)) (w.found x ∙ ap (newest_binding_index x) turned);
-      hidden_index = trail.1;
+      hidden_binding_index = trail.1;
     }
 
 -- Each binding still has its name's position after the list of names has changed.
@@ -108,7 +108,7 @@ one_less_placed newest (x ∷ items) b h = let rest = one_less_placed newest ite
 
 -- The newest bindings are right after names were added to the list.
 pub still_newest : (before after : List NameEntry) (items : List Binding) → KeepsNewestBindings before after → HasNewestBindings before items → HasNewestBindings after items
-still_newest before after items kept w = record { found = λ x. kept x ∙ w.found x; hidden_index = w.hidden_index }
+still_newest before after items kept w = record { found = λ x. kept x ∙ w.found x; hidden_binding_index = w.hidden_binding_index }
 
 pub looked_up_below : (newest : List NameEntry) (items : List Binding) (x : Name) (i : ℕ) → HasNewestBindings newest items → Some i ≡ newest_binding_in newest x → i < length items
 looked_up_below newest items x i w e = subst (λ n. i < n) (length-reverse items) (latest_below x (reverse items) i (sym (w.found x) ∙ sym e))

@@ -12,7 +12,7 @@ use Rattle.ob0_scope_table.specs.Entries.{stored_ordinal}
 use Rattle.ob0_language_names.specs.Names.{naming_by_spelling}
 use Rattle.ob0_language_names.specs.Parts.{names_in_list, procedure_name}
 use Rattle.ob0_scope_table.specs.OneBody.{closing_name}
-use Rattle.ob0_scope_numbering.specs.BodyWalk.{with_declarations_before, renumber_module, with_procedure_skipped, renumber_block, renumber_procedure, renumber_procedures, initial_walk_over}
+use Rattle.ob0_scope_numbering.specs.BodyWalk.{with_declarations_before, renumber_module, with_procedure_skipped, renumber_block, renumber_procedure, renumber_procedures, initial_walk_state_with_table}
 use Rattle.ob0_language_names.specs.Scopes.{ordinal_of}
 use Rattle.ob0_scope_numbering.specs.TableWalk as tabling
 use Rattle.ob0_scope_numbering.specs.TableWalk.{number_module}
@@ -135,8 +135,8 @@ module _ (table : List (Option ℕ)) where
         let ordinal = 7 + length v.declaration_tokens in
         let outside = length v.scope in
         let w = listing.state_after_heading (length v.declaration_tokens) outside (listing.visit_formals fs (listing.number_declaration x v)) in
-        ap (λ w. tabling.with_mark closing (Some ordinal) (tabling.leave_block x ordinal outside w)) (ap (tabling.visit_block b) (heading-entered x fs v) ∙ block-entered b w)
-        ∙ with_mark-entered closing (Some ordinal) (listing.leave_block x ordinal outside (listing.visit_block b w))
+        ap (λ w. tabling.with_mark closing (Some ordinal) (tabling.state_after_procedure_block x ordinal outside w)) (ap (tabling.visit_block b) (heading-entered x fs v) ∙ block-entered b w)
+        ∙ with_mark-entered closing (Some ordinal) (listing.state_after_procedure_block x ordinal outside (listing.visit_block b w))
 
   text-entered : (m : Tree ℕ module_text) (v : listing.WalkState) → tabling.visit_module m (entered table v) ≡ entered table (listing.visit_module m v)
   text-entered (is_module x b closing) v =
@@ -169,13 +169,13 @@ module _ (table : List (Option ℕ)) where
 
 -- returns the marks of the walk to one body
 abbrev pub marks_again : List ℕ → ℕ → Tree ℕ module_text → Spellings → List OrdinalMark
-marks_again all low (is_module x b closing) w = (renumber_block listing.put_ordinal all low b (listing.initial_walk w)).marks
+marks_again all low (is_module x b closing) w = (renumber_block listing.put_ordinal all low b (listing.initial_walk_state w)).marks
 
-pub body_tabled : (all : List ℕ) (low : ℕ) (m : Tree ℕ module_text) (w : Spellings) (table : List (Option ℕ)) → (renumber_module all low m (initial_walk_over w table)).marks ≡ with_entries table (marks_again all low m w)
-body_tabled all low (is_module x b closing) w table = ap (λ (v : tabling.WalkState). v.marks) (revisit_block-entered table all low b (listing.initial_walk w))
+pub body_tabled : (all : List ℕ) (low : ℕ) (m : Tree ℕ module_text) (w : Spellings) (table : List (Option ℕ)) → (renumber_module all low m (initial_walk_state_with_table w table)).marks ≡ with_entries table (marks_again all low m w)
+body_tabled all low (is_module x b closing) w table = ap (λ (v : tabling.WalkState). v.marks) (revisit_block-entered table all low b (listing.initial_walk_state w))
 
-pub module_tabled : (m : ParsedModule) (w : Spellings) → IsParsed m → IsScan m.source → tabling.visit_module (tree_of m) (tabling.initial_walk w) ≡ number_module (tree_of m) w
+pub module_tabled : (m : ParsedModule) (w : Spellings) → IsParsed m → IsScan m.source → tabling.visit_module (tree_of m) (tabling.initial_walk_state w) ≡ number_module (tree_of m) w
 module_tabled m w parsed scan =
     let table : List (Option ℕ) = replicate (length w.source.tokens) None in
-    let v = listing.visit_module (tree_of m) (listing.initial_walk w) in
-    text-entered table (tree_of m) (listing.initial_walk w) ∙ ap (λ marks. record (entered table v) { marks = marks }) (all_kept m w table parsed scan)
+    let v = listing.visit_module (tree_of m) (listing.initial_walk_state w) in
+    text-entered table (tree_of m) (listing.initial_walk_state w) ∙ ap (λ marks. record (entered table v) { marks = marks }) (all_kept m w table parsed scan)

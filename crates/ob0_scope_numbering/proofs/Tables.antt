@@ -9,7 +9,7 @@ use Rattle.std.proofs.Math.ListN.{length-set}
 use Rattle.ob0_tree.specs.Order.{AreAscending}
 use Rattle.ob0_tree.specs.ParsedModule.{IsParsed, ParsedModule, tree_of}
 use Rattle.ob0_tree.proofs.Leaves.{ascending_bounds, leaves_ascend}
-use Rattle.ob0_scope_numbering.specs.MarkWalk.{WalkState, initial_walk, visit_module}
+use Rattle.ob0_scope_numbering.specs.MarkWalk.{WalkState, initial_walk_state, visit_module}
 use Rattle.ob0_scope_numbering.specs.Marks.{OrdinalMark, with_marks}
 use Rattle.ob0_scope_numbering.specs.Written.{Spellings}
 use Rattle.ob0_language_names.specs.Names.{naming_by_spelling}
@@ -55,13 +55,13 @@ none_at n i = at (ltb i n) refl
     at false e = get_or_past nothing i None (subst (λ k. k ≤ i) (sym (length-replicate n None)) (ltb-false i n e))
 
 -- The table of all marks has each mark at its token.
-pub marks_in_table : (m : ParsedModule) (w : Spellings) (v : WalkState) (ordinals : List (Option ℕ)) → IsParsed m → v ≡ visit_module (tree_of m) (initial_walk w)
-    → ordinals ≡ with_marks (replicate (length m.source.tokens) None) v.marks → HasMarks (ordinal_in ordinals) (visit_module (tree_of m) (initial_walk w)).marks
-marks_in_table m w v ordinals parsed gone enter_marks =
-    let marks = (visit_module (tree_of m) (initial_walk w)).marks in
+pub marks_in_table : (m : ParsedModule) (w : Spellings) (v : WalkState) (ordinals : List (Option ℕ)) → IsParsed m → v ≡ visit_module (tree_of m) (initial_walk_state w)
+    → ordinals ≡ with_marks (replicate (length m.source.tokens) None) v.marks → HasMarks (ordinal_in ordinals) (visit_module (tree_of m) (initial_walk_state w)).marks
+marks_in_table m w v ordinals parsed gone state_with_marks_in_table =
+    let marks = (visit_module (tree_of m) (initial_walk_state w)).marks in
     let count = length-replicate (length m.source.tokens) (let nothing : Option ℕ = None in nothing) in
-    let passed = module_passed (ordinal_in ordinals) (label_from_ordinal naming_by_spelling) w (tree_of m) (initial_walk w) (at_start w) in
-    let table : ordinals ≡ with_marks (replicate (length m.source.tokens) None) marks = enter_marks ∙ ap (λ (v : WalkState). with_marks (replicate (length m.source.tokens) None) v.marks) gone in
+    let passed = module_passed (ordinal_in ordinals) (label_from_ordinal naming_by_spelling) w (tree_of m) (initial_walk_state w) (at_start w) in
+    let table : ordinals ≡ with_marks (replicate (length m.source.tokens) None) marks = state_with_marks_in_table ∙ ap (λ (v : WalkState). with_marks (replicate (length m.source.tokens) None) v.marks) gone in
     let ascend = subst (λ ts. AreAscending 0 ts (length m.source.tokens)) (sym passed.tokens) (leaves_ascend m parsed) in
     let are_there = marks_are_there marks (replicate (length m.source.tokens) None) 0 (length m.source.tokens) ascend (subst (λ n. length m.source.tokens ≤ n) (sym count) (le_refl (length m.source.tokens))) in
     subst (λ (os : List (Option ℕ)). HasMarks (ordinal_in os) marks) (sym table) are_there

@@ -64,8 +64,8 @@ module _ {M : Type 0} (put_ordinal : ℕ → Option ℕ → M → M) (all : List
         (visit_formals put_ordinal fs (number_declaration put_ordinal x v)))
 
 -- returns the state before the first identifier of a module, with this table of ordinals
-abbrev pub initial_walk_over : Spellings → List (Option ℕ) → tabling.WalkState
-initial_walk_over writing table =
+abbrev pub initial_walk_state_with_table : Spellings → List (Option ℕ) → tabling.WalkState
+initial_walk_state_with_table writing table =
     record {
       writing = writing;
       scope = predeclared_scope naming_by_spelling;

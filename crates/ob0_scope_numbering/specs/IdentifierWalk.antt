@@ -37,19 +37,19 @@ with_visible_names_from first v =
     }
 
 -- removes all bindings of the scope except the oldest `len`
-abbrev pub truncate_scope : {M : Type 0} → ℕ → WalkState M → WalkState M
-truncate_scope len v = record v { scope = drop (length v.scope - len) v.scope }
+abbrev pub with_oldest_bindings : {M : Type 0} → ℕ → WalkState M → WalkState M
+with_oldest_bindings len v = record v { scope = drop (length v.scope - len) v.scope }
 
 -- Returns the state after the heading of a procedure. First, the bindings of the parameters are
 -- removed. Then the procedure and its parameters are bound, in this order. `own` is the number of
 -- declarations before the procedure, and `outside` the number of bindings before the procedure.
 abbrev pub state_after_heading : {M : Type 0} → ℕ → ℕ → WalkState M → WalkState M
-state_after_heading own outside v = with_visible_names_from own (truncate_scope outside v)
+state_after_heading own outside v = with_visible_names_from own (with_oldest_bindings outside v)
 
 -- Returns the state after the block of the procedure whose name is at the token `x`. Only the
 -- `outside` oldest bindings are kept, and then the procedure's name is bound to `ordinal`.
-abbrev pub leave_block : {M : Type 0} → ℕ → ℕ → ℕ → WalkState M → WalkState M
-leave_block x ordinal outside v = with_visible_name x ordinal (truncate_scope outside v)
+abbrev pub state_after_procedure_block : {M : Type 0} → ℕ → ℕ → ℕ → WalkState M → WalkState M
+state_after_procedure_block x ordinal outside v = with_visible_name x ordinal (with_oldest_bindings outside v)
 
 -- The following definitions are for any collection `M` of ordinals. The function `put_ordinal` adds
 -- the ordinal of the identifier at a token (None if it has no ordinal) to the collection.
@@ -158,7 +158,7 @@ module _ {M : Type 0} (put_ordinal : ℕ → Option ℕ → M → M) where
     pub visit_procedure : Tree ℕ (item procedure) → WalkState M → WalkState M
     visit_procedure (declares_procedure x fs b closing) v =
         with_mark closing (Some (predeclared_count + length v.declaration_tokens))
-        (leave_block x (predeclared_count + length v.declaration_tokens) (length v.scope)
+        (state_after_procedure_block x (predeclared_count + length v.declaration_tokens) (length v.scope)
         (visit_block b (state_after_heading (length v.declaration_tokens) (length v.scope)
         (visit_formals fs (number_declaration x v)))))
 

@@ -119,8 +119,8 @@ with_visible_names_from = visit.with_visible_names_from
 
 -- returns the state after removing all bindings except this many of the oldest ones, in the walk
 -- that collects marks
-abbrev pub truncate_scope : ℕ → WalkState → WalkState
-truncate_scope = visit.truncate_scope
+abbrev pub with_oldest_bindings : ℕ → WalkState → WalkState
+with_oldest_bindings = visit.with_oldest_bindings
 
 -- Returns the state after the heading of a procedure, in the walk that collects marks. The two numbers are the
 -- declarations and the bindings before the procedure.
@@ -129,12 +129,12 @@ state_after_heading = visit.state_after_heading
 
 -- Returns the state after the block of a procedure, in the walk that collects marks. The three numbers are the token
 -- of the procedure's name, the procedure's ordinal, and the number of bindings before the procedure.
-abbrev pub leave_block : ℕ → ℕ → ℕ → WalkState → WalkState
-leave_block = visit.leave_block
+abbrev pub state_after_procedure_block : ℕ → ℕ → ℕ → WalkState → WalkState
+state_after_procedure_block = visit.state_after_procedure_block
 
 -- returns the state before the first identifier of a module, with an empty list of marks
-abbrev pub initial_walk : Spellings → WalkState
-initial_walk writing =
+abbrev pub initial_walk_state : Spellings → WalkState
+initial_walk_state writing =
     record {
       writing = writing;
       scope = predeclared_scope naming_by_spelling;

@@ -20,15 +20,15 @@ newest_binding_index x (b ∷ bs) = if same_name x b.name.now then Some (length 
 
 -- States that each binding has the index, counted from the oldest one, of the binding that it
 -- hides, or None if it hides none. The bindings are given newest first.
-abbrev pub HaveHiddenIndexes : List Binding → Type 0
-HaveHiddenIndexes [] = Unit {0}
-HaveHiddenIndexes (b ∷ bs) = (b.hidden_index ≡ newest_binding_index b.name.now bs) × HaveHiddenIndexes bs
+abbrev pub HaveHiddenBindingIndexes : List Binding → Type 0
+HaveHiddenBindingIndexes [] = Unit {0}
+HaveHiddenBindingIndexes (b ∷ bs) = (b.hidden_binding_index ≡ newest_binding_index b.name.now bs) × HaveHiddenBindingIndexes bs
 
 -- States that the list `newest` has the index of each name's newest binding. Also, each binding has
 -- the index of the binding that it hides. The bindings are given oldest first.
 pub record HasNewestBindings (newest : List NameEntry) (bindings : List Binding) : Type 0 where
   pub found : (x : Name) → newest_binding_in newest x ≡ newest_binding_index x (reverse bindings)
-  pub hidden_index : HaveHiddenIndexes (reverse bindings)
+  pub hidden_binding_index : HaveHiddenBindingIndexes (reverse bindings)
 
 -- The names that are visible at a place, and `new_name`, the name that a renaming introduces.
 pub record VisibleNames : Type 0 where

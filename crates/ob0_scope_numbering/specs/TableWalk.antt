@@ -125,8 +125,8 @@ with_visible_names_from = visit.with_visible_names_from
 
 -- returns the state after removing all bindings except this many of the oldest ones, in the walk
 -- that fills a table
-abbrev pub truncate_scope : ℕ → WalkState → WalkState
-truncate_scope = visit.truncate_scope
+abbrev pub with_oldest_bindings : ℕ → WalkState → WalkState
+with_oldest_bindings = visit.with_oldest_bindings
 
 -- Returns the state after the heading of a procedure, in the walk that fills a table. The two numbers are the
 -- declarations and the bindings before the procedure.
@@ -135,13 +135,13 @@ state_after_heading = visit.state_after_heading
 
 -- Returns the state after the block of a procedure, in the walk that fills a table. The three numbers are the token
 -- of the procedure's name, the procedure's ordinal, and the number of bindings before the procedure.
-abbrev pub leave_block : ℕ → ℕ → ℕ → WalkState → WalkState
-leave_block = visit.leave_block
+abbrev pub state_after_procedure_block : ℕ → ℕ → ℕ → WalkState → WalkState
+state_after_procedure_block = visit.state_after_procedure_block
 
 -- returns the state before the first identifier of a module, with a table that has None for each
 -- token
-abbrev pub initial_walk : Spellings → WalkState
-initial_walk writing =
+abbrev pub initial_walk_state : Spellings → WalkState
+initial_walk_state writing =
     record {
       writing = writing;
       scope = predeclared_scope naming_by_spelling;
@@ -152,8 +152,8 @@ initial_walk writing =
 
 -- Converts a state of the walk that collects marks to a state of the walk that fills a table. The
 -- marks are entered into the table `table`.
-abbrev pub enter_marks : List (Option ℕ) → marking.WalkState → WalkState
-enter_marks table v =
+abbrev pub state_with_marks_in_table : List (Option ℕ) → marking.WalkState → WalkState
+state_with_marks_in_table table v =
     record {
       writing = v.writing;
       scope = v.scope;
@@ -165,5 +165,5 @@ enter_marks table v =
 -- returns the state after a module, with the ordinals of the module's identifiers in the table
 abbrev pub number_module : Tree ℕ module_text → Spellings → WalkState
 number_module m writing =
-    enter_marks (replicate (length writing.source.tokens) None)
-    (marking.visit_module m (marking.initial_walk writing))
+    state_with_marks_in_table (replicate (length writing.source.tokens) None)
+    (marking.visit_module m (marking.initial_walk_state writing))

@@ -20,20 +20,20 @@ pub record Spellings : Type 0 where
 
 -- Returns whether an identifier's ordinal (the second argument) is the ordinal of the renamed
 -- declaration (the first argument). Returns false if no declaration is renamed (None).
-abbrev pub is_renamed : Option ℕ → Option ℕ → Bool
-is_renamed None ordinal = false
-is_renamed (Some d) ordinal = same_ordinal ordinal d
+abbrev pub is_bound_to_renamed : Option ℕ → Option ℕ → Bool
+is_bound_to_renamed None ordinal = false
+is_bound_to_renamed (Some d) ordinal = same_ordinal ordinal d
 
 -- returns the spelling of the identifier at a token: `w.new` if the identifier is bound to the
 -- renamed declaration, otherwise its spelling in the text
 abbrev pub spelling_at : Spellings → ℕ → Name
 spelling_at w i =
-    if is_renamed w.declaration (ordinal_in w.ordinals i) then w.new else token_text_at w.source i
+    if is_bound_to_renamed w.declaration (ordinal_in w.ordinals i) then w.new else token_text_at w.source i
 
 -- returns the spellings of the identifiers as in the text, without a renaming
 abbrev pub original_spellings : TextWithTokens → Spellings
 original_spellings source = record { source = source; ordinals = []; declaration = None; new = [] }
 
 -- returns a tree of token indexes in which each identifier has its spelling in place of its index
-abbrev pub spelled_tree : {s : Sort} → Spellings → Tree ℕ s → Tree Name s
-spelled_tree w t = mapped_tree (spelling_at w) (token_value_at w.source) t
+abbrev pub tree_with_spellings : {s : Sort} → Spellings → Tree ℕ s → Tree Name s
+tree_with_spellings w t = mapped_tree (spelling_at w) (token_value_at w.source) t

@@ -24,7 +24,7 @@ use std::collections::BTreeMap;
 use std::marker::Model;
 
 /// The number of slots of the table of recent names. It is a power of two.
-const RECENT_SLOTS: usize = 1024;
+const RECENT_SLOT_COUNT: usize = 1024;
 
 /// A name as a key of the map. The number before the name is made of the name's last eight bytes,
 /// which distinguish most names.
@@ -88,9 +88,9 @@ fn slot_of(name: &str) -> usize {
 
 /// Returns a table of recent names in which each slot has position 0, because no name was looked up
 /// yet. That is harmless, because a look-up compares the name at a slot's position with the sought
-/// name (`find_in_recent`).
+/// name (`find_in_recent_names`).
 fn empty_recent_slots(alloc: Global) -> Result<Vec<usize>, AllocError> {
-    vec![in alloc; 0; RECENT_SLOTS]
+    vec![in alloc; 0; RECENT_SLOT_COUNT]
 }
 
 /// A name, with the index of its newest binding, counted from the oldest of all bindings. The index
@@ -161,7 +161,7 @@ impl<'t> NewestBindings<'t> {
     /// Returns the position of `name` in the list if the slot `slot` of the table of recent names
     /// has this position. Otherwise returns None.
     #[inline(always)]
-    fn find_in_recent(&self, slot: usize, name: &'t str) -> Option<usize>
+    fn find_in_recent_names(&self, slot: usize, name: &'t str) -> Option<usize>
         ensures { IfSome result (λ name_position. position_of_name self.now name.now ≡ Some name_position) }
     {
         let name_position = match self.recent_positions.get(slot) {
@@ -192,7 +192,7 @@ impl<'t> NewestBindings<'t> {
         ensures same { self.new ≡ self.old }
     {
         let slot = slot_of(name);
-        match self.find_in_recent(slot, name) {
+        match self.find_in_recent_names(slot, name) {
             Some(name_position) => Some(name_position),
             None => self.find_in_map(slot, name),
         }

@@ -33,12 +33,12 @@ ghost use Rattle.ob0_language_names.specs.Parts.{names_in_list};
 ghost use Rattle.ob0_scope_table.specs.Resolution.{ordinal_in};
 ghost use Rattle.ob0_language_names.specs.Scopes.{ordinal_of, predeclared_count, predeclared_scope};
 ghost use Rattle.ob0_scope_numbering.specs.StoredScopes.{with_scope};
-ghost use Rattle.ob0_scope_numbering.specs.Written.{original_spellings, is_renamed, spelling_at};
-ghost use Rattle.ob0_scope_numbering.specs.TableWalk.{with_mark, number_declaration, number_declarations, with_visible_name, with_visible_names_from, truncate_scope, visit_identifier, visit_constant, visit_constant_section, visit_type, visit_type_section, visit_variable, visit_variable_section, visit_section, visit_formals, visit_procedure, visit_block, visit_module, initial_walk, number_module, put_ordinal};
-ghost use Rattle.ob0_scope_numbering.specs.BodyWalk.{with_declarations_before, with_declaration, renumber_module, with_procedure_skipped, renumber_block, renumber_procedure, initial_walk_over};
+ghost use Rattle.ob0_scope_numbering.specs.Written.{original_spellings, is_bound_to_renamed, spelling_at};
+ghost use Rattle.ob0_scope_numbering.specs.TableWalk.{with_mark, number_declaration, number_declarations, with_visible_name, with_visible_names_from, with_oldest_bindings, visit_identifier, visit_constant, visit_constant_section, visit_type, visit_type_section, visit_variable, visit_variable_section, visit_section, visit_formals, visit_procedure, visit_block, visit_module, initial_walk_state, number_module, put_ordinal};
+ghost use Rattle.ob0_scope_numbering.specs.BodyWalk.{with_declarations_before, with_declaration, renumber_module, with_procedure_skipped, renumber_block, renumber_procedure, initial_walk_state_with_table};
 
 use crate::visible::VisibleBindings;
-use crate::writing::{Spellings, is_renamed};
+use crate::writing::{Spellings, is_bound_to_renamed};
 use ob0_scan::Tokens;
 use ob0_scope_table::{OrdinalEntry, PREDECLARED_COUNT, ordinal_at};
 use ob0_tree::walk::{Visitor, walk_body, walk_expression, walk_type};
@@ -149,7 +149,7 @@ fn visit_module<'t>(
     read: &'t Module<'t>,
     writing: Spellings<'t>,
 ) -> Result<Numbering<'t>, AllocError>
-    ensures { IfOk result (λ n. n ≡ visit_module (tree_of read.now) (initial_walk writing.entry)) }
+    ensures { IfOk result (λ n. n ≡ visit_module (tree_of read.now) (initial_walk_state writing.entry)) }
 {
     let table = vec![in alloc; OrdinalEntry::new(None); writing.tokens.tokens().len()]?;
     let mut numbering = Numbering {
@@ -179,7 +179,7 @@ pub fn renumber_body(
 ) -> Result<Vec<OrdinalEntry>, AllocError>
     ensures { IfOk result (λ ordinals. ordinals.items
         ≡ (renumber_module all.now low (tree_of read.now)
-        (initial_walk_over (original_spellings read.now.source) table.items)).marks) }
+        (initial_walk_state_with_table (original_spellings read.now.source) table.items)).marks) }
 {
     let mut numbering = Numbering {
         tokens: read.tokens(),
@@ -269,7 +269,7 @@ impl<'t> Numbering<'t> {
     fn make_name_visible(&mut self, token: usize, ordinal: usize) -> Result<(), AllocError>
         ensures { OnOk result (self.new ≡ with_visible_name token ordinal self.old) }
     {
-        if self.is_renamed(token) {
+        if self.is_bound_to_renamed(token) {
             self.visible.declare_new_name(ordinal)
         } else {
             self.visible
@@ -291,18 +291,18 @@ impl<'t> Numbering<'t> {
 
     /// Drops the newest bindings until at most `len` bindings are left.
     fn truncate_bindings(&mut self, len: usize)
-        ensures { self.new ≡ truncate_scope len self.old }
+        ensures { self.new ≡ with_oldest_bindings len self.old }
     {
         self.visible.truncate_bindings(len);
     }
 
     /// Returns whether the identifier at a token is bound to the renamed declaration, so that it
     /// has the new name instead of its spelling in the text.
-    fn is_renamed(&self, token: usize) -> bool
+    fn is_bound_to_renamed(&self, token: usize) -> bool
         ensures { result
-            ≡ is_renamed self.now.writing.declaration (ordinal_in self.now.writing.ordinals token) }
+            ≡ is_bound_to_renamed self.now.writing.declaration (ordinal_in self.now.writing.ordinals token) }
     {
-        is_renamed(self.declaration, ordinal_at(self.ordinals, token))
+        is_bound_to_renamed(self.declaration, ordinal_at(self.ordinals, token))
     }
 
     /// Returns the ordinal of the declaration to which the name at a token is bound. Returns None
@@ -312,7 +312,7 @@ impl<'t> Numbering<'t> {
             ≡ ordinal_of naming_by_spelling self.old.scope (spelling_at self.old.writing token) }
         ensures same { self.new ≡ self.old }
     {
-        if self.is_renamed(token) {
+        if self.is_bound_to_renamed(token) {
             self.visible.look_up_new_name()
         } else {
             self.visible.look_up(token_text_at(self.tokens, token))

@@ -11,14 +11,14 @@ use std::alloc::{AllocError, Global};
 use std::marker::Model;
 
 /// A binding of a name to an ordinal. `name_position` is the name's position in the list of names
-/// (`NewestBindings`). `hidden_index` is the index of the older binding that this binding hides,
+/// (`NewestBindings`). `hidden_binding_index` is the index of the older binding that this binding hides,
 /// or None if it hides no binding.
 #[derive(Drop)]
 pub(crate) struct Binding<'t> {
     name: &'t str,
     name_position: usize,
     ordinal: usize,
-    hidden_index: Option<usize>,
+    hidden_binding_index: Option<usize>,
 }
 
 /// The bindings at a place, oldest first. `newest` has the index of the newest binding of each
@@ -105,14 +105,14 @@ impl<'t> VisibleBindings<'t> {
     {
         self.bindings.reserve(1)?;
         let name_position = self.newest.find_or_add_name(name)?;
-        let hidden_index = self.newest.newest_binding_at(name_position, name);
+        let hidden_binding_index = self.newest.newest_binding_at(name_position, name);
         self.newest
             .set_newest_binding(name_position, name, Some(self.bindings.len()));
         self.bindings.push_reserved(Binding {
             name,
             name_position,
             ordinal,
-            hidden_index,
+            hidden_binding_index,
         });
         Ok(())
     }
@@ -136,6 +136,6 @@ impl<'t> VisibleBindings<'t> {
             return;
         };
         self.newest
-            .set_newest_binding(left.name_position, left.name, left.hidden_index);
+            .set_newest_binding(left.name_position, left.name, left.hidden_binding_index);
     }
 }

@@ -10,8 +10,8 @@ use Rattle.ob0_tree.specs.Order.{AreAscending, names_without_roles}
 use Rattle.ob0_tree.specs.Tree.{Tree, block, body, constants, declares, declares_procedure, end, forms_block, identifiers, is_module, item, items, maybe, module_text, more, procedure, spell, type_definitions, variables}
 use Rattle.ob0_tree.proofs.Leaves.{ascending_bounds, ascending_higher, leaves_spelled, lexeme_names}
 use Rattle.ob0_scope_table.specs.TokenProperty.{EachTokenHas}
-use Rattle.ob0_scope_table.specs.BodyReplaced.{PathToBody, block_without, shift_path, procedure_without, procedures_without, path_to_body_in_procedures, path_to_body_in_block, path_to_body_in_procedure, path_to_body_in_module, module_without_body}
-use Rattle.ob0_scope_table.specs.OneBody.{begins_at_or_before, closing_name, is_in_block, is_in_body, is_in_procedure, is_in_procedures, is_outside}
+use Rattle.ob0_scope_table.specs.BodyReplaced.{PathToBody, block_without, path_after_insertion_in_front, procedure_without, procedures_without, path_to_body_in_procedures, path_to_body_in_block, path_to_body_in_procedure, path_to_body_in_module, module_without_body}
+use Rattle.ob0_scope_table.specs.OneBody.{first_identifier_is_at_or_before, closing_name, is_range_in_body_of_block, is_range_in_one_body, is_range_in_body_of_procedure, is_range_in_body_of_procedures, is_outside_range}
 use Rattle.ob0_scope_table.proofs.Placed.{AllOf, each_of, places, places_spelled, token_places}
 
 -- ---- numbers that ascend
@@ -58,8 +58,8 @@ last_below : (least : ℕ) (xs : List ℕ) (c high : ℕ) → AreAscending least
 last_below least [] c high h = omega (arith, h.1)
 last_below least (x ∷ xs) c high h = last_below (x + 1) xs c high h.1
 
--- Translates the test `begins_at_or_before` into `Begins`: the first identifier's token isn't after `low`.
-begins_names : (low : ℕ) (xs : List (Role × ℕ)) → begins_at_or_before low xs ≡ true → Begins low (names_without_roles xs)
+-- Translates the test `first_identifier_is_at_or_before` into `Begins`: the first identifier's token isn't after `low`.
+begins_names : (low : ℕ) (xs : List (Role × ℕ)) → first_identifier_is_at_or_before low xs ≡ true → Begins low (names_without_roles xs)
 begins_names low [] e = absurd (cc)
 begins_names low (x ∷ xs) e = leb-true x.1 low e
 
@@ -81,7 +81,7 @@ module _ (P : ℕ → Type 0) where
   Among [] ps statements = EachTokenHas P ps
   Among (k ∷ path) ps statements = EachTokenHas P (procedures_without k path ps) × EachTokenHas P statements
 
-  among_later : (path : PathToBody) (p : Tree ℕ (item procedure)) (ps : Tree ℕ (items procedure)) (statements : Tree ℕ (maybe body)) → EachTokenHas P p → Among path ps statements → Among (shift_path path) (more p ps) statements
+  among_later : (path : PathToBody) (p : Tree ℕ (item procedure)) (ps : Tree ℕ (items procedure)) (statements : Tree ℕ (maybe body)) → EachTokenHas P p → Among path ps statements → Among (path_after_insertion_in_front path) (more p ps) statements
   among_later [] p ps statements first h = (first, h)
   among_later (k ∷ path) p ps statements first h = ((first, h.0), h.1)
 
@@ -92,7 +92,7 @@ module _ (P : ℕ → Type 0) where
 
 -- ---- inside the body and outside
 
-module _ (low high : ℕ) (P : ℕ → Type 0) (out : (k : ℕ) → is_outside low high k ≡ true → P k) where
+module _ (low high : ℕ) (P : ℕ → Type 0) (out : (k : ℕ) → is_outside_range low high k ≡ true → P k) where
   is_below : (k : ℕ) → k < low → P k
   is_below k less = out k (or_left (nat_lt k low) (nat_le high k) (lt-ltb k low less))
 
@@ -129,7 +129,7 @@ module _ (low high : ℕ) (P : ℕ → Type 0) (out : (k : ℕ) → is_outside l
   abbrev ProceduresFound : Tree ℕ (items procedure) → Tree ℕ (maybe body) → Type 0
   ProceduresFound ps statements = Found (Among P (path_to_body_in_procedures low ps) ps statements) (places ps ++ places statements)
 
-  own_found : (least top : ℕ) (statements : Tree ℕ (maybe body)) → AreAscending least (places statements) top → begins_at_or_before low (identifiers role.Declaring statements) ≡ true → ProceduresFound end statements
+  own_found : (least top : ℕ) (statements : Tree ℕ (maybe body)) → AreAscending least (places statements) top → first_identifier_is_at_or_before low (identifiers role.Declaring statements) ≡ true → ProceduresFound end statements
   own_found least top statements h e = record {
     outside = tt;
     begins = subst (Begins low) (places_spelled statements)
@@ -164,7 +164,7 @@ module _ (low high : ℕ) (P : ℕ → Type 0) (out : (k : ℕ) → is_outside l
       (all_before least (x ∷ fs) last top h begins, f.outside, is_above closing le, begins_before least low (x ∷ fs) last top h begins)
 
   mutual
-    block_found : (least top : ℕ) (b : Tree ℕ block) → AreAscending least (places b) top → high ≤ top → is_in_block low high b ≡ true → BlockFound b
+    block_found : (least top : ℕ) (b : Tree ℕ block) → AreAscending least (places b) top → high ≤ top → is_range_in_body_of_block low high b ≡ true → BlockFound b
     block_found least top (forms_block (declares cs ts vs ps) statements) h le is =
         let of_procedures = places ps ++ places statements in
         let of_variables = places vs ++ of_procedures in
@@ -189,15 +189,15 @@ module _ (low high : ℕ) (P : ℕ → Type 0) (out : (k : ℕ) → is_outside l
         }
 
     procedures_found : (least top : ℕ) (ps : Tree ℕ (items procedure)) (statements : Tree ℕ (maybe body)) → AreAscending least (places ps ++ places statements) top → high ≤ top
-        → is_in_procedures low high ps statements ≡ true → ProceduresFound ps statements
+        → is_range_in_body_of_procedures low high ps statements ≡ true → ProceduresFound ps statements
     procedures_found least top end statements h le is = own_found least top statements h is
     procedures_found least top (more p rest) statements h le is =
         let others = places rest ++ places statements in
         let e : places (more p rest) ++ places statements ≡ places p ++ others = append_assoc (places p) (places rest) (places statements) in
         let all = subst (λ l. AreAscending least l top) e h in
         let s = split least (places p) others top all in
-        (elim (nat_lt (closing_name p) low) as (λ z. nat_lt (closing_name p) low ≡ z → (if z then is_in_procedures low high rest statements else nat_le high (closing_name p) && is_in_procedure low high p) ≡ true
-        → Found (Among P (if z then shift_path (path_to_body_in_procedures low rest) else zero ∷ path_to_body_in_procedure low p) (more p rest) statements) (places (more p rest) ++ places statements)) [
+        (elim (nat_lt (closing_name p) low) as (λ z. nat_lt (closing_name p) low ≡ z → (if z then is_range_in_body_of_procedures low high rest statements else nat_le high (closing_name p) && is_range_in_body_of_procedure low high p) ≡ true
+        → Found (Among P (if z then path_after_insertion_in_front (path_to_body_in_procedures low rest) else zero ∷ path_to_body_in_procedure low p) (more p rest) statements) (places (more p rest) ++ places statements)) [
           | true ↦ λ before is.
               let f = procedures_found s.middle top rest statements s.last le is in
               record {
@@ -205,7 +205,7 @@ module _ (low high : ℕ) (P : ℕ → Type 0) (out : (k : ℕ) → is_outside l
                 begins = subst (Begins low) (sym e) (begins_before least low (places p) others top all f.begins);
               }
           | false ↦ λ after is.
-              let parts = and_parts (nat_le high (closing_name p)) (is_in_procedure low high p) is in
+              let parts = and_parts (nat_le high (closing_name p)) (is_range_in_body_of_procedure low high p) is in
               let reaches = leb-true high (closing_name p) parts.0 in
               let f = procedure_found least s.middle p s.first reaches parts.1 in
               let less = closes_below p least s.middle s.first in
@@ -220,15 +220,15 @@ module _ (low high : ℕ) (P : ℕ → Type 0) (out : (k : ℕ) → is_outside l
               }
         ]) refl is
 
-    procedure_found : (least top : ℕ) (p : Tree ℕ (item procedure)) → AreAscending least (places p) top → high ≤ closing_name p → is_in_procedure low high p ≡ true
+    procedure_found : (least top : ℕ) (p : Tree ℕ (item procedure)) → AreAscending least (places p) top → high ≤ closing_name p → is_range_in_body_of_procedure low high p ≡ true
         → Found (EachTokenHas P (procedure_without (path_to_body_in_procedure low p) p)) (places p)
     procedure_found least top (declares_procedure x fs b closing) h le is =
         let w = with_block x (places fs) b closing least top h le (λ start asc. block_found start closing b asc le is) in
         record { outside = (w.0.0, each_of P fs w.0.1, w.1, w.2); begins = w.3 }
 
-  pub module_outside : (least top : ℕ) (m : Tree ℕ module_text) → AreAscending least (places m) top → is_in_body low high m ≡ true → EachTokenHas P (module_without_body (path_to_body_in_module low m) m)
+  pub module_outside : (least top : ℕ) (m : Tree ℕ module_text) → AreAscending least (places m) top → is_range_in_one_body low high m ≡ true → EachTokenHas P (module_without_body (path_to_body_in_module low m) m)
   module_outside least top (is_module x b closing) h is =
-      let parts = and_parts (nat_le high closing) (is_in_block low high b) is in
+      let parts = and_parts (nat_le high closing) (is_range_in_body_of_block low high b) is in
       let reaches = leb-true high closing parts.0 in
       let w = with_block x [] b closing least top h reaches (λ start asc. block_found start closing b asc reaches parts.1) in
       (w.0.0, w.1, w.2)

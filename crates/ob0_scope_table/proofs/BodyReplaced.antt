@@ -10,7 +10,7 @@ use Rattle.ob0_tree.specs.Places.{tree_with_names, token_text_at, token_value_at
 use Rattle.ob0_tree.specs.Tree.{Tree, block, declares, declares_procedure, end, forms_block, is_module, item, items, mapped_tree, module_text, more, procedure}
 use Rattle.ob0_scope_table.specs.TokenProperty.{EachTokenHas}
 use Rattle.ob0_scope_table.specs.BodyReplaced.{IsBodyReplaced, PathToBody, block_without, moved_token_index, procedure_without, procedures_without, module_without_body}
-use Rattle.ob0_scope_table.specs.OneBody.{is_outside}
+use Rattle.ob0_scope_table.specs.OneBody.{is_outside_range}
 use Rattle.ob0_scope_table.proofs.BodyOutside.{module_outside}
 use Rattle.ob0_scope_table.proofs.MappedAlike.{mapped_alike, mapped_mapped}
 use Rattle.ob0_scope_table.proofs.OneBody.{text_in_word, value_in_word, word_text, word_value}
@@ -42,13 +42,13 @@ without_mapped f g path (is_module x b closing) = ap (λ c. is_module (f x) c (f
 -- ---- outside the body
 
 -- A property of each token outside the range holds of each token of the module without the body.
-pub outside_each : (P : ℕ → Type 0) (old new : ParsedModule) (path : PathToBody) (s : SameParts) → IsBodyReplaced old new path s → ((k : ℕ) → is_outside s.prefix s.old_suffix k ≡ true → P k) → EachTokenHas P (module_without_body path (tree_of old))
+pub outside_each : (P : ℕ → Type 0) (old new : ParsedModule) (path : PathToBody) (s : SameParts) → IsBodyReplaced old new path s → ((k : ℕ) → is_outside_range s.prefix s.old_suffix k ≡ true → P k) → EachTokenHas P (module_without_body path (tree_of old))
 outside_each P old new path s r out =
     subst (λ w. EachTokenHas P (module_without_body w (tree_of old))) r.old_path
     (module_outside s.prefix s.old_suffix P out 0 (length old.source.tokens) (tree_of old) (places_ascend old r.old_parsed) r.old_in_body)
 
-pub outside_out : (old new : ParsedModule) (path : PathToBody) (s : SameParts) → IsBodyReplaced old new path s → EachTokenHas (λ i. is_outside s.prefix s.old_suffix i ≡ true) (module_without_body path (tree_of old))
-outside_out old new path s r = outside_each (λ i. is_outside s.prefix s.old_suffix i ≡ true) old new path s r (λ k e. e)
+pub outside_out : (old new : ParsedModule) (path : PathToBody) (s : SameParts) → IsBodyReplaced old new path s → EachTokenHas (λ i. is_outside_range s.prefix s.old_suffix i ≡ true) (module_without_body path (tree_of old))
+outside_out old new path s r = outside_each (λ i. is_outside_range s.prefix s.old_suffix i ≡ true) old new path s r (λ k e. e)
 
 -- two tokens of two texts that are the same word
 module _ (old new : TextWithTokens) (k j : ℕ) (same : slice_get (words_of_tokens new.text new.tokens) j ≡ slice_get (words_of_tokens old.text old.tokens) k) where
@@ -61,10 +61,10 @@ module _ (old new : TextWithTokens) (k j : ℕ) (same : slice_get (words_of_toke
   value_by_word = value_in_word new.text new.tokens j ∙ (ap word_value same ∙ sym (value_in_word old.text old.tokens k))
 
 -- A token outside the range has the same spelling at its new index.
-pub text_moved : (old new : ParsedModule) (path : PathToBody) (s : SameParts) → IsBodyReplaced old new path s → (k : ℕ) → is_outside s.prefix s.old_suffix k ≡ true → token_text_at new.source (moved_token_index s k) ≡ token_text_at old.source k
+pub text_moved : (old new : ParsedModule) (path : PathToBody) (s : SameParts) → IsBodyReplaced old new path s → (k : ℕ) → is_outside_range s.prefix s.old_suffix k ≡ true → token_text_at new.source (moved_token_index s k) ≡ token_text_at old.source k
 text_moved old new path s r k e = text_by_word old.source new.source k (moved_token_index s k) (r.words k e)
 
-pub value_moved : (old new : ParsedModule) (path : PathToBody) (s : SameParts) → IsBodyReplaced old new path s → (k : ℕ) → is_outside s.prefix s.old_suffix k ≡ true → token_value_at new.source (moved_token_index s k) ≡ token_value_at old.source k
+pub value_moved : (old new : ParsedModule) (path : PathToBody) (s : SameParts) → IsBodyReplaced old new path s → (k : ℕ) → is_outside_range s.prefix s.old_suffix k ≡ true → token_value_at new.source (moved_token_index s k) ≡ token_value_at old.source k
 value_moved old new path s r k e = value_by_word old.source new.source k (moved_token_index s k) (r.words k e)
 
 -- Both modules without the body have the same names and numbers.
@@ -72,5 +72,5 @@ pub names_outside : (old new : ParsedModule) (path : PathToBody) (s : SameParts)
 names_outside old new path s r =
     ap (tree_with_names new.source) r.outside
     ∙ (mapped_mapped (token_text_at new.source) (token_value_at new.source) (moved_token_index s) (moved_token_index s) (module_without_body path (tree_of old))
-    ∙ mapped_alike (λ k. is_outside s.prefix s.old_suffix k ≡ true) (λ k. token_text_at new.source (moved_token_index s k)) (token_text_at old.source) (λ k. token_value_at new.source (moved_token_index s k)) (token_value_at old.source)
+    ∙ mapped_alike (λ k. is_outside_range s.prefix s.old_suffix k ≡ true) (λ k. token_text_at new.source (moved_token_index s k)) (token_text_at old.source) (λ k. token_value_at new.source (moved_token_index s k)) (token_value_at old.source)
     (text_moved old new path s r) (value_moved old new path s r) (module_without_body path (tree_of old)) (outside_out old new path s r))

@@ -18,7 +18,7 @@ use Rattle.ob0_language_names.specs.Names.{Label, Name, same_name}
 use Rattle.ob0_language_names.specs.Occurrences.{bindings}
 use Rattle.ob0_language_names.specs.Parts.{formal_names, formal_sections, section_type, section_types, section_variables}
 use Rattle.ob0_scope_table.specs.DuplicatesAndEndNames.{duplicate_faults, block_declaration_faults, closing_name_faults, duplicate_fault, end_name_fault, duplicate_field_faults, duplicate_field_faults_in_formals, duplicate_field_faults_in_group, duplicate_field_faults_in_groups, tree_declaration_faults, procedure_declaration_faults, procedures_declaration_faults, declaration_faults, duplicate_field_faults_in_types, fault_unless, duplicate_field_faults_in_variables}
-use Rattle.ob0_scope_table.specs.FaultTokens.{AreAtSameTokens, AreWrittenAlike, fault_at}
+use Rattle.ob0_scope_table.specs.FaultTokens.{AreFaultsAtSameTokens, AreWrittenAlike, fault_at}
 use Rattle.ob0_scope_table.specs.Resolution.{is_unbound, undeclared_faults_by_labels, undeclared_faults}
 use Rattle.ob0_scope_table.specs.declared.fault_tokens.FaultByTokens.{FaultByTokens}
 
@@ -63,7 +63,7 @@ filter_mapped {A} {B} f p (x ∷ xs) =
 
 module _ (old new : TextWithTokens) where
   abbrev Same : List Fault → List Fault → Type 0
-  Same before after = AreAtSameTokens old new before after
+  Same before after = AreFaultsAtSameTokens old new before after
 
   pub none_same : Same [] []
   none_same = record { tokens = []; in_old = refl; in_new = refl }

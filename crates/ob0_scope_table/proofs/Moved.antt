@@ -3,20 +3,20 @@ use Rattle.std.proofs.Common.{◌≡◌, ◌<◌, ◌≤◌, ◌+◌, ◌-◌, �
 use Rattle.std.proofs.lemmas.Bool.{le-leb, le-ltb, lt-ltb}
 use Rattle.ob0_scan.specs.declared.tokens.SameParts.{SameParts}
 use Rattle.ob0_scope_table.specs.BodyReplaced.{moved_token_index}
-use Rattle.ob0_scope_table.specs.OneBody.{is_outside}
+use Rattle.ob0_scope_table.specs.OneBody.{is_outside_range}
 
 -- A token outside a range is before it or after it.
-pub out_cases : (low high k : ℕ) → is_outside low high k ≡ true → (k < low) ⊎ (high ≤ k)
+pub out_cases : (low high k : ℕ) → is_outside_range low high k ≡ true → (k < low) ⊎ (high ≤ k)
 out_cases low high k out = one (nat_lt k low) refl
   where
     one : (b : Bool) → nat_lt k low ≡ b → (k < low) ⊎ (high ≤ k)
     one true e = inl (ltb-true k low e)
     one false e = inr (leb-true high k (sym (ap (λ b. b || nat_le high k) e) ∙ out))
 
-pub below_out : (low high k : ℕ) → k < low → is_outside low high k ≡ true
+pub below_out : (low high k : ℕ) → k < low → is_outside_range low high k ≡ true
 below_out low high k less = ap (λ b. b || nat_le high k) (lt-ltb k low less)
 
-pub above_out : (low high k : ℕ) → high ≤ k → is_outside low high k ≡ true
+pub above_out : (low high k : ℕ) → high ≤ k → is_outside_range low high k ≡ true
 above_out low high k le = one (nat_lt k low)
   where
     one : (b : Bool) → (b || nat_le high k) ≡ true

@@ -21,7 +21,7 @@ use Rattle.ob0_scan.specs.declared.lexeme.Span.{Span}
 use Rattle.ob0_scan.specs.declared.lexeme.Token.{Token}
 use Rattle.ob0_scan.specs.declared.lexeme.TokenKind.TheVariants as kind
 use Rattle.ob0_scan.proofs.AtLexemes.{Full, full}
-use Rattle.ob0_scope_table.specs.FaultTokens.{AreAtSameTokens, AreWrittenAlike, fault_at, moved_faults, fault_by_tokens}
+use Rattle.ob0_scope_table.specs.FaultTokens.{AreFaultsAtSameTokens, AreWrittenAlike, fault_at, moved_faults, fault_by_tokens}
 use Rattle.ob0_scope_table.specs.Spans.{span_at, span_or_empty}
 use Rattle.ob0_scope_table.specs.declared.fault_tokens.FaultByTokens.{FaultByTokens}
 
@@ -280,5 +280,5 @@ module _ (old new : TextWithTokens) (w : AreWrittenAlike old new) where
   all_stay (f ∷ fs) = λ i. fault_stays f i ∷ all_stay fs i
 
   -- Moving the old faults to the new text gives the new faults.
-  pub faults_move : (before after : List Fault) → AreAtSameTokens old new before after → moved_faults old new before ≡ after
+  pub faults_move : (before after : List Fault) → AreFaultsAtSameTokens old new before after → moved_faults old new before ≡ after
   faults_move before after at = ap (moved_faults old new) at.in_old ∙ (all_stay at.tokens ∙ sym at.in_new)

@@ -5,8 +5,8 @@ use Rattle.ob0_tree.specs.FirstIdentifier.{first_identifier}
 use Rattle.ob0_tree.specs.Tree.{Tree, block, body, is_module, item, maybe, module_text, procedure}
 use Rattle.ob0_tree.specs.View.{block_of}
 use Rattle.ob0_tree.specs.declared.tree.ModuleTree.{ModuleTree}
-use Rattle.ob0_scope_table.specs.BodyReplaced.{body_at_path, body_at_path_in_block, body_at_path_in_procedure, closing_name_in_module, closing_name_in_block, closing_name_in_procedure, path_to_body_in_block, path_to_body_in_procedure, path_to_body_in_module}
-use Rattle.ob0_scope_table.specs.OneBody.{is_in_block, is_in_body, is_in_procedure}
+use Rattle.ob0_scope_table.specs.BodyReplaced.{body_at_path, body_at_path_in_block, body_at_path_in_procedure, closing_name_at_path, closing_name_at_path_in_block, closing_name_at_path_in_procedure, path_to_body_in_block, path_to_body_in_procedure, path_to_body_in_module}
+use Rattle.ob0_scope_table.specs.OneBody.{is_range_in_body_of_block, is_range_in_one_body, is_range_in_body_of_procedure}
 use Rattle.ob0_scope_table.specs.declared.one_body.BodyPlace.{BodyPlace}
 
 -- returns the specification's `Tree` for the program's `ModuleTree`, with token indexes in place of
@@ -28,19 +28,19 @@ body_place_of_statements_if condition statements closing =
 -- caller checks that `high` is at or before `closing`. Returns None if no body contains the tokens.
 abbrev pub body_place_in_block : ℕ → ℕ → ℕ → Tree ℕ block → Option BodyPlace
 body_place_in_block low high closing b =
-    body_place_of_statements_if (is_in_block low high b) (body_at_path_in_block (path_to_body_in_block low b) b)
-    (closing_name_in_block (path_to_body_in_block low b) closing b)
+    body_place_of_statements_if (is_range_in_body_of_block low high b) (body_at_path_in_block (path_to_body_in_block low b) b)
+    (closing_name_at_path_in_block (path_to_body_in_block low b) closing b)
 
 -- Returns the place of the body, in this procedure or one inside it, that contains the tokens from
 -- `low` up to, but not including, `high`. The caller checks that `high` is at or before the
 -- procedure's closing name. Returns None if no body contains the tokens.
 abbrev pub body_place_in_procedure : ℕ → ℕ → Tree ℕ (item procedure) → Option BodyPlace
 body_place_in_procedure low high p =
-    body_place_of_statements_if (is_in_procedure low high p) (body_at_path_in_procedure (path_to_body_in_procedure low p) p)
-    (closing_name_in_procedure (path_to_body_in_procedure low p) p)
+    body_place_of_statements_if (is_range_in_body_of_procedure low high p) (body_at_path_in_procedure (path_to_body_in_procedure low p) p)
+    (closing_name_at_path_in_procedure (path_to_body_in_procedure low p) p)
 
 -- Returns the place of the body, in this module, that contains the tokens from `low` up to, but not
 -- including, `high`. Returns None if no body contains them.
-abbrev pub body_place_around : ℕ → ℕ → Tree ℕ module_text → Option BodyPlace
-body_place_around low high t =
-    body_place_of_statements_if (is_in_body low high t) (body_at_path (path_to_body_in_module low t) t) (closing_name_in_module (path_to_body_in_module low t) t)
+abbrev pub body_place_of_range : ℕ → ℕ → Tree ℕ module_text → Option BodyPlace
+body_place_of_range low high t =
+    body_place_of_statements_if (is_range_in_one_body low high t) (body_at_path (path_to_body_in_module low t) t) (closing_name_at_path (path_to_body_in_module low t) t)

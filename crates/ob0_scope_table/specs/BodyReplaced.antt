@@ -9,7 +9,7 @@ use Rattle.ob0_scan.specs.declared.tokens.SameParts.{SameParts}
 use Rattle.ob0_tree.specs.FirstIdentifier.{first_identifier}
 use Rattle.ob0_tree.specs.ParsedModule.{IsParsed, ParsedModule, tree_of}
 use Rattle.ob0_tree.specs.Tree.{Tree, block, body, declares, declares_procedure, end, forms_block, is_module, item, items, mapped_tree, maybe, module_text, more, none, procedure}
-use Rattle.ob0_scope_table.specs.OneBody.{closing_name, is_in_body, is_outside}
+use Rattle.ob0_scope_table.specs.OneBody.{closing_name, is_range_in_one_body, is_outside_range}
 
 -- A path to a body in the tree: in each block, the number of the procedure to enter, from the
 -- module inwards. The procedures of a block are counted from 0. The path leads to the body of the
@@ -19,9 +19,9 @@ PathToBody = List ℕ
 
 -- returns the path to the same body once another procedure is inserted before all procedures of the
 -- first block on the path
-abbrev pub shift_path : PathToBody → PathToBody
-shift_path [] = []
-shift_path (k ∷ path) = suc k ∷ path
+abbrev pub path_after_insertion_in_front : PathToBody → PathToBody
+path_after_insertion_in_front [] = []
+path_after_insertion_in_front (k ∷ path) = suc k ∷ path
 
 -- Returns the path to the body around the token `low`.
 abbrev mutual
@@ -35,7 +35,7 @@ abbrev mutual
   pub path_to_body_in_procedures : ℕ → Tree ℕ (items procedure) → PathToBody
   path_to_body_in_procedures low end = []
   path_to_body_in_procedures low (more p ps) =
-      if nat_lt (closing_name p) low then shift_path (path_to_body_in_procedures low ps)
+      if nat_lt (closing_name p) low then path_after_insertion_in_front (path_to_body_in_procedures low ps)
       else zero ∷ path_to_body_in_procedure low p
 
   -- returns the path from a procedure to the body around the token `low`
@@ -100,25 +100,25 @@ body_at_path path (is_module x b closing) = body_at_path_in_block path b
 abbrev mutual
   -- Returns the closing name of the block to which a path leads from a block. The closing name of
   -- the block itself is `own`.
-  pub closing_name_in_block : {N : Type 0} → PathToBody → N → Tree N block → N
-  closing_name_in_block [] own b = own
-  closing_name_in_block (k ∷ path) own (forms_block (declares cs ts vs ps) statements) =
-      closing_name_in_procedures k path own ps
+  pub closing_name_at_path_in_block : {N : Type 0} → PathToBody → N → Tree N block → N
+  closing_name_at_path_in_block [] own b = own
+  closing_name_at_path_in_block (k ∷ path) own (forms_block (declares cs ts vs ps) statements) =
+      closing_name_at_path_in_procedures k path own ps
 
   -- Returns the closing name of the block to which a path leads from procedure `k`, counted from 0.
   -- Returns `own` if there is no such procedure.
-  pub closing_name_in_procedures : {N : Type 0} → ℕ → PathToBody → N → Tree N (items procedure) → N
-  closing_name_in_procedures k path own end = own
-  closing_name_in_procedures zero path own (more p ps) = closing_name_in_procedure path p
-  closing_name_in_procedures (suc k) path own (more p ps) = closing_name_in_procedures k path own ps
+  pub closing_name_at_path_in_procedures : {N : Type 0} → ℕ → PathToBody → N → Tree N (items procedure) → N
+  closing_name_at_path_in_procedures k path own end = own
+  closing_name_at_path_in_procedures zero path own (more p ps) = closing_name_at_path_in_procedure path p
+  closing_name_at_path_in_procedures (suc k) path own (more p ps) = closing_name_at_path_in_procedures k path own ps
 
   -- returns the closing name of the block to which a path leads from a procedure
-  pub closing_name_in_procedure : {N : Type 0} → PathToBody → Tree N (item procedure) → N
-  closing_name_in_procedure path (declares_procedure x fs b closing) = closing_name_in_block path closing b
+  pub closing_name_at_path_in_procedure : {N : Type 0} → PathToBody → Tree N (item procedure) → N
+  closing_name_at_path_in_procedure path (declares_procedure x fs b closing) = closing_name_at_path_in_block path closing b
 
 -- returns the closing name of the block to which a path leads from a module
-abbrev pub closing_name_in_module : {N : Type 0} → PathToBody → Tree N module_text → N
-closing_name_in_module path (is_module x b closing) = closing_name_in_block path closing b
+abbrev pub closing_name_at_path : {N : Type 0} → PathToBody → Tree N module_text → N
+closing_name_at_path path (is_module x b closing) = closing_name_at_path_in_block path closing b
 
 -- Returns the index in the new text of the token that has the index `i` in the old text. The token
 -- must be outside the replaced tokens, which are `s.prefix..s.old_suffix` in the old text.
@@ -138,16 +138,16 @@ pub record IsBodyReplaced (old new : ParsedModule) (path : PathToBody) (s : Same
   pub old_parsed : IsParsed old
   pub new_parsed : IsParsed new
   pub outside : module_without_body path (tree_of new) ≡ mapped_tree (moved_token_index s) (moved_token_index s) (module_without_body path (tree_of old))
-  pub words : (i : ℕ) → is_outside s.prefix s.old_suffix i ≡ true
+  pub words : (i : ℕ) → is_outside_range s.prefix s.old_suffix i ≡ true
       → slice_get (words_of_tokens new.source.text new.source.tokens) (moved_token_index s i)
       ≡ slice_get (words_of_tokens old.source.text old.source.tokens) i
   pub old_path : path_to_body_in_module s.prefix (tree_of old) ≡ path
   pub new_path : path_to_body_in_module s.prefix (tree_of new) ≡ path
-  pub old_in_body : is_in_body s.prefix s.old_suffix (tree_of old) ≡ true
-  pub new_in_body : is_in_body s.prefix s.new_suffix (tree_of new) ≡ true
+  pub old_in_body : is_range_in_one_body s.prefix s.old_suffix (tree_of old) ≡ true
+  pub new_in_body : is_range_in_one_body s.prefix s.new_suffix (tree_of new) ≡ true
   pub first : ℕ
   pub first_identifier_of_old_body : first_identifier (body_at_path path (tree_of old)) ≡ Some first
   pub first_identifier_of_new_body : first_identifier (body_at_path path (tree_of new)) ≡ Some first
   pub front : first < s.prefix
-  pub back : s.old_suffix < closing_name_in_module path (tree_of old)
-  pub closing : closing_name_in_module path (tree_of new) ≡ moved_token_index s (closing_name_in_module path (tree_of old))
+  pub back : s.old_suffix < closing_name_at_path path (tree_of old)
+  pub closing : closing_name_at_path path (tree_of new) ≡ moved_token_index s (closing_name_at_path path (tree_of old))

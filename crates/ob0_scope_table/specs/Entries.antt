@@ -18,6 +18,6 @@ ordinal_from_number zero = None
 ordinal_from_number (suc n) = Some n
 
 -- returns the number that an entry has for an optional ordinal: the ordinal plus 1, or 0 for None
-abbrev pub number_from_ordinal : Option ℕ → ℕ
-number_from_ordinal None = 0
-number_from_ordinal (Some n) = suc n
+abbrev pub entry_number_of_ordinal : Option ℕ → ℕ
+entry_number_of_ordinal None = 0
+entry_number_of_ordinal (Some n) = suc n

@@ -64,7 +64,7 @@ moved_faults old new faults = map (fault_at new) (map (fault_by_tokens old.token
 
 -- States that the faults `before` of the text `old` match the faults `after` of the text `new`, one
 -- by one. Two faults match if they have the same code and are at the same tokens.
-pub record AreAtSameTokens (old new : TextWithTokens) (before after : List Fault) : Type 0 where
+pub record AreFaultsAtSameTokens (old new : TextWithTokens) (before after : List Fault) : Type 0 where
   pub tokens : List FaultByTokens
   pub in_old : before ≡ map (fault_at old) tokens
   pub in_new : after ≡ map (fault_at new) tokens

@@ -10,8 +10,8 @@ use Rattle.ob0_tree.specs.declared.tree.Role.{Role}
 use Rattle.ob0_tree.specs.declared.tree.Role.TheVariants as role
 
 -- returns whether a token is before `low`, or is at or after `high`
-abbrev pub is_outside : ℕ → ℕ → ℕ → Bool
-is_outside low high token = nat_lt token low || nat_le high token
+abbrev pub is_outside_range : ℕ → ℕ → ℕ → Bool
+is_outside_range low high token = nat_lt token low || nat_le high token
 
 -- returns a procedure's closing name
 abbrev pub closing_name : {N : Type 0} → Tree N (item procedure) → N
@@ -19,9 +19,9 @@ closing_name (declares_procedure x fs b closing) = closing
 
 -- Returns whether the first identifier in the list is at or before the token `low`. The list has
 -- each identifier's role and token. Returns false if the list is empty.
-abbrev pub begins_at_or_before : ℕ → List (Role × ℕ) → Bool
-begins_at_or_before low [] = false
-begins_at_or_before low (x ∷ xs) = nat_le x.1 low
+abbrev pub first_identifier_is_at_or_before : ℕ → List (Role × ℕ) → Bool
+first_identifier_is_at_or_before low [] = false
+first_identifier_is_at_or_before low (x ∷ xs) = nat_le x.1 low
 
 -- Returns whether the tokens from `low` up to, but not including, `high` are inside the statements
 -- of one block.
@@ -29,30 +29,30 @@ abbrev mutual
   -- Returns whether the tokens from `low` up to, but not including, `high` are in the statements of
   -- a block, or of a block inside it. The caller checks that `high` is at or before the closing name
   -- of the outer block.
-  pub is_in_block : ℕ → ℕ → Tree ℕ block → Bool
-  is_in_block low high (forms_block (declares cs ts vs ps) statements) =
-      is_in_procedures low high ps statements
+  pub is_range_in_body_of_block : ℕ → ℕ → Tree ℕ block → Bool
+  is_range_in_body_of_block low high (forms_block (declares cs ts vs ps) statements) =
+      is_range_in_body_of_procedures low high ps statements
 
   -- Skips the procedures that end before the token `low` (their closing names are before it). If
   -- the list has another procedure, returns whether the tokens from `low` up to, but not including,
   -- `high` are in the statements of that procedure's block, or of a block inside it. Otherwise,
   -- returns whether `low` is at or after the first identifier of the block's own statements.
-  pub is_in_procedures : ℕ → ℕ → Tree ℕ (items procedure) → Tree ℕ (maybe body) → Bool
-  is_in_procedures low high end statements = begins_at_or_before low (identifiers role.Declaring statements)
-  is_in_procedures low high (more p ps) statements =
-      if nat_lt (closing_name p) low then is_in_procedures low high ps statements
-      else nat_le high (closing_name p) && is_in_procedure low high p
+  pub is_range_in_body_of_procedures : ℕ → ℕ → Tree ℕ (items procedure) → Tree ℕ (maybe body) → Bool
+  is_range_in_body_of_procedures low high end statements = first_identifier_is_at_or_before low (identifiers role.Declaring statements)
+  is_range_in_body_of_procedures low high (more p ps) statements =
+      if nat_lt (closing_name p) low then is_range_in_body_of_procedures low high ps statements
+      else nat_le high (closing_name p) && is_range_in_body_of_procedure low high p
 
   -- Returns whether the tokens from `low` up to, but not including, `high` are in the statements of
   -- a procedure's block, or of a block inside it. The caller checks that `high` is at or before the
   -- procedure's closing name.
-  pub is_in_procedure : ℕ → ℕ → Tree ℕ (item procedure) → Bool
-  is_in_procedure low high (declares_procedure x fs b closing) = is_in_block low high b
+  pub is_range_in_body_of_procedure : ℕ → ℕ → Tree ℕ (item procedure) → Bool
+  is_range_in_body_of_procedure low high (declares_procedure x fs b closing) = is_range_in_body_of_block low high b
 
 -- returns whether the tokens from `low` up to, but not including, `high` are inside the statements
 -- of one block of a module
-abbrev pub is_in_body : ℕ → ℕ → Tree ℕ module_text → Bool
-is_in_body low high (is_module x b closing) = nat_le high closing && is_in_block low high b
+abbrev pub is_range_in_one_body : ℕ → ℕ → Tree ℕ module_text → Bool
+is_range_in_one_body low high (is_module x b closing) = nat_le high closing && is_range_in_body_of_block low high b
 
 -- States that the text of the module `m` differs from the text `old` only in the spellings of tokens
 -- in one body. The tokens of both texts have the same kinds, one by one. The tokens from `low` up
@@ -62,7 +62,7 @@ pub record IsBodyChange (old : TextWithTokens) (m : ParsedModule) (low high : �
   pub old_scan : IsScan old
   pub new_scan : IsScan m.source
   pub same_kinds : kinds m.source.tokens ≡ kinds old.tokens
-  pub same_words : (i : ℕ) → is_outside low high i ≡ true
+  pub same_words : (i : ℕ) → is_outside_range low high i ≡ true
       → slice_get (words_of_tokens m.source.text m.source.tokens) i
       ≡ slice_get (words_of_tokens old.text old.tokens) i
-  pub in_body : is_in_body low high (tree_of m) ≡ true
+  pub in_body : is_range_in_one_body low high (tree_of m) ≡ true

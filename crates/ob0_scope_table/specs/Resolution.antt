@@ -103,15 +103,15 @@ ordinal_and_spelling ordinal x = (ordinal, x)
 
 -- returns a pair: the ordinal to which the identifier at a token is bound, or None if it is
 -- unbound, and the identifier's spelling
-abbrev pub binding_at : TextWithTokens → List (Option ℕ) → ℕ → Option ℕ × Name
-binding_at source ordinals token = (ordinal_in ordinals token, token_text_at source token)
+abbrev pub ordinal_and_spelling_at : TextWithTokens → List (Option ℕ) → ℕ → Option ℕ × Name
+ordinal_and_spelling_at source ordinals token = (ordinal_in ordinals token, token_text_at source token)
 
 -- States that the table of ordinals is right according to the scope rules. It gives each identifier
 -- the ordinal of its declaration, or None if the identifier is unbound.
 abbrev pub IsBindingTable : ParsedModule → List (Option ℕ) → Type 0
 IsBindingTable m ordinals =
     relabel_module naming_by_spelling ordinal_and_spelling (named_tree_of m)
-    ≡ mapped_tree (binding_at m.source ordinals) (token_value_at m.source) (tree_of m)
+    ≡ mapped_tree (ordinal_and_spelling_at m.source ordinals) (token_value_at m.source) (tree_of m)
 
 -- Returns a fault `Undeclared` for each of these looked-up names that is unbound according to its
 -- label (`is_unbound`). The lists have the tokens of the looked-up names and their labels, in the

@@ -11,7 +11,7 @@ mod resolved;
 mod table;
 
 pub use fault_tokens::{FaultByTokens, faults_at_tokens, faults_by_tokens};
-pub use one_body::{BodyPlace, body_place_in_module, body_place_in_tree, is_in_body};
+pub use one_body::{BodyPlace, body_place_in_module, body_place_in_tree, is_range_in_one_body};
 pub use ordinal_entry::OrdinalEntry;
 pub use predeclared_names::{
     FALSE_ORDINAL, PREDECLARED_COUNT, READ_ORDINAL, TRUE_ORDINAL, WRITE_LN_ORDINAL, WRITE_ORDINAL,

@@ -7,8 +7,8 @@ ghost use Rattle.ob0_tree.specs.ParsedModule.{tree_of};
 ghost use Rattle.ob0_tree.specs.View.{block_of, body_of, procedure_of};
 ghost use Rattle.ob0_tree.specs.Tree.{identifiers};
 ghost use Rattle.ob0_tree.specs.declared.tree.Role.TheVariants as roles;
-ghost use Rattle.ob0_scope_table.specs.BodyPlaces.{body_place_around, body_place_of_statements_if, body_place_in_block, body_place_in_procedure, module_tree_of};
-ghost use Rattle.ob0_scope_table.specs.OneBody.{begins_at_or_before, is_in_body};
+ghost use Rattle.ob0_scope_table.specs.BodyPlaces.{body_place_of_range, body_place_of_statements_if, body_place_in_block, body_place_in_procedure, module_tree_of};
+ghost use Rattle.ob0_scope_table.specs.OneBody.{first_identifier_is_at_or_before, is_range_in_one_body};
 
 use ob0_tree::{Block, Module, ModuleTree, Procedure, Statement, first_identifier};
 
@@ -23,8 +23,8 @@ pub struct BodyPlace {
 /// Returns whether one body contains the tokens from `low` up to, but not including, `high`. This
 /// means that `low` is at or after the body's first identifier, and `high` is at or before the
 /// closing name of the body's block.
-pub fn is_in_body(read: &Module<'_>, low: usize, high: usize) -> bool
-    ensures { result ≡ is_in_body low high (tree_of read.now) }
+pub fn is_range_in_one_body(read: &Module<'_>, low: usize, high: usize) -> bool
+    ensures { result ≡ is_range_in_one_body low high (tree_of read.now) }
 {
     body_place_in_module(read, low, high).is_some()
 }
@@ -32,7 +32,7 @@ pub fn is_in_body(read: &Module<'_>, low: usize, high: usize) -> bool
 /// Returns the place of the body, in a tree, that contains the tokens from `low` up to, but not
 /// including, `high`. Returns None if no body contains them.
 pub fn body_place_in_tree(tree: &ModuleTree, low: usize, high: usize) -> Option<BodyPlace>
-    ensures { result ≡ body_place_around low high (module_tree_of tree.now) }
+    ensures { result ≡ body_place_of_range low high (module_tree_of tree.now) }
 {
     if high > tree.closing {
         return None;
@@ -43,7 +43,7 @@ pub fn body_place_in_tree(tree: &ModuleTree, low: usize, high: usize) -> Option<
 /// Returns the place of the body, in a module, that contains the tokens from `low` up to, but not
 /// including, `high`. Returns None if no body contains them.
 pub fn body_place_in_module(read: &Module<'_>, low: usize, high: usize) -> Option<BodyPlace>
-    ensures { result ≡ body_place_around low high (tree_of read.now) }
+    ensures { result ≡ body_place_of_range low high (tree_of read.now) }
 {
     if high > read.closing_name() {
         return None;
@@ -89,7 +89,7 @@ fn body_place_of_statements(
     low: usize,
 ) -> Option<BodyPlace>
     ensures { result
-        ≡ body_place_of_statements_if (begins_at_or_before low (identifiers roles.Declaring (body_of statements.now)))
+        ≡ body_place_of_statements_if (first_identifier_is_at_or_before low (identifiers roles.Declaring (body_of statements.now)))
         (body_of statements.now) closing }
 {
     let first = first_identifier(statements)?;

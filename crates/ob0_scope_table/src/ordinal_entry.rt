@@ -17,13 +17,13 @@ pub struct OrdinalEntry {
 
 impl Model for OrdinalEntry {
     ghost use Rattle.std.specs.Prelude.{ℕ, Option};
-    ghost use Rattle.ob0_scope_table.specs.Entries.{ordinal_from_number, number_from_ordinal};
+    ghost use Rattle.ob0_scope_table.specs.Entries.{ordinal_from_number, entry_number_of_ordinal};
 
     ghost Value = { Option ℕ };
 
     ghost view = { λ e. ordinal_from_number e.number };
 
-    ghost inverse = { λ ordinal. record { number = number_from_ordinal ordinal } };
+    ghost inverse = { λ ordinal. record { number = entry_number_of_ordinal ordinal } };
 }
 
 impl OrdinalEntry {

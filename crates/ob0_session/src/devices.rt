@@ -7,7 +7,7 @@
 ghost use Rattle.std.specs.Prelude.{◌≡◌, ◌≢◌, ◌||◌, ◌<◌, ℕ, List, [], Option, Bool, true, false, length, is_err, IfOk, OnOk, OnErr};
 ghost use Rattle.std.specs.Io.{ReadsAtMost, WritesAtMost};
 ghost use Rattle.std.specs.Io.KnownBytes.{Keeps, ReadConsumes, WriteAppends};
-ghost use Rattle.ob0_session.specs.Devices.{ReadCounts, counts_after_read};
+ghost use Rattle.ob0_session.specs.Devices.{ReadStatistics, statistics_after_read};
 
 use thiserror::Error;
 
@@ -22,7 +22,7 @@ pub trait InputDevice {
     ghost remaining: { Self → Option (List ℕ) };
 
     // Returns the number of reads, and the length in bytes of the longest buffer passed to a read.
-    ghost reads: { Self → ReadCounts };
+    ghost reads: { Self → ReadStatistics };
 
     // Returns whether a call has failed.
     ghost has_failed: { Self → Bool };
@@ -33,7 +33,7 @@ pub trait InputDevice {
         ensures bound { ReadsAtMost result buf.new }
         ensures bytes { ReadConsumes (remaining self.old) (remaining self.new) result buf.new }
         ensures noted { has_failed self.new ≡ (has_failed self.old || is_err result) }
-        ensures reads { reads self.new ≡ counts_after_read (length buf.new) (reads self.old) };
+        ensures reads { reads self.new ≡ statistics_after_read (length buf.new) (reads self.old) };
 }
 
 /// A device to which bytes are written. Its ghost members record the calls.

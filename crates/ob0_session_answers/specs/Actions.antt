@@ -51,20 +51,20 @@ actions_request_view r version =
 
 -- Returns whether this kind of actions includes inlining: `refactor.inline`, `refactor` and the
 -- empty text do.
-abbrev pub is_inlining_kind : List ℕ → Bool
-is_inlining_kind kind =
+abbrev pub kind_includes_inlining : List ℕ → Bool
+kind_includes_inlining kind =
     bytes_eq kind [] || bytes_eq kind (codes "refactor") || bytes_eq kind (codes "refactor.inline")
 
 -- Returns whether the requested kinds of actions include inlining. For None, all kinds are
 -- requested.
-abbrev pub allows_inlining : Option (List (List ℕ)) → Bool
-allows_inlining (Some kinds) = list_any is_inlining_kind kinds
-allows_inlining None = true
+abbrev pub kinds_include_inlining : Option (List (List ℕ)) → Bool
+kinds_include_inlining (Some kinds) = list_any kind_includes_inlining kinds
+kinds_include_inlining None = true
 
 -- Returns whether the client accepts actions that aren't commands and the requested kinds include
 -- inlining. For None, all kinds are requested.
 abbrev pub accepts_inlining : ClientFeatures → Option (List (List ℕ)) → Bool
-accepts_inlining client only = client.accepts_literal_actions && allows_inlining only
+accepts_inlining client only = client.accepts_literal_actions && kinds_include_inlining only
 
 -- Returns whether the client of this request accepts actions that aren't commands and the requested
 -- kinds include inlining.

@@ -14,7 +14,7 @@ ghost use Rattle.ob0_rpc.specs.Shapes.{result_message};
 ghost use Rattle.ob0_rpc.specs.Writing.{Writes};
 ghost use Rattle.ob0_text.specs.Texts.{offset_of};
 ghost use Rattle.ob0_text.specs.Units.{width_of};
-ghost use Rattle.ob0_session_answers.specs.Actions.{RepliesToActions, code_action_of, actions_request_view, actions_array, allows_inlining as allows, is_inlining_kind as of_kind, actions_offset as place_in, title, accepts_inlining as wants};
+ghost use Rattle.ob0_session_answers.specs.Actions.{RepliesToActions, code_action_of, actions_request_view, actions_array, kinds_include_inlining as allows, kind_includes_inlining as of_kind, actions_offset as place_in, title, accepts_inlining as wants};
 ghost use Rattle.ob0_session_json.specs.JsonViews.{code_action_view};
 
 use ob0_analysis::Analysis;
@@ -77,7 +77,7 @@ impl<'a> ActionsRequest<'a> {
     fn wants_inlining(&self) -> bool
         ensures { result ≡ wants self.now.client (kinds_view self.now.only.now) }
     {
-        self.client.accepts_literal_actions && allows_inlining(self.only)
+        self.client.accepts_literal_actions && kinds_include_inlining(self.only)
     }
 
     /// Returns the answer that lists the offered actions: to inline a constant at this use, then to
@@ -160,21 +160,21 @@ fn answer_without_actions(alloc: Global, id: &Id) -> Result<Vec<u8>, AllocError>
 
 /// Returns whether the requested kinds of actions include inlining. If `only` is None, all kinds
 /// are requested.
-fn allows_inlining(only: &Option<Vec<String>>) -> bool
+fn kinds_include_inlining(only: &Option<Vec<String>>) -> bool
     ensures { result ≡ allows (kinds_view only.now) }
 {
     match only {
-        Some(kinds) => has_inlining_kind(kinds.as_slice()),
+        Some(kinds) => any_kind_includes_inlining(kinds.as_slice()),
         None => true,
     }
 }
 
 /// Returns whether at least one of these kinds of actions includes inlining.
-fn has_inlining_kind(kinds: &[String]) -> bool
+fn any_kind_includes_inlining(kinds: &[String]) -> bool
     ensures { result ≡ list_any of_kind (map string_bytes kinds.now) }
 {
     for kind in kinds {
-        if is_inlining_kind(kind.as_str()) {
+        if kind_includes_inlining(kind.as_str()) {
             return true;
         }
     }
@@ -183,7 +183,7 @@ fn has_inlining_kind(kinds: &[String]) -> bool
 
 /// Returns whether this kind of actions includes inlining: `refactor.inline`, `refactor` and the
 /// empty text do.
-fn is_inlining_kind(kind: &str) -> bool
+fn kind_includes_inlining(kind: &str) -> bool
     ensures { result ≡ of_kind kind.now }
 {
     kind == "" || kind == "refactor" || kind == "refactor.inline"

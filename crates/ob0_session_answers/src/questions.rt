@@ -85,11 +85,11 @@ impl Question for ReferencesQuestion {
 /// The question for the span of the name or field at a byte offset. The answer is None if there is
 /// no name or field, or if the name is predeclared and so can't be renamed.
 #[derive(Drop)]
-struct RenamableQuestion {
+struct RenamableSpanQuestion {
     offset: usize,
 }
 
-impl Question for RenamableQuestion {
+impl Question for RenamableSpanQuestion {
     type Answer = Option<Span>;
 
     ghost answers = { λ q names found. found ≡ renamable_span_at names q.offset };
@@ -206,7 +206,7 @@ impl<'a, T: TextStore> DocumentRequest<T> for PrepareRenameRequest<'a> {
         analysis: &Analysis,
     ) -> Result<Vec<u8>, AllocError> {
         let offset = text.offset(self.place.position);
-        match ask(alloc, analysis, &RenamableQuestion { offset })? {
+        match ask(alloc, analysis, &RenamableSpanQuestion { offset })? {
             Some(found) => range_answer(alloc, self.id, text, found),
             None => answer_text(alloc, self.id, &()),
         }

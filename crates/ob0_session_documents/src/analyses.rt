@@ -21,7 +21,7 @@ const MAX_BYTES: usize = 4_198_400;
 
 /// The number of bytes that each analysis counts for, in addition to the sizes of its uri and its
 /// data. This number also limits how many analyses of empty texts are kept.
-const BYTES_PER_ANALYSIS: usize = 1_024;
+const OVERHEAD_BYTES_PER_ANALYSIS: usize = 1_024;
 
 /// The kept analyses, by the uris of their documents. Adding an analysis may drop others.
 #[derive(Drop)]
@@ -130,12 +130,12 @@ impl Analyses {
 /// Returns the number of bytes that an analysis counts for. The bytes of the uri are included,
 /// because the cache stores a copy of the uri.
 fn counted_bytes_of(uri: &str, analysis: &Analysis) -> usize
-    ensures { BYTES_PER_ANALYSIS ≤ result }
+    ensures { OVERHEAD_BYTES_PER_ANALYSIS ≤ result }
 {
     analysis
         .size_in_bytes()
         .saturating_add(uri.len())
-        .saturating_add(BYTES_PER_ANALYSIS)
+        .saturating_add(OVERHEAD_BYTES_PER_ANALYSIS)
 }
 
 /// Returns a cache that contains one analysis.

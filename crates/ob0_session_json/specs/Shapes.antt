@@ -22,8 +22,8 @@ document_sync_options =
 -- Returns the value of `renameProvider`: {"prepareProvider":true} for a client that sends
 -- `prepareRename` before it requests a rename, otherwise true.
 abbrev pub rename_provider : Bool → Data
-rename_provider announces_prepare =
-    if announces_prepare
+rename_provider announces_prepare_rename =
+    if announces_prepare_rename
     then object (member (codes "prepareProvider") (boolean true) no_members)
     else boolean true
 
@@ -35,28 +35,28 @@ code_action_options =
 
 -- Returns the last members of the capabilities:
 -- "referencesProvider":true,"renameProvider":R,"textDocumentSync":{..}.
-abbrev pub last_members : ClientFeatures → Members
-last_members client =
+abbrev pub members_from_references_provider : ClientFeatures → Members
+members_from_references_provider client =
     member (codes "referencesProvider") (boolean true) (member (codes "renameProvider")
     (rename_provider client.prepares_renames)
     (member (codes "textDocumentSync") document_sync_options no_members))
 
 -- Returns the members of the capabilities after "definitionProvider":
 -- "documentFormattingProvider":true,"hoverProvider":true, then "positionEncoding":"utf-8" if the
--- client offers that, then `last_members`.
-abbrev pub remaining_members : ClientFeatures → Members
-remaining_members client =
+-- client offers that, then `members_from_references_provider`.
+abbrev pub members_after_definition_provider : ClientFeatures → Members
+members_after_definition_provider client =
     member (codes "documentFormattingProvider") (boolean true)
     (member (codes "hoverProvider") (boolean true)
     (if client.offers_utf8
-    then member (codes "positionEncoding") (text (codes "utf-8")) (last_members client)
-    else last_members client))
+    then member (codes "positionEncoding") (text (codes "utf-8")) (members_from_references_provider client)
+    else members_from_references_provider client))
 
 -- Returns the server's capabilities: "codeActionProvider":{..} if the client accepts actions that
--- aren't commands, then "definitionProvider":true, then `remaining_members`.
+-- aren't commands, then "definitionProvider":true, then `members_after_definition_provider`.
 abbrev pub server_capabilities : ClientFeatures → Data
 server_capabilities client =
-    let members = member (codes "definitionProvider") (boolean true) (remaining_members client) in
+    let members = member (codes "definitionProvider") (boolean true) (members_after_definition_provider client) in
     object
     (if client.accepts_literal_actions
     then member (codes "codeActionProvider") code_action_options members

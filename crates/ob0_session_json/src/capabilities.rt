@@ -4,7 +4,7 @@ ghost use Rattle.ob0_rpc.specs.Appending.{AppendsMembers};
 ghost use Rattle.ob0_rpc.specs.MessageViews.{id_data};
 ghost use Rattle.ob0_rpc.specs.Shapes.{result_message};
 ghost use Rattle.ob0_rpc.specs.Writing.{Writes};
-ghost use Rattle.ob0_session_json.specs.Shapes.{code_action_options, capabilities, remaining_members, last_members, rename_provider, server_capabilities, document_sync_options};
+ghost use Rattle.ob0_session_json.specs.Shapes.{code_action_options, capabilities, members_after_definition_provider, members_from_references_provider, rename_provider, server_capabilities, document_sync_options};
 
 use ob0_rpc::{
     ClientFeatures, Id, WriteJson, answer_text, end_object, write_first_member, write_next_member,
@@ -64,7 +64,7 @@ impl ServerCapabilities {
     /// Writes the members of the capabilities after `definitionProvider`, and the closing bracket.
     fn write_remaining_members(&self, out: &mut Vec<u8>) -> Result<(), AllocError>
         ensures { OnOk result
-            (AppendsMembers 44 (remaining_members self.now.client) out.old.items out.new.items) }
+            (AppendsMembers 44 (members_after_definition_provider self.now.client) out.old.items out.new.items) }
     {
         write_next_member(out, "documentFormattingProvider", &true)?;
         write_next_member(out, "hoverProvider", &true)?;
@@ -80,11 +80,17 @@ impl ServerCapabilities {
     /// closing bracket.
     fn write_last_members(&self, out: &mut Vec<u8>) -> Result<(), AllocError>
         ensures { OnOk result
-            (AppendsMembers 44 (last_members self.now.client) out.old.items out.new.items) }
+            (AppendsMembers 44 (members_from_references_provider self.now.client) out.old.items out.new.items) }
     {
-        let announces_prepare = self.client.prepares_renames;
+        let announces_prepare_rename = self.client.prepares_renames;
         write_next_member(out, "referencesProvider", &true)?;
-        write_next_member(out, "renameProvider", &RenameProvider { announces_prepare })?;
+        write_next_member(
+            out,
+            "renameProvider",
+            &RenameProvider {
+                announces_prepare_rename,
+            },
+        )?;
         write_next_member(out, "textDocumentSync", &TextDocumentSyncOptions {})?;
         end_object(out)
     }
@@ -107,14 +113,14 @@ impl WriteJson for CodeActionOptions {
 /// The value of `renameProvider`. It announces `prepareRename` if the client sends such requests.
 #[derive(Drop)]
 pub struct RenameProvider {
-    pub announces_prepare: bool,
+    pub announces_prepare_rename: bool,
 }
 
 impl WriteJson for RenameProvider {
-    ghost value = { λ p. rename_provider p.announces_prepare };
+    ghost value = { λ p. rename_provider p.announces_prepare_rename };
 
     fn write(&self, out: &mut Vec<u8>) -> Result<(), AllocError> {
-        if self.announces_prepare {
+        if self.announces_prepare_rename {
             write_first_member(out, "prepareProvider", &true)?;
             end_object(out)
         } else {

@@ -1,7 +1,7 @@
 //! Writes the notification that publishes a document's diagnostics.
 ghost use Rattle.std.specs.Prelude.{IfOk, List, map};
 ghost use Rattle.ob0_rpc.specs.Writing.{Writes};
-ghost use Rattle.ob0_session_json.specs.Shapes.{Diagnostic as Reported, diagnostic_value, publication as published_as, publication_params};
+ghost use Rattle.ob0_session_json.specs.Shapes.{Diagnostic as Reported, diagnostic_value, publication as publication_message, publication_params};
 ghost use Rattle.ob0_session_json.specs.JsonViews.{AreSameDiagnostics, diagnostic_view};
 
 use ob0_rpc::{WriteJson, end_object, notification_of, write_first_member, write_next_member};
@@ -67,7 +67,7 @@ pub fn publication(
     list: Vec<Diagnostic>,
 ) -> Result<Vec<u8>, AllocError>
     ensures { IfOk result (λ bytes. (ds : List Reported) → AreSameDiagnostics ds list.items
-        → Writes (published_as uri.now version ds) bytes.items) }
+        → Writes (publication_message uri.now version ds) bytes.items) }
 {
     let params = PublishDiagnosticsParams {
         diagnostics: list.as_slice(),

@@ -66,15 +66,15 @@ pub data Reply : Type 0 where
   diagnoses : Unit → List ℕ → ℤ → List ℕ → Reply
   -- The edits that format a text, or a refusal to format it. Arguments: the unit of positions, the request's id, the
   -- indentation and the characters of the text.
-  formats_text : Unit → Data → Indent → List ℕ → Reply
+  formatting_reply : Unit → Data → Indent → List ℕ → Reply
   -- The answer to hover, definition, references or prepareRename. Arguments: the unit of positions, the request's id,
   -- the document and position, the question and the characters of the text.
-  answers_question : Unit → Data → DocumentPlace → NameQuestion → List ℕ → Reply
+  question_reply : Unit → Data → DocumentPlace → NameQuestion → List ℕ → Reply
   -- The edits that rename a declaration, or a refusal to rename it. Arguments: the unit of positions, the request and
   -- the characters of the text.
   renames : Unit → RequestedRename → List ℕ → Reply
   -- The offered code actions. Arguments: the unit of positions, the request and the characters of the text.
-  offers_actions : Unit → RequestedActions → List ℕ → Reply
+  actions_reply : Unit → RequestedActions → List ℕ → Reply
 
 -- States that `sent` consists of exactly one content, which is the text of this message.
 abbrev pub Sends : Data → List (List ℕ) → Type 0
@@ -87,13 +87,13 @@ AreContentsOfReply nothing sent = sent ≡ []
 AreContentsOfReply (says message) sent = Sends message sent
 AreContentsOfReply (diagnoses unit uri version text) sent =
     (ds : List Diagnostic) × AreDiagnosticsOf unit text ds × Sends (publication uri (Some version) ds) sent
-AreContentsOfReply (formats_text unit id indent text) sent =
+AreContentsOfReply (formatting_reply unit id indent text) sent =
     (message : Data) × AnswersFormatting unit id indent text message × Sends message sent
-AreContentsOfReply (answers_question unit id at question text) sent =
+AreContentsOfReply (question_reply unit id at question text) sent =
     (value : Data) × AnswersQuestion unit text at question value × Sends (result_message id value) sent
 AreContentsOfReply (renames unit requested text) sent =
     (message : Data) × AnswersRenaming unit requested text message × Sends message sent
-AreContentsOfReply (offers_actions unit requested text) sent =
+AreContentsOfReply (actions_reply unit requested text) sent =
     (message : Data) × AnswersActions unit requested text message × Sends message sent
 
 -- The reaction to a message: the state of the session after the message, and the reply.
@@ -140,7 +140,7 @@ react_about_document s id None say = reaction_without_change s (says (edit_refus
 abbrev pub react_to_question : ServerState → Data → DocumentPlace → NameQuestion → Reaction
 react_to_question s id at question =
     react_about_document s id (document_at s.held at.uri)
-    (λ version. answers_question s.held.unit id at question)
+    (λ version. question_reply s.held.unit id at question)
 
 -- Returns the reaction to a request to rename the name or field at a position.
 abbrev pub react_to_rename : ServerState → Data → DocumentPlace → List ℕ → Reaction
@@ -157,13 +157,13 @@ abbrev pub react_to_actions : ServerState
     → Reaction
 react_to_actions s id uri range only =
     react_about_document s id (document_at s.held uri)
-    (λ version. offers_actions s.held.unit (record
+    (λ version. actions_reply s.held.unit (record
     { id = id; client = s.client; uri = uri; version = version; range = range; only = only }))
 
 -- Returns the reaction to a request to format a document.
 abbrev pub react_to_formatting : ServerState → Data → List ℕ → Indent → Reaction
 react_to_formatting s id uri indent =
-    react_about_document s id (document_at s.held uri) (λ version. formats_text s.held.unit id indent)
+    react_about_document s id (document_at s.held uri) (λ version. formatting_reply s.held.unit id indent)
 
 -- Returns the reaction to a request that has been read (`Ok`), or to a request that couldn't be
 -- read because of a fault (`Err`).
@@ -278,7 +278,7 @@ Answers before content sent after = AnswersInPhase before.phase before content s
 
 -- States that the messages `sent` begin with the messages that reply to this content. `Follows` must
 -- hold for the state after that reply and for the remaining messages of `sent`.
-pub record AnswersFirst (before : ServerState) (content : List ℕ) (sent : List (List ℕ))
+pub record AnswersFirstContent (before : ServerState) (content : List ℕ) (sent : List (List ℕ))
     (Follows : ServerState → List (List ℕ) → Type 0) : Type 0 where
   pub between : ServerState
   pub first : List (List ℕ)
@@ -292,4 +292,4 @@ pub record AnswersFirst (before : ServerState) (content : List ℕ) (sent : List
 abbrev pub Conversation : ServerState → List (List ℕ) → List (List ℕ) → ServerState → Type 0
 Conversation before [] sent after = (sent ≡ []) × (after ≡ before)
 Conversation before (content ∷ contents) sent after =
-    AnswersFirst before content sent (λ between later. Conversation between contents later after)
+    AnswersFirstContent before content sent (λ between later. Conversation between contents later after)

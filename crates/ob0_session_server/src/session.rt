@@ -465,7 +465,7 @@ impl<T: TextStore> Session<T> {
                 self.end_session();
                 Ok(None)
             }
-            ClientNotification::Open { uri, version, text } => self.open_and_publish(
+            ClientNotification::Open { uri, version, text } => self.open_and_publish_diagnostics(
                 uri.as_str(),
                 version,
                 text,
@@ -474,8 +474,8 @@ impl<T: TextStore> Session<T> {
                 uri,
                 version,
                 changes,
-            } => self.change_and_publish(uri, version, changes),
-            ClientNotification::Close { uri } => self.close_and_clear(uri.as_str()),
+            } => self.change_and_publish_diagnostics(uri, version, changes),
+            ClientNotification::Close { uri } => self.close_and_clear_diagnostics(uri.as_str()),
             ClientNotification::Unreadable { uri } => {
                 if let Some(uri) = uri {
                     self.documents.lose(uri.as_str());
@@ -487,7 +487,7 @@ impl<T: TextStore> Session<T> {
     }
 
     /// Opens a document, and returns the message that publishes the diagnostics of its text.
-    fn open_and_publish(
+    fn open_and_publish_diagnostics(
         &mut self,
         uri: &str,
         version: i64,
@@ -503,7 +503,7 @@ impl<T: TextStore> Session<T> {
 
     /// Applies changes to a document, and returns the message that publishes its diagnostics.
     /// Returns None if the document isn't open or is out of step after the changes.
-    fn change_and_publish(
+    fn change_and_publish_diagnostics(
         &mut self,
         uri: String,
         version: i64,
@@ -518,7 +518,7 @@ impl<T: TextStore> Session<T> {
 
     /// Closes a document, and returns the message that clears its diagnostics. Returns None if the
     /// document wasn't open.
-    fn close_and_clear(&mut self, uri: &str) -> Result<Option<Vec<u8>>, AllocError>
+    fn close_and_clear_diagnostics(&mut self, uri: &str) -> Result<Option<Vec<u8>>, AllocError>
         ensures { IfOk result
             (λ sent. Reacts (apply_notification self.old (closes uri.now)) sent self.new) }
     {

@@ -123,7 +123,7 @@ static ROWS: &[QuestionCase] = rows![
 ];
 
 #[test]
-fn types_and_captures_of_declarations_are_known(rt: HostRuntime) {
+fn types_and_conflicts_are_as_expected(rt: HostRuntime) {
     let (text, wanted) = first_wrong(rt.alloc(), ROWS, Walk::Asking);
     assert!(rt; text.is_empty(), "{wanted} in {text}");
 }

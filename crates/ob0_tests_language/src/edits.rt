@@ -146,13 +146,13 @@ fn rename_rows() -> &'static [QuestionCase] {
 }
 
 #[test]
-fn a_well_typed_module_is_renamed_alike(rt: HostRuntime) {
+fn names_are_renamed_in_well_typed_modules(rt: HostRuntime) {
     let (text, wanted) = first_wrong(rt.alloc(), rename_rows(), Walk::Asking);
     assert!(rt; text.is_empty(), "{wanted} in {text}");
 }
 
 #[test]
-fn names_and_fields_are_renamed(rt: HostRuntime) {
+fn names_are_renamed_in_analyses(rt: HostRuntime) {
     let (text, wanted) = first_wrong(rt.alloc(), rename_rows(), Walk::RenamingInAnalysis);
     assert!(rt; text.is_empty(), "{wanted} in {text}");
 }
@@ -251,7 +251,7 @@ static LAID_OUT: &[QuestionCase] = layouts![
 ];
 
 #[test]
-fn texts_are_laid_out_once(rt: HostRuntime) {
+fn texts_are_formatted_idempotently(rt: HostRuntime) {
     let (text, wanted) = first_wrong(rt.alloc(), LAID_OUT, Walk::Asking);
     assert!(rt; text.is_empty(), "{wanted} of {text}");
 }

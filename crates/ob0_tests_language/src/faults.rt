@@ -79,7 +79,7 @@ static ROWS: &[QuestionCase] = rows![
 ];
 
 #[test]
-fn the_faults_of_worked_texts_are_reported(rt: HostRuntime) {
+fn faults_of_example_texts_are_reported(rt: HostRuntime) {
     let (text, wanted) = first_wrong(rt.alloc(), ROWS, Walk::Asking);
     assert!(rt; text.is_empty(), "{wanted} of {text}");
 }
@@ -191,7 +191,7 @@ fn first_wrong_change(alloc: Global, changes: &[(&str, u64, u64, &str)]) -> Opti
 }
 
 #[test]
-fn a_changed_text_has_the_faults_of_a_new_one(rt: HostRuntime) {
+fn reanalysis_finds_faults_as_from_scratch(rt: HostRuntime) {
     let number = first_wrong_change(rt.alloc(), CHANGES);
     assert!(rt; number.is_none(), "change {number:?}");
 }

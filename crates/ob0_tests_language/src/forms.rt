@@ -59,7 +59,7 @@ fn has_assignments(module: &Module<'_>, count: usize, factor: bool) -> bool {
 
 /// Returns whether the tokens are a module whose body consists of this many assignments. If
 /// `factor` is true, each must assign an `Expression::Factor`. If it is false, none may.
-fn are_parsed(alloc: Global, tokens: &Tokens, count: usize, factor: bool) -> bool {
+fn tokens_have_assignments(alloc: Global, tokens: &Tokens, count: usize, factor: bool) -> bool {
     match parse(alloc, tokens) {
         Ok(module) => has_assignments(&module, count, factor),
         Err(_refusal) => false,
@@ -68,15 +68,15 @@ fn are_parsed(alloc: Global, tokens: &Tokens, count: usize, factor: bool) -> boo
 
 /// Returns whether the text is a module whose body consists of this many assignments. If `factor`
 /// is true, each must assign an `Expression::Factor`. If it is false, none may.
-fn all_assign(alloc: Global, text: &str, count: usize, factor: bool) -> bool {
+fn text_has_assignments(alloc: Global, text: &str, count: usize, factor: bool) -> bool {
     match scan(alloc, text) {
-        Ok(tokens) => are_parsed(alloc, &tokens, count, factor),
+        Ok(tokens) => tokens_have_assignments(alloc, &tokens, count, factor),
         Err(_refusal) => false,
     }
 }
 
 #[test]
-fn one_factor_alone_has_the_small_form(rt: HostRuntime) {
-    assert!(rt; all_assign(rt.alloc(), ONE_FACTOR, 7, true));
-    assert!(rt; all_assign(rt.alloc(), OPERATIONS, 9, false));
+fn single_factors_are_not_compound(rt: HostRuntime) {
+    assert!(rt; text_has_assignments(rt.alloc(), ONE_FACTOR, 7, true));
+    assert!(rt; text_has_assignments(rt.alloc(), OPERATIONS, 9, false));
 }

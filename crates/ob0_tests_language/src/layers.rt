@@ -74,7 +74,7 @@ fn is_resolved(alloc: Global, module: &Module<'_>) -> bool {
 }
 
 /// Returns whether the module has this depth of nesting and this many identifiers.
-fn is_shaped(alloc: Global, module: &Module<'_>, nesting: u32, count: usize) -> bool {
+fn has_nesting_and_names(alloc: Global, module: &Module<'_>, nesting: u32, count: usize) -> bool {
     match module.identifiers(alloc) {
         Ok(identifiers) => module.nesting() == nesting && identifiers.len() == count,
         Err(_refused) => false,
@@ -84,7 +84,7 @@ fn is_shaped(alloc: Global, module: &Module<'_>, nesting: u32, count: usize) -> 
 /// Returns whether the tokens are a module with the expected shape, names and types.
 fn is_parsable(alloc: Global, tokens: &Tokens) -> bool {
     match parse(alloc, tokens) {
-        Ok(module) => is_shaped(alloc, &module, 1, 11) && is_resolved(alloc, &module),
+        Ok(module) => has_nesting_and_names(alloc, &module, 1, 11) && is_resolved(alloc, &module),
         Err(ParseRefusal::Syntax { .. } | ParseRefusal::TooDeep { .. } | ParseRefusal::Memory) =>
             false,
     }
@@ -99,12 +99,12 @@ fn passes_all_layers(alloc: Global) -> bool {
 }
 
 #[test]
-fn a_module_goes_through_the_layers(rt: HostRuntime) {
+fn module_passes_all_layers(rt: HostRuntime) {
     assert!(rt; passes_all_layers(rt.alloc()));
 }
 
 #[test]
-fn the_laws_of_runs_have_their_names(_rt: HostRuntime) {
+fn laws_of_runs_can_be_called(_rt: HostRuntime) {
     numbering_keeps_runs();
     numbered_tree_decides_runs();
     numbered_tree_decides_typing();

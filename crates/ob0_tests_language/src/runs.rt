@@ -161,7 +161,7 @@ fn run_rows() -> &'static [QuestionCase] {
 }
 
 #[test]
-fn worked_modules_are_run(rt: HostRuntime) {
+fn modules_run_as_expected(rt: HostRuntime) {
     let (text, wanted) = first_wrong(rt.alloc(), run_rows(), Walk::Asking);
     assert!(rt; text.is_empty(), "{wanted} of {text}");
 }

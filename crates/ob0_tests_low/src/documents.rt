@@ -162,7 +162,7 @@ impl Case for DocumentCase {
 }
 
 #[test]
-fn a_document_is_held_until_it_is_closed_or_lost(rt: HostRuntime) {
+fn documents_change_state_as_expected(rt: HostRuntime) {
     let wrong = first_wrong(rt.alloc(), ROWS);
     assert!(rt; wrong.is_none(), "row {wrong:?}");
 }

@@ -219,13 +219,13 @@ impl Case for LinesCase {
 }
 
 #[test]
-fn lines_are_mended_around_a_change(rt: HostRuntime) {
+fn lines_are_updated_after_changes(rt: HostRuntime) {
     let wrong = first_wrong(rt.alloc(), CHANGED);
     assert!(rt; wrong.is_none(), "row {wrong:?}");
 }
 
 #[test]
-fn lines_are_those_of_the_whole_text(rt: HostRuntime) {
+fn lines_agree_with_whole_text(rt: HostRuntime) {
     let wrong = first_wrong(rt.alloc(), KEPT);
     assert!(rt; wrong.is_none(), "row {wrong:?}");
 }

@@ -216,13 +216,13 @@ impl Case for RescanCase {
 }
 
 #[test]
-fn little_is_read_again_in_a_long_text(rt: HostRuntime) {
+fn few_tokens_are_scanned_again_in_long_texts(rt: HostRuntime) {
     let wrong = first_wrong(rt.alloc(), LONG);
     assert!(rt; wrong.is_none(), "row {wrong:?}");
 }
 
 #[test]
-fn a_changed_text_is_read_as_from_nothing(rt: HostRuntime) {
+fn changed_texts_are_scanned_as_from_scratch(rt: HostRuntime) {
     let wrong = first_wrong(rt.alloc(), SHORT);
     assert!(rt; wrong.is_none(), "row {wrong:?}");
 }
@@ -296,7 +296,7 @@ fn random_change(alloc: Global, numbers: &mut Numbers) -> Result<Outcome, AllocE
 
 /// Returns whether 10,000 random changes are scanned as if from scratch. At least 3,000 of the
 /// changed texts must be accepted and 500 refused.
-fn are_random_changes_read(alloc: Global) -> bool {
+fn scans_random_changes_as_from_scratch(alloc: Global) -> bool {
     let mut numbers = Numbers { seed: 1 };
     let mut read: usize = 0;
     let mut refused: usize = 0;
@@ -312,6 +312,6 @@ fn are_random_changes_read(alloc: Global) -> bool {
 }
 
 #[test]
-fn random_changes_are_read_as_from_nothing(rt: HostRuntime) {
-    assert!(rt; are_random_changes_read(rt.alloc()));
+fn random_changes_are_scanned_as_from_scratch(rt: HostRuntime) {
+    assert!(rt; scans_random_changes_as_from_scratch(rt.alloc()));
 }

@@ -39,8 +39,8 @@ static ROWS: &[ComputationCase] = rows![
 ];
 
 /// Returns the result of an operator on its operands.
-fn compute(reckoned: Computation) -> Result<Scalar, OperatorFault> {
-    match reckoned {
+fn compute(computation: Computation) -> Result<Scalar, OperatorFault> {
+    match computation {
         Multiply(operator, left, right) => multiply(operator, Number(left), Number(right)),
         Add(operator, left, right) => add(operator, left, right),
         Relate(relation, left, right) => apply_relation(relation, left, right),
@@ -56,7 +56,7 @@ impl Case for ComputationCase {
 }
 
 #[test]
-fn numbers_and_truth_values_are_reckoned_with(rt: HostRuntime) {
+fn operators_compute_as_expected(rt: HostRuntime) {
     let wrong = first_wrong(rt.alloc(), ROWS);
     assert!(rt; wrong.is_none(), "row {wrong:?}");
 }

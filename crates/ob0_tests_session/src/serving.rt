@@ -82,7 +82,7 @@ fn converse(alloc: Global, end: &ServeEnd, count: &mut Count) -> ConversationEnd
 
 /// Returns whether everything was flushed, and each device recorded a failure exactly if the result
 /// says that the device failed.
-fn is_reported(found: ConversationEnd) -> bool {
+fn result_matches_failures(found: ConversationEnd) -> bool {
     found.read_failed == (found.result == Err(ServeFault::Read))
         && found.write_failed == (found.result == Err(ServeFault::Write))
         && found.flushed
@@ -97,7 +97,7 @@ fn ends_flushed(alloc: Global, end: &ServeEnd, flushes: u32) -> bool {
     if flushes < end.flushes {
         return found.result == Err(ServeFault::Write);
     }
-    found.result == end.result && is_reported(found) && count.passed_on == count.written
+    found.result == end.result && result_matches_failures(found) && count.passed_on == count.written
 }
 
 /// Returns whether a conversation needs exactly `end.flushes` flushes. With fewer flushes it must
@@ -123,13 +123,13 @@ fn first_wrong_conversation(alloc: Global, ends: &[ServeEnd]) -> Option<usize> {
 }
 
 #[test]
-fn each_piece_is_flushed_at_its_end(rt: HostRuntime) {
+fn output_is_flushed_after_each_piece(rt: HostRuntime) {
     let number = first_wrong_conversation(rt.alloc(), ENDS);
     assert!(rt; number.is_none(), "conversation {number:?}");
 }
 
 /// Returns whether `Noted` passes a reader's bytes on unchanged, and records the reader's failure.
-fn is_reader_noted() -> bool {
+fn reader_failure_is_recorded() -> bool {
     let mut reader = Noted::new(Source {
         bytes: b"ab",
         most: 1,
@@ -141,7 +141,7 @@ fn is_reader_noted() -> bool {
 }
 
 /// Returns whether `Noted` passes a writer's bytes on unchanged, and records the writer's failure.
-fn is_writer_noted() -> bool {
+fn writer_failure_is_recorded() -> bool {
     let mut count = Count::new(1, 1);
     let mut writer = Noted::new(Counter { count: &mut count });
     let is_written = writer.write(b"ab") == Ok(1) && writer.flush().is_ok() && !writer.failed();
@@ -149,8 +149,8 @@ fn is_writer_noted() -> bool {
 }
 
 #[test]
-fn a_device_that_failed_is_noted(rt: HostRuntime) {
-    assert!(rt; is_reader_noted() && is_writer_noted());
+fn device_failures_are_recorded(rt: HostRuntime) {
+    assert!(rt; reader_failure_is_recorded() && writer_failure_is_recorded());
 }
 
 /// The faults that end a conversation, with the status of the program for each.

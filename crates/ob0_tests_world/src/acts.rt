@@ -15,7 +15,7 @@ pub enum Act {
     Other(&'static Act),
     Open(&'static str),
     /// A change notification without changes.
-    Touch,
+    NoChange,
     /// A change of a range in one line: the line, the range's start and end, and the new text. The
     /// end isn't in the range. Lines and characters are counted from 0.
     Write(u64, u64, u64, &'static str),
@@ -129,7 +129,7 @@ fn event_about(alloc: Global, uri: String, act: Act) -> Result<Event, AllocError
             let text = String::from_str(alloc, text)?;
             Ok(Event::OpenDoc { uri, text })
         }
-        Act::Touch => {
+        Act::NoChange => {
             let changes = Vec::new(alloc);
             Ok(Event::ChangeDoc { uri, changes })
         }

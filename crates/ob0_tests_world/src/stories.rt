@@ -99,7 +99,7 @@ static STORIES: &[Story] = stories![
     "an answer about an earlier opening is dropped", Utf16, REOPENED,
         [], [1, COUNTS => true; 1, FAULTY_TEXT => false];
     "a change with no changes raises the version, and the answer is dropped", Utf16,
-        moments![Open(COUNTS) => Sent, NAME => Sent, Touch => Sent, Serve => Served(1), Serve => Served(1),
+        moments![Open(COUNTS) => Sent, NAME => Sent, NoChange => Sent, Serve => Served(1), Serve => Served(1),
             Serve => Served(1), Take => Published(true), Take => Answered(1, true), Take => Published(true),
             Apply(1) => Dropped(1)],
         [], [1, COUNTS => true; 2, COUNTS => true];
@@ -110,7 +110,7 @@ static STORIES: &[Story] = stories![
         [COUNTS => RENAMED], [1, COUNTS => true];
     "nothing happens", Utf16,
         moments![Apply(7) => Nothing, Discard(7) => Nothing, Take => Nothing, Serve => Nothing,
-            Touch => Nothing, Close => Nothing, NAME => Nothing, Open(COUNTS) => Sent,
+            NoChange => Nothing, Close => Nothing, NAME => Nothing, Open(COUNTS) => Sent,
             Open(FAULTY_TEXT) => Nothing, Serve => Served(1), Serve => Nothing],
         [], [1, COUNTS => true];
     "an answer is discarded", Utf16,

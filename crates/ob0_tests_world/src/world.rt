@@ -11,7 +11,7 @@ use std::process::Abort;
 /// The way in which a story's events are made: one by one over a store of lines or of whole texts,
 /// or all by `play`.
 #[derive(Clone, Copy)]
-enum Manner {
+enum StoryMode {
     OverLines,
     OverWhole,
     Played,
@@ -111,19 +111,19 @@ fn play_through(alloc: Global, story: &Story, events: &[Event]) -> Outcome {
 
 /// Runs a story, and returns the outcome up to an event at which an allocation fails, or up to the
 /// story's end.
-fn run_story(alloc: Global, story: &Story, manner: Manner) -> Outcome {
+fn run_story(alloc: Global, story: &Story, manner: StoryMode) -> Outcome {
     match events_with_retry(alloc, story) {
         Ok(events) => match manner {
-            Manner::OverLines => step_through::<Lines>(alloc, story, events.as_slice()),
-            Manner::OverWhole => step_through::<Whole>(alloc, story, events.as_slice()),
-            Manner::Played => play_through(alloc, story, events.as_slice()),
+            StoryMode::OverLines => step_through::<Lines>(alloc, story, events.as_slice()),
+            StoryMode::OverWhole => step_through::<Whole>(alloc, story, events.as_slice()),
+            StoryMode::Played => play_through(alloc, story, events.as_slice()),
         },
         Err(AllocError) => UNEXPECTED_OUTCOME,
     }
 }
 
 /// Returns whether a story runs to its end and has all the expected results.
-fn ends_as_written(alloc: Global, story: &Story, manner: Manner) -> bool {
+fn ends_as_written(alloc: Global, story: &Story, manner: StoryMode) -> bool {
     let Outcome(result, steps, applied, made) = run_story(alloc, story, manner);
     result == StepsResult::AsExpected
         && steps == story.moments.len() as u64
@@ -135,11 +135,11 @@ fn ends_as_written(alloc: Global, story: &Story, manner: Manner) -> bool {
 /// expected only up to that failure.
 fn runs_as_expected(alloc: Global, story: &Story, may_fail: bool) -> bool {
     if may_fail {
-        return run_story(alloc, story, Manner::OverLines).0 != StepsResult::Unexpected;
+        return run_story(alloc, story, StoryMode::OverLines).0 != StepsResult::Unexpected;
     }
-    ends_as_written(alloc, story, Manner::OverLines)
-        && ends_as_written(alloc, story, Manner::OverWhole)
-        && ends_as_written(alloc, story, Manner::Played)
+    ends_as_written(alloc, story, StoryMode::OverLines)
+        && ends_as_written(alloc, story, StoryMode::OverWhole)
+        && ends_as_written(alloc, story, StoryMode::Played)
 }
 
 /// Returns the name of the first story that doesn't run as expected, or the empty string if all do.
@@ -166,7 +166,7 @@ fn a_refused_event_ends_a_world(rt: HostRuntime) {
 
 /// Runs the first story and returns its outcome. If there is no story, returns
 /// `UNEXPECTED_OUTCOME`.
-fn run_first(alloc: Global, manner: Manner) -> Outcome {
+fn run_first(alloc: Global, manner: StoryMode) -> Outcome {
     match stories().first() {
         Some(story) => run_story(alloc, story, manner),
         None => UNEXPECTED_OUTCOME,
@@ -178,14 +178,14 @@ fn run_first(alloc: Global, manner: Manner) -> Outcome {
 // failed.
 #[test]
 fn a_refused_event_leaves_what_was_played_before(rt: HostRuntime) {
-    let Outcome(result, steps, applied, made) = run_first(rt.alloc(), Manner::Played);
+    let Outcome(result, steps, applied, made) = run_first(rt.alloc(), StoryMode::Played);
     assert!(rt; result != StepsResult::Unexpected);
     let _ = println!(rt; "played {steps} {applied} {made}");
 }
 
 #[test]
 fn a_refused_step_ends_what_was_played(rt: HostRuntime) {
-    let Outcome(result, steps, applied, made) = run_first(rt.alloc(), Manner::OverLines);
+    let Outcome(result, steps, applied, made) = run_first(rt.alloc(), StoryMode::OverLines);
     assert!(rt; result != StepsResult::Unexpected);
     let _ = println!(rt; "played {steps} {applied} {made}");
 }

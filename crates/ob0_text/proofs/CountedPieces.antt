@@ -81,10 +81,10 @@ piece_stays width text rest start offset s is before inside =
     let n : ℕ = s.end - start in
     let here : start + n ≡ s.end = omega (arith, is.ordered) in
     let long : length (take offset text) ≡ offset = length-take-le offset text inside in
-    let kept_if_before : take s.end new ≡ take s.end text =
+    let piece_if_ends_before : take s.end new ≡ take s.end text =
     take-append-le s.end (take offset text) rest (omega (arith, long, before)) ∙ shorter s.end offset text before inside in
     let same : cut new start s.end ≡ cut text start s.end =
-    sym (drop-take start n new) ∙ ap (λ k. drop start (take k new)) here ∙ ap (drop start) kept_if_before ∙ ap (λ k. drop start (take k text)) (sym here) ∙ drop-take start n text in
+    sym (drop-take start n new) ∙ ap (λ k. drop start (take k new)) here ∙ ap (drop start) piece_if_ends_before ∙ ap (λ k. drop start (take k text)) (sym here) ∙ drop-take start n text in
     record {
       ordered = is.ordered;
       inside = omega (arith, long, before, length-append (take offset text) rest);

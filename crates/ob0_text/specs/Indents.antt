@@ -7,5 +7,5 @@ abbrev pub max_indent : ℕ
 max_indent = 16
 
 -- Returns the number of spaces in a level if `n` are requested: at least 1 and at most 16.
-abbrev pub level_spaces : ℕ → ℕ
-level_spaces n = max 1 (min n max_indent)
+abbrev pub spaces_in_level : ℕ → ℕ
+spaces_in_level n = max 1 (min n max_indent)

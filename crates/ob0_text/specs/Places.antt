@@ -34,7 +34,7 @@ IsAtOrAfter q p = (q.line < p.line) ⊎ ((q.line ≡ p.line) × (q.character ≤
 
 -- States that `rest` is the text without its first `offset` bytes, and that `rest` consists of
 -- whole characters.
-pub record IsRest (text rest : List ℕ) (offset : ℕ) : Type 0 where
+pub record IsTextAfterOffset (text rest : List ℕ) (offset : ℕ) : Type 0 where
   pub front : List ℕ
   pub split : text ≡ front ++ rest
   pub utf8 : IsUtf8 rest
@@ -44,7 +44,7 @@ pub record IsRest (text rest : List ℕ) (offset : ℕ) : Type 0 where
 -- of each later offset. The pass counts in `rest`, the text after the place. The line and the
 -- character are at most the number of bytes before the place.
 pub record CanCountPositions (width : ℕ → ℕ) (text rest : List ℕ) (offset line character : ℕ) : Type 0 where
-  pub rest_is : IsRest text rest offset
+  pub rest_is : IsTextAfterOffset text rest offset
   pub lines_fit : line + length rest ≤ length text
   pub characters_fit : character + length rest ≤ length text
   pub same : (o : ℕ)
@@ -61,8 +61,8 @@ CanCountFrom width text p = CanCountPositions width text (drop p.offset text) p.
 -- `rest`, the text after the place.
 pub record CanFindOffsets (width : ℕ → ℕ) (text : List ℕ) (sought : Position) (rest : List ℕ)
     (offset line character : ℕ) : Type 0 where
-  pub rest_is : IsRest text rest offset
-  pub not_past : IsAtOrAfter (at line character) sought
+  pub rest_is : IsTextAfterOffset text rest offset
+  pub at_or_before_sought : IsAtOrAfter (at line character) sought
   pub same : (p : Position)
       → IsAtOrAfter sought p
       → offset + byte_len (text_before width (chars rest) (relative_position line character p))

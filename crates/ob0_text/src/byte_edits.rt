@@ -5,7 +5,7 @@ ghost use Rattle.std.specs.Str.{chars};
 ghost use Rattle.ob0_text.specs.Texts.{offset_of};
 ghost use Rattle.ob0_text.specs.Units.{width_of};
 ghost use Rattle.ob0_text.specs.Patches.{cuts_of, in_text_order, patched};
-ghost use Rattle.ob0_text.specs.StoredCuts.{stored_cut, cut_in_bytes};
+ghost use Rattle.ob0_text.specs.StoredCuts.{cut_of_byte_edit, cut_in_bytes};
 ghost use Rattle.ob0_text.specs.declared.byte_edits.PatchFault.TheVariants.{Memory};
 
 use crate::edits::Edit;
@@ -75,7 +75,7 @@ fn sorted_cuts<'e, T: TextStore>(
     edits: &'e [Edit],
 ) -> Result<Vec<ByteEdit<'e>>, AllocError>
     ensures { let text = T.content store.now in
-        IfOk result (λ cuts. map stored_cut cuts.items
+        IfOk result (λ cuts. map cut_of_byte_edit cuts.items
         ≡ map (cut_in_bytes text) (in_text_order
         (cuts_of (width_of (T.unit_of store.now)) text edits.now))) }
 {
@@ -91,7 +91,7 @@ fn unsorted_cuts<'e, T: TextStore>(
     edits: &'e [Edit],
 ) -> Result<Vec<ByteEdit<'e>>, AllocError>
     ensures { let text = T.content store.now in
-        IfOk result (λ cuts. map stored_cut cuts.items
+        IfOk result (λ cuts. map cut_of_byte_edit cuts.items
         ≡ map (cut_in_bytes text) (cuts_of (width_of (T.unit_of store.now)) text edits.now)) }
 {
     let starts = edit_starts(alloc, edits)?;
@@ -136,7 +136,7 @@ fn edit_ends(alloc: Global, edits: &[Edit]) -> Result<Vec<Position>, AllocError>
 /// Returns the edit that replaces the bytes between two offsets by `text`. The offsets are swapped
 /// if the first is greater.
 fn cut_between(start: usize, end: usize, text: &str) -> ByteEdit<'_>
-    ensures { stored_cut result
+    ensures { cut_of_byte_edit result
         ≡ record { from = min start end; to = max start end; new = chars text.now } }
 {
     ByteEdit {

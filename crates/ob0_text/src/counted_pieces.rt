@@ -3,10 +3,10 @@
 //!
 //! `Lines` keeps the counted part of the line of the last change: from the line's start to a place
 //! shortly before the change. The search for the start of the next change begins at the end of this
-//! part. Short runs of characters (`stretches.rt`) are removed there or added there (`shorten_to`,
-//! `extend_to`). So replacing all occurrences in one long line passes only over the text between
+//! part. Short runs of characters (`stretches.rt`) are removed there or added there (`shorten_to_units`,
+//! `extend_to_units`). So replacing all occurrences in one long line passes only over the text between
 //! the changes, whether they are made forwards or backwards. The part contains only text in front
-//! of the change (`kept_if_before`). So it remains a piece of a line (`IsPieceOfLine`), even if the
+//! of the change (`piece_if_ends_before`). So it remains a piece of a line (`IsPieceOfLine`), even if the
 //! change adds or removes lines. `place_after_counted` tests whether a line still starts at the
 //! part's start. If changes alternate between two places of one long line, each change passes over
 //! the text between these places.
@@ -44,7 +44,7 @@ impl CountedPiece {
     /// piece. So the result is also correct after a change of the text behind `offset`: if this piece is a
     /// piece of a line of some text, the result is a piece of a line of every text with the same
     /// first `offset` bytes.
-    pub fn kept_if_before(self, offset: usize) -> CountedPiece
+    pub fn piece_if_ends_before(self, offset: usize) -> CountedPiece
         ensures { (width : ℕ → ℕ) (text rest : List ℕ)
             → IsPieceOfLine width text self.start self.end_and_units
             → offset ≤ length text
@@ -60,27 +60,33 @@ impl CountedPiece {
 /// Returns a counted piece of one line that begins at the byte offset `start` and has at most
 /// `units` units. In a long line the piece has nearly `units` units. If the piece `last` also
 /// begins at `start`, only the difference between the two pieces is counted.
-pub fn count_up_to(text: &str, unit: Unit, start: usize, last: CountedPiece, units: u64) -> Stretch
+pub fn counted_stretch_up_to(
+    text: &str,
+    unit: Unit,
+    start: usize,
+    last: CountedPiece,
+    units: u64,
+) -> Stretch
     requires start { start ≤ length text.now }
     requires last { IsPieceOfLine (width_of unit) text.now last.start last.end_and_units }
     ensures is { IsPieceOfLine (width_of unit) text.now start result }
     ensures fits { result.units ≤ units }
 {
     if last.start == start {
-        let shorter = shorten_to(text, unit, start, last.end_and_units, units);
-        return extend_to(text, unit, start, shorter, units);
+        let shorter = shorten_to_units(text, unit, start, last.end_and_units, units);
+        return extend_to_units(text, unit, start, shorter, units);
     }
     let nothing = Stretch {
         end: start,
         units: 0,
     };
-    extend_to(text, unit, start, nothing, units)
+    extend_to_units(text, unit, start, nothing, units)
 }
 
 /// Returns the piece `from`, which begins at the byte offset `start`, without its last characters,
 /// so that at most `units` units are left. A piece with at most `units` units is returned
 /// unchanged. The characters are removed from the end in steps of at most 64 bytes.
-fn shorten_to(text: &str, unit: Unit, start: usize, from: Stretch, units: u64) -> Stretch
+fn shorten_to_units(text: &str, unit: Unit, start: usize, from: Stretch, units: u64) -> Stretch
     requires start { start ≤ length text.now }
     requires is { IsPieceOfLine (width_of unit) text.now start from }
     ensures is { IsPieceOfLine (width_of unit) text.now start result }
@@ -127,7 +133,7 @@ fn without_last_bytes(text: &str, unit: Unit, start: usize, piece: Stretch) -> O
 
 /// Returns the piece `from`, which begins at the byte offset `start`, extended by the stretches
 /// after it. It is extended as long as the result has at most `units` units.
-fn extend_to(text: &str, unit: Unit, start: usize, from: Stretch, units: u64) -> Stretch
+fn extend_to_units(text: &str, unit: Unit, start: usize, from: Stretch, units: u64) -> Stretch
     requires few { from.units ≤ units }
     requires is { IsPieceOfLine (width_of unit) text.now start from }
     ensures is { IsPieceOfLine (width_of unit) text.now start result }

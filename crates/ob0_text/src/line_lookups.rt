@@ -26,7 +26,7 @@ ghost use Rattle.ob0_text.specs.declared.position_types.Unit.{Unit};
 ghost use Rattle.ob0_text.specs.LineStarts.{IsLineTableOf, line_with_ending};
 ghost use Rattle.ob0_text.specs.Stretches.{IsPieceOfLine};
 
-use crate::counted_pieces::{CountedPiece, count_up_to};
+use crate::counted_pieces::{CountedPiece, counted_stretch_up_to};
 use crate::line_table::LineTable;
 use crate::passes::{
     PlaceInText, TEXT_START, advance_to_offset, advance_to_position, is_at_or_after,
@@ -106,7 +106,7 @@ fn counted_piece_before(
     }
     CountedPiece {
         start: start.offset,
-        end_and_units: count_up_to(text, unit, start.offset, last, position.character),
+        end_and_units: counted_stretch_up_to(text, unit, start.offset, last, position.character),
     }
 }
 

@@ -75,13 +75,13 @@ fn add_line_starts(
     let mut last = before;
     let mut at = from;
     for byte in bytes {
-        if separates_lines(last, Some(*byte)) {
+        if line_starts_between(last, Some(*byte)) {
             starts.push(at)?;
         }
         last = *byte;
         at += 1;
     }
-    if separates_lines(last, following.first().copied()) {
+    if line_starts_between(last, following.first().copied()) {
         starts.push(at)?;
     }
     Ok(())
@@ -91,7 +91,7 @@ fn add_line_starts(
 /// text, `next` is None. No line starts between CR and LF.
 #[tactic(auto, unfolding(crate::specs::Texts::ends_line, crate::specs::Texts::starts_with_lf))]
 #[inline(always)]
-fn separates_lines(last: u8, next: Option<u8>) -> bool
+fn line_starts_between(last: u8, next: Option<u8>) -> bool
     ensures { result ≡ ends_line last (option_to_list next) }
 {
     // Most bytes of a text are greater than CR, so for them this comparison is enough.

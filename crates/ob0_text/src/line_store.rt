@@ -112,7 +112,7 @@ impl TextStore for Lines {
         );
         let (from, to) = (found.start.min(found.end), found.start.max(found.end));
         self.table.replace(&mut self.text, from, to, text)?;
-        self.counted_piece = found.counted_piece.kept_if_before(from);
+        self.counted_piece = found.counted_piece.piece_if_ends_before(from);
         Ok(ReplacedBytes {
             from,
             removed: to - from,

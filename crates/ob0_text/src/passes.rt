@@ -153,7 +153,7 @@ pub fn advance_to_offset(text: &str, unit: Unit, from: PlaceInText, offset: usiz
     ensures position { at result.line result.character
         ≡ position_of (width_of unit) (chars text.now) offset }
 {
-    let from = skip_stretches_to(text, unit, from, offset);
+    let from = skip_stretches_to_offset(text, unit, from, offset);
     let mut place = skip_ascii(text, unit, from, offset);
     while let Some(next) = skip_char(text, unit, place, offset) {
         place = skip_ascii(text, unit, next, offset);
@@ -163,7 +163,7 @@ pub fn advance_to_offset(text: &str, unit: Unit, from: PlaceInText, offset: usiz
 
 /// Advances from the place `from` by whole stretches (`Stretch`) of its line, but not beyond the
 /// byte offset `offset`. Returns the place reached.
-fn skip_stretches_to(text: &str, unit: Unit, from: PlaceInText, offset: usize) -> PlaceInText
+fn skip_stretches_to_offset(text: &str, unit: Unit, from: PlaceInText, offset: usize) -> PlaceInText
     requires place { CanCountFrom (width_of unit) text.now from }
     requires following { from.offset ≤ offset }
     ensures place { CanCountFrom (width_of unit) text.now result }
@@ -271,7 +271,7 @@ pub fn advance_to_position(
     ensures place { CanSeekFrom (width_of unit) text.now position result }
     ensures offset { result.offset ≡ offset_of (width_of unit) (chars text.now) position }
 {
-    let from = skip_stretches(text, unit, from, position);
+    let from = skip_stretches_to_position(text, unit, from, position);
     let (mut line, mut character, mut reached) = (from.line, from.character, from.offset);
     let mut chars = text[from.offset..].chars();
     while let Some(c) = chars.next() {
@@ -302,7 +302,12 @@ pub fn advance_to_position(
 /// Advances from the place `from` by whole stretches (`Stretch`) of the position's line, but not
 /// beyond the position. Returns the place reached. If `from` is in another line, the result is
 /// `from`.
-fn skip_stretches(text: &str, unit: Unit, from: PlaceInText, position: Position) -> PlaceInText
+fn skip_stretches_to_position(
+    text: &str,
+    unit: Unit,
+    from: PlaceInText,
+    position: Position,
+) -> PlaceInText
     requires place { CanSeekFrom (width_of unit) text.now position from }
     ensures place { CanSeekFrom (width_of unit) text.now position result }
 {

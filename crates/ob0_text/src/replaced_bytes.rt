@@ -3,7 +3,7 @@
 //! The changes in one notification are merged into one range of bytes that contains every change.
 //! The bytes in front of this range and behind it are unchanged (`CoversAllChanges`,
 //! `IsChangedAt`). `rescan` of `ob0_scan` requires this (`ReplacesRange`). `replace_at` of a store
-//! returns the bytes that one change replaces. `merged_with` joins the ranges of two changes. It
+//! returns the bytes that one change replaces. `merge_with` joins the ranges of two changes. It
 //! compares them in the text between the two changes, in which the first range has the bytes that
 //! were added and the second range has the bytes that are removed. The bytes behind both ranges are
 //! unchanged. A change of the whole text replaces all bytes. `CoversAllChanges` allows a range with
@@ -25,7 +25,7 @@ pub struct ReplacedBytes {
 impl ReplacedBytes {
     /// Returns one change that covers both this change and `next`. The change `next` was made to
     /// the text that this change left.
-    pub(crate) fn merged_with(self, next: ReplacedBytes) -> ReplacedBytes
+    pub(crate) fn merge_with(self, next: ReplacedBytes) -> ReplacedBytes
         ensures { (first middle last : List ℕ)
             → IsChangedAt first middle self
             → IsChangedAt middle last next
@@ -74,5 +74,5 @@ pub(crate) fn extend_covering_change(
     let Some(one) = next else {
         return covering_change;
     };
-    Some(before.merged_with(one))
+    Some(before.merge_with(one))
 }

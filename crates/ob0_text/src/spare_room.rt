@@ -1,7 +1,7 @@
 //! Releases spare memory.
 //!
 //! A list keeps its capacity when it gets shorter. `trim_list` and `trim_text` release most of the
-//! capacity if the used part and `MAX_SPARE` together are less than a quarter of the capacity. So
+//! capacity if the used part and `MAX_SPARE_CAPACITY` together are less than a quarter of the capacity. So
 //! an open document occupies a few times its own length, however long it was before. Room for twice
 //! the length is kept, so a list can grow by its own length before memory is moved again. No clause
 //! bounds the capacity, because std's `shrink_to` keeps it if a smaller block can't be allocated.
@@ -9,7 +9,7 @@
 ghost use Rattle.std.specs.Prelude.{◌≡◌, string_bytes};
 
 /// The spare capacity that isn't worth releasing, in entries of a list or bytes of a text.
-const MAX_SPARE: usize = 512;
+const MAX_SPARE_CAPACITY: usize = 512;
 
 /// Releases most of a list's memory if little of it is used (`is_sparse`). Room for twice the
 /// list's length is kept.
@@ -32,7 +32,7 @@ pub(crate) fn trim_text(text: &mut String)
 }
 
 /// Returns whether so little of a capacity is used that memory should be released: a quarter of the
-/// capacity is more than the used part and `MAX_SPARE` together.
+/// capacity is more than the used part and `MAX_SPARE_CAPACITY` together.
 fn is_sparse(capacity: usize, used: usize) -> bool {
-    capacity / 4 > used.saturating_add(MAX_SPARE)
+    capacity / 4 > used.saturating_add(MAX_SPARE_CAPACITY)
 }

@@ -15,7 +15,7 @@ pub fn first_identifier(statements: &Option<Vec<Statement>>) -> Option<usize>
     ensures { result ≡ first_identifier (body_of statements.now) }
 {
     match statements {
-        Some(statements) => first_in_sequence(statements),
+        Some(statements) => first_identifier_in_sequence(statements),
         None => None,
     }
 }
@@ -23,11 +23,11 @@ pub fn first_identifier(statements: &Option<Vec<Statement>>) -> Option<usize>
 /// Returns the token index of the first identifier in a sequence of statements, or None if there is
 /// none.
 #[cycle(statements)]
-fn first_in_sequence(statements: &Vec<Statement>) -> Option<usize>
+fn first_identifier_in_sequence(statements: &Vec<Statement>) -> Option<usize>
     ensures { result ≡ first_identifier (sequence_of_vec statements.now) }
 {
     for s in statements {
-        let found = first_in_statement(s);
+        let found = first_identifier_in_statement(s);
         if found.is_some() {
             return found;
         }
@@ -37,50 +37,50 @@ fn first_in_sequence(statements: &Vec<Statement>) -> Option<usize>
 
 /// Returns the token index of the first identifier in a statement, or None if there is none.
 #[cycle(statements)]
-fn first_in_statement(s: &Statement) -> Option<usize>
+fn first_identifier_in_statement(s: &Statement) -> Option<usize>
     ensures { result ≡ first_identifier (statement_of s.now) }
 {
     match s {
         Statement::Empty => None,
         Statement::Assign(a) => Some(a.target.name),
         Statement::Call(c) => Some(c.procedure),
-        Statement::If(i) => first_in_if(i),
+        Statement::If(i) => first_identifier_in_if(i),
         Statement::While(w) => {
-            let found = first_in_expression(&w.condition);
+            let found = first_identifier_in_expression(&w.condition);
             if found.is_some() {
                 return found;
             }
-            first_in_sequence(&w.body)
+            first_identifier_in_sequence(&w.body)
         }
         Statement::Repeat(r) => {
-            let found = first_in_sequence(&r.body);
+            let found = first_identifier_in_sequence(&r.body);
             if found.is_some() {
                 return found;
             }
-            first_in_expression(&r.condition)
+            first_identifier_in_expression(&r.condition)
         }
     }
 }
 
 /// Returns the token index of the first identifier in an IF statement, or None if there is none.
 #[cycle(statements)]
-fn first_in_if(i: &If) -> Option<usize>
+fn first_identifier_in_if(i: &If) -> Option<usize>
     ensures { result ≡ first_identifier (if_of i.now) }
 {
-    let found = first_in_expression(&i.condition);
+    let found = first_identifier_in_expression(&i.condition);
     if found.is_some() {
         return found;
     }
-    let found = first_in_sequence(&i.then);
+    let found = first_identifier_in_sequence(&i.then);
     if found.is_some() {
         return found;
     }
-    let found = first_in_elsifs(&i.elsifs);
+    let found = first_identifier_in_elsifs(&i.elsifs);
     if found.is_some() {
         return found;
     }
     match &i.otherwise {
-        Some(statements) => first_in_sequence(statements),
+        Some(statements) => first_identifier_in_sequence(statements),
         None => None,
     }
 }
@@ -88,15 +88,15 @@ fn first_in_if(i: &If) -> Option<usize>
 /// Returns the token index of the first identifier in the ELSIF parts of an IF statement, or None
 /// if there is none.
 #[cycle(statements)]
-fn first_in_elsifs(parts: &Vec<Elsif>) -> Option<usize>
+fn first_identifier_in_elsifs(parts: &Vec<Elsif>) -> Option<usize>
     ensures { result ≡ first_identifier (elsifs_of_vec parts.now) }
 {
     for e in parts {
-        let found = first_in_expression(&e.condition);
+        let found = first_identifier_in_expression(&e.condition);
         if found.is_some() {
             return found;
         }
-        let found = first_in_sequence(&e.then);
+        let found = first_identifier_in_sequence(&e.then);
         if found.is_some() {
             return found;
         }
@@ -106,27 +106,27 @@ fn first_in_elsifs(parts: &Vec<Elsif>) -> Option<usize>
 
 /// Returns the token index of the first identifier in an expression, or None if there is none.
 #[cycle(expressions)]
-fn first_in_expression(e: &Expression) -> Option<usize>
+fn first_identifier_in_expression(e: &Expression) -> Option<usize>
     ensures { result ≡ first_identifier (expression_of e.now) }
 {
     match e {
-        Expression::Factor(f) => first_in_factor(f),
-        Expression::CompoundExpression(c) => first_in_compound(c),
+        Expression::Factor(f) => first_identifier_in_factor(f),
+        Expression::CompoundExpression(c) => first_identifier_in_compound(c),
     }
 }
 
 /// Returns the token index of the first identifier in an expression that isn't a single factor, or
 /// None if there is none.
 #[cycle(expressions)]
-fn first_in_compound(c: &CompoundExpression) -> Option<usize>
+fn first_identifier_in_compound(c: &CompoundExpression) -> Option<usize>
     ensures { result ≡ first_identifier (compound_of c.now) }
 {
-    let found = first_in_simple_expression(&c.left);
+    let found = first_identifier_in_simple_expression(&c.left);
     if found.is_some() {
         return found;
     }
     match &c.compared {
-        Some(compared) => first_in_simple_expression(&compared.right),
+        Some(compared) => first_identifier_in_simple_expression(&compared.right),
         None => None,
     }
 }
@@ -134,15 +134,15 @@ fn first_in_compound(c: &CompoundExpression) -> Option<usize>
 /// Returns the token index of the first identifier in a simple expression, or None if there is
 /// none.
 #[cycle(expressions)]
-fn first_in_simple_expression(s: &SimpleExpression) -> Option<usize>
+fn first_identifier_in_simple_expression(s: &SimpleExpression) -> Option<usize>
     ensures { result ≡ first_identifier (simple_of s.now) }
 {
-    let found = first_in_term(&s.first);
+    let found = first_identifier_in_term(&s.first);
     if found.is_some() {
         return found;
     }
     for addend in &s.more {
-        let found = first_in_term(&addend.term);
+        let found = first_identifier_in_term(&addend.term);
         if found.is_some() {
             return found;
         }
@@ -152,15 +152,15 @@ fn first_in_simple_expression(s: &SimpleExpression) -> Option<usize>
 
 /// Returns the token index of the first identifier in a term, or None if there is none.
 #[cycle(expressions)]
-fn first_in_term(t: &Term) -> Option<usize>
+fn first_identifier_in_term(t: &Term) -> Option<usize>
     ensures { result ≡ first_identifier (term_of t.now) }
 {
-    let found = first_in_factor(&t.first);
+    let found = first_identifier_in_factor(&t.first);
     if found.is_some() {
         return found;
     }
     for multiplier in &t.more {
-        let found = first_in_factor(&multiplier.factor);
+        let found = first_identifier_in_factor(&multiplier.factor);
         if found.is_some() {
             return found;
         }
@@ -170,13 +170,13 @@ fn first_in_term(t: &Term) -> Option<usize>
 
 /// Returns the token index of the first identifier in a factor, or None if there is none.
 #[cycle(expressions)]
-fn first_in_factor(f: &Factor) -> Option<usize>
+fn first_identifier_in_factor(f: &Factor) -> Option<usize>
     ensures { result ≡ first_identifier (factor_of f.now) }
 {
     match f {
         Factor::Designator(d) => Some(d.name),
         Factor::Integer(_) => None,
-        Factor::Parenthesised(e) => first_in_expression(e),
-        Factor::Not(f) => first_in_factor(f),
+        Factor::Parenthesised(e) => first_identifier_in_expression(e),
+        Factor::Not(f) => first_identifier_in_factor(f),
     }
 }

@@ -12,7 +12,7 @@ use Rattle.ob0_types_check.specs.ModuleLaws.{HasDeclarations, ModulesWithoutFaul
 use Rattle.ob0_types_check.specs.SomeBodies.{IsReportOf}
 use Rattle.ob0_types_check.specs.WellTypedLaws.{TypedModulesHaveNoFault}
 use Rattle.ob0_types_check.specs.declared.reporting.Report.{Report}
-use Rattle.ob0_types.specs.FaultOrder.{AreFirstOf, faults_in}
+use Rattle.ob0_types.specs.FaultOrder.{AreFirstWhenSorted, all_faults_of}
 use Rattle.ob0_types.specs.CheckedModules.{IsChecked, IsTableIfTyped}
 use Rattle.ob0_types_table.specs.KnownTables.{Tables}
 use Rattle.ob0_language_types.specs.WellTyped.{WellTyped, passes_type_check}
@@ -98,8 +98,8 @@ known_where_typed r report law is h = record {
 
 -- The result of checking a module is right (`IsChecked`) if it has the first 100 faults of the module. The table must
 -- be present exactly if no fault of types is reported.
-pub checked_reported : (r : Resolution) (faults : List Fault) → ModulesWithoutFaultPassTypeCheck → TypedModulesHaveNoFault → IsResolution r → ((faults ≡ []) ↔ (faults_in r ≡ []))
-    → (known : Option Tables) → MatchOption known (module_faults r ≡ [] → ⊥) (λ t. (module_faults r ≡ []) × HasDeclarations (named_tree_of r.module_read) t) → length faults ≤ 100 → AreFirstOf (faults_in r) faults
+pub checked_reported : (r : Resolution) (faults : List Fault) → ModulesWithoutFaultPassTypeCheck → TypedModulesHaveNoFault → IsResolution r → ((faults ≡ []) ↔ (all_faults_of r ≡ []))
+    → (known : Option Tables) → MatchOption known (module_faults r ≡ [] → ⊥) (λ t. (module_faults r ≡ []) × HasDeclarations (named_tree_of r.module_read) t) → length faults ≤ 100 → AreFirstWhenSorted (all_faults_of r) faults
     → IsChecked (record { names = r; faults = faults; known = known })
 unfolding WellTyped
 checked_reported r faults reported_law none_law h alike known knows few first =
@@ -107,7 +107,7 @@ checked_reported r faults reported_law none_law h alike known knows few first =
     let fits : Bool = passes_type_check naming_by_spelling m in
     let any = list_any is_duplicate_or_end_name r.faults in
     let of_types : IsReported fits (module_faults r) = (reported_law r h, none_law r h) in
-    let whole : IsReported (fits && not any) (faults_in r) = reported_with fits (module_faults r) r.faults of_types in
+    let whole : IsReported (fits && not any) (all_faults_of r) = reported_with fits (module_faults r) r.faults of_types in
     let reported : IsReported (fits && not any) faults = ((λ none. whole.0 (alike.0 none)), (λ right. alike.1 (whole.1 right))) in
     record {
       resolved = h;

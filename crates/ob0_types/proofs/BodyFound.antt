@@ -3,11 +3,11 @@
 use Rattle.std.proofs.Common.{◌≡◌, ℕ, zero, Bool, true, false, nat_lt, if◌then◌else◌, [], ◌∷◌, sym, subst}
 use Rattle.ob0_tree.specs.Tree.{Tree, block, body, constants, declares, declares_procedure, end, forms_block, is_module, item, items, maybe, module_text, more, procedure, type_definitions, variables}
 use Rattle.ob0_scope_table.specs.TokenProperty.{EachTokenHas}
-use Rattle.ob0_scope_table.specs.BodyReplaced.{PathToBody, block_without, shift_path, procedure_without, path_to_body_in_procedures, path_to_body_in_block, path_to_body_in_procedure, path_to_body_in_module, module_without_body}
+use Rattle.ob0_scope_table.specs.BodyReplaced.{PathToBody, block_without, path_after_insertion_in_front, procedure_without, path_to_body_in_procedures, path_to_body_in_block, path_to_body_in_procedure, path_to_body_in_module, module_without_body}
 use Rattle.ob0_scope_table.specs.OneBody.{closing_name}
 use Rattle.ob0_scope_table.proofs.BodyOutside.{Among}
 use Rattle.ob0_types_check.specs.EqualExceptBodies.{EachTokenOfBlockHasExceptInBodies, EachTokenOfModuleHasExceptInBodies, EachTokenOfProcedureHasExceptInBodies, EachTokenOfProceduresHasExceptInBodies, Unless}
-use Rattle.ob0_types.specs.OneBody.{body_at_path_in_procedures, body_in_block, body_in_module, body_in_procedure}
+use Rattle.ob0_types.specs.OneBody.{body_at_path_in_procedures, body_with_token_in_block, body_with_token_in_module, body_with_token_in_procedure}
 
 -- ---- if all tokens have the property
 
@@ -63,7 +63,7 @@ ModuleOutside P low (is_module x b closing) = P x × BlockOutside P low b × P c
 -- wanted bodies have this property.
 module _ (P : ℕ → Type 0) (low : ℕ) (wanted : ℕ → Bool) where
   mutual
-    block_but : (own : ℕ) (b : Tree ℕ block) → BlockOutside P low b → wanted (body_in_block low own b).closing ≡ true → EachTokenOfBlockHasExceptInBodies P wanted own b
+    block_but : (own : ℕ) (b : Tree ℕ block) → BlockOutside P low b → wanted (body_with_token_in_block low own b).closing ≡ true → EachTokenOfBlockHasExceptInBodies P wanted own b
     block_but own (forms_block (declares cs ts vs ps) statements) h is_wanted = let f = among_but own ps statements h.3 is_wanted in (h.0, h.1, h.2, f.0, f.1)
 
     among_but : (own : ℕ) (ps : Tree ℕ (items procedure)) (statements : Tree ℕ (maybe body)) → AmongOutside P low ps statements → wanted (body_at_path_in_procedures low own ps statements).closing ≡ true
@@ -71,15 +71,15 @@ module _ (P : ℕ → Type 0) (low : ℕ) (wanted : ℕ → Bool) where
     among_but own end statements h is_wanted = (tt, subst (λ b. Unless b (EachTokenHas P statements)) (sym is_wanted) tt)
     among_but own (more p rest) statements h is_wanted =
         (elim (nat_lt (closing_name p) low) as (λ z. Chosen z (EachTokenHas P p × AmongOutside P low rest statements) (ProcedureOutside P low p × EachTokenHas P rest × EachTokenHas P statements)
-        → wanted (if z then body_at_path_in_procedures low own rest statements else body_in_procedure low p).closing ≡ true → EachTokenOfProceduresHasExceptInBodies P wanted (more p rest) × Unless (wanted own) (EachTokenHas P statements)) [
+        → wanted (if z then body_at_path_in_procedures low own rest statements else body_with_token_in_procedure low p).closing ≡ true → EachTokenOfProceduresHasExceptInBodies P wanted (more p rest) × Unless (wanted own) (EachTokenHas P statements)) [
           | true ↦ λ h is_wanted. let f = among_but own rest statements h.1 is_wanted in ((procedure_any P wanted p h.0, f.0), f.1)
           | false ↦ λ h is_wanted. ((procedure_but p h.0 is_wanted, procedures_any P wanted rest h.1), unless_any P wanted (wanted own) h.2)
         ]) h is_wanted
 
-    procedure_but : (p : Tree ℕ (item procedure)) → ProcedureOutside P low p → wanted (body_in_procedure low p).closing ≡ true → EachTokenOfProcedureHasExceptInBodies P wanted p
+    procedure_but : (p : Tree ℕ (item procedure)) → ProcedureOutside P low p → wanted (body_with_token_in_procedure low p).closing ≡ true → EachTokenOfProcedureHasExceptInBodies P wanted p
     procedure_but (declares_procedure x fs b closing) h is_wanted = (h.0, h.1, block_but closing b h.2 is_wanted, h.3)
 
-  pub module_but : (m : Tree ℕ module_text) → ModuleOutside P low m → wanted (body_in_module low m).closing ≡ true → EachTokenOfModuleHasExceptInBodies P wanted m
+  pub module_but : (m : Tree ℕ module_text) → ModuleOutside P low m → wanted (body_with_token_in_module low m).closing ≡ true → EachTokenOfModuleHasExceptInBodies P wanted m
   module_but (is_module x b closing) h is_wanted = (h.0, block_but closing b h.1 is_wanted, h.2)
 
 -- ---- from each token of the module without that body
@@ -90,7 +90,7 @@ module _ (P : ℕ → Type 0) (low : ℕ) where
   block_along [] cs ts vs ps statements h = (h.0.0, h.0.1, h.0.2, h.0.3)
   block_along (k ∷ path) cs ts vs ps statements h = (h.0.0, h.0.1, h.0.2, (h.0.3, h.1))
 
-  among_first : (path : PathToBody) (p : Tree ℕ (item procedure)) (ps : Tree ℕ (items procedure)) (statements : Tree ℕ (maybe body)) → Among P (shift_path path) (more p ps) statements → EachTokenHas P p × Among P path ps statements
+  among_first : (path : PathToBody) (p : Tree ℕ (item procedure)) (ps : Tree ℕ (items procedure)) (statements : Tree ℕ (maybe body)) → Among P (path_after_insertion_in_front path) (more p ps) statements → EachTokenHas P p × Among P path ps statements
   among_first [] p ps statements h = h
   among_first (k ∷ path) p ps statements h = (h.0.0, (h.0.1, h.1))
 
@@ -103,7 +103,7 @@ module _ (P : ℕ → Type 0) (low : ℕ) where
     among_found : (ps : Tree ℕ (items procedure)) (statements : Tree ℕ (maybe body)) → Among P (path_to_body_in_procedures low ps) ps statements → AmongOutside P low ps statements
     among_found end statements h = tt
     among_found (more p rest) statements h =
-        (elim (nat_lt (closing_name p) low) as (λ z. Among P (if z then shift_path (path_to_body_in_procedures low rest) else zero ∷ path_to_body_in_procedure low p) (more p rest) statements
+        (elim (nat_lt (closing_name p) low) as (λ z. Among P (if z then path_after_insertion_in_front (path_to_body_in_procedures low rest) else zero ∷ path_to_body_in_procedure low p) (more p rest) statements
         → Chosen z (EachTokenHas P p × AmongOutside P low rest statements) (ProcedureOutside P low p × EachTokenHas P rest × EachTokenHas P statements)) [
           | true ↦ λ h. let f = among_first (path_to_body_in_procedures low rest) p rest statements h in (f.0, among_found rest statements f.1)
           | false ↦ λ h. (procedure_found p h.0.0, h.0.1, h.1)

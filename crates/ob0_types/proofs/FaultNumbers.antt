@@ -12,7 +12,7 @@ use Rattle.ob0_scan.specs.declared.fault.FaultCode.{FaultCode}
 use Rattle.ob0_scan.specs.declared.fault.FaultCode.TheVariants as code
 use Rattle.ob0_scan.specs.contracts.fault.FaultCode.{the_type}
 use Rattle.ob0_scan.specs.declared.fault.Fault.{Fault}
-use Rattle.ob0_types.specs.FaultOrder.{code_number, fault_cmp, place_cmp}
+use Rattle.ob0_types.specs.FaultOrder.{code_number, fault_cmp, span_cmp}
 
 abbrev pub declared_number : FaultCode → ℤ
 declared_number x = slice_index_or (pos 1 ∷ pos 2 ∷ pos 3 ∷ pos 4 ∷ pos 5 ∷ pos 10 ∷ pos 11 ∷ pos 12 ∷ pos 13 ∷ pos 14 ∷ pos 15 ∷ pos 16 ∷ pos 17 ∷ pos 18 ∷ pos 19 ∷ pos 20 ∷ pos 21 ∷ pos 22 ∷ pos 23 ∷ []) (tag_of the_type x) (pos 0)
@@ -60,4 +60,4 @@ sorted_by_key cmp xs lexical sorted k d low high =
     let y = slice_index_or xs k d in
     let by_code : int_cmp (declared_number x.code) (declared_number y.code) ≡ nat_cmp (code_number x.code) (code_number y.code) =
     (λ i. int_cmp (numbered x.code i) (numbered y.code i)) ∙ pos_cmp (code_number x.code) (code_number y.code) in
-    ap is_lt (sym (lexical x.span.start x.span.end x.code y.span.start y.span.end y.code ∙ ap (ordering_then (place_cmp x y)) by_code)) ∙ sorted k d low high
+    ap is_lt (sym (lexical x.span.start x.span.end x.code y.span.start y.span.end y.code ∙ ap (ordering_then (span_cmp x y)) by_code)) ∙ sorted k d low high

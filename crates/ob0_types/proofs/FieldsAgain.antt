@@ -21,8 +21,8 @@ use Rattle.ob0_types_table.specs.KnownTables.{Tables, declared_object_in}
 use Rattle.ob0_types_fields.proofs.FieldNameList.{fields_ascend}
 use Rattle.ob0_types_fields.proofs.FieldsMatchGrammar.{fields_match_grammar-holds}
 use Rattle.ob0_types_fields.proofs.WalkFindsAllFields.{module-fields}
-use Rattle.ob0_types_fields.proofs.MarkedSame.{MeansSame}
-use Rattle.ob0_types.specs.OneBody.{WereTypesBeforeChange, body_in_module}
+use Rattle.ob0_types_fields.proofs.SameSelectedFields.{MeansSame}
+use Rattle.ob0_types.specs.OneBody.{WereTypesBeforeChange, body_with_token_in_module}
 use Rattle.ob0_types.specs.declared.checked.ModuleTypes.{ModuleTypes}
 use Rattle.ob0_types.proofs.AllReported.{none_reported}
 use Rattle.ob0_types.proofs.FieldsOutside.{AreAround, module_around}
@@ -52,21 +52,21 @@ module _ (r : Resolution) (types : ModuleTypes) (low : ℕ) (w : WereTypesBefore
     written = sym h.written;
   }
 
-  around : AreAround meant_before meant_now (fields_in_module meant_before (tree_of r.module_read)) (fields_in_module meant_now (tree_of r.module_read)) (body_in_module low (tree_of r.module_read)).statements
+  around : AreAround meant_before meant_now (fields_in_module meant_before (tree_of r.module_read)) (fields_in_module meant_now (tree_of r.module_read)) (body_with_token_in_module low (tree_of r.module_read)).statements
   around = module_around meant_before meant_now low (tree_of r.module_read) (alike_outside r types low w (λ token. MeansSame meant_before meant_now token) means_same is)
 
-  fields_before : types.fields.all ≡ around.before ++ (fields_in_tree meant_before (body_in_module low (tree_of r.module_read)).statements ++ around.after)
+  fields_before : types.fields.all ≡ around.before ++ (fields_in_tree meant_before (body_with_token_in_module low (tree_of r.module_read)).statements ++ around.after)
   fields_before = (w.types_are.fields none).1 ∙ (module-fields meant_before (tree_of r.module_read) ∙ around.first)
 
-  fields_now : field_identifiers r ≡ around.before ++ (fields_in_tree meant_now (body_in_module low (tree_of r.module_read)).statements ++ around.after)
+  fields_now : field_identifiers r ≡ around.before ++ (fields_in_tree meant_now (body_with_token_in_module low (tree_of r.module_read)).statements ++ around.after)
   fields_now = module-fields meant_now (tree_of r.module_read) ∙ around.second
 
   same_tokens : token_indexes types.fields.all ≡ token_indexes (field_identifiers r)
   same_tokens = ap token_indexes (w.types_are.fields none).1 ∙ (fields_match_grammar-holds old w.types_are.checked.resolved typed_before ∙ sym (fields_match_grammar-holds r is typed))
 
-  has_others : HasSameTokensWith types.fields.all around.before (fields_in_tree meant_now (body_in_module low (tree_of r.module_read)).statements) around.after
+  has_others : HasSameTokensWith types.fields.all around.before (fields_in_tree meant_now (body_with_token_in_module low (tree_of r.module_read)).statements) around.after
   has_others = record {
-    replaced_fields = fields_in_tree meant_before (body_in_module low (tree_of r.module_read)).statements;
+    replaced_fields = fields_in_tree meant_before (body_with_token_in_module low (tree_of r.module_read)).statements;
     token_limit = length old.module_read.source.tokens;
     in_order = subst (λ (xs : List FieldName). AreAscending 0 (token_indexes xs) (length old.module_read.source.tokens)) (sym (w.types_are.fields none).1) (fields_ascend old w.types_are.checked.resolved.parsed);
     is_concatenation = fields_before;
@@ -76,11 +76,11 @@ module _ (r : Resolution) (types : ModuleTypes) (low : ℕ) (w : WereTypesBefore
   -- If the old fields within the body's tokens are replaced by the fields found in the body, the list has the module's
   -- fields.
   pub fields_over : (f : FieldLists) (t : Tables) → ((k : ℕ) → declared_object_in t k ≡ declared_object (named_tree_of r.module_read) k)
-      → (statements : Tree ℕ (maybe body)) → statements ≡ (body_in_module low (tree_of r.module_read)).statements → f.declared ≡ types.fields.declared
+      → (statements : Tree ℕ (maybe body)) → statements ≡ (body_with_token_in_module low (tree_of r.module_read)).statements → f.declared ≡ types.fields.declared
       → ((first last : List FieldName) → HasSameTokensWith types.fields.all first (fields_in_tree (meanings_by_token (declared_object_in t) r) statements) last → f.all ≡ first ++ (fields_in_tree (meanings_by_token (declared_object_in t) r) statements ++ last))
       → AreFieldListsOf r f
   fields_over f t holds statements here declared over =
-      let found : fields_in_tree meant_now (body_in_module low (tree_of r.module_read)).statements ≡ fields_in_tree (meanings_by_token (declared_object_in t) r) statements = λ i. fields_in_tree (meanings_by_token (λ k. sym (holds k) i) r) (sym here i) in (
+      let found : fields_in_tree meant_now (body_with_token_in_module low (tree_of r.module_read)).statements ≡ fields_in_tree (meanings_by_token (declared_object_in t) r) statements = λ i. fields_in_tree (meanings_by_token (λ k. sym (holds k) i) r) (sym here i) in (
         declared ∙ (w.types_are.fields none).0,
         over around.before around.after (subst (λ l. HasSameTokensWith types.fields.all around.before l around.after) found has_others)
             ∙ (ap (λ l. around.before ++ (l ++ around.after)) (sym found) ∙ sym fields_now),

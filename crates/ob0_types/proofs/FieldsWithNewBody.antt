@@ -7,9 +7,9 @@ use Rattle.ob0_tree.specs.Tree.{Tree, body, identifiers, maybe}
 use Rattle.ob0_tree.specs.declared.tree.Role.TheVariants as role
 use Rattle.ob0_language_types.specs.Bindings.{declared_object}
 use Rattle.ob0_language_types.specs.WellTyped.{WellTyped}
-use Rattle.ob0_scope_table.specs.BodyPlaces.{body_place_around}
+use Rattle.ob0_scope_table.specs.BodyPlaces.{body_place_of_range}
 use Rattle.ob0_tree.specs.FirstIdentifier.{token_of_first_identifier}
-use Rattle.ob0_scope_table.specs.BodyReplaced.{IsBodyReplaced, PathToBody, body_at_path, closing_name_in_module, path_to_body_in_module}
+use Rattle.ob0_scope_table.specs.BodyReplaced.{IsBodyReplaced, PathToBody, body_at_path, closing_name_at_path, path_to_body_in_module}
 use Rattle.ob0_scope_table.specs.Resolution.{IsResolution, Resolution}
 use Rattle.ob0_scope_table.specs.declared.one_body.BodyPlace.{BodyPlace}
 use Rattle.ob0_scope_table.proofs.BodyPlaces.{body_place_read}
@@ -25,7 +25,7 @@ module _ (old r : Resolution) (types : ModuleTypes) (path : PathToBody) (s : Sam
   -- The fields before the new statements, the fields found in them, and the moved fields after them are the module's
   -- fields.
   pub fields_with_new_body : (f : FieldLists) (t : Tables) → ((k : ℕ) → declared_object_in t k ≡ declared_object (named_tree_of r.module_read) k)
-      → (statements : Tree ℕ (maybe body)) → statements ≡ body_at_path path (tree_of r.module_read) → (place : BodyPlace) → body_place_around s.prefix s.new_suffix (tree_of r.module_read) ≡ Some place
+      → (statements : Tree ℕ (maybe body)) → statements ≡ body_at_path path (tree_of r.module_read) → (place : BodyPlace) → body_place_of_range s.prefix s.new_suffix (tree_of r.module_read) ≡ Some place
       → f.declared ≡ map (moved_field s) types.fields.declared
       → f.all ≡ fields_before place.first types.fields.all ++ (fields_in_tree (meanings_by_token (declared_object_in t) r) statements ++ map (moved_field s) (fields_from (old_token_index s place.closing) types.fields.all))
       → AreFieldListsOf r f
@@ -33,5 +33,5 @@ module _ (old r : Resolution) (types : ModuleTypes) (path : PathToBody) (s : Sam
       let at = body_place_read s.prefix s.new_suffix (tree_of r.module_read) place found in
       let led : path_to_body_in_module s.prefix (tree_of r.module_read) ≡ path = is.new_path in
       let first = (λ i. token_of_first_identifier (identifiers role.Declaring (body_at_path (sym led i) (tree_of r.module_read)))) ∙ at.first in
-      let closing = sym at.closes ∙ ap (λ w. closing_name_in_module w (tree_of r.module_read)) led in
+      let closing = sym at.closes ∙ ap (λ w. closing_name_at_path w (tree_of r.module_read)) led in
       fields_elsewhere old r path s is were.checked.resolved named (were.checked.reported.0 none) typed types.fields f t (were.fields none) holds statements here place.first place.closing first closing declared all

@@ -10,14 +10,14 @@ use Rattle.ob0_tree.specs.Tree.{Tree, block, body, constants, declares, declares
 use Rattle.ob0_tree.specs.ParsedModule.{named_tree_of, tree_of}
 use Rattle.ob0_tree.specs.Places.{tree_with_names, token_text_at, token_value_at}
 use Rattle.ob0_scan.specs.declared.tokens.SameParts.{SameParts}
-use Rattle.ob0_scope_table.specs.BodyReplaced.{PathToBody, block_without, body_at_path, body_at_path_in_block, body_at_path_in_procedure, closing_name_in_module, closing_name_in_block, closing_name_in_procedure, shift_path, procedure_without, procedures_without, path_to_body_in_procedures, path_to_body_in_block, path_to_body_in_procedure, path_to_body_in_module, module_without_body}
+use Rattle.ob0_scope_table.specs.BodyReplaced.{PathToBody, block_without, body_at_path, body_at_path_in_block, body_at_path_in_procedure, closing_name_at_path, closing_name_at_path_in_block, closing_name_at_path_in_procedure, path_after_insertion_in_front, procedure_without, procedures_without, path_to_body_in_procedures, path_to_body_in_block, path_to_body_in_procedure, path_to_body_in_module, module_without_body}
 use Rattle.ob0_scope_table.specs.OneBody.{closing_name}
 use Rattle.ob0_scope_table.specs.Resolution.{Resolution}
 use Rattle.ob0_scope_table.proofs.BodyReplaced.{names_outside, without_mapped}
 use Rattle.ob0_types_check.specs.NewBody.{PassesTypeCheckWithoutBody}
 use Rattle.ob0_types_check.proofs.WithoutNames.{procedure_name-module_without_body}
 use Rattle.ob0_types.specs.NewBody.{WereTypesBeforeNewBody}
-use Rattle.ob0_types.specs.OneBody.{OneBody, body_at_path_in_procedures, body_in_block, body_in_module, body_in_procedure}
+use Rattle.ob0_types.specs.OneBody.{OneBody, body_at_path_in_procedures, body_with_token_in_block, body_with_token_in_module, body_with_token_in_procedure}
 use Rattle.ob0_types.specs.declared.checked.ModuleTypes.{ModuleTypes}
 
 -- ---- a block without the statements of one body has as many words ARRAY and RECORD as the block, and the same names
@@ -137,39 +137,39 @@ Leads found closing statements = (found.closing ≡ closing) × (found.statement
 
 -- If a body is found among procedures, the same body is found when another procedure is put before them.
 later_leads : (path : PathToBody) (own : ℕ) (cs : Tree ℕ (maybe constants)) (ts : Tree ℕ (maybe type_definitions)) (vs : Tree ℕ (maybe variables)) (p : Tree ℕ (item procedure)) (rest : Tree ℕ (items procedure)) (statements : Tree ℕ (maybe body)) (found : OneBody)
-    → Leads found (closing_name_in_block path own (forms_block (declares cs ts vs rest) statements)) (body_at_path_in_block path (forms_block (declares cs ts vs rest) statements))
-    → Leads found (closing_name_in_block (shift_path path) own (forms_block (declares cs ts vs (more p rest)) statements)) (body_at_path_in_block (shift_path path) (forms_block (declares cs ts vs (more p rest)) statements))
+    → Leads found (closing_name_at_path_in_block path own (forms_block (declares cs ts vs rest) statements)) (body_at_path_in_block path (forms_block (declares cs ts vs rest) statements))
+    → Leads found (closing_name_at_path_in_block (path_after_insertion_in_front path) own (forms_block (declares cs ts vs (more p rest)) statements)) (body_at_path_in_block (path_after_insertion_in_front path) (forms_block (declares cs ts vs (more p rest)) statements))
 later_leads [] own cs ts vs p rest statements found h = h
 later_leads (k ∷ path) own cs ts vs p rest statements found h = h
 
 module _ (low : ℕ) where
   mutual
-    block_leads : (own : ℕ) (b : Tree ℕ block) → Leads (body_in_block low own b) (closing_name_in_block (path_to_body_in_block low b) own b) (body_at_path_in_block (path_to_body_in_block low b) b)
+    block_leads : (own : ℕ) (b : Tree ℕ block) → Leads (body_with_token_in_block low own b) (closing_name_at_path_in_block (path_to_body_in_block low b) own b) (body_at_path_in_block (path_to_body_in_block low b) b)
     block_leads own (forms_block (declares cs ts vs ps) statements) = among_leads own cs ts vs ps statements
 
     among_leads : (own : ℕ) (cs : Tree ℕ (maybe constants)) (ts : Tree ℕ (maybe type_definitions)) (vs : Tree ℕ (maybe variables)) (ps : Tree ℕ (items procedure)) (statements : Tree ℕ (maybe body))
-        → Leads (body_at_path_in_procedures low own ps statements) (closing_name_in_block (path_to_body_in_procedures low ps) own (forms_block (declares cs ts vs ps) statements)) (body_at_path_in_block (path_to_body_in_procedures low ps) (forms_block (declares cs ts vs ps) statements))
+        → Leads (body_at_path_in_procedures low own ps statements) (closing_name_at_path_in_block (path_to_body_in_procedures low ps) own (forms_block (declares cs ts vs ps) statements)) (body_at_path_in_block (path_to_body_in_procedures low ps) (forms_block (declares cs ts vs ps) statements))
     among_leads own cs ts vs end statements = (refl, refl)
     among_leads own cs ts vs (more p rest) statements =
         let b : Tree ℕ block = forms_block (declares cs ts vs (more p rest)) statements in
-        elim (nat_lt (closing_name p) low) as (λ z. Leads (if z then body_at_path_in_procedures low own rest statements else body_in_procedure low p)
-        (closing_name_in_block (if z then shift_path (path_to_body_in_procedures low rest) else zero ∷ path_to_body_in_procedure low p) own b) (body_at_path_in_block (if z then shift_path (path_to_body_in_procedures low rest) else zero ∷ path_to_body_in_procedure low p) b)) [
+        elim (nat_lt (closing_name p) low) as (λ z. Leads (if z then body_at_path_in_procedures low own rest statements else body_with_token_in_procedure low p)
+        (closing_name_at_path_in_block (if z then path_after_insertion_in_front (path_to_body_in_procedures low rest) else zero ∷ path_to_body_in_procedure low p) own b) (body_at_path_in_block (if z then path_after_insertion_in_front (path_to_body_in_procedures low rest) else zero ∷ path_to_body_in_procedure low p) b)) [
           | true ↦ later_leads (path_to_body_in_procedures low rest) own cs ts vs p rest statements (body_at_path_in_procedures low own rest statements) (among_leads own cs ts vs rest statements)
           | false ↦ procedure_leads p
         ]
 
-    procedure_leads : (p : Tree ℕ (item procedure)) → Leads (body_in_procedure low p) (closing_name_in_procedure (path_to_body_in_procedure low p) p) (body_at_path_in_procedure (path_to_body_in_procedure low p) p)
+    procedure_leads : (p : Tree ℕ (item procedure)) → Leads (body_with_token_in_procedure low p) (closing_name_at_path_in_procedure (path_to_body_in_procedure low p) p) (body_at_path_in_procedure (path_to_body_in_procedure low p) p)
     procedure_leads (declares_procedure x fs b closing) = block_leads closing b
 
-  pub body_leads : (t : Tree ℕ module_text) → Leads (body_in_module low t) (closing_name_in_module (path_to_body_in_module low t) t) (body_at_path (path_to_body_in_module low t) t)
+  pub body_leads : (t : Tree ℕ module_text) → Leads (body_with_token_in_module low t) (closing_name_at_path (path_to_body_in_module low t) t) (body_at_path (path_to_body_in_module low t) t)
   body_leads (is_module x b closing) = block_leads closing b
 
 -- ---- the module
 
 module _ (r : Resolution) (types : ModuleTypes) (s : SameParts) (w : WereTypesBeforeNewBody r types s) where
   -- The body that the code finds is the one whose statements were replaced.
-  pub found_there : Leads (body_in_module s.prefix (tree_of r.module_read)) (closing_name_in_module w.path (tree_of r.module_read)) (body_at_path w.path (tree_of r.module_read))
-  found_there = subst (λ path. Leads (body_in_module s.prefix (tree_of r.module_read)) (closing_name_in_module path (tree_of r.module_read)) (body_at_path path (tree_of r.module_read))) w.replaced.new_path (body_leads s.prefix (tree_of r.module_read))
+  pub found_there : Leads (body_with_token_in_module s.prefix (tree_of r.module_read)) (closing_name_at_path w.path (tree_of r.module_read)) (body_at_path w.path (tree_of r.module_read))
+  found_there = subst (λ path. Leads (body_with_token_in_module s.prefix (tree_of r.module_read)) (closing_name_at_path path (tree_of r.module_read)) (body_at_path path (tree_of r.module_read))) w.replaced.new_path (body_leads s.prefix (tree_of r.module_read))
 
   -- Without the statements of the replaced body, the new module has the same spelling as the old one.
   named_alike : tree_with_names r.module_read.source (module_without_body w.path (tree_of r.module_read)) ≡ module_without_body w.path (named_tree_of w.old.module_read)
@@ -177,7 +177,7 @@ module _ (r : Resolution) (types : ModuleTypes) (s : SameParts) (w : WereTypesBe
       let before = w.old.module_read in
       names_outside before r.module_read w.path s w.replaced ∙ sym (without_mapped (token_text_at before.source) (token_value_at before.source) w.path (tree_of before))
 
-  pub fits_elsewhere : types.faults.items ≡ [] → PassesTypeCheckWithoutBody r (body_in_module s.prefix (tree_of r.module_read)).closing
+  pub fits_elsewhere : types.faults.items ≡ [] → PassesTypeCheckWithoutBody r (body_with_token_in_module s.prefix (tree_of r.module_read)).closing
   unfolding WellTyped
   fits_elsewhere clean =
       let before = w.old.module_read in

@@ -7,14 +7,14 @@ use Rattle.ob0_scan.specs.declared.lexeme.Token.{Token}
 use Rattle.ob0_scan.specs.declared.lexeme.TokenKind.{TokenKind}
 use Rattle.ob0_tree.specs.ParsedModule.{tree_of}
 use Rattle.ob0_scope_table.specs.Bindings.{resolution_with}
-use Rattle.ob0_scope_table.specs.OneBody.{is_outside}
+use Rattle.ob0_scope_table.specs.OneBody.{is_outside_range}
 use Rattle.ob0_scope_table.specs.Resolution.{IsResolution, Resolution}
 use Rattle.ob0_scope_table.proofs.BodyOutside.{module_outside}
 use Rattle.ob0_scope_table.proofs.BodyReplaced.{text_by_word, value_by_word}
 use Rattle.ob0_scope_table.proofs.Placed.{places_ascend}
 use Rattle.ob0_types_check.specs.EqualExceptBodies.{AreEqualExceptBodies, IsSameTokenAt}
 use Rattle.ob0_types_check.specs.SomeBodies.{IncludesFaultyBodies, faulty_bodies, is_among}
-use Rattle.ob0_types.specs.OneBody.{WereTypesBeforeChange, body_in_module, with_source}
+use Rattle.ob0_types.specs.OneBody.{WereTypesBeforeChange, body_with_token_in_module, with_source}
 use Rattle.ob0_types.specs.declared.checked.ModuleTypes.{ModuleTypes}
 use Rattle.ob0_types.proofs.Among.{all_weaker, among_further, among_last}
 use Rattle.ob0_types.proofs.BodyFound.{ModuleOutside, module_but, module_found}
@@ -27,9 +27,9 @@ module _ (r : Resolution) (types : ModuleTypes) (low : ℕ) (w : WereTypesBefore
   kind_of t = kind_without_value t.kind
 
   abbrev pub last_body : ℕ
-  last_body = (body_in_module low (tree_of r.module_read)).closing
+  last_body = (body_with_token_in_module low (tree_of r.module_read)).closing
 
-  alike_out : (k : ℕ) → is_outside low w.high k ≡ true → IsSameTokenAt before r k
+  alike_out : (k : ℕ) → is_outside_range low w.high k ≡ true → IsSameTokenAt before r k
   alike_out k e =
       let new = r.module_read.source in
       record { written = text_by_word w.old new k k (w.change.same_words k e); value = value_by_word w.old new k k (w.change.same_words k e); bound = w.bound k e }

@@ -16,7 +16,7 @@ use Rattle.ob0_tree.specs.declared.tree.ModuleTree.{ModuleTree}
 use Rattle.ob0_language_types.specs.Bindings.{declared_object}
 use Rattle.ob0_language_types.specs.WellTyped.{WellTyped}
 use Rattle.ob0_scope_table.specs.Bindings.{resolution_with}
-use Rattle.ob0_scope_table.specs.FaultTokens.{AreAtSameTokens, AreWrittenAlike, fault_at, moved_faults}
+use Rattle.ob0_scope_table.specs.FaultTokens.{AreFaultsAtSameTokens, AreWrittenAlike, fault_at, moved_faults}
 use Rattle.ob0_scope_table.specs.Resolution.{IsResolution, Resolution, is_duplicate_or_end_name, ordinal_in}
 use Rattle.ob0_scope_table.specs.declared.fault_tokens.FaultByTokens.{FaultByTokens}
 use Rattle.ob0_scope_table.specs.declared.resolved.Bindings.{Bindings}
@@ -33,7 +33,7 @@ use Rattle.ob0_types_fields.specs.Identifiers.{field_identifiers}
 use Rattle.ob0_types_fields.specs.FieldLists.{FieldLists}
 use Rattle.ob0_types_fields.specs.Owned.{fields_with_owners, owners_in_module}
 use Rattle.ob0_types.proofs.BodyFound.{module_any}
-use Rattle.ob0_types.specs.FaultOrder.{AreFirstOf, code_number, fault_cmp, faults_in}
+use Rattle.ob0_types.specs.FaultOrder.{AreFirstWhenSorted, code_number, fault_cmp, all_faults_of}
 use Rattle.ob0_types.specs.Respelled.{TypesDependOnTokens}
 
 -- ---- lists with a function applied to each element
@@ -87,10 +87,10 @@ module _ (old new : TextWithTokens) (w : AreWrittenAlike old new) where
       ∙ (ap is_lt (sym (same_cmp x y))
       ∙ ((λ i. is_lt (fault_cmp (sym (item_mapped (fault_at old) xs (k + 1) d further) i) (sym (item_mapped (fault_at old) xs k d here) i))) ∙ sorted k d low (omega (arith, further, in_old))))
 
-  first_same : (found there : List Fault) (faults : List Fault) → AreAtSameTokens old new found there → AreFirstOf found faults → AreFirstOf there (moved_faults old new faults)
+  first_same : (found there : List Fault) (faults : List Fault) → AreFaultsAtSameTokens old new found there → AreFirstWhenSorted found faults → AreFirstWhenSorted there (moved_faults old new faults)
   first_same found there faults at first =
       let m = made_of (fault_at old) at.tokens found first.all at.in_old first.joined in
-      let kept : AreAtSameTokens old new faults (take 100 (map (fault_at new) m.others)) = record {
+      let kept : AreFaultsAtSameTokens old new faults (take 100 (map (fault_at new) m.others)) = record {
         tokens = take 100 m.others;
         in_old = first.first ∙ (ap (take 100) m.is ∙ take-map (fault_at old) 100 m.others);
         in_new = take-map (fault_at new) 100 m.others;
@@ -117,7 +117,7 @@ module _ (old new : TextWithTokens) (tree : ModuleTree) (b c : Bindings) (w : Ar
   named : named_tree_of after.module_read ≡ named_tree_of before.module_read
   named = tree_named old new w tree
 
-  names_at : AreAtSameTokens old new b.faults.items c.faults.items
+  names_at : AreFaultsAtSameTokens old new b.faults.items c.faults.items
   names_at =
       let n = names_same old new w tree in
       record { tokens = n.tokens; in_old = r.reported.by_kind ∙ n.in_old; in_new = s.reported.by_kind ∙ n.in_new }
@@ -131,10 +131,10 @@ module _ (old new : TextWithTokens) (tree : ModuleTree) (b c : Bindings) (w : Ar
     faults = c.faults.items;
   }
 
-  found_at : AreAtSameTokens old new (faults_in before) (faults_in after)
+  found_at : AreFaultsAtSameTokens old new (all_faults_of before) (all_faults_of after)
   found_at =
       both_same old new
-      (subst (λ (x : Resolution). AreAtSameTokens old new (module_faults before) (module_faults x)) same_names
+      (subst (λ (x : Resolution). AreFaultsAtSameTokens old new (module_faults before) (module_faults x)) same_names
       (module_same old new w tree b.ordinals.items b.declaration_tokens.items b.occurrences.items b.faults.items c.faults.items names_at))
       (filter_same old new is_duplicate_or_end_name (λ f. refl) names_at)
 
@@ -172,7 +172,7 @@ types_depend_on_tokens old new tree b c types moved w t s ordinals m =
         holds = subst (λ k. IfSome k (HasDeclarations (named_tree_of (parsed_module new tree)))) (sym m.known) (subst (λ n. IfSome types.known (HasDeclarations n)) (sym same) t.checked.holds);
         kept = λ e. ap is_some m.known ∙ t.checked.kept (none e);
         few = omega (arith, count, few);
-        first = subst (AreFirstOf (faults_in (resolution_with (parsed_module new tree) c))) (sym m.faults) (first_same old new w (faults_in (resolution_with (parsed_module old tree) b)) (faults_in (resolution_with (parsed_module new tree) c)) types.faults.items (found_at old new tree b c w r s ordinals) t.checked.first);
+        first = subst (AreFirstWhenSorted (all_faults_of (resolution_with (parsed_module new tree) c))) (sym m.faults) (first_same old new w (all_faults_of (resolution_with (parsed_module old tree) b)) (all_faults_of (resolution_with (parsed_module new tree) c)) types.faults.items (found_at old new tree b c w r s ordinals) t.checked.first);
       };
       fields = λ e.
           let f = t.fields (none e) in

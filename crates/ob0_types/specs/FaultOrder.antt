@@ -36,15 +36,15 @@ code_number code.NotArray = 22
 code_number code.NotRecord = 23
 
 -- compares two faults by the start and then by the end of their spans
-abbrev pub place_cmp : Fault → Fault → Ordering
-place_cmp x y = ordering_then (nat_cmp x.span.start y.span.start) (nat_cmp x.span.end y.span.end)
+abbrev pub span_cmp : Fault → Fault → Ordering
+span_cmp x y = ordering_then (nat_cmp x.span.start y.span.start) (nat_cmp x.span.end y.span.end)
 
 -- compares two faults by their spans and then by the numbers of their codes
 abbrev pub fault_cmp : Fault → Fault → Ordering
-fault_cmp x y = ordering_then (place_cmp x y) (nat_cmp (code_number x.code) (code_number y.code))
+fault_cmp x y = ordering_then (span_cmp x y) (nat_cmp (code_number x.code) (code_number y.code))
 
 -- states that `faults` has the first 100 faults of the list `found` once this list is sorted by `fault_cmp`
-pub record AreFirstOf (found faults : List Fault) : Type 0 where
+pub record AreFirstWhenSorted (found faults : List Fault) : Type 0 where
   pub all : List Fault
   pub joined : IsPermutation found all
   pub in_order : IsSorted fault_cmp all
@@ -53,9 +53,9 @@ pub record AreFirstOf (found faults : List Fault) : Type 0 where
 -- Returns all faults of a module, according to LANGUAGE.md, Faults of scopes and types. The undeclared names and the
 -- faults of types come first, then the duplicate declarations and wrong closing names. Only the first 100 faults in the
 -- order of `fault_cmp` are reported.
-abbrev pub faults_in : Resolution → List Fault
-faults_in r = module_faults r ++ filter is_duplicate_or_end_name r.faults
+abbrev pub all_faults_of : Resolution → List Fault
+all_faults_of r = module_faults r ++ filter is_duplicate_or_end_name r.faults
 
 -- states that the list `faults` has the first 100 faults of the module, in the order of `fault_cmp`
 abbrev pub AreFirstFaults : Resolution → List Fault → Type 0
-AreFirstFaults r faults = AreFirstOf (faults_in r) faults
+AreFirstFaults r faults = AreFirstWhenSorted (all_faults_of r) faults

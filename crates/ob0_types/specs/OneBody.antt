@@ -5,7 +5,7 @@ use Rattle.ob0_tree.specs.Tree.{Tree, block, body, declares, declares_procedure,
 use Rattle.ob0_tree.specs.View.{body_of}
 use Rattle.ob0_scan.specs.TextWithTokens.{TextWithTokens}
 use Rattle.ob0_scope_table.specs.Bindings.{resolution_with}
-use Rattle.ob0_scope_table.specs.OneBody.{IsBodyChange, closing_name, is_outside}
+use Rattle.ob0_scope_table.specs.OneBody.{IsBodyChange, closing_name, is_outside_range}
 use Rattle.ob0_scope_table.specs.Resolution.{Resolution, ordinal_in}
 use Rattle.ob0_scope_table.specs.declared.resolved.Bindings.{Bindings}
 use Rattle.ob0_tree.specs.ParsedModule.{ParsedModule}
@@ -27,8 +27,8 @@ body_view b = record { closing = b.closing; statements = body_of b.statements.no
 abbrev mutual
   -- returns the body of a block with the closing name `own`, or of a procedure in that block: the one that contains the
   -- token `low`, if one does
-  pub body_in_block : ℕ → ℕ → Tree ℕ block → OneBody
-  body_in_block low own (forms_block (declares cs ts vs ps) statements) =
+  pub body_with_token_in_block : ℕ → ℕ → Tree ℕ block → OneBody
+  body_with_token_in_block low own (forms_block (declares cs ts vs ps) statements) =
       body_at_path_in_procedures low own ps statements
 
   -- Returns the body of the first procedure whose closing name isn't before `low`, or of a procedure inside it. If
@@ -39,15 +39,15 @@ abbrev mutual
   body_at_path_in_procedures low own (more p ps) statements =
       if nat_lt (closing_name p) low
       then body_at_path_in_procedures low own ps statements
-      else body_in_procedure low p
+      else body_with_token_in_procedure low p
 
   -- returns the body of the procedure, or of a procedure inside it: the one that contains the token `low`, if one does
-  pub body_in_procedure : ℕ → Tree ℕ (item procedure) → OneBody
-  body_in_procedure low (declares_procedure x fs b closing) = body_in_block low closing b
+  pub body_with_token_in_procedure : ℕ → Tree ℕ (item procedure) → OneBody
+  body_with_token_in_procedure low (declares_procedure x fs b closing) = body_with_token_in_block low closing b
 
 -- returns the body of the module, or of a procedure inside it: the one that contains the token `low`, if one does
-abbrev pub body_in_module : ℕ → Tree ℕ module_text → OneBody
-body_in_module low (is_module x b closing) = body_in_block low closing b
+abbrev pub body_with_token_in_module : ℕ → Tree ℕ module_text → OneBody
+body_with_token_in_module low (is_module x b closing) = body_with_token_in_block low closing b
 
 -- replaces the tokens of a module by the tokens of another text; the tree is unchanged
 abbrev pub with_source : TextWithTokens → ParsedModule → ParsedModule
@@ -61,6 +61,6 @@ pub record WereTypesBeforeChange (r : Resolution) (types : ModuleTypes) (low : �
   pub old : TextWithTokens
   pub bindings : Bindings
   pub change : IsBodyChange old r.module_read low high
-  pub bound : (token : ℕ) → is_outside low high token ≡ true
+  pub bound : (token : ℕ) → is_outside_range low high token ≡ true
       → ordinal_in r.ordinals token ≡ ordinal_in bindings.ordinals.items token
   pub types_are : AreTypesOf (resolution_with (with_source old r.module_read) bindings) types

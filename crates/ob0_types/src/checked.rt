@@ -14,7 +14,7 @@
 
 ghost use Rattle.ob0_scope_table.specs.Resolution.{is_duplicate_or_end_name};
 ghost use Rattle.ob0_types.specs.CheckedModules.{AreFieldsIfTyped, AreTypesOf, IsChecked, IsTableIfTyped, checked_module};
-ghost use Rattle.ob0_types.specs.FaultOrder.{AreFirstOf};
+ghost use Rattle.ob0_types.specs.FaultOrder.{AreFirstWhenSorted};
 ghost use Rattle.ob0_types.specs.NewBody.{WereTypesBeforeNewBody};
 ghost use Rattle.ob0_types.specs.OneBody.{WereTypesBeforeChange};
 ghost use Rattle.ob0_types_check.specs.SomeBodies.{IsReportOf};
@@ -37,7 +37,7 @@ use std::marker::Model;
 /// The limit on faulty bodies in the previous text. Up to this number, only the faulty bodies and
 /// the changed body are checked again. If there are more, all bodies are checked, because searching
 /// a longer list for each body would cost as much as checking all bodies.
-const MAX_FAULTY_BODIES: usize = 32;
+const MAX_FAULTY_BODIES_FOR_PARTIAL_CHECK: usize = 32;
 
 /// The result of checking a module. If the module is well-typed, `known` has the table of its
 /// declarations, and `fields` the lists of its fields. `faults` has the first 100 faults of its
@@ -142,7 +142,7 @@ pub fn types_after_body_change<'t>(
     requires { WereTypesBeforeChange resolved.now before low }
     ensures { IfOk result (AreTypesOf resolved.now) }
 {
-    if before.bodies_with_faults.len() > MAX_FAULTY_BODIES {
+    if before.bodies_with_faults.len() > MAX_FAULTY_BODIES_FOR_PARTIAL_CHECK {
         return types_of(alloc, resolved);
     }
     typed_modules_have_no_fault();
@@ -318,7 +318,7 @@ fn first_faults<'t>(
     ensures none { IfOk result (λ faults. (faults.items ≡ [])
         ↔ (of_types.items ++ filter is_duplicate_or_end_name resolved.now.faults ≡ [])) }
     ensures few { IfOk result (λ faults. length faults.items ≤ max_faults) }
-    ensures first { IfOk result (λ faults. AreFirstOf
+    ensures first { IfOk result (λ faults. AreFirstWhenSorted
         (of_types.items ++ filter is_duplicate_or_end_name resolved.now.faults) faults.items) }
 {
     let mut faults = of_types;

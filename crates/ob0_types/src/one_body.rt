@@ -3,7 +3,7 @@
 ghost use Rattle.std.specs.Prelude.{◌≡◌};
 ghost use Rattle.ob0_tree.specs.ParsedModule.{tree_of};
 ghost use Rattle.ob0_tree.specs.View.{block_of, procedure_of};
-ghost use Rattle.ob0_types.specs.OneBody.{body_in_block, body_in_module, body_in_procedure, body_view};
+ghost use Rattle.ob0_types.specs.OneBody.{body_with_token_in_block, body_with_token_in_module, body_with_token_in_procedure, body_view};
 
 use ob0_tree::{Block, Module, Procedure, Statement};
 
@@ -17,21 +17,21 @@ pub(crate) struct Body<'t> {
 /// Returns the body that contains a range of tokens, given the index `low` of the range's first
 /// token. If the range isn't in one body, the result may be any body of the module.
 pub(crate) fn body_containing<'t>(read: &'t Module<'t>, low: usize) -> Body<'t>
-    ensures { body_view result ≡ body_in_module low (tree_of read.now) }
+    ensures { body_view result ≡ body_with_token_in_module low (tree_of read.now) }
 {
-    body_in_block(read.block(), read.closing_name(), low)
+    body_with_token_in_block(read.block(), read.closing_name(), low)
 }
 
 /// Returns the body that contains a range of tokens, given the index `low` of the range's first
 /// token. This is the body of this block or of a procedure in the block. If the range isn't in one
 /// body, the result may be any of these bodies. `own` is the block's closing name.
 #[cycle(blocks)]
-fn body_in_block<'t>(b: &'t Block, own: usize, low: usize) -> Body<'t>
-    ensures { body_view result ≡ body_in_block low own (block_of b.now) }
+fn body_with_token_in_block<'t>(b: &'t Block, own: usize, low: usize) -> Body<'t>
+    ensures { body_view result ≡ body_with_token_in_block low own (block_of b.now) }
 {
     for p in &b.procedures {
         if p.closing >= low {
-            return body_in_procedure(p, low);
+            return body_with_token_in_procedure(p, low);
         }
     }
     Body {
@@ -44,8 +44,8 @@ fn body_in_block<'t>(b: &'t Block, own: usize, low: usize) -> Body<'t>
 /// token. This is the body of this procedure or of a procedure in it. If the range isn't in one
 /// body, the result may be any of these bodies.
 #[cycle(blocks)]
-fn body_in_procedure<'t>(p: &'t Procedure, low: usize) -> Body<'t>
-    ensures { body_view result ≡ body_in_procedure low (procedure_of p.now) }
+fn body_with_token_in_procedure<'t>(p: &'t Procedure, low: usize) -> Body<'t>
+    ensures { body_view result ≡ body_with_token_in_procedure low (procedure_of p.now) }
 {
-    body_in_block(&p.block, p.closing, low)
+    body_with_token_in_block(&p.block, p.closing, low)
 }

@@ -18,7 +18,7 @@ use Rattle.ob0_language_types.proofs.Bound.{newest_object-if}
 use Rattle.ob0_language_types.proofs.TypesByOrdinal.{TypeNoted, typed_by_name, typed_by_ordinal, typed_outermost, typed_scope}
 use Rattle.ob0_types_table.specs.declared.types.TypeId.{TypeId}
 use Rattle.ob0_language_values.specs.Values.{Shape}
-use Rattle.ob0_types_check.specs.Agreement.{DeclarationAgrees, KnownMeaningAgrees, is_standard_procedure, shape_in}
+use Rattle.ob0_types_check.specs.Agreement.{DeclarationAgrees, IsKnownAndAgrees, is_standard_procedure, shape_in}
 use Rattle.ob0_types_check.specs.DeclarationFaults.{reported_block, module_faults}
 use Rattle.ob0_types_check.specs.Known.{Meaning}
 use Rattle.ob0_types_check.specs.ModuleLaws.{WalkWithoutFaultFindsMeanings}
@@ -33,7 +33,7 @@ use Rattle.ob0_types_check.proofs.Unreported.{none-reported}
 
 -- holds if the meaning of an ordinal agrees with the object that the ordinal is bound to
 abbrev IsKnownAs : List Shape → List (Option (Meaning TypeId)) → ℕ → Option (meant.Object Shape Signature) → Type 0
-IsKnownAs shapes known k o = KnownMeaningAgrees (shape_in shapes) (slice_index_or known k None) o × (7 ≤ k → is_standard_procedure o ≡ false)
+IsKnownAs shapes known k o = IsKnownAndAgrees (shape_in shapes) (slice_index_or known k None) o × (7 ≤ k → is_standard_procedure o ≡ false)
 
 module _ (shapes : List Shape) (known : List (Option (Meaning TypeId))) where
   known_at : (noted : TypeNoted Name) (m : ℕ) → InOrder 0 m noted → BindingsKnown shapes known 0 m (typed_by_name noted) → (k : ℕ) → k < m → IsKnownAs shapes known k (object_of_ordinal (typed_by_ordinal noted) k)
@@ -54,7 +54,7 @@ none_at (b ∷ noted) m order k le =
     ∙ (ap (λ t. cond t (Some b.object) (object_of_ordinal (typed_by_ordinal noted) k)) (ne_eqb k b.ordinal (λ e. omega (arith, e, le, order.0)))
     ∙ none_at noted b.ordinal order.1 k (omega (arith, le, order.0)))
 
-holds_agree : (shape : TypeId → Option Shape) (m : Option (Meaning TypeId)) (o : Option (meant.Object Shape Signature)) → KnownMeaningAgrees shape m o → DeclarationAgrees shape m o
+holds_agree : (shape : TypeId → Option Shape) (m : Option (Meaning TypeId)) (o : Option (meant.Object Shape Signature)) → IsKnownAndAgrees shape m o → DeclarationAgrees shape m o
 holds_agree shape None o h = absurd h
 holds_agree shape (Some m) o h = h
 

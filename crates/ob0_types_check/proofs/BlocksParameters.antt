@@ -18,10 +18,10 @@ use Rattle.ob0_language_types.specs.Typing.{constructor_count, denoted_type}
 use Rattle.ob0_language_types.specs.WellTyped.{Mode, Signature, TypeEnvironment, TypedParameter, bind_names, bind_typed_parameters, by_place, by_value, typed_parameters}
 use Rattle.ob0_language_values.specs.Values.{Shape}
 use Rattle.ob0_types_check.specs.DeclarationFaults.{KnownHeading, reported_parameters, reported_section, reported_sections, with_parameters}
-use Rattle.ob0_types_check.specs.Known.{KnownFormal, Meaning, Reported, a_variable}
+use Rattle.ob0_types_check.specs.Known.{KnownParameter, Meaning, Reported, a_variable}
 use Rattle.ob0_types_check.specs.KnownDeclarations.{KnownDeclarations, TypeWithState, define, define_all}
 use Rattle.ob0_types_check.specs.WrittenTypeFaults.{reported_type}
-use Rattle.ob0_types_check.specs.Agreement.{FormalsAgree, KnownMeaningAgrees, shape_in}
+use Rattle.ob0_types_check.specs.Agreement.{FormalsAgree, IsKnownAndAgrees, shape_in}
 use Rattle.ob0_types_check.proofs.BlocksDeclared.{more_constructors}
 use Rattle.ob0_types_check.proofs.MadeOnce.{Apart, apart_same, apart_then}
 use Rattle.ob0_types_check.proofs.PartsFitting.{PartsFit}
@@ -37,7 +37,7 @@ ParametersKnown shapes declared k [] [] = Unit {0}
 ParametersKnown shapes declared k [] (p ∷ ps) = ⊥
 ParametersKnown shapes declared k (x ∷ xs) [] = ⊥
 ParametersKnown shapes declared k (x ∷ xs) (p ∷ ps) =
-    (p.name ≡ x) × KnownMeaningAgrees (shape_in shapes) (slice_index_or declared k None) (Some (meant.a_variable p.formal.shape)) × ParametersKnown shapes declared (suc k) xs ps
+    (p.name ≡ x) × IsKnownAndAgrees (shape_in shapes) (slice_index_or declared k None) (Some (meant.a_variable p.formal.shape)) × ParametersKnown shapes declared (suc k) xs ps
 
 pub parameters_kept : (before after : List Shape) (old new : List (Option (Meaning TypeId))) (k m : ℕ) → Longer before after → ((j : ℕ) → k ≤ j → j < m → slice_index_or new j None ≡ slice_index_or old j None) → (xs : List Name) (ps : List (TypedParameter Name)) → ordinal_after_names k xs ≤ m
     → ParametersKnown before old k xs ps → ParametersKnown after new k xs ps
@@ -46,7 +46,7 @@ parameters_kept before after old new k m longer kept [] (p ∷ ps) le h = absurd
 parameters_kept before after old new k m longer kept (x ∷ xs) [] le h = absurd h
 parameters_kept before after old new k m longer kept (x ∷ xs) (p ∷ ps) le h = (
   h.0,
-  subst (λ o. KnownMeaningAgrees (shape_in after) o (Some (meant.a_variable p.formal.shape))) (sym (kept k (le_refl k) (le_trans (le-ordinal_after_names (suc k) xs) le))) (holds_kept before after longer (slice_index_or old k None) (Some (meant.a_variable p.formal.shape)) h.1),
+  subst (λ o. IsKnownAndAgrees (shape_in after) o (Some (meant.a_variable p.formal.shape))) (sym (kept k (le_refl k) (le_trans (le-ordinal_after_names (suc k) xs) le))) (holds_kept before after longer (slice_index_or old k None) (Some (meant.a_variable p.formal.shape)) h.1),
   parameters_kept before after old new (suc k) m longer (λ j from to. kept j (le_of_lt from) to) xs ps le h.2,
 )
 
@@ -66,7 +66,7 @@ parameters_both shapes declared k [] ys (p ∷ ps) qs h next = absurd h
 parameters_both shapes declared k (x ∷ xs) ys [] qs h next = absurd h
 parameters_both shapes declared k (x ∷ xs) ys (p ∷ ps) qs h next = (h.0, h.1, parameters_both shapes declared (suc k) xs ys ps qs h.2 next)
 
-formals_both : (shape : TypeId → Option Shape) (fs gs : List (KnownFormal TypeId)) (s t : Signature) → FormalsAgree shape fs s → FormalsAgree shape gs t → FormalsAgree shape (fs ++ gs) (s ++ t)
+formals_both : (shape : TypeId → Option Shape) (fs gs : List (KnownParameter TypeId)) (s t : Signature) → FormalsAgree shape fs s → FormalsAgree shape gs t → FormalsAgree shape (fs ++ gs) (s ++ t)
 formals_both shape [] gs [] t h next = next
 formals_both shape [] gs (a ∷ s) t h next = absurd h
 formals_both shape (f ∷ fs) gs [] t h next = absurd h
@@ -94,7 +94,7 @@ own_known w p shapes n scope env mode t s (x ∷ xs) is st placed =
     let rest = all_defined w q shapes (suc n) ((token_text_at w.source x, n) ∷ scope) ((token_text_at w.source x, o) ∷ env) (a_variable t) xs o next placed.1 refl (s, is, refl) in
     let slot : slice_index_or (define_all q (a_variable t) xs).declared n None ≡ Some (a_variable t) = rest.later.kept n (le_refl (suc n)) ∙ d.here in (
       refl,
-      subst (λ z. KnownMeaningAgrees (shape_in shapes) z (Some o)) (sym slot) (s, is, refl),
+      subst (λ z. IsKnownAndAgrees (shape_in shapes) z (Some o)) (sym slot) (s, is, refl),
       own_known w q shapes (suc n) ((token_text_at w.source x, n) ∷ scope) ((token_text_at w.source x, o) ∷ env) mode t s xs is next placed.1,
     )
 

@@ -13,7 +13,7 @@ use Rattle.ob0_tree.specs.Tree.{Tree, module_text}
 use Rattle.ob0_types_table.specs.declared.types.TypeId.{TypeId}
 use Rattle.ob0_types_check.specs.Agreement.{DeclarationAgrees, EntriesAgree, FieldsAgree, FormalsAgree, PartsAgree, TableAgrees, is_standard_procedure, shape_in}
 use Rattle.ob0_types_check.specs.DeclarationFaults.{reported_block, module_faults}
-use Rattle.ob0_types_check.specs.Known.{KnownFormal, Meaning, Reported, a_constant, a_procedure, a_type, a_variable}
+use Rattle.ob0_types_check.specs.Known.{KnownParameter, Meaning, Reported, a_constant, a_procedure, a_type, a_variable}
 use Rattle.ob0_types_check.specs.ModuleLaws.{KnowsDeclarations}
 use Rattle.ob0_types_check.specs.KnownDeclarations.{KnownField, CompositeType, PartTypes, KnownDeclarations, state_at_start, of_elements, of_fields}
 use Rattle.ob0_types_check.specs.SomeBodies.{IncludesFaultyBodies, every_body, reported_module_with_bodies}
@@ -54,7 +54,7 @@ made_once known (m ∷ ms) (s ∷ ss) (t ∷ ts) g h =
 
 -- ---- declarations with the same meaning are the same
 
-formals_have_distinct_fields : (shapes : List Shape) (fs : List (KnownFormal TypeId)) (gs hs : Signature) → FormalsAgree (shape_in shapes) fs gs → FormalsAgree (shape_in shapes) fs hs → gs ≡ hs
+formals_have_distinct_fields : (shapes : List Shape) (fs : List (KnownParameter TypeId)) (gs hs : Signature) → FormalsAgree (shape_in shapes) fs gs → FormalsAgree (shape_in shapes) fs hs → gs ≡ hs
 formals_have_distinct_fields shapes [] [] [] g h = refl
 formals_have_distinct_fields shapes [] [] (b ∷ hs) g h = absurd h
 formals_have_distinct_fields shapes [] (a ∷ gs) hs g h = absurd g

@@ -21,14 +21,14 @@ use Rattle.ob0_language_types.specs.Environments.{environment_from_binding, mean
 use Rattle.ob0_language_types.specs.Expressions as meant
 use Rattle.ob0_language_types.specs.WellTyped.{Signature, TypeEnvironment, bind_names}
 use Rattle.ob0_language_values.specs.Values.{Shape}
-use Rattle.ob0_types_check.specs.Known.{KnownFormal, Meaning, a_constant, a_procedure, a_type, a_variable}
+use Rattle.ob0_types_check.specs.Known.{KnownParameter, Meaning, a_constant, a_procedure, a_type, a_variable}
 use Rattle.ob0_types_check.specs.KnownDeclarations.{KnownDeclarations, define, define_all, facts_at, with_meaning}
-use Rattle.ob0_types_check.specs.Agreement.{FactsAgree, FormalsAgree, MeaningAgrees, KnownMeaningAgrees, TableAgrees, TokensAgree, is_standard_procedure, shape_in}
+use Rattle.ob0_types_check.specs.Agreement.{TypesAndMeaningsAgree, FormalsAgree, MeaningAgrees, IsKnownAndAgrees, TableAgrees, TokensAgree, is_standard_procedure, shape_in}
 use Rattle.ob0_types_check.proofs.PartsFitting.{PartsFit}
 use Rattle.ob0_types_check.proofs.DeclaredNames.{AreSeen, Each, IsPlaced, IsSeen, NamesPlaced, Numbering, scope_following}
 use Rattle.ob0_types_check.proofs.DeclaredShapes.{Longer, longer_same, longer_then}
 
-pub formals_kept : (before after : List Shape) → Longer before after → (fs : List (KnownFormal TypeId)) (gs : Signature) → FormalsAgree (shape_in before) fs gs → FormalsAgree (shape_in after) fs gs
+pub formals_kept : (before after : List Shape) → Longer before after → (fs : List (KnownParameter TypeId)) (gs : Signature) → FormalsAgree (shape_in before) fs gs → FormalsAgree (shape_in after) fs gs
 formals_kept before after longer [] [] h = tt
 formals_kept before after longer [] (g ∷ gs) h = absurd h
 formals_kept before after longer (f ∷ fs) [] h = absurd h
@@ -40,7 +40,7 @@ meaning_kept before after longer (a_constant c) o h = h
 meaning_kept before after longer (a_variable t) o (s, e, h) = (s, longer t s e, h)
 meaning_kept before after longer (a_procedure fs) o (signature, e, h) = (signature, e, formals_kept before after longer fs signature h)
 
-pub holds_kept : (before after : List Shape) → Longer before after → (m : Option (Meaning TypeId)) (o : Option (meant.Object Shape Signature)) → KnownMeaningAgrees (shape_in before) m o → KnownMeaningAgrees (shape_in after) m o
+pub holds_kept : (before after : List Shape) → Longer before after → (m : Option (Meaning TypeId)) (o : Option (meant.Object Shape Signature)) → IsKnownAndAgrees (shape_in before) m o → IsKnownAndAgrees (shape_in after) m o
 holds_kept before after longer None o h = absurd h
 holds_kept before after longer (Some m) o h = meaning_kept before after longer m o h
 
@@ -51,7 +51,7 @@ NamesKnown shapes declared n [] [] = Unit {0}
 NamesKnown shapes declared n [] (c ∷ env) = ⊥
 NamesKnown shapes declared n (b ∷ scope) [] = ⊥
 NamesKnown shapes declared n (b ∷ scope) (c ∷ env) =
-    (b.1 < n) × (c.0 ≡ b.0) × KnownMeaningAgrees (shape_in shapes) (slice_index_or declared b.1 None) (Some c.1) × (7 ≤ b.1 → is_standard_procedure (Some c.1) ≡ false) × NamesKnown shapes declared n scope env
+    (b.1 < n) × (c.0 ≡ b.0) × IsKnownAndAgrees (shape_in shapes) (slice_index_or declared b.1 None) (Some c.1) × (7 ≤ b.1 → is_standard_procedure (Some c.1) ≡ false) × NamesKnown shapes declared n scope env
 
 pub names_later : (before after : List Shape) (old new : List (Option (Meaning TypeId))) (n m : ℕ) → Longer before after → ((k : ℕ) → k < n → slice_index_or new k None ≡ slice_index_or old k None) → n ≤ m → (scope : Scope Name) (env : TypeEnvironment Name) → NamesKnown before old n scope env → NamesKnown after new m scope env
 names_later before after old new n m longer kept le [] [] h = tt
@@ -60,22 +60,22 @@ names_later before after old new n m longer kept le (b ∷ scope) [] h = absurd 
 names_later before after old new n m longer kept le (b ∷ scope) (c ∷ env) h = (
   le_trans h.0 le,
   h.1,
-  subst (λ o. KnownMeaningAgrees (shape_in after) o (Some c.1)) (sym (kept b.1 h.0)) (holds_kept before after longer (slice_index_or old b.1 None) (Some c.1) h.2),
+  subst (λ o. IsKnownAndAgrees (shape_in after) o (Some c.1)) (sym (kept b.1 h.0)) (holds_kept before after longer (slice_index_or old b.1 None) (Some c.1) h.2),
   h.3,
   names_later before after old new n m longer kept le scope env h.4,
 )
 
 -- holds if the meaning of the ordinal agrees with the first object of the environment
 abbrev FoundAlike : List Shape → List (Option (Meaning TypeId)) → TypeEnvironment Name → ℕ → Type 0
-FoundAlike shapes declared env k = KnownMeaningAgrees (shape_in shapes) (slice_index_or declared k None) (newest_object env)
+FoundAlike shapes declared env k = IsKnownAndAgrees (shape_in shapes) (slice_index_or declared k None) (newest_object env)
 
-first_found : (shapes : List Shape) (declared : List (Option (Meaning TypeId))) (j k : ℕ) (c : Name × meant.Object Shape Signature) (env below : TypeEnvironment Name) (v : Bool) (o : Option ℕ) → KnownMeaningAgrees (shape_in shapes) (slice_index_or declared j None) (Some c.1)
+first_found : (shapes : List Shape) (declared : List (Option (Meaning TypeId))) (j k : ℕ) (c : Name × meant.Object Shape Signature) (env below : TypeEnvironment Name) (v : Bool) (o : Option ℕ) → IsKnownAndAgrees (shape_in shapes) (slice_index_or declared j None) (Some c.1)
     → (o ≡ Some k → FoundAlike shapes declared below k) → (elim v [ true ↦ Some j | false ↦ o ]) ≡ Some k → FoundAlike shapes declared (elim v [ true ↦ c ∷ env | false ↦ below ]) k
-first_found shapes declared j k c env below true o h next e = subst (λ i. KnownMeaningAgrees (shape_in shapes) (slice_index_or declared i None) (Some c.1)) (ap (λ u. elim u [ None ↦ j | Some i ↦ i ]) e) h
+first_found shapes declared j k c env below true o h next e = subst (λ i. IsKnownAndAgrees (shape_in shapes) (slice_index_or declared i None) (Some c.1)) (ap (λ u. elim u [ None ↦ j | Some i ↦ i ]) e) h
 first_found shapes declared j k c env below false o h next e = next e
 
 name_found : (shapes : List Shape) (declared : List (Option (Meaning TypeId))) (n : ℕ) (scope : Scope Name) (env : TypeEnvironment Name) → NamesKnown shapes declared n scope env → (x : Name) (k : ℕ) → ordinal_of naming_by_spelling scope x ≡ Some k
-    → KnownMeaningAgrees (shape_in shapes) (slice_index_or declared k None) (newest_object (environment_from_binding naming_by_spelling env x))
+    → IsKnownAndAgrees (shape_in shapes) (slice_index_or declared k None) (newest_object (environment_from_binding naming_by_spelling env x))
 name_found shapes declared n [] [] h x k e = absurd (cc)
 name_found shapes declared n [] (c ∷ env) h x k e = absurd h
 name_found shapes declared n (b ∷ scope) [] h x k e = absurd h
@@ -168,14 +168,14 @@ holds_defined w p q shapes n scope env m x o h d own agrees =
       ordinals = rest.ordinals;
       room = rest.room;
       table = rest.table;
-      names = (less, refl, subst (λ z. KnownMeaningAgrees (shape_in shapes) z (Some o)) (sym d.here) agrees, λ le. own, rest.names);
+      names = (less, refl, subst (λ z. IsKnownAndAgrees (shape_in shapes) z (Some o)) (sym d.here) agrees, λ le. own, rest.names);
     }
 
 -- In an expression or statements whose names are all visible in the scope, the facts agree with all names.
 module _ (w : Numbering) (p : KnownDeclarations) (only_constants : Bool) (shapes : List Shape) (n : ℕ) (scope : Scope Name) (env : TypeEnvironment Name) (h : IsKnownAt w p shapes n scope env) where
-  pub seen_holds : (x : ℕ) → IsSeen w scope x → KnownMeaningAgrees (shape_in shapes) ((facts_at p only_constants).object_for x) ((meanings naming_by_spelling env).object_for (token_text_at w.source x))
+  pub seen_holds : (x : ℕ) → IsSeen w scope x → IsKnownAndAgrees (shape_in shapes) ((facts_at p only_constants).object_for x) ((meanings naming_by_spelling env).object_for (token_text_at w.source x))
   seen_holds x (k, at, there) =
-      subst (λ o. KnownMeaningAgrees (shape_in shapes) (option_and_then (λ j. slice_index_or p.declared j None) o) (newest_object (environment_from_binding naming_by_spelling env (token_text_at w.source x)))) (sym (ap (λ os. ordinal_in os x) h.ordinals ∙ at))
+      subst (λ o. IsKnownAndAgrees (shape_in shapes) (option_and_then (λ j. slice_index_or p.declared j None) o) (newest_object (environment_from_binding naming_by_spelling env (token_text_at w.source x)))) (sym (ap (λ os. ordinal_in os x) h.ordinals ∙ at))
       (name_found shapes p.declared n scope env h.names (token_text_at w.source x) k there)
 
   tokens_agree : (xs : List (Role × ℕ)) → Each (IsSeen w scope) (looked_up_only xs) → TokensAgree (facts_at p only_constants) (shape_in shapes) (token_text_at w.source) (meanings naming_by_spelling env) xs
@@ -186,7 +186,7 @@ module _ (w : Numbering) (p : KnownDeclarations) (only_constants : Bool) (shapes
   tokens_agree ((role.FieldName, x) ∷ xs) seen = (ap (λ s. token_text_at s x) (sym h.source), tokens_agree xs seen)
   tokens_agree ((role.ModuleName, x) ∷ xs) seen = (tt, tokens_agree xs seen)
 
-  pub agrees_where_seen : {s : Sort} → PartsFit → (t : Tree ℕ s) → AreSeen w scope t → FactsAgree (facts_at p only_constants) (shape_in shapes) (token_text_at w.source) (meanings naming_by_spelling env) t
+  pub agrees_where_seen : {s : Sort} → PartsFit → (t : Tree ℕ s) → AreSeen w scope t → TypesAndMeaningsAgree (facts_at p only_constants) (shape_in shapes) (token_text_at w.source) (meanings naming_by_spelling env) t
   agrees_where_seen fit t seen = record {
     types = fit.tables p.made shapes h.table;
     tokens = tokens_agree (identifiers role.Declaring t) (subst (Each (IsSeen w scope)) (sym (looked_up-occurrences role.Declaring (λ x xs. refl) t)) seen);

@@ -9,7 +9,7 @@ use Rattle.ob0_tree.specs.Places.{tree_with_names, token_text_at, token_value_at
 use Rattle.ob0_tree.specs.Tree.{Item, Sort, Tree, block, body, constant, constants, declares, declares_constant, declares_constants, declares_procedure, declares_type, declares_types, declares_variable, declares_variables, end, expression, formals, further_name, further_section, forms_block, item, items, listed, mapped_tree, maybe, more, names, no_formals, none, occurrences, one, procedure, section, some_formals, then_name, then_section, type_definition, type_definitions, value_section, variable, variable_section, variables, written_type}
 use Rattle.ob0_language_names.specs.Names.{Name, naming_by_spelling}
 use Rattle.ob0_language_names.specs.Parts.{block_constants, block_procedures, block_statements, block_types, block_variables, constant_names, formal_names, formal_sections, further_names, declared_type_names, names_in_list, procedure_block, procedure_formals, procedure_name, section_constants, section_names, section_type, section_types, section_variables, variable_names}
-use Rattle.ob0_scope_table.specs.Resolution.{binding_at, ordinal_in, ordinal_and_spelling}
+use Rattle.ob0_scope_table.specs.Resolution.{ordinal_and_spelling_at, ordinal_in, ordinal_and_spelling}
 use Rattle.ob0_language_names.specs.Scopes.{Scope, ordinal_after_block, ordinal_after_names, ordinal_after_procedure, ordinal_after_procedures, declare_names, declare_procedure_names, first_procedure_ordinal, first_type_ordinal, first_variable_ordinal, label_names, label_of, ordinal_of, procedures_scope, relabel_block, relabel_constants, relabel_procedure, relabel_procedures, relabel_sections, relabel_types, relabel_uses, relabel_variables, types_scope, variables_scope}
 use Rattle.ob0_language_names.proofs.OccurrenceNames.{occurrences-map_names}
 use Rattle.ob0_language_names.proofs.OccurrencesMapped.{occurrences-mapped_tree}
@@ -249,22 +249,22 @@ abbrev mutual
 module _ (n : Numbering) where
   -- returns the tree in which each token is replaced by its ordinal and its spelling
   abbrev bound_by : {s : Sort} → Tree ℕ s → Tree (Option ℕ × Name) s
-  bound_by t = mapped_tree (binding_at n.source n.ordinals) (token_value_at n.source) t
+  bound_by t = mapped_tree (ordinal_and_spelling_at n.source n.ordinals) (token_value_at n.source) t
 
-  seen : (scope : Scope Name) (x : ℕ) → label_of naming_by_spelling ordinal_and_spelling scope (token_text_at n.source x) ≡ binding_at n.source n.ordinals x → IsBound n x → IsSeen n scope x
+  seen : (scope : Scope Name) (x : ℕ) → label_of naming_by_spelling ordinal_and_spelling scope (token_text_at n.source x) ≡ ordinal_and_spelling_at n.source n.ordinals x → IsBound n x → IsSeen n scope x
   seen scope x e (k, h) = (k, h, ap (λ p. p.0) e ∙ h)
 
   uses_seen : {s : Sort} (scope : Scope Name) (t : Tree ℕ s) → relabel_uses naming_by_spelling ordinal_and_spelling scope (tree_with_names n.source t) ≡ bound_by t → Each (IsBound n) (occurrences t) → AreSeen n scope t
   uses_seen scope t e all =
       let look : Name → Option ℕ × Name = label_of naming_by_spelling ordinal_and_spelling scope in
       let text : ℕ → Name = token_text_at n.source in
-      let bound : ℕ → Option ℕ × Name = binding_at n.source n.ordinals in
+      let bound : ℕ → Option ℕ × Name = ordinal_and_spelling_at n.source n.ordinals in
       let left : occurrences (relabel_uses naming_by_spelling ordinal_and_spelling scope (tree_with_names n.source t)) ≡ map (λ x. look (text x)) (occurrences t) =
       occurrences-map_names look (ordinal_and_spelling None) (tree_with_names n.source t) ∙ (ap (map look) (occurrences-mapped_tree text (token_value_at n.source) t) ∙ map-twice look text (occurrences t)) in
       each_with (λ x. look (text x) ≡ bound x) (IsBound n) (IsSeen n scope) (seen scope) (occurrences t)
       (each_same (λ x. look (text x)) bound (occurrences t) (sym left ∙ (ap occurrences e ∙ occurrences-mapped_tree bound (token_value_at n.source) t))) all
 
-  names_placed : (k : ℕ) (xs : List ℕ) → label_names ordinal_and_spelling k (map (token_text_at n.source) xs) ≡ map (binding_at n.source n.ordinals) xs → ordinal_after_names k xs ≤ n.room → NamesPlaced n k xs
+  names_placed : (k : ℕ) (xs : List ℕ) → label_names ordinal_and_spelling k (map (token_text_at n.source) xs) ≡ map (ordinal_and_spelling_at n.source n.ordinals) xs → ordinal_after_names k xs ≤ n.room → NamesPlaced n k xs
   names_placed k [] e room = tt
   names_placed k (x ∷ xs) e room = let h = heads e in ((ap (λ p. p.0) (sym h.0), le_trans (le-ordinal_after_names (suc k) xs) room), names_placed (suc k) xs h.1 room)
 
@@ -296,8 +296,8 @@ module _ (n : Numbering) where
       let parts = each_part (IsBound n) (occurrences t) (occurrences gs) all in
       let own : names_in_list (tree_with_names n.source ns) ≡ map text (names_in_list ns) = names_in_list-mapped_tree text (token_value_at n.source) ns in
       let following : ordinal_after_names (ordinal_after_names k (names_in_list ns)) (variable_names gs) ≤ n.room = subst (λ j. j ≤ n.room) (ordinal_after_names-append k (names_in_list ns) (variable_names gs)) room in
-      let labels : label_names ordinal_and_spelling k (map text (names_in_list ns)) ≡ map (binding_at n.source n.ordinals) (names_in_list ns) =
-      sym (names-relabel ordinal_and_spelling k (tree_with_names n.source ns) ∙ ap (label_names ordinal_and_spelling k) own) ∙ (ap variables_left first ∙ names_in_list-mapped_tree (binding_at n.source n.ordinals) (token_value_at n.source) ns) in
+      let labels : label_names ordinal_and_spelling k (map text (names_in_list ns)) ≡ map (ordinal_and_spelling_at n.source n.ordinals) (names_in_list ns) =
+      sym (names-relabel ordinal_and_spelling k (tree_with_names n.source ns) ∙ ap (label_names ordinal_and_spelling k) own) ∙ (ap variables_left first ∙ names_in_list-mapped_tree (ordinal_and_spelling_at n.source n.ordinals) (token_value_at n.source) ns) in
       let rest : relabel_variables naming_by_spelling ordinal_and_spelling (scope_following n k (names_in_list ns) scope) (ordinal_after_names k (names_in_list ns)) (tree_with_names n.source gs) ≡ bound_by gs =
       sym (λ i. relabel_variables naming_by_spelling ordinal_and_spelling (declare_names k (own i) scope) (after-mapped_tree text k k (names_in_list ns) (names_in_list (tree_with_names n.source ns)) own refl i) (tree_with_names n.source gs)) ∙ ap rest_of e in (
         names_placed k (names_in_list ns) labels (le_trans (le-ordinal_after_names (ordinal_after_names k (names_in_list ns)) (variable_names gs)) following),
@@ -317,10 +317,10 @@ module _ (n : Numbering) where
       let parts = each_part (IsBound n) (occurrences f) (occurrences fs) all in
       let own : section_names (tree_with_names n.source f) ≡ map text (section_names f) = section_names-mapped_tree text (token_value_at n.source) f in
       let following : ordinal_after_names (ordinal_after_names k (section_names f)) (formal_names fs) ≤ n.room = subst (λ j. j ≤ n.room) (ordinal_after_names-append k (section_names f) (formal_names fs)) room in
-      let labels : label_names ordinal_and_spelling k (map text (section_names f)) ≡ map (binding_at n.source n.ordinals) (section_names f) =
-      sym (section_names-relabel naming_by_spelling ordinal_and_spelling scope k (tree_with_names n.source f) ∙ ap (label_names ordinal_and_spelling k) own) ∙ (ap section_names first ∙ section_names-mapped_tree (binding_at n.source n.ordinals) (token_value_at n.source) f) in
+      let labels : label_names ordinal_and_spelling k (map text (section_names f)) ≡ map (ordinal_and_spelling_at n.source n.ordinals) (section_names f) =
+      sym (section_names-relabel naming_by_spelling ordinal_and_spelling scope k (tree_with_names n.source f) ∙ ap (label_names ordinal_and_spelling k) own) ∙ (ap section_names first ∙ section_names-mapped_tree (ordinal_and_spelling_at n.source n.ordinals) (token_value_at n.source) f) in
       let sided : relabel_uses naming_by_spelling ordinal_and_spelling scope (tree_with_names n.source (section_type f)) ≡ bound_by (section_type f) =
-      sym (section_type-relabel naming_by_spelling ordinal_and_spelling scope k (tree_with_names n.source f) ∙ ap (relabel_uses naming_by_spelling ordinal_and_spelling scope) (section_type-mapped_tree text (token_value_at n.source) f)) ∙ (ap section_type first ∙ section_type-mapped_tree (binding_at n.source n.ordinals) (token_value_at n.source) f) in
+      sym (section_type-relabel naming_by_spelling ordinal_and_spelling scope k (tree_with_names n.source f) ∙ ap (relabel_uses naming_by_spelling ordinal_and_spelling scope) (section_type-mapped_tree text (token_value_at n.source) f)) ∙ (ap section_type first ∙ section_type-mapped_tree (ordinal_and_spelling_at n.source n.ordinals) (token_value_at n.source) f) in
       let rest : relabel_sections naming_by_spelling ordinal_and_spelling (scope_following n k (section_names f) scope) (ordinal_after_names k (section_names f)) (tree_with_names n.source fs) ≡ bound_by fs =
       sym (λ i. relabel_sections naming_by_spelling ordinal_and_spelling (declare_names k (own i) scope) (after-mapped_tree text k k (section_names f) (section_names (tree_with_names n.source f)) own refl i) (tree_with_names n.source fs)) ∙ ap rest_of e in (
         names_placed k (section_names f) labels (le_trans (le-ordinal_after_names (ordinal_after_names k (section_names f)) (formal_names fs)) following),
@@ -349,7 +349,7 @@ module _ (n : Numbering) where
     pub block_placed : (scope : Scope Name) (k : ℕ) (b : Tree ℕ block) → relabel_block naming_by_spelling ordinal_and_spelling scope k (tree_with_names n.source b) ≡ bound_by b → Each (IsBound n) (occurrences b) → ordinal_after_block k b ≤ n.room → BlockPlaced n scope k b
     block_placed scope k (forms_block (declares cs ts vs ps) statements) e all room =
         let text : ℕ → Name = token_text_at n.source in
-        let bound : ℕ → Option ℕ × Name = binding_at n.source n.ordinals in
+        let bound : ℕ → Option ℕ × Name = ordinal_and_spelling_at n.source n.ordinals in
         let value : ℕ → ℕ = token_value_at n.source in
         let b : Tree ℕ block = forms_block (declares cs ts vs ps) statements in
         let both = each_part (IsBound n) (occurrences cs ++ (occurrences ts ++ (occurrences vs ++ occurrences ps))) (occurrences statements) all in
@@ -406,7 +406,7 @@ module _ (n : Numbering) where
         let next : ordinal_after_names (suc k) (formal_names (formal_sections (tree_with_names n.source fs))) ≡ ordinal_after_names (suc k) (formal_names (formal_sections fs)) = after-mapped_tree text (suc k) (suc k) (formal_names (formal_sections fs)) (formal_names (formal_sections (tree_with_names n.source fs))) own refl in
         let inner : ordinal_after_names (suc k) (formal_names (formal_sections fs)) ≤ n.room = le_trans (le-ordinal_after_block (ordinal_after_names (suc k) (formal_names (formal_sections fs))) b) room in
         let of_formals : relabel_sections naming_by_spelling ordinal_and_spelling scope (suc k) (tree_with_names n.source (formal_sections fs)) ≡ bound_by (formal_sections fs) =
-        sym (formals-section naming_by_spelling ordinal_and_spelling scope (suc k) (tree_with_names n.source fs) ∙ ap (relabel_sections naming_by_spelling ordinal_and_spelling scope (suc k)) (formals-mapped_tree text value fs)) ∙ (ap procedure_formals e ∙ formals-mapped_tree (binding_at n.source n.ordinals) value fs) in
+        sym (formals-section naming_by_spelling ordinal_and_spelling scope (suc k) (tree_with_names n.source fs) ∙ ap (relabel_sections naming_by_spelling ordinal_and_spelling scope (suc k)) (formals-mapped_tree text value fs)) ∙ (ap procedure_formals e ∙ formals-mapped_tree (ordinal_and_spelling_at n.source n.ordinals) value fs) in
         let of_block : relabel_block naming_by_spelling ordinal_and_spelling (inside_procedure n scope k p) (ordinal_after_names (suc k) (formal_names (formal_sections fs))) (tree_with_names n.source b) ≡ bound_by b =
         sym (λ i. relabel_block naming_by_spelling ordinal_and_spelling (declare_names (suc k) (own i) (following_procedure n scope k p)) (next i) (tree_with_names n.source b)) ∙ ap procedure_block e in (
           (ap (λ (q : Tree (Option ℕ × Name) (item procedure)). (procedure_name q).0) (sym e), le_trans (le-ordinal_after_names (suc k) (formal_names (formal_sections fs))) inner),

@@ -9,7 +9,7 @@ use Rattle.ob0_types_table.specs.declared.types.TypeId.{TypeId}
 use Rattle.ob0_types_table.specs.declared.types.TypeId.TheVariants as type
 use Rattle.ob0_language_types.specs.Typing.{depth, field_depth, field_scalars, scalars, prepend_fields, type_within_limits}
 use Rattle.ob0_language_values.specs.Values.{FieldShapes, Shape, array_shape, boolean_shape, integer_shape, next_field_shape, no_field_shape, record_shape}
-use Rattle.ob0_types_check.specs.KnownDeclarations.{CompositeType, PartTypes, Size, KnownField, is_within_limits, of_elements, of_fields, scalar_size, size_at, composite_size}
+use Rattle.ob0_types_check.specs.KnownDeclarations.{CompositeType, PartTypes, Size, KnownField, is_within_limits, of_elements, of_fields, scalar_size, size_of_type_so_far, composite_size}
 use Rattle.ob0_types_check.specs.WrittenTypeFaults.{KnownFields, array_size, record_size, with_known_field, with_known_fields}
 use Rattle.ob0_types_check.specs.Agreement.{EntriesAgree, FieldsAgree, CompositeAgrees, PartsAgree, TableAgrees, as_array, as_record, shape_in}
 
@@ -116,7 +116,7 @@ entered known f is (m ∷ ms) (x ∷ ss) (suc i) s h e = entered (known ++ x ∷
 sized : {m : Option CompositeType} (s : Shape) → Entered m s → SizeAgrees (composite_size m) s
 sized s h = subst (λ o. SizeAgrees (composite_size o) s) (sym h.there) h.sizes
 
-pub size_agrees : (ms : List CompositeType) (shapes : List Shape) (t : TypeId) (s : Shape) → TableAgrees ms shapes → shape_in shapes t ≡ Some s → SizeAgrees (size_at ms t) s
+pub size_agrees : (ms : List CompositeType) (shapes : List Shape) (t : TypeId) (s : Shape) → TableAgrees ms shapes → shape_in shapes t ≡ Some s → SizeAgrees (size_of_type_so_far ms t) s
 size_agrees ms shapes type.Integer s h e = subst (SizeAgrees scalar_size) (some_same integer_shape s e) (record { scalars_are = refl; depth_is = refl })
 size_agrees ms shapes type.Boolean s h e = subst (SizeAgrees scalar_size) (some_same boolean_shape s e) (record { scalars_are = refl; depth_is = refl })
 size_agrees ms shapes (type.Array i) s h e = sized s (entered [] as_array array_is ms shapes i s h e)

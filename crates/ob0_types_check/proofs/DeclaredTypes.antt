@@ -16,10 +16,10 @@ use Rattle.ob0_language_values.specs.Values.{FieldShapes, Shape, Value, array_sh
 use Rattle.ob0_types_check.specs.ExpressionFaults.{reported_expression}
 use Rattle.ob0_types_check.specs.Known.{Meaning, Operand, Reported, a_constant, a_procedure, a_type, a_variable}
 use Rattle.ob0_types_check.specs.Operations.{without_fault}
-use Rattle.ob0_types_check.specs.KnownDeclarations.{PartTypes, Size, KnownDeclarations, TypeWithState, facts_at, is_within_limits, append_composite, make_type, of_elements, of_fields, size_at, type_too_large, type_at_index}
+use Rattle.ob0_types_check.specs.KnownDeclarations.{PartTypes, Size, KnownDeclarations, TypeWithState, facts_at, is_within_limits, append_composite, make_type, of_elements, of_fields, size_of_type_so_far, reported_too_large_type, type_at_index}
 use Rattle.ob0_types_check.specs.TypeFaults.{length_of, type_by_meaning}
 use Rattle.ob0_types_check.specs.WrittenTypeFaults.{KnownFields, made_array_type, array_size, with_field_group, no_known_fields, made_record_type, record_size, record_keyword, reported_fields, reported_groups, next_type_ordinal, reported_type, with_known_field, with_known_fields, token_before_group}
-use Rattle.ob0_types_check.specs.Agreement.{PartsAgree, KnownMeaningAgrees, TableAgrees, shape_in}
+use Rattle.ob0_types_check.specs.Agreement.{PartsAgree, IsKnownAndAgrees, TableAgrees, shape_in}
 use Rattle.ob0_types_check.specs.WellTypedLaws.{ordinal_of_shape}
 use Rattle.ob0_types_check.proofs.MadeOnce.{Apart, apart_made, apart_same, apart_then}
 use Rattle.ob0_types_check.proofs.PartsFitting.{PartsFit}
@@ -39,7 +39,7 @@ pub record Denotes (n : ℕ) (p : KnownDeclarations) (before : List Shape) (k l 
   pub known : shape_in after u.of ≡ Some shape
 
 -- A name of a type denotes that type's shape if no fault is reported for the name.
-named_denotes : (n : ℕ) (w : KnownDeclarations) (p : KnownDeclarations) (before : List Shape) (k l : ℕ) → l ≡ k → (token : ℕ) (m : Option (Meaning TypeId)) (o : Option (meant.Object Shape Signature)) → TableAgrees p.made before → KnownMeaningAgrees (shape_in before) m o → (type_by_meaning (facts_at w false) token m).faults ≡ []
+named_denotes : (n : ℕ) (w : KnownDeclarations) (p : KnownDeclarations) (before : List Shape) (k l : ℕ) → l ≡ k → (token : ℕ) (m : Option (Meaning TypeId)) (o : Option (meant.Object Shape Signature)) → TableAgrees p.made before → IsKnownAndAgrees (shape_in before) m o → (type_by_meaning (facts_at w false) token m).faults ≡ []
     → Denotes n p before k l (type_of_name o) (record { of = (type_by_meaning (facts_at w false) token m).known; following = p })
 named_denotes n w p before k l last token None o table alike e = absurd alike
 named_denotes n w p before k l last token (Some (a_type t)) o table (s, known, is) e = record { shape = s; given_is = ap type_of_name is; after = before; apart = apart_same k l before last; later = later_same n p before table; known = known }
@@ -57,7 +57,7 @@ made_denotes : (n : ℕ) (p q : KnownDeclarations) (before mid : List Shape) (k 
 made_denotes n p q before mid k l word ordinal parts size s here number own later agrees sized last none =
     by_size (is_within_limits size) refl none
   where
-    by_size : (b : Bool) → is_within_limits size ≡ b → (if b then without_fault (append_composite q ordinal parts size) else type_too_large q word).faults ≡ [] → MadeDenotes n p before k l s (if b then without_fault (append_composite q ordinal parts size) else type_too_large q word).known
+    by_size : (b : Bool) → is_within_limits size ≡ b → (if b then without_fault (append_composite q ordinal parts size) else reported_too_large_type q word).faults ≡ [] → MadeDenotes n p before k l s (if b then without_fault (append_composite q ordinal parts size) else reported_too_large_type q word).known
     by_size false e h = absurd (cc)
     by_size true e h = record {
       limited = is_limited size s sized e;
@@ -83,8 +83,8 @@ array_denotes : (n : ℕ) (p : KnownDeclarations) (before : List Shape) (k l ord
     → Denotes n p before k l (option_and_then (λ s. type_within_limits (array_shape k count s)) given) (made_array_type ordinal o (Some count) u).known
 array_denotes n p before k l ordinal count o given u here d none =
     let s : Shape = array_shape k count d.shape in
-    let size = array_sized (size_at u.following.made u.of) k count d.shape (size_agrees u.following.made d.after u.of d.shape d.later.table d.known) in
-    let m = made_denotes n p u.following before d.after k l _ ordinal (of_elements count u.of) (array_size count (size_at u.following.made u.of)) s here refl d.apart d.later (d.shape, refl, d.known) size (last_array u.following.made d.after k count d.shape d.later.table) none in
+    let size = array_sized (size_of_type_so_far u.following.made u.of) k count d.shape (size_agrees u.following.made d.after u.of d.shape d.later.table d.known) in
+    let m = made_denotes n p u.following before d.after k l _ ordinal (of_elements count u.of) (array_size count (size_of_type_so_far u.following.made u.of)) s here refl d.apart d.later (d.shape, refl, d.known) size (last_array u.following.made d.after k count d.shape d.later.table) none in
     record {
       shape = m.denotes.shape;
       given_is = ap (option_and_then (λ s. type_within_limits (array_shape k count s))) d.given_is ∙ (m.limited ∙ m.denotes.given_is);

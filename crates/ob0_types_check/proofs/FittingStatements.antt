@@ -20,7 +20,7 @@ use Rattle.ob0_types_check.specs.Known as known
 use Rattle.ob0_types_check.specs.Operations.{typed_name_operand, required_type, fault_at_operand}
 use Rattle.ob0_types_check.specs.KnownDeclarations.{facts_at}
 use Rattle.ob0_types_check.specs.StatementFaults.{target_name_type, target_type_by_meaning, call_faults_by_meaning, faults_of_argument, argument_faults, typed_expression_faults, assignment_faults, call_faults, condition_faults, else_faults, elsif_faults, sequence_faults, statement_faults, further_statement_faults, reported_target}
-use Rattle.ob0_types_check.specs.Agreement.{FormalsAgree, KnownMeaningAgrees, TokensAgree, TypesAgree, shape_in}
+use Rattle.ob0_types_check.specs.Agreement.{FormalsAgree, IsKnownAndAgrees, TokensAgree, TypesAgree, shape_in}
 use Rattle.ob0_types_check.specs.ReportLaws.{OperandAgrees, StatementsWithoutFaultAreTyped}
 use Rattle.ob0_types_check.proofs.FittingExpressions.{FitsSelectors, selectors-fit}
 use Rattle.ob0_types_check.proofs.FittingNames.{tokens-fit}
@@ -77,7 +77,7 @@ module _ {T N : Type 0} (facts : Facts T) (shape : T → Option Shape) (types : 
     pub known : shape reported.known ≡ Some of
     pub holds : o ≡ Some (meant.a_variable of)
 
-  assigned-holds : (x : ℕ) (m : Option (Meaning T)) (o : Option (Object Shape Signature)) → KnownMeaningAgrees shape m o → (target_type_by_meaning facts x m).faults ≡ [] → IsAssigned (target_type_by_meaning facts x m) o
+  assigned-holds : (x : ℕ) (m : Option (Meaning T)) (o : Option (Object Shape Signature)) → IsKnownAndAgrees shape m o → (target_type_by_meaning facts x m).faults ≡ [] → IsAssigned (target_type_by_meaning facts x m) o
   assigned-holds x None o a h = absurd a
   assigned-holds x (Some (a_type t)) o a h = absurd (cc)
   assigned-holds x (Some (a_constant c)) o a h = absurd (cc)
@@ -112,7 +112,7 @@ module _ {T N : Type 0} (facts : Facts T) (shape : T → Option Shape) (types : 
       (λ i. same_known_shape (Some g.shape) (elim (mode i) [ by_value ↦ type_of meaning (here e) | by_place ↦ variable_type meaning (lone_designator (here e)) ]))
       ∙ same_known_shape-same g.shape (Some g.shape) (type_of meaning (here e)) refl (fe.typed ∙ ap (λ s. Some s) same)
 
-  argument-fits : (f : known.KnownFormal T) (g : FormalParameter) (e : Tree ℕ expression) → g.mode ≡ mode_of f.by_place → shape f.of ≡ Some g.shape → Agreed e → faults_of_argument facts f e ≡ [] → argument_matches meaning g (here e) ≡ true
+  argument-fits : (f : known.KnownParameter T) (g : FormalParameter) (e : Tree ℕ expression) → g.mode ≡ mode_of f.by_place → shape f.of ≡ Some g.shape → Agreed e → faults_of_argument facts f e ≡ [] → argument_matches meaning g (here e) ≡ true
   unfolding faults_of_argument
   argument-fits f g e mode wanted k h =
       let parts = none-reported (reported_expression facts e).faults _ h in
@@ -122,7 +122,7 @@ module _ {T N : Type 0} (facts : Facts T) (shape : T → Option Shape) (types : 
   EachAgreed [] = Unit {0}
   EachAgreed (e ∷ es) = Agreed e × EachAgreed es
 
-  arguments-fit : (fs : List (known.KnownFormal T)) (gs : Signature) (es : List (Tree ℕ expression)) → FormalsAgree shape fs gs → length fs ≡ length es → EachAgreed es → argument_faults facts fs es ≡ []
+  arguments-fit : (fs : List (known.KnownParameter T)) (gs : Signature) (es : List (Tree ℕ expression)) → FormalsAgree shape fs gs → length fs ≡ length es → EachAgreed es → argument_faults facts fs es ≡ []
       → arguments_match meaning gs (map here es) ≡ true
   unfolding arguments_match
   arguments-fit [] [] [] a n k h = refl
@@ -152,7 +152,7 @@ module _ {T N : Type 0} (facts : Facts T) (shape : T → Option Shape) (types : 
   arguments-agreed (one no_arguments) k = tt
   arguments-agreed (one (some_arguments e es)) k = let parts = split (ids e) (ids es) k in (parts.0, further-agreed es parts.1)
 
-  called-fits : (x : ℕ) (m : Option (Meaning T)) (o : Option (Object Shape Signature)) (es : List (Tree ℕ expression)) → KnownMeaningAgrees shape m o → EachAgreed es → call_faults_by_meaning facts x m es ≡ [] → call_is_well_typed meaning (signature_of o) (map here es) ≡ true
+  called-fits : (x : ℕ) (m : Option (Meaning T)) (o : Option (Object Shape Signature)) (es : List (Tree ℕ expression)) → IsKnownAndAgrees shape m o → EachAgreed es → call_faults_by_meaning facts x m es ≡ [] → call_is_well_typed meaning (signature_of o) (map here es) ≡ true
   unfolding call_is_well_typed
   called-fits x None o es a k h = absurd a
   called-fits x (Some (a_type t)) o es a k h = absurd (cc)

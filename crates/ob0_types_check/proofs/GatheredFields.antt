@@ -13,7 +13,7 @@ use Rattle.ob0_types_check.specs.declared.reporting.checker_state.CheckerState.{
 use Rattle.ob0_types_check.specs.declared.reporting.written_types.KnownFields as gathering
 use Rattle.ob0_types_check.specs.Known.{Reported}
 use Rattle.ob0_types_check.specs.Operations.{ReturnsAndReports}
-use Rattle.ob0_types_check.specs.KnownDeclarations.{Size, empty_size, size_at}
+use Rattle.ob0_types_check.specs.KnownDeclarations.{Size, zero_size, size_of_type_so_far}
 use Rattle.ob0_types_check.specs.CheckerViews.{AddsKnownFields, HasKnownFields, capped_size, fields_in, size_of, declarations_in_state}
 use Rattle.ob0_types_check.specs.WrittenTypeFaults.{KnownFields, sum_of_sizes, no_known_fields, reported_fields, reported_groups, with_known_field, with_known_fields}
 use Rattle.ob0_types_check.proofs.Chains.{Chained, chain_goes_on}
@@ -29,10 +29,10 @@ beside_counted z w =
 -- If the code has gathered the same fields, it still has when both add a field.
 pub one_more : (g : KnownFields) (s : CheckerState) (old new : gathering.KnownFields) (token : ℕ) (t : TypeId) (w : Size) → HasKnownFields g s old
     → fields_in new.fields.items ≡ fields_in old.fields.items ++ record { name = token_text_at s.resolved.now.module_read.source token; of = t } ∷ []
-    → size_of new.size ≡ capped_size (sum_of_sizes (size_of old.size) w) → w ≡ size_at (declarations_in_state s).made t → HasKnownFields (with_known_field t g token) s new
+    → size_of new.size ≡ capped_size (sum_of_sizes (size_of old.size) w) → w ≡ size_of_type_so_far (declarations_in_state s).made t → HasKnownFields (with_known_field t g token) s new
 one_more g s old new token t w h fields size is = record {
   fields = fields ∙ (λ j. h.fields j ++ record { name = token_text_at (h.following j).source token; of = t } ∷ []);
-  size = size ∙ (λ j. capped_size (sum_of_sizes (h.size j) (is j))) ∙ beside_counted g.size (size_at (declarations_in_state s).made t) ∙ ap (λ p. capped_size (sum_of_sizes g.size (size_at p.made t))) h.following;
+  size = size ∙ (λ j. capped_size (sum_of_sizes (h.size j) (is j))) ∙ beside_counted g.size (size_of_type_so_far (declarations_in_state s).made t) ∙ ap (λ p. capped_size (sum_of_sizes g.size (size_of_type_so_far p.made t))) h.following;
   following = h.following;
 }
 
@@ -64,7 +64,7 @@ pub record GroupsGathered (around : ℕ) (start : KnownFields) (before : List Fa
 pub gathers : {before after : List Fault} {s : CheckerState} {gathered : gathering.KnownFields} {x : KnownFields} {t : Reported KnownFields} → ReturnsAndReports before after x t → HasKnownFields x s gathered → AddsKnownFields before after s gathered t
 gathers {s = s} {gathered = gathered} reports is = record { reported = reports.reported; now = subst (λ z. HasKnownFields z s gathered) reports.known is }
 
-pub groups_begin : {around : ℕ} {before : List Fault} {xs : List Fields} (s : CheckerState) (gathered : gathering.KnownFields) → fields_in gathered.fields.items ≡ [] → size_of gathered.size ≡ empty_size
+pub groups_begin : {around : ℕ} {before : List Fault} {xs : List Fields} (s : CheckerState) (gathered : gathering.KnownFields) → fields_in gathered.fields.items ≡ [] → size_of gathered.size ≡ zero_size
     → GroupsGathered around (no_known_fields (declarations_in_state s)) before xs 0 before s gathered
 groups_begin s gathered fields size = record { out = no_known_fields (declarations_in_state s); is = record { fields = fields; size = size; following = refl }; reported = record { so_far = refl } }
 

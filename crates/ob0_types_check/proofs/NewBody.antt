@@ -7,14 +7,14 @@ use Rattle.ob0_language_names.specs.Parts.{formal_sections, module_block, sectio
 use Rattle.ob0_language_names.specs.Scopes.{predeclared_scope}
 use Rattle.ob0_language_types.specs.Environments.{outermost_environment}
 use Rattle.ob0_language_types.specs.WellTyped.{passes_type_check}
-use Rattle.ob0_scope_table.specs.BodyReplaced.{PathToBody, block_without, closing_name_in_procedures, closing_name_in_block, closing_name_in_procedure, procedure_without, procedures_without}
+use Rattle.ob0_scope_table.specs.BodyReplaced.{PathToBody, block_without, closing_name_at_path_in_procedures, closing_name_at_path_in_block, closing_name_at_path_in_procedure, procedure_without, procedures_without}
 use Rattle.ob0_scope_table.specs.Resolution.{IsResolution, Resolution}
 use Rattle.ob0_types_check.specs.DeclarationFaults.{state_after_heading, reported_block, reported_body, reported_constants, reported_procedure, reported_procedures, reported_sections, reported_types, reported_variables}
 use Rattle.ob0_types_check.specs.Known.{Reported}
 use Rattle.ob0_types_check.specs.NewBody.{PassesTypeCheckWithoutBody}
 use Rattle.ob0_types_check.specs.Operations.{without_fault, ◌>>=◌}
 use Rattle.ob0_types_check.specs.KnownDeclarations.{KnownDeclarations, state_at_start}
-use Rattle.ob0_types_check.specs.SomeBodies.{WalkProgress, reported_block_with_bodies, report_body_if_wanted, every_body, is_among, reported_module_with_bodies, reported_procedure_with_bodies, reported_procedures_with_bodies, with_faulty_body}
+use Rattle.ob0_types_check.specs.SomeBodies.{WalkProgress, reported_block_with_bodies, report_body_if_wanted, every_body, is_among, reported_module_with_bodies, reported_procedure_with_bodies, reported_procedures_with_bodies, with_body_if_faulty}
 use Rattle.ob0_types_check.proofs.BlocksFit.{body_known, first_holds, heading_known}
 use Rattle.ob0_types_check.proofs.DeclaredModules.{numbering_of}
 use Rattle.ob0_types_check.proofs.MadeOnce.{fresh_first}
@@ -68,7 +68,7 @@ same_then t next other e = λ i. record { known = (e i).known; faults = t.faults
 
 body_nothing : (wanted : Bool) (own : ℕ) (w : WalkProgress) (a : Tree ℕ (maybe body)) → (reported_body w.so_far a).faults ≡ [] → report_body_if_wanted wanted own w a ≡ without_fault w
 body_nothing false own w a h = refl
-body_nothing true own w a h = λ i. record { known = record { so_far = w.so_far; bodies_with_faults = with_faulty_body (h i) own w.bodies_with_faults }; faults = h i }
+body_nothing true own w a h = λ i. record { known = record { so_far = w.so_far; bodies_with_faults = with_body_if_faulty (h i) own w.bodies_with_faults }; faults = h i }
 
 module _ (wanted : ℕ → Bool) where
   mutual
@@ -153,7 +153,7 @@ module _ (wanted : ℕ → Bool) where
   mutual
     unfolding reported_block_with_bodies reported_block
 
-    block_but : (path : PathToBody) (own : ℕ) (w : WalkProgress) (b : Tree ℕ block) → (reported_block w.so_far (block_without path b)).faults ≡ [] → wanted (closing_name_in_block path own b) ≡ true → reported_block_with_bodies wanted own w b ≡ reported_block_with_bodies every_body own w b
+    block_but : (path : PathToBody) (own : ℕ) (w : WalkProgress) (b : Tree ℕ block) → (reported_block w.so_far (block_without path b)).faults ≡ [] → wanted (closing_name_at_path_in_block path own b) ≡ true → reported_block_with_bodies wanted own w b ≡ reported_block_with_bodies every_body own w b
     block_but [] own w (forms_block (declares cs ts vs ps) a) h e =
         let v : WalkProgress = further w (declared_so_far w.so_far cs ts vs) in
         block_all own w cs ts vs ps a (procedures_all v ps (procedures_none w.so_far cs ts vs ps none h).0) (ap (λ b. report_body_if_wanted b own (reported_procedures_with_bodies every_body v ps).known a) e)
@@ -164,7 +164,7 @@ module _ (wanted : ℕ → Bool) where
         let nothing : (reported_body last.so_far a).faults ≡ [] = subst (λ q. (reported_body q a).faults ≡ []) (known_after k path v ps) parts.1 in
         block_all own w cs ts vs ps a (procedures_but k path own v ps parts.0 e) (body_nothing (wanted own) own last a nothing ∙ sym (body_nothing true own last a nothing))
 
-    procedures_but : (k : ℕ) (path : PathToBody) (own : ℕ) (w : WalkProgress) (ps : Tree ℕ (items procedure)) → (reported_procedures w.so_far (procedures_without k path ps)).faults ≡ [] → wanted (closing_name_in_procedures k path own ps) ≡ true → reported_procedures_with_bodies wanted w ps ≡ reported_procedures_with_bodies every_body w ps
+    procedures_but : (k : ℕ) (path : PathToBody) (own : ℕ) (w : WalkProgress) (ps : Tree ℕ (items procedure)) → (reported_procedures w.so_far (procedures_without k path ps)).faults ≡ [] → wanted (closing_name_at_path_in_procedures k path own ps) ≡ true → reported_procedures_with_bodies wanted w ps ≡ reported_procedures_with_bodies every_body w ps
     procedures_but k path own w end h e = refl
     procedures_but zero path own w (more d rest) h e =
         let t : Reported KnownDeclarations = reported_procedure w.so_far (procedure_without path d) in
@@ -180,7 +180,7 @@ module _ (wanted : ℕ → Bool) where
         ∙ (procedures_but k path own (further w t.known) rest a.1 e
         ∙ sym (known_then (reported_procedure_with_bodies every_body w d) (further w t.known) (λ u. reported_procedures_with_bodies every_body u rest) (procedure_nothing every_body w d a.0)))
 
-    procedure_but : (path : PathToBody) (w : WalkProgress) (d : Tree ℕ (item procedure)) → (reported_procedure w.so_far (procedure_without path d)).faults ≡ [] → wanted (closing_name_in_procedure path d) ≡ true → reported_procedure_with_bodies wanted w d ≡ reported_procedure_with_bodies every_body w d
+    procedure_but : (path : PathToBody) (w : WalkProgress) (d : Tree ℕ (item procedure)) → (reported_procedure w.so_far (procedure_without path d)).faults ≡ [] → wanted (closing_name_at_path_in_procedure path d) ≡ true → reported_procedure_with_bodies wanted w d ≡ reported_procedure_with_bodies every_body w d
     procedure_but path w (declares_procedure x fs b closing) h e =
         let t = reported_sections (record { formals = []; following = w.so_far }) (formal_sections fs) in
         let q : KnownDeclarations = heading_known w.so_far x fs in

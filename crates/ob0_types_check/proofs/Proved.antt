@@ -12,7 +12,7 @@ use Rattle.ob0_types_check.specs.Known.{Facts, Operand}
 use Rattle.ob0_types_check.specs.Operations.{required_type, without_fault}
 use Rattle.ob0_types_check.specs.KnownDeclarations.{facts_at}
 use Rattle.ob0_types_check.specs.TypeFaults.{operand_value, length_or_fault, length_by_value, length_of, reported_constant, value_or_fault}
-use Rattle.ob0_types_check.specs.Agreement.{FactsAgree, TypesAgree, shape_in}
+use Rattle.ob0_types_check.specs.Agreement.{TypesAndMeaningsAgree, TypesAgree, shape_in}
 use Rattle.ob0_types_check.specs.ReportLaws.{ConstantsWithoutFaultAgree, ExpressionsWithoutFaultAgree, LengthsWithoutFaultAgree, OperandAgrees, allowed_meanings}
 use Rattle.ob0_types_check.proofs.FittingExpressions.{FitsExpression, expression-fits}
 use Rattle.ob0_types_check.proofs.FittingNames.{only-tokens, tokens-fit}
@@ -26,7 +26,7 @@ only-once o = elim (constant_of o) as (λ c. option_map {U = Object Place (Unit 
 pub constants-again : {N V P : Type 0} (meaning : Meanings N V P) → constant_meanings {W = Place} {Q = Unit {0}} (constant_meanings {W = Shape} {Q = Unit {0}} meaning) ≡ constant_meanings meaning
 constants-again meaning = λ i. record { object_for = λ x. only-once (meaning.object_for x) i; written = meaning.written }
 
-module _ {T N : Type 0} (facts : Facts T) (shape : T → Option Shape) (label : ℕ → N) (meaning : TypeMeanings N) (e : Tree ℕ expression) (agrees : FactsAgree facts shape label meaning e) where
+module _ {T N : Type 0} (facts : Facts T) (shape : T → Option Shape) (label : ℕ → N) (meaning : TypeMeanings N) (e : Tree ℕ expression) (agrees : TypesAndMeaningsAgree facts shape label meaning e) where
   pub here-fits : (b : Bool) → facts.only_constants ≡ b → (reported_expression facts e).faults ≡ [] → OperandAgrees shape (allowed_meanings b meaning) (reported_expression facts e).known (mapped_tree label (token_value_at facts.source) e)
   here-fits true only h = operand-fits facts shape agrees.types label (constant_meanings meaning) e (only-tokens facts shape agrees.types label meaning _ only (identifiers role.Declaring e) agrees.tokens) h
   here-fits false only h = operand-fits facts shape agrees.types label meaning e (tokens-fit facts shape agrees.types label meaning (identifiers role.Declaring e) agrees.tokens) h

@@ -12,7 +12,7 @@ use Rattle.ob0_tree.specs.declared.tree.Expression.{Expression}
 use Rattle.ob0_tree.specs.declared.tree.Statement.{Statement}
 use Rattle.ob0_language_types.specs.Arguments.{arguments_listed, further_arguments}
 use Rattle.ob0_types_check.specs.ExpressionFaults.{reported_expression, reported_selectors}
-use Rattle.ob0_types_check.specs.Known.{Facts, KnownFormal, a_procedure}
+use Rattle.ob0_types_check.specs.Known.{Facts, KnownParameter, a_procedure}
 use Rattle.ob0_types_check.specs.Operations.{typed_name_operand, required_type, fault_at_token, ◌>>=◌}
 use Rattle.ob0_types_check.specs.StatementFaults.{target_name_type, call_faults_by_meaning, required_type_of_argument, faults_of_argument, argument_faults, typed_expression_faults, assignment_faults, call_faults, condition_faults, else_faults, elsif_faults, untyped_argument_faults, sequence_faults, statement_faults, further_statement_faults, reported_target}
 use Rattle.ob0_types_check.specs.CheckerViews.{formal_of}
@@ -35,7 +35,7 @@ module _ {T : Type 0} (facts : Facts T) where
   unfolding reported_target
   target_reported x path = refl
 
-  pub argument_reported : (f : KnownFormal T) (e : Tree ℕ expression) → faults_of_argument facts f e ≡ (reported_expression facts e >>= required_type_of_argument facts f).faults
+  pub argument_reported : (f : KnownParameter T) (e : Tree ℕ expression) → faults_of_argument facts f e ≡ (reported_expression facts e >>= required_type_of_argument facts f).faults
   unfolding faults_of_argument
   argument_reported f e = refl
 

@@ -13,7 +13,7 @@ use Rattle.ob0_types_check.specs.DeclarationFaults.{state_after_heading, reporte
 use Rattle.ob0_types_check.specs.Known.{Reported}
 use Rattle.ob0_types_check.specs.Operations.{ReturnsAndReports, without_fault, ◌>>=◌}
 use Rattle.ob0_types_check.specs.KnownDeclarations.{KnownDeclarations, state_at_start}
-use Rattle.ob0_types_check.specs.SomeBodies.{WalkProgress, reported_block_with_bodies, report_body_if_wanted, every_body, reported_module_with_bodies, reported_procedure_with_bodies, reported_procedures_with_bodies, with_faulty_body}
+use Rattle.ob0_types_check.specs.SomeBodies.{WalkProgress, reported_block_with_bodies, report_body_if_wanted, every_body, reported_module_with_bodies, reported_procedure_with_bodies, reported_procedures_with_bodies, with_body_if_faulty}
 use Rattle.ob0_types_check.proofs.BlocksFit.{body_known}
 use Rattle.ob0_types_check.proofs.Chains.{IsChain, reported_equal}
 
@@ -53,11 +53,11 @@ module _ (wanted : ℕ → Bool) where
 
 -- ---- one body
 
-with_some : (faults : List Fault) (own : ℕ) (xs : List ℕ) → 0 < length faults → with_faulty_body faults own xs ≡ xs ++ own ∷ []
+with_some : (faults : List Fault) (own : ℕ) (xs : List ℕ) → 0 < length faults → with_body_if_faulty faults own xs ≡ xs ++ own ∷ []
 with_some [] own xs less = absurd (omega (arith, less))
 with_some (fault ∷ faults) own xs less = refl
 
-with_none : (faults : List Fault) (own : ℕ) (xs : List ℕ) → length faults ≤ 0 → with_faulty_body faults own xs ≡ xs
+with_none : (faults : List Fault) (own : ℕ) (xs : List ℕ) → length faults ≤ 0 → with_body_if_faulty faults own xs ≡ xs
 with_none [] own xs le = refl
 with_none (fault ∷ faults) own xs le = absurd (omega (arith, le))
 
@@ -65,7 +65,7 @@ module _ (wanted : Bool) (own : ℕ) (w : WalkProgress) (a : Tree ℕ (maybe bod
   abbrev of_body : List Fault
   of_body = (reported_body w.so_far a).faults
 
-  body_if_with : (bodies_with_faults : List ℕ) → bodies_with_faults ≡ with_faulty_body of_body own w.bodies_with_faults → ReturnsAndReports before after (record { so_far = p; bodies_with_faults = bodies_with_faults }) (report_body_if_wanted wanted own w a)
+  body_if_with : (bodies_with_faults : List ℕ) → bodies_with_faults ≡ with_body_if_faulty of_body own w.bodies_with_faults → ReturnsAndReports before after (record { so_far = p; bodies_with_faults = bodies_with_faults }) (report_body_if_wanted wanted own w a)
   body_if_with bodies_with_faults e =
       subst (λ b. ReturnsAndReports before after (record { so_far = p; bodies_with_faults = bodies_with_faults }) (report_body_if_wanted b own w a)) (sym is_wanted) (record {
         known = λ i. record { so_far = (r.known ∙ body_known w.so_far a) i; bodies_with_faults = e i };

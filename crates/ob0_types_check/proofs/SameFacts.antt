@@ -15,7 +15,7 @@ use Rattle.ob0_types_table.specs.declared.types.TypeId.TheVariants as type
 use Rattle.ob0_types_check.specs.declared.reporting.checker_state.Meaning.{Meaning}
 use Rattle.ob0_types_check.specs.declared.reporting.checker_state.CheckerState.{CheckerState}
 use Rattle.ob0_types_check.specs.Known.{a_record, an_array}
-use Rattle.ob0_types_check.specs.KnownDeclarations.{element_type_of_composite, facts_at, field_type_of_composite, type_of_first_field, form_at, same_type}
+use Rattle.ob0_types_check.specs.KnownDeclarations.{element_type_of_composite, facts_at, field_type_of_composite, type_of_first_field, form_of_type_so_far, same_type}
 use Rattle.ob0_types_check.specs.CheckerViews.{entry_element_type, facts_in, entry_field_type, fields_in, form_of_type_in, composite_type_of, meaning_view, declarations_in_state}
 
 elements_same : (o : Option TypeEntry) → entry_element_type o ≡ element_type_of_composite (option_map composite_type_of o)
@@ -32,7 +32,7 @@ field_same None x = refl
 field_same (Some (made.Array a)) x = refl
 field_same (Some (made.Record r)) x = field_alike r.fields x
 
-form_same : (cs : List TypeEntry) (t : TypeId) → form_of_type_in cs t ≡ form_at (map composite_type_of cs) t
+form_same : (cs : List TypeEntry) (t : TypeId) → form_of_type_in cs t ≡ form_of_type_so_far (map composite_type_of cs) t
 form_same cs type.Integer = refl
 form_same cs type.Boolean = refl
 form_same cs (type.Array i) = ap an_array (elements_same (slice_get cs i) ∙ sym (ap element_type_of_composite (slice_get-map composite_type_of cs i)))

@@ -19,13 +19,13 @@ use Rattle.ob0_language_types.specs.Typing.{array_length, outcome_value}
 use Rattle.ob0_language_values.specs.Values.{Value, negate, number, apply_relation}
 use Rattle.ob0_language_values.specs.Values.{apply_sign as with_sign}
 use Rattle.ob0_scope_table.specs.TokenProperty.{EachTokenHas}
-use Rattle.ob0_scope_table.specs.FaultTokens.{AreAtSameTokens}
+use Rattle.ob0_scope_table.specs.FaultTokens.{AreFaultsAtSameTokens}
 use Rattle.ob0_scope_table.specs.Resolution.{ordinal_in}
 use Rattle.ob0_scope_table.proofs.FaultTokens.{both_same, none_same, one_same}
 use Rattle.ob0_types_table.specs.Operators.{product_value, sum_value}
 use Rattle.ob0_types_check.specs.ExpressionFaults.{reported_addends, reported_expression, reported_factor, reported_multipliers, reported_selectors, reported_simple, reported_term}
-use Rattle.ob0_types_check.specs.Known.{Facts, Form, KnownFormal, Meaning, Operand, Reported, Types, a_constant, a_procedure, a_record, a_scalar, a_type, a_variable, an_array, unknown_form}
-use Rattle.ob0_types_check.specs.Operations.{constant_name_operand, typed_name_operand, number_operand, add_operands, prefixed_operand, fault_at_tokens, comparison_type, complement_operand, element_type_in_form, element_operand, operand_in_parentheses, field_type_in_form, field_operand, may_be_same_type, field_type_or_fault, joint_operand, multiply_operands, name_operand, operand_by_meaning, extended_operand, relate_operands, required_type, required_type_of_both, operand_type_of_addition, operand_type_of_multiplication, operand_type_of_relation, without_fault, sign_operand, token_after, token_before, ◌>>=◌}
+use Rattle.ob0_types_check.specs.Known.{Facts, Form, KnownParameter, Meaning, Operand, Reported, Types, a_constant, a_procedure, a_record, a_scalar, a_type, a_variable, an_array, unknown_form}
+use Rattle.ob0_types_check.specs.Operations.{constant_name_operand, typed_name_operand, number_operand, add_operands, prefixed_operand, fault_at_tokens, comparison_type, complement_operand, element_type_in_form, element_operand, operand_in_parentheses, field_type_in_form, field_operand, may_be_same_type, field_type_or_fault, operand_of_operation, multiply_operands, name_operand, operand_by_meaning, extended_operand, relate_operands, required_type, required_type_of_both, operand_type_of_addition, operand_type_of_multiplication, operand_type_of_relation, without_fault, sign_operand, token_after, token_before, ◌>>=◌}
 use Rattle.ob0_types_check.specs.StatementFaults.{call_faults_by_meaning, required_type_of_argument, faults_of_argument, argument_faults, assignment_faults, call_faults, else_faults, elsif_faults, untyped_argument_faults, typed_expression_faults, sequence_faults, statement_faults, further_statement_faults, reported_target, target_type_by_meaning, target_name_type}
 use Rattle.ob0_types_check.specs.TypeFaults.{length_or_fault, length_by_value, length_of, operand_value, reported_constant, type_by_meaning, type_named_at, value_or_fault}
 
@@ -44,7 +44,7 @@ pub record Alikeness (old new : TextWithTokens) (os ns : List (Option ℕ)) (P :
 
 module _ (old new : TextWithTokens) where
   abbrev pub Same : List Fault → List Fault → Type 0
-  Same before after = AreAtSameTokens old new before after
+  Same before after = AreFaultsAtSameTokens old new before after
 
   -- holds if both results come from one value, and the faults are at the same tokens
   pub record Alike {Z A : Type 0} (f g : Z → A) (r s : Reported A) : Type 0 where
@@ -117,14 +117,14 @@ module _ (old new : TextWithTokens) (os ns : List (Option ℕ)) (P : ℕ → Typ
         (faulty types.unknown code.TypeMismatch a.first a.last)
 
     added_same : (o : AddOperator) (a b : Operand T) → Eq (add_operands fo o a b) (add_operands fn o a b)
-    added_same o a b = gives old new (λ t. joint_operand t (option_and_then (sum_value o b.value) a.value) a b) (both_required (operand_type_of_addition types o) a b)
+    added_same o a b = gives old new (λ t. operand_of_operation t (option_and_then (sum_value o b.value) a.value) a b) (both_required (operand_type_of_addition types o) a b)
 
     multiplied_same : (o : MultiplyOperator) (a b : Operand T) → Eq (multiply_operands fo o a b) (multiply_operands fn o a b)
-    multiplied_same o a b = gives old new (λ t. joint_operand t (option_and_then (product_value o b.value) a.value) a b) (both_required (operand_type_of_multiplication types o) a b)
+    multiplied_same o a b = gives old new (λ t. operand_of_operation t (option_and_then (product_value o b.value) a.value) a b) (both_required (operand_type_of_multiplication types o) a b)
 
     related_same : (r : Relation) (a b : Operand T) → Eq (relate_operands fo r a b) (relate_operands fn r a b)
     related_same r a b =
-        gives old new (λ t. joint_operand (comparison_type types t) (apply_to_both (λ x y. outcome_value (apply_relation r x y)) a.value b.value) a b) (both_required (operand_type_of_relation types r a.of) a b)
+        gives old new (λ t. operand_of_operation (comparison_type types t) (apply_to_both (λ x y. outcome_value (apply_relation r x y)) a.value b.value) a b) (both_required (operand_type_of_relation types r a.of) a b)
 
     signed_same : (s : Option Sign) (o : Operand T) → Eq (sign_operand fo s o) (sign_operand fn s o)
     signed_same None o = equal old new o
@@ -288,10 +288,10 @@ module _ (old new : TextWithTokens) (os ns : List (Option ℕ)) (P : ℕ → Typ
         (subst (λ (x : Operand T). Alright (typed_expression_faults fo x.of e) (typed_expression_faults fn b.known.of e)) (sym p.before)
         (subst (λ (x : Operand T). Alright (typed_expression_faults fo p.value.of e) (typed_expression_faults fn x.of e)) (sym p.after) (required_there p.value.of e h)))
 
-    passed_same : (f : KnownFormal T) (o : Operand T) → Eq (required_type_of_argument fo f o) (required_type_of_argument fn f o)
+    passed_same : (f : KnownParameter T) (o : Operand T) → Eq (required_type_of_argument fo f o) (required_type_of_argument fn f o)
     passed_same f o = either old new (f.by_place && not o.may_be_variable) (faulty types.unknown code.NotVariable o.first o.last) (required_same f.of o)
 
-    argument_same : (f : KnownFormal T) (e : Tree ℕ expression) → Each e → Alright (faults_of_argument fo f e) (faults_of_argument fn f e)
+    argument_same : (f : KnownParameter T) (e : Tree ℕ expression) → Each e → Alright (faults_of_argument fo f e) (faults_of_argument fn f e)
     unfolding faults_of_argument
     argument_same f e h = (goes_on old new (required_type_of_argument fo f) (required_type_of_argument fn f) (expression_same e h) (λ o. passed_same f o)).faults
 
@@ -309,7 +309,7 @@ module _ (old new : TextWithTokens) (os ns : List (Option ℕ)) (P : ℕ → Typ
     arguments_each (one no_arguments) h = tt
     arguments_each (one (some_arguments e es)) h = (h.0, further_each es h.1)
 
-    arguments_same : (fs : List (KnownFormal T)) (es : List (Tree ℕ expression)) → EachOf es → Alright (argument_faults fo fs es) (argument_faults fn fs es)
+    arguments_same : (fs : List (KnownParameter T)) (es : List (Tree ℕ expression)) → EachOf es → Alright (argument_faults fo fs es) (argument_faults fn fs es)
     arguments_same [] es h = none_same old new
     arguments_same (f ∷ fs) [] h = none_same old new
     arguments_same (f ∷ fs) (e ∷ es) h = both_same old new (argument_same f e h.0) (arguments_same fs es h.1)
@@ -318,7 +318,7 @@ module _ (old new : TextWithTokens) (os ns : List (Option ℕ)) (P : ℕ → Typ
     parts_same [] h = none_same old new
     parts_same (e ∷ es) h = both_same old new (expression_same e h.0).faults (parts_same es h.1)
 
-    counted_same : (b : Bool) (p : ℕ) (fs : List (KnownFormal T)) (es : List (Tree ℕ expression)) → EachOf es
+    counted_same : (b : Bool) (p : ℕ) (fs : List (KnownParameter T)) (es : List (Tree ℕ expression)) → EachOf es
         → Alright (if b then argument_faults fo fs es else fault_at_tokens fo code.ArgumentCount p p) (if b then argument_faults fn fs es else fault_at_tokens fn code.ArgumentCount p p)
     counted_same true p fs es h = arguments_same fs es h
     counted_same false p fs es h = at_same code.ArgumentCount p p

@@ -11,7 +11,7 @@ use Rattle.ob0_tree.specs.declared.tree.ModuleTree.{ModuleTree}
 use Rattle.std.proofs.lemmas.List.{length-map}
 use Rattle.ob0_scan.specs.TextWithTokens.{word_of_token}
 use Rattle.ob0_scope_table.specs.TokenProperty.{EachTokenHas}
-use Rattle.ob0_scope_table.specs.FaultTokens.{AreAtSameTokens, AreWrittenAlike}
+use Rattle.ob0_scope_table.specs.FaultTokens.{AreFaultsAtSameTokens, AreWrittenAlike}
 use Rattle.ob0_scope_table.specs.Resolution.{is_undeclared_fault, ordinal_in}
 use Rattle.ob0_scope_table.proofs.Placed.{each_token}
 use Rattle.ob0_scope_table.proofs.FaultTokens.{both_same, filter_same, none_same, texts_stay, values_stay}
@@ -20,7 +20,7 @@ use Rattle.ob0_types_table.specs.declared.types.TypeId.TheVariants as type
 use Rattle.ob0_types_check.specs.DeclarationFaults.{KnownHeading, state_after_heading, reported_constant_declaration, reported_block, reported_body, reported_constants, module_faults, reported_parameters, reported_procedure, reported_procedures, reported_section, reported_sections, reported_types, reported_variables, reported_type_declaration, reported_variable_group, with_parameters}
 use Rattle.ob0_types_check.specs.Known.{Meaning, Operand, Reported, a_constant, a_procedure, a_type, a_variable}
 use Rattle.ob0_types_check.specs.Operations.{without_fault, token_before, ◌>>=◌}
-use Rattle.ob0_types_check.specs.KnownDeclarations.{PartTypes, Size, KnownDeclarations, TypeWithState, state_at_start, define, define_all, facts_at, is_within_limits, append_composite, make_type, of_elements, of_fields, size_at, type_too_large, types_so_far, with_meaning}
+use Rattle.ob0_types_check.specs.KnownDeclarations.{PartTypes, Size, KnownDeclarations, TypeWithState, state_at_start, define, define_all, facts_at, is_within_limits, append_composite, make_type, of_elements, of_fields, size_of_type_so_far, reported_too_large_type, types_so_far, with_meaning}
 use Rattle.ob0_types_check.specs.TypeFaults.{length_of}
 use Rattle.ob0_types_check.specs.WrittenTypeFaults.{KnownFields, made_array_type, array_size, with_field_group, no_known_fields, next_type_ordinal, made_record_type, record_size, record_keyword, reported_fields, reported_groups, reported_type, with_known_fields, with_known_field, token_before_group}
 use Rattle.ob0_types_check.proofs.SameFaults.{Alike, Alikeness, at_same, constant_same, expression_same, goes_on, length_same, rightly, sequence_same, type_named_same}
@@ -123,7 +123,7 @@ module _ (old new : TextWithTokens) (os ns : List (Option ℕ)) (P : ℕ → Typ
   -- ---- written types
 
   made_within : (b : Bool) (p : KnownDeclarations) (word ordinal : ℕ) (parts : PartTypes) (size : Size)
-      → Typed (if b then without_fault (append_composite (so_old p) ordinal parts size) else type_too_large (so_old p) word) (if b then without_fault (append_composite (so_new p) ordinal parts size) else type_too_large (so_new p) word)
+      → Typed (if b then without_fault (append_composite (so_old p) ordinal parts size) else reported_too_large_type (so_old p) word) (if b then without_fault (append_composite (so_new p) ordinal parts size) else reported_too_large_type (so_new p) word)
   made_within true p word ordinal parts size = rightly old new typed_old typed_new (append_composite p ordinal parts size)
   made_within false p word ordinal parts size = record {
     value = record { of = type.Unknown; following = p };
@@ -137,7 +137,7 @@ module _ (old new : TextWithTokens) (os ns : List (Option ℕ)) (P : ℕ → Typ
 
   array_same : (ordinal : ℕ) (o : Operand TypeId) (n : Option ℕ) (t : TypeWithState) → Typed (made_array_type ordinal o n (typed_old t)) (made_array_type ordinal o n (typed_new t))
   array_same ordinal o None t = rightly old new typed_old typed_new (record { of = type.Unknown; following = t.following })
-  array_same ordinal o (Some n) t = made_same t.following (token_before o.first) ordinal (of_elements n t.of) (array_size n (size_at t.following.made t.of))
+  array_same ordinal o (Some n) t = made_same t.following (token_before o.first) ordinal (of_elements n t.of) (array_size n (size_of_type_so_far t.following.made t.of))
 
   name_over : (t : TypeId) (g : KnownFields) (x : ℕ) → P x → with_known_field t (gathered_new g) x ≡ gathered_new (with_known_field t (gathered_old g) x)
   name_over t g x h = ap (λ text. gathered_new (with_written text)) (w.written x h) where
@@ -332,8 +332,8 @@ same_count old new w = sym (length-map new.tokens (word_of_token new.text)) ∙ 
 
 -- If all tokens of two texts have the same spellings, the undeclared names and the faults of types are at the same
 -- tokens.
-pub module_same : (old new : TextWithTokens) (w : AreWrittenAlike old new) (tree : ModuleTree) (ordinals : List (Option ℕ)) (declaration_tokens uses : List ℕ) (before after : List Fault) → AreAtSameTokens old new before after
-    → AreAtSameTokens old new (module_faults (record { module_read = parsed_module old tree; ordinals = ordinals; declaration_tokens = declaration_tokens; uses = uses; faults = before }))
+pub module_same : (old new : TextWithTokens) (w : AreWrittenAlike old new) (tree : ModuleTree) (ordinals : List (Option ℕ)) (declaration_tokens uses : List ℕ) (before after : List Fault) → AreFaultsAtSameTokens old new before after
+    → AreFaultsAtSameTokens old new (module_faults (record { module_read = parsed_module old tree; ordinals = ordinals; declaration_tokens = declaration_tokens; uses = uses; faults = before }))
     (module_faults (record { module_read = parsed_module new tree; ordinals = ordinals; declaration_tokens = declaration_tokens; uses = uses; faults = after }))
 unfolding module_faults
 module_same old new w tree ordinals declaration_tokens uses before after h =

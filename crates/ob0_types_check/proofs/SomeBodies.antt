@@ -8,14 +8,14 @@ use Rattle.ob0_tree.specs.ParsedModule.{tree_of}
 use Rattle.ob0_tree.specs.Tree.{Tree, block, body, declares, declares_procedure, end, forms_block, identifiers, is_module, item, items, maybe, module_text, more, procedure}
 use Rattle.ob0_language_names.specs.Parts.{formal_sections, module_block, section_constants, section_types, section_variables}
 use Rattle.ob0_scope_table.specs.TokenProperty.{EachTokenHas}
-use Rattle.ob0_scope_table.specs.FaultTokens.{AreAtSameTokens, fault_at}
+use Rattle.ob0_scope_table.specs.FaultTokens.{AreFaultsAtSameTokens, fault_at}
 use Rattle.ob0_scope_table.specs.Resolution.{IsResolution, Resolution, declaring_names}
 use Rattle.ob0_types_check.specs.EqualExceptBodies.{EachTokenOfBlockHasExceptInBodies, IsSameTokenAt, EachTokenOfProcedureHasExceptInBodies, EachTokenOfProceduresHasExceptInBodies, Unless}
 use Rattle.ob0_types_check.specs.DeclarationFaults.{KnownHeading, state_after_heading, reported_body, reported_constants, reported_sections, reported_types, reported_variables}
 use Rattle.ob0_types_check.specs.Known.{Reported}
 use Rattle.ob0_types_check.specs.Operations.{◌>>=◌}
 use Rattle.ob0_types_check.specs.KnownDeclarations.{KnownDeclarations, state_at_start, predeclared_meanings}
-use Rattle.ob0_types_check.specs.SomeBodies.{AllPass, SomeBodiesSuffice, WalkProgress, IncludesFaultyBodies, reported_block_with_bodies, report_body_if_wanted, every_body, faulty_bodies, reported_module_with_bodies, reported_procedure_with_bodies, reported_procedures_with_bodies, with_faulty_body}
+use Rattle.ob0_types_check.specs.SomeBodies.{AllPass, SomeBodiesSuffice, WalkProgress, IncludesFaultyBodies, reported_block_with_bodies, report_body_if_wanted, every_body, faulty_bodies, reported_module_with_bodies, reported_procedure_with_bodies, reported_procedures_with_bodies, with_body_if_faulty}
 use Rattle.ob0_types_check.proofs.Chains.{reported_equal}
 use Rattle.ob0_types_check.proofs.ReportedWith.{further}
 use Rattle.ob0_types_check.proofs.SameFaults.{Alike, Alikeness}
@@ -37,7 +37,7 @@ module _ (test : ℕ → Bool) where
   all_and (x ∷ xs) y h q = (h.0, all_and xs y h.1 q)
 
   -- If all bodies in the list are wanted after one was added, they were wanted before.
-  faulty_before : (faults : List Fault) (own : ℕ) (xs : List ℕ) → AllPass test (with_faulty_body faults own xs) → AllPass test xs
+  faulty_before : (faults : List Fault) (own : ℕ) (xs : List ℕ) → AllPass test (with_body_if_faulty faults own xs) → AllPass test xs
   faulty_before [] own xs h = h
   faulty_before (fault ∷ faults) own xs h = all_before xs (own ∷ []) h
 
@@ -69,7 +69,7 @@ module _ (wanted : ℕ → Bool) where
   faulty_wanted : (w : WalkProgress) (own : ℕ) (a : Tree ℕ (maybe body)) → Wants w.bodies_with_faults → Wants (report_body_if_wanted (wanted own) own w a).known.bodies_with_faults
   faulty_wanted w own a h = one (wanted own) refl
     where
-      added : (faults : List Fault) → wanted own ≡ true → Wants (with_faulty_body faults own w.bodies_with_faults)
+      added : (faults : List Fault) → wanted own ≡ true → Wants (with_body_if_faulty faults own w.bodies_with_faults)
       added [] e = h
       added (fault ∷ faults) e = all_and wanted w.bodies_with_faults own h e
 
@@ -125,7 +125,7 @@ one_then {Z} {A} {Y} {B} {f} {g} {h} {k} {t} {u} {v} J K next other another down
     }
 
 -- If a list of faults is empty, the list of faults at the same tokens of another text is also empty.
-none_same_tokens : (old new : TextWithTokens) (before after : List Fault) → AreAtSameTokens old new before after → before ≡ [] → after ≡ []
+none_same_tokens : (old new : TextWithTokens) (before after : List Fault) → AreFaultsAtSameTokens old new before after → before ≡ [] → after ≡ []
 none_same_tokens old new before after h none =
     let count : length before ≡ length h.tokens = ap length h.in_old ∙ length-map h.tokens (fault_at old) in
     let nothing : length before ≡ 0 = ap length none in
@@ -163,7 +163,7 @@ module _ (old new : TextWithTokens) (os ns : List (Option ℕ)) (P : ℕ → Typ
   abbrev nothing_of : {A : Type 0} → A → Type 0
   nothing_of x = Unit {0}
 
-  none_unless : (faults : List Fault) (own : ℕ) (xs : List ℕ) → wanted own ≡ false → Wants wanted (with_faulty_body faults own xs) → faults ≡ []
+  none_unless : (faults : List Fault) (own : ℕ) (xs : List ℕ) → wanted own ≡ false → Wants wanted (with_body_if_faulty faults own xs) → faults ≡ []
   none_unless [] own xs e h = refl
   none_unless (fault ∷ faults) own xs e h = absurd (true≢false (sym (all_last wanted xs own h) ∙ e))
 
@@ -178,7 +178,7 @@ module _ (old new : TextWithTokens) (os ns : List (Option ℕ)) (P : ℕ → Typ
       now_faults = (reported_body (so_now z.so) a).faults
 
       at_end : Both
-      at_end = record { so = z.so; in_old = with_faulty_body before_faults own z.in_old; in_new = with_faulty_body now_faults own z.in_new }
+      at_end = record { so = z.so; in_old = with_body_if_faulty before_faults own z.in_old; in_new = with_body_if_faulty now_faults own z.in_new }
 
       one : (b : Bool) → wanted own ≡ b → Unless b (EachTokenHas P a) → With (report_body_if_wanted true own (walked_before z) a) (report_body_if_wanted true own (walked_now z) a) (report_body_if_wanted b own (walked_now z) a)
       one true e each = record { value = at_end; before = refl; after = refl; same = refl }
@@ -188,7 +188,7 @@ module _ (old new : TextWithTokens) (os ns : List (Option ℕ)) (P : ℕ → Typ
             value = at_end;
             before = refl;
             after = refl;
-            same = λ i. record { known = record { so_far = so_now z.so; bodies_with_faults = with_faulty_body (none i) own z.in_new }; faults = none i };
+            same = λ i. record { known = record { so_far = so_now z.so; bodies_with_faults = with_body_if_faulty (none i) own z.in_new }; faults = none i };
           }
 
   -- The report of a block after a heading is the same in both texts if the report of the block is.

@@ -12,7 +12,7 @@ use Rattle.ob0_language_types.specs.Expressions as meant
 use Rattle.ob0_language_types.specs.Typing.{depth, scalars}
 use Rattle.ob0_language_types.specs.WellTyped.{Signature, signature_of}
 use Rattle.ob0_types_table.specs.KnownTables.{declared_object_in, shapes_of}
-use Rattle.ob0_types_table.specs.Tables.{AreEntriesInOrder, IsEntry, IsTypeAmongEntries, field_shapes, formal_view, entry_shape, faulty_shape, object_view, array_or_faulty, record_or_faulty, extended_shapes, type_shape}
+use Rattle.ob0_types_table.specs.Tables.{AreEntriesInOrder, IsValidEntry, IsTypeAmongEntries, field_shapes, formal_view, entry_shape, faulty_shape, object_view, array_or_faulty, record_or_faulty, extended_shapes, type_shape}
 use Rattle.ob0_types_table.specs.declared.known.Field.{Field}
 use Rattle.ob0_types_table.specs.declared.known.FormalParameter as formal
 use Rattle.ob0_types_table.specs.declared.known.Object as object
@@ -77,7 +77,7 @@ fields_there known (f ∷ fs) (next_field_shape x s gs) h =
     ((λ i. next_field_shape (h.0 i) (type_there known f.of s h.1 i) (rest.0 i)), All-cons (λ f. IsTypeAmongEntries (length known) f.of) f fs (made_there known f.of s h.1) rest.1)
 
 -- An entry of the table has the shape with which it agrees.
-entry_there : (known : List Shape) (m : TypeEntry) (s : Shape) → CompositeAgrees (shape_in known) (composite_type_of m) s → (entry_shape known m ≡ s) × IsEntry known m
+entry_there : (known : List Shape) (m : TypeEntry) (s : Shape) → CompositeAgrees (shape_in known) (composite_type_of m) s → (entry_shape known m ≡ s) × IsValidEntry known m
 entry_there known (made.Array a) s h =
     let (u, e, there) = h.parts in
     let same : entry_shape known (made.Array a) ≡ s = ap (array_shape a.ordinal a.length) (type_there known a.element u there) ∙ sym e in

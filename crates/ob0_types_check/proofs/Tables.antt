@@ -10,7 +10,7 @@ use Rattle.ob0_language_types.specs.Typing.{shape_of_field}
 use Rattle.ob0_language_values.specs.Values.{FieldShapes, Shape, array_shape, next_field_shape, no_field_shape, record_shape}
 use Rattle.ob0_types_check.proofs.DeclaredShapes.{longer_more, made_kept}
 use Rattle.ob0_types_check.specs.Known.{a_record, an_array}
-use Rattle.ob0_types_check.specs.KnownDeclarations.{CompositeType, PartTypes, KnownField, element_type_of_composite, element_type_of_parts, field_type_of_composite, field_type_of_parts, type_of_first_field, form_at, of_elements, of_fields, same_type}
+use Rattle.ob0_types_check.specs.KnownDeclarations.{CompositeType, PartTypes, KnownField, element_type_of_composite, element_type_of_parts, field_type_of_composite, field_type_of_parts, type_of_first_field, form_of_type_so_far, of_elements, of_fields, same_type}
 use Rattle.ob0_types_check.specs.Agreement.{EntriesAgree, FieldsAgree, FormAgrees, CompositeAgrees, PartsAgree, TableAgrees, as_array, as_record, shape_in}
 use Rattle.ob0_types_check.specs.ReportLaws.{TableTypesAgree}
 use Rattle.ob0_types_check.proofs.Unreported.{some-none, some-same}
@@ -50,7 +50,7 @@ record-formed : (shape : TypeId → Option Shape) (k : ℕ) (p : PartTypes) (r s
 record-formed shape k (of_elements n t) r s (u, e, known) h = absurd (some-none s (sym h ∙ ap as_record e))
 record-formed shape k (of_fields fields) r s (fs, e, each) h = (k, fs, some-same s (record_shape k fs) (sym h ∙ ap as_record e), field-there shape fields fs each)
 
-formed-there : (made : List CompositeType) (shapes : List Shape) → TableAgrees made shapes → (t : TypeId) (s : Shape) → shape_in shapes t ≡ Some s → FormAgrees (shape_in shapes) (form_at made t) s
+formed-there : (made : List CompositeType) (shapes : List Shape) → TableAgrees made shapes → (t : TypeId) (s : Shape) → shape_in shapes t ≡ Some s → FormAgrees (shape_in shapes) (form_of_type_so_far made t) s
 formed-there made shapes each type.Integer s h = tt
 formed-there made shapes each type.Boolean s h = tt
 formed-there made shapes each type.Unknown s h = absurd (cc)

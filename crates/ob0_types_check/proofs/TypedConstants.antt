@@ -12,7 +12,7 @@ use Rattle.ob0_types_check.specs.Known.{Facts, Operand}
 use Rattle.ob0_types_check.specs.Operations.{required_type, without_fault}
 use Rattle.ob0_types_check.specs.KnownDeclarations.{facts_at}
 use Rattle.ob0_types_check.specs.TypeFaults.{operand_value, length_or_fault, length_by_value, length_of, reported_constant, value_or_fault}
-use Rattle.ob0_types_check.specs.Agreement.{FactsAgree, shape_in}
+use Rattle.ob0_types_check.specs.Agreement.{TypesAndMeaningsAgree, shape_in}
 use Rattle.ob0_types_check.specs.WellTypedLaws.{ValuedConstantsHaveNoFault, TypedExpressionsHaveNoFault, ValidLengthsHaveNoFault}
 use Rattle.ob0_types_check.proofs.FittingExpressions.{FitsExpression, expression-fits}
 use Rattle.ob0_types_check.proofs.FittingNames.{only-tokens, tokens-fit}
@@ -26,7 +26,7 @@ pub is-there : {A : Type 0} (o : Option A) → is_some o ≡ true → (a : A) ×
 is-there None h = absurd (cc)
 is-there (Some a) h = (a, refl)
 
-module _ {T N : Type 0} (facts : Facts T) (shape : T → Option Shape) (apart : TypesApart facts.types shape) (label : ℕ → N) (meaning : TypeMeanings N) (e : Tree ℕ expression) (agrees : FactsAgree facts shape label meaning e) where
+module _ {T N : Type 0} (facts : Facts T) (shape : T → Option Shape) (apart : TypesApart facts.types shape) (label : ℕ → N) (meaning : TypeMeanings N) (e : Tree ℕ expression) (agrees : TypesAndMeaningsAgree facts shape label meaning e) where
   abbrev here : Tree N expression
   here = mapped_tree label (token_value_at facts.source) e
 

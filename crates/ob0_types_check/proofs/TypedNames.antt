@@ -12,8 +12,8 @@ use Rattle.ob0_types_table.specs.declared.types.TypeId.TheVariants as type
 use Rattle.ob0_language_values.specs.Values.{Shape, array_shape, boolean_shape, integer_shape, record_shape}
 use Rattle.ob0_types_check.specs.Known.{Facts, Meaning, a_constant, a_procedure, a_scalar, a_type, a_variable}
 use Rattle.ob0_types_check.specs.Operations.{typed_name_operand, fault_at_token, operand_by_meaning, without_fault}
-use Rattle.ob0_types_check.specs.Agreement.{KnownMeaningAgrees, TokenAgrees, TokensAgree, as_array, as_record, shape_in}
-use Rattle.ob0_types_check.specs.KnownDeclarations.{CompositeType, form_at, types_so_far}
+use Rattle.ob0_types_check.specs.Agreement.{IsKnownAndAgrees, TokenAgrees, TokensAgree, as_array, as_record, shape_in}
+use Rattle.ob0_types_check.specs.KnownDeclarations.{CompositeType, form_of_type_so_far, types_so_far}
 use Rattle.ob0_types_check.proofs.TypedExpressions.{NameTyped, NamesTyped}
 use Rattle.ob0_types_check.proofs.TypedOperands.{TypesApart, and-then}
 use Rattle.ob0_types_check.proofs.Unreported.{some-none, some-same}
@@ -52,7 +52,7 @@ boolean-alone made shapes type.Unknown h = absurd (cc)
 boolean-alone made shapes (type.Array i) h = absurd (some-none boolean_shape (sym (no-array-of shapes i boolean_shape h)))
 boolean-alone made shapes (type.Record i) h = absurd (some-none boolean_shape (sym (no-record-of shapes i boolean_shape h)))
 
-scalar-alone : (made : List CompositeType) (shapes : List Shape) (t : TypeId) (s : Shape) → shape_in shapes t ≡ Some s → form_at made t ≡ a_scalar → (as_array s ≡ None) × (as_record s ≡ None)
+scalar-alone : (made : List CompositeType) (shapes : List Shape) (t : TypeId) (s : Shape) → shape_in shapes t ≡ Some s → form_of_type_so_far made t ≡ a_scalar → (as_array s ≡ None) × (as_record s ≡ None)
 scalar-alone made shapes type.Integer s h e = let is = some-same integer_shape s h in (sym (ap as_array is), sym (ap as_record is))
 scalar-alone made shapes type.Boolean s h e = let is = some-same boolean_shape s h in (sym (ap as_array is), sym (ap as_record is))
 scalar-alone made shapes type.Unknown s h e = absurd (cc)
@@ -77,7 +77,7 @@ module _ {T : Type 0} (facts : Facts T) (shape : T → Option Shape) where
   variable-named x t true e = absurd (true≢false e)
   variable-named x t false e = refl
 
-  holds-right : (x : ℕ) (m : Option (Meaning T)) (o : Option (Object Shape Signature)) → facts.only_constants ≡ false → KnownMeaningAgrees shape m o → (s : Shape) → type_of_variable_or_constant o ≡ Some s → (operand_by_meaning facts x m).faults ≡ []
+  holds-right : (x : ℕ) (m : Option (Meaning T)) (o : Option (Object Shape Signature)) → facts.only_constants ≡ false → IsKnownAndAgrees shape m o → (s : Shape) → type_of_variable_or_constant o ≡ Some s → (operand_by_meaning facts x m).faults ≡ []
   holds-right x None o only a s h = absurd a
   holds-right x (Some (a_type t)) o only (u, known, holds) s h = absurd (some-none s (sym h ∙ ap type_of_variable_or_constant holds))
   holds-right x (Some (a_procedure fs)) o only (signature, holds, formals) s h = absurd (no-procedure o signature s holds h)
@@ -89,7 +89,7 @@ module _ {T : Type 0} (facts : Facts T) (shape : T → Option Shape) where
   abbrev only : Option (Object Shape Signature) → Option (Object Shape (Unit {0}))
   only o = option_map meant.a_constant (constant_of o)
 
-  only-right : (Q : Type 0) (x : ℕ) (m : Option (Meaning T)) (o : Option (Object Shape Signature)) → KnownMeaningAgrees shape m o → (s : Shape) → type_of_variable_or_constant (option_map {U = Object Shape Q} meant.a_constant (constant_of o)) ≡ Some s → (operand_by_meaning facts x m).faults ≡ []
+  only-right : (Q : Type 0) (x : ℕ) (m : Option (Meaning T)) (o : Option (Object Shape Signature)) → IsKnownAndAgrees shape m o → (s : Shape) → type_of_variable_or_constant (option_map {U = Object Shape Q} meant.a_constant (constant_of o)) ≡ Some s → (operand_by_meaning facts x m).faults ≡ []
   only-right Q x None o a s h = absurd a
   only-right Q x (Some (a_type t)) o (u, known, holds) s h = absurd (some-none s (sym h ∙ ap (λ z. type_of_variable_or_constant (option_map {U = Object Shape Q} meant.a_constant (constant_of z))) holds))
   only-right Q x (Some (a_procedure fs)) o (signature, holds, formals) s h = absurd (no-constant o signature s holds h)

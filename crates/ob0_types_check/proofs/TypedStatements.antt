@@ -22,7 +22,7 @@ use Rattle.ob0_types_check.specs.Known as known
 use Rattle.ob0_types_check.specs.Operations.{typed_name_operand, fault_at_operand, fault_at_token, name_operand, operand_by_meaning, required_type, without_fault}
 use Rattle.ob0_types_check.specs.KnownDeclarations.{CompositeType, facts_at, types_so_far}
 use Rattle.ob0_types_check.specs.StatementFaults.{call_faults_by_meaning, required_type_of_argument, faults_of_argument, argument_faults, typed_expression_faults, assignment_faults, call_faults, condition_faults, else_faults, elsif_faults, sequence_faults, statement_faults, further_statement_faults, reported_target}
-use Rattle.ob0_types_check.specs.Agreement.{FormalsAgree, KnownMeaningAgrees, TokensAgree, TypesAgree, as_array, as_record, shape_in}
+use Rattle.ob0_types_check.specs.Agreement.{FormalsAgree, IsKnownAndAgrees, TokensAgree, TypesAgree, as_array, as_record, shape_in}
 use Rattle.ob0_types_check.specs.WellTypedLaws.{HaveDistinctOrdinals, ordinal_of_shape, TypedStatementsHaveNoFault}
 use Rattle.ob0_types_check.proofs.FittingExpressions.{parts-placed}
 use Rattle.ob0_types_check.proofs.FittingStatements.{EachAgreed, arguments-agreed, arguments-mapped_tree, split}
@@ -71,7 +71,7 @@ module _ {T N : Type 0} (facts : Facts T) (shape : T → Option Shape) (types : 
   variable-place x t true = refl
   variable-place x t false = refl
 
-  named-place : (x : ℕ) (m : Option (Meaning T)) (o : Option (Object Shape Signature)) (v : Shape) → KnownMeaningAgrees shape m o → o ≡ Some (meant.a_variable v) → (operand_by_meaning facts x m).known.may_be_variable ≡ true
+  named-place : (x : ℕ) (m : Option (Meaning T)) (o : Option (Object Shape Signature)) (v : Shape) → IsKnownAndAgrees shape m o → o ≡ Some (meant.a_variable v) → (operand_by_meaning facts x m).known.may_be_variable ≡ true
   named-place x None o v a e = absurd a
   named-place x (Some (a_type t)) o v (s, reported, holds) e = absurd (some-none v (sym (ap type_of_variable_or_constant e) ∙ ap type_of_variable_or_constant holds))
   named-place x (Some (a_constant c)) o v (w, reported, holds, scalar) e = let same : Some (meant.a_constant w) ≡ Some (meant.a_variable v) = sym holds ∙ e in absurd (cc)
@@ -121,11 +121,11 @@ module _ {T N : Type 0} (facts : Facts T) (shape : T → Option Shape) (types : 
       none-of-both (reported_expression facts e).faults _ (expression-typed facts shape types apart only label meaning e k g.shape typed)
       (required_type-right facts shape types apart of o (alike o.of of g.shape (operand-typed facts shape types apart only label meaning e k g.shape typed) wanted))
 
-  argument-right : (f : known.KnownFormal T) (g : FormalParameter) (e : Tree ℕ expression) → g.mode ≡ mode_of f.by_place → shape f.of ≡ Some g.shape → Named e → argument_matches meaning g (here e) ≡ true → faults_of_argument facts f e ≡ []
+  argument-right : (f : known.KnownParameter T) (g : FormalParameter) (e : Tree ℕ expression) → g.mode ≡ mode_of f.by_place → shape f.of ≡ Some g.shape → Named e → argument_matches meaning g (here e) ≡ true → faults_of_argument facts f e ≡ []
   unfolding faults_of_argument
   argument-right f g e mode wanted k h = required_type_of_argument-right f.by_place f.of g e mode wanted k h
 
-  arguments-right : (fs : List (known.KnownFormal T)) (gs : Signature) (es : List (Tree ℕ expression)) → FormalsAgree shape fs gs → EachAgreed facts shape types label meaning es → arguments_match meaning gs (map here es) ≡ true
+  arguments-right : (fs : List (known.KnownParameter T)) (gs : Signature) (es : List (Tree ℕ expression)) → FormalsAgree shape fs gs → EachAgreed facts shape types label meaning es → arguments_match meaning gs (map here es) ≡ true
       → (length fs ≡ length es) × (argument_faults facts fs es ≡ [])
   unfolding arguments_match
   arguments-right [] [] [] a k h = (refl, refl)
@@ -142,7 +142,7 @@ module _ {T N : Type 0} (facts : Facts T) (shape : T → Option Shape) (types : 
   unfolding call_is_well_typed
   not-called o p es e unsigned h = absurd (true≢false (sym (sym (ap (λ s. call_is_well_typed meaning s (map here es)) (ap signature_of e ∙ unsigned)) ∙ h)))
 
-  called-right : (x : ℕ) (m : Option (Meaning T)) (o : Option (Object Shape Signature)) (es : List (Tree ℕ expression)) → KnownMeaningAgrees shape m o → EachAgreed facts shape types label meaning es → call_is_well_typed meaning (signature_of o) (map here es) ≡ true → call_faults_by_meaning facts x m es ≡ []
+  called-right : (x : ℕ) (m : Option (Meaning T)) (o : Option (Object Shape Signature)) (es : List (Tree ℕ expression)) → IsKnownAndAgrees shape m o → EachAgreed facts shape types label meaning es → call_is_well_typed meaning (signature_of o) (map here es) ≡ true → call_faults_by_meaning facts x m es ≡ []
   unfolding call_is_well_typed
   called-right x None o es a k h = absurd a
   called-right x (Some (a_type t)) o es (s, reported, holds) k h = not-called o (Some (meant.a_type s)) es holds refl h

@@ -15,7 +15,7 @@ use Rattle.ob0_types_check.specs.Known.{Facts, Meaning, Operand, a_constant, a_p
 use Rattle.ob0_types_check.specs.Operations.{typed_name_operand}
 use Rattle.ob0_types_check.specs.KnownDeclarations.{facts_at}
 use Rattle.ob0_types_check.specs.StatementFaults.{target_name_type, target_type_by_meaning, reported_target}
-use Rattle.ob0_types_check.specs.Agreement.{KnownMeaningAgrees, TokensAgree, TypesAgree, shape_in}
+use Rattle.ob0_types_check.specs.Agreement.{IsKnownAndAgrees, TokensAgree, TypesAgree, shape_in}
 use Rattle.ob0_types_check.specs.ReportLaws.{OperandAgrees}
 use Rattle.ob0_types_check.specs.WellTypedLaws.{TypedTargetsHaveNoFault}
 use Rattle.ob0_types_check.proofs.FittingExpressions.{FitsSelectors, selectors-fit}
@@ -62,7 +62,7 @@ module _ {T N : Type 0} (facts : Facts T) (shape : T → Option Shape) (types : 
   pub no-signature : {A : Type 0} (o : Option (Object Shape Signature)) (v : Shape) (signature : Signature) → o ≡ Some (meant.a_variable v) → signature_of o ≡ Some signature → A
   no-signature o v signature e h = absurd (some-none signature (sym h ∙ ap signature_of e))
 
-  assigned-right : (x : ℕ) (m : Option (Meaning T)) (o : Option (Object Shape Signature)) (v : Shape) → KnownMeaningAgrees shape m o → o ≡ Some (meant.a_variable v) → ((target_type_by_meaning facts x m).faults ≡ []) × (shape (target_type_by_meaning facts x m).known ≡ Some v)
+  assigned-right : (x : ℕ) (m : Option (Meaning T)) (o : Option (Object Shape Signature)) (v : Shape) → IsKnownAndAgrees shape m o → o ≡ Some (meant.a_variable v) → ((target_type_by_meaning facts x m).faults ≡ []) × (shape (target_type_by_meaning facts x m).known ≡ Some v)
   assigned-right x None o v a e = absurd a
   assigned-right x (Some (a_type t)) o v (s, reported, holds) e = absurd (some-none v (sym (ap type_of_variable_or_constant e) ∙ ap type_of_variable_or_constant holds))
   assigned-right x (Some (a_constant c)) o v (w, reported, holds, scalar) e = let same : Some (meant.a_constant w) ≡ Some (meant.a_variable v) = sym holds ∙ e in absurd (cc)

@@ -15,11 +15,11 @@ use Rattle.ob0_language_values.specs.Values.{FieldShapes, Shape, Value, array_sh
 use Rattle.ob0_types_check.specs.ExpressionFaults.{reported_expression}
 use Rattle.ob0_types_check.specs.Known.{Meaning, Operand, Reported, a_constant, a_procedure, a_type, a_variable}
 use Rattle.ob0_types_check.specs.Operations.{without_fault}
-use Rattle.ob0_types_check.specs.KnownDeclarations.{PartTypes, Size, KnownDeclarations, facts_at, is_within_limits, append_composite, make_type, of_elements, size_at, type_too_large}
+use Rattle.ob0_types_check.specs.KnownDeclarations.{PartTypes, Size, KnownDeclarations, facts_at, is_within_limits, append_composite, make_type, of_elements, size_of_type_so_far, reported_too_large_type}
 use Rattle.ob0_types_check.specs.KnownDeclarations as so_far
 use Rattle.ob0_types_check.specs.TypeFaults.{length_of, type_by_meaning}
 use Rattle.ob0_types_check.specs.WrittenTypeFaults.{KnownFields, made_array_type, array_size, no_known_fields, made_record_type, record_size, record_keyword, reported_fields, reported_groups, next_type_ordinal, reported_type, token_before_group}
-use Rattle.ob0_types_check.specs.Agreement.{KnownMeaningAgrees, shape_in}
+use Rattle.ob0_types_check.specs.Agreement.{IsKnownAndAgrees, shape_in}
 use Rattle.ob0_types_check.specs.WellTypedLaws.{ValuedConstantsHaveNoFault, ValidLengthsHaveNoFault, TypedStatementsHaveNoFault}
 use Rattle.ob0_types_check.proofs.DeclaredNames.{AreSeen, IsSeen, Numbering, each_part}
 use Rattle.ob0_types_check.proofs.DeclaredShapes.{GatheredAgrees, SizeAgrees, array_sized, followed, record_sized, size_agrees}
@@ -58,7 +58,7 @@ is-within z s t h e =
     (λ i. nat_le (h.scalars_are i) 65536 && nat_le (h.depth_is i) 100) ∙ within (nat_le (scalars s) 65536 && nat_le (depth s) 100) s t e
 
 make_type-right : (p : KnownDeclarations) (word ordinal : ℕ) (parts : PartTypes) (size : Size) → is_within_limits size ≡ true → (make_type p word ordinal parts size).faults ≡ []
-make_type-right p word ordinal parts size e = ap (λ b. (if b then without_fault (append_composite p ordinal parts size) else type_too_large p word).faults) e
+make_type-right p word ordinal parts size e = ap (λ b. (if b then without_fault (append_composite p ordinal parts size) else reported_too_large_type p word).faults) e
 
 no-type : {A : Type 0} (o : Option (meant.Object Shape Signature)) (signature : Signature) (s : Shape) → signature_of o ≡ Some signature → type_of_name o ≡ Some s → A
 no-type None signature s e h = absurd (some-none s (sym h))
@@ -69,7 +69,7 @@ no-type (Some (meant.a_procedure p)) signature s e h = absurd (some-none s (sym 
 no-type (Some (meant.a_standard p)) signature s e h = absurd (some-none s (sym h))
 
 -- No fault is reported for a name that denotes a type.
-meant-right : (p : KnownDeclarations) (before : List Shape) (x : ℕ) (m : Option (Meaning TypeId)) (o : Option (meant.Object Shape Signature)) → KnownMeaningAgrees (shape_in before) m o → (s : Shape) → type_of_name o ≡ Some s → (type_by_meaning (facts_at p false) x m).faults ≡ []
+meant-right : (p : KnownDeclarations) (before : List Shape) (x : ℕ) (m : Option (Meaning TypeId)) (o : Option (meant.Object Shape Signature)) → IsKnownAndAgrees (shape_in before) m o → (s : Shape) → type_of_name o ≡ Some s → (type_by_meaning (facts_at p false) x m).faults ≡ []
 meant-right p before x None o a s h = refl
 meant-right p before x (Some (a_type t)) o a s h = refl
 meant-right p before x (Some (a_constant c)) o (v, reported, holds, scalar) s h = absurd (some-none s (sym h ∙ ap type_of_name holds))
@@ -77,8 +77,8 @@ meant-right p before x (Some (a_variable t)) o (u, reported, holds) s h = absurd
 meant-right p before x (Some (a_procedure fs)) o (signature, holds, formals) s h = no-type o signature s holds h
 
 -- No fault is reported for an array with a known length that isn't too large.
-array-right : (ordinal : ℕ) (o : Operand TypeId) (reported : Option ℕ) (count : ℕ) (u : so_far.TypeWithState) → reported ≡ Some count → is_within_limits (array_size count (size_at u.following.made u.of)) ≡ true → (made_array_type ordinal o reported u).faults ≡ []
-array-right ordinal o reported count u e h = ap (λ c. (made_array_type ordinal o c u).faults) e ∙ make_type-right u.following _ ordinal (of_elements count u.of) (array_size count (size_at u.following.made u.of)) h
+array-right : (ordinal : ℕ) (o : Operand TypeId) (reported : Option ℕ) (count : ℕ) (u : so_far.TypeWithState) → reported ≡ Some count → is_within_limits (array_size count (size_of_type_so_far u.following.made u.of)) ≡ true → (made_array_type ordinal o reported u).faults ≡ []
+array-right ordinal o reported count u e h = ap (λ c. (made_array_type ordinal o c u).faults) e ∙ make_type-right u.following _ ordinal (of_elements count u.of) (array_size count (size_of_type_so_far u.following.made u.of)) h
 
 module _ (w : Numbering) (fit : PartsFit) (fine : PartsRight) (n : ℕ) (scope : Scope Name) (env : TypeEnvironment Name) where
   abbrev here : TypeMeanings Name
@@ -112,8 +112,8 @@ module _ (w : Numbering) (fit : PartsFit) (fine : PartsRight) (n : ℕ) (scope :
         let (r, hr, limits) = and-then (λ s. type_within_limits (array_shape k long.length s)) given s limited in
         let inner = type_right (suc around) (suc k) u p before (omega (arith, at)) st parts.1 r hr in
         let d = type_denotes w fit n scope env (suc around) (suc k) u p before (omega (arith, at)) st parts.1 inner in
-        let size = array_sized (size_at el.known.following.made el.known.of) k long.length d.shape (size_agrees el.known.following.made d.after el.known.of d.shape d.later.table d.known) in
-        let small = is-within (array_size long.length (size_at el.known.following.made el.known.of)) (array_shape k long.length d.shape) s size (given-again (λ s. type_within_limits (array_shape k long.length s)) given d.shape (Some s) d.given_is limited) in
+        let size = array_sized (size_of_type_so_far el.known.following.made el.known.of) k long.length d.shape (size_agrees el.known.following.made d.after el.known.of d.shape d.later.table d.known) in
+        let small = is-within (array_size long.length (size_of_type_so_far el.known.following.made el.known.of)) (array_shape k long.length d.shape) s size (given-again (λ s. type_within_limits (array_shape k long.length s)) given d.shape (Some s) d.given_is limited) in
         none-of-both (reported_expression (facts_at p true) e).faults _ a.0
         (none-of-both l.faults _ a.1 (none-of-both el.faults (made_array_type (next_type_ordinal around p) o l.known el.known).faults inner (array-right (next_type_ordinal around p) o l.known long.length el.known long.known small)))
     type_right around k (record_type g rest) p before at st seen s h =

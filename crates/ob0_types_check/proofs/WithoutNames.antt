@@ -11,7 +11,7 @@ use Rattle.ob0_language_names.specs.Scopes.{Labelling, Scope, ordinal_after_bloc
 use Rattle.ob0_language_names.proofs.OccurrencesMapped.{occurrences-mapped_tree}
 use Rattle.ob0_language_types.proofs.Proved.{numbering_keeps_type_check-holds}
 use Rattle.ob0_scope_table.specs.BodyReplaced.{PathToBody, block_without, procedure_without, procedures_without, module_without_body}
-use Rattle.ob0_scope_table.specs.Resolution.{IsResolution, Resolution, binding_at, is_unbound, label_at, ordinal_in, ordinal_and_spelling}
+use Rattle.ob0_scope_table.specs.Resolution.{IsResolution, Resolution, ordinal_and_spelling_at, is_unbound, label_at, ordinal_in, ordinal_and_spelling}
 use Rattle.ob0_scope_table.proofs.BodyReplaced.{without_mapped}
 use Rattle.ob0_types_check.specs.NewBody.{PassesTypeCheckWithoutBody}
 use Rattle.ob0_types_check.proofs.BoundModules.{labels-bound}
@@ -116,5 +116,5 @@ module _ (r : Resolution) (closing : ℕ) (is : IsResolution r) (f : PassesTypeC
   left_placed =
       let n : Numbering = numbering_of r in
       let b : Tree ℕ block = module_block (tree_of r.module_read) in
-      block_placed n (predeclared_scope naming_by_spelling) 7 (block_without f.path b) (ap module_block (left_by ordinal_and_spelling (binding_at r.module_read.source r.ordinals) is.binding)) left_bound
+      block_placed n (predeclared_scope naming_by_spelling) 7 (block_without f.path b) (ap module_block (left_by ordinal_and_spelling (ordinal_and_spelling_at r.module_read.source r.ordinals) is.binding)) left_bound
       (omega (arith, module_counted r is, ordinal_after_block-module_without_body f.path 7 b))

@@ -15,7 +15,7 @@ use Rattle.ob0_language_types.specs.Typing as typing
 use Rattle.ob0_language_types.specs.Typing.{shape_of_field, value_type}
 use Rattle.ob0_language_types.specs.WellTyped.{Signature, TypeMeanings, signature_of}
 use Rattle.ob0_language_values.specs.Values.{FieldShapes, Shape, Value, array_shape, boolean_shape, integer_shape, next_field_shape, no_field_shape, record_shape}
-use Rattle.ob0_types_check.specs.Known.{Facts, Form, KnownFormal, Meaning, Types, a_constant, a_procedure, a_record, a_scalar, a_type, a_variable, an_array, unknown_form}
+use Rattle.ob0_types_check.specs.Known.{Facts, Form, KnownParameter, Meaning, Types, a_constant, a_procedure, a_record, a_scalar, a_type, a_variable, an_array, unknown_form}
 use Rattle.ob0_types_check.specs.KnownDeclarations.{CompositeType, PartTypes, KnownField, of_elements, of_fields}
 
 -- States that the form of a type has the same parts as a shape. The function `shape` returns the shape of a type, or
@@ -44,7 +44,7 @@ pub record TypesAgree {T : Type 0} (types : Types T) (shape : T → Option Shape
 -- states that formal parameters agree one by one with the parameters of a signature, in mode and type
 abbrev pub FormalsAgree : {T : Type 0}
     → (T → Option Shape)
-    → List (KnownFormal T)
+    → List (KnownParameter T)
     → Signature
     → Type 0
 FormalsAgree shape [] [] = Unit {0}
@@ -86,13 +86,13 @@ DeclarationAgrees shape None o = o ≡ None
 DeclarationAgrees shape (Some m) o = MeaningAgrees shape m o
 
 -- states that a name has a meaning, and that this meaning agrees with the object
-abbrev pub KnownMeaningAgrees : {T : Type 0}
+abbrev pub IsKnownAndAgrees : {T : Type 0}
     → (T → Option Shape)
     → Option (Meaning T)
     → Option (meant.Object Shape Signature)
     → Type 0
-KnownMeaningAgrees shape None o = ⊥
-KnownMeaningAgrees shape (Some m) o = MeaningAgrees shape m o
+IsKnownAndAgrees shape None o = ⊥
+IsKnownAndAgrees shape (Some m) o = MeaningAgrees shape m o
 
 -- States that the identifier at a token agrees with its label, the name in its place in another tree. `label` returns
 -- the label of a token. A looked-up name must have a meaning that agrees with the label's object. A field's label must
@@ -106,7 +106,7 @@ abbrev pub TokenAgrees : {T N : Type 0}
     → ℕ
     → Type 0
 TokenAgrees facts shape label meaning role.LookedUp x =
-    KnownMeaningAgrees shape (facts.object_for x) (meaning.object_for (label x))
+    IsKnownAndAgrees shape (facts.object_for x) (meaning.object_for (label x))
 TokenAgrees facts shape label meaning role.FieldName x =
     meaning.written (label x) ≡ token_text_at facts.source x
 TokenAgrees facts shape label meaning role.Declaring x = Unit {0}
@@ -127,7 +127,7 @@ TokensAgree facts shape label meaning (x ∷ xs) =
 
 -- states that the types at a place agree with their shapes, and that the identifiers in the tree `t` agree with their
 -- labels
-pub record FactsAgree
+pub record TypesAndMeaningsAgree
     {T N : Type 0} (facts : Facts T) (shape : T → Option Shape) (label : ℕ → N) (meaning : TypeMeanings N)
     {s : Sort} (t : Tree ℕ s) : Type 0 where
   pub types : TypesAgree facts.types shape

@@ -23,7 +23,7 @@ use Rattle.ob0_types_check.specs.declared.reporting.checker_state.Meaning.TheVar
 use Rattle.ob0_types_check.specs.declared.reporting.checker_state.Size as code_size
 use Rattle.ob0_types_check.specs.declared.reporting.checker_state.CheckerState.{CheckerState}
 use Rattle.ob0_types_check.specs.declared.reporting.written_types.KnownFields as gathering
-use Rattle.ob0_types_check.specs.Known.{Facts, Form, KnownFormal, Meaning, Operand, Reported, Types, a_constant, a_procedure, a_record, a_scalar, a_type, a_variable, an_array, unknown_form}
+use Rattle.ob0_types_check.specs.Known.{Facts, Form, KnownParameter, Meaning, Operand, Reported, Types, a_constant, a_procedure, a_record, a_scalar, a_type, a_variable, an_array, unknown_form}
 use Rattle.ob0_types_check.specs.DeclarationFaults.{KnownHeading}
 use Rattle.ob0_types_check.specs.KnownDeclarations.{CompositeType, Size, KnownDeclarations, KnownField, of_elements, of_fields, same_type}
 use Rattle.ob0_types_check.specs.WrittenTypeFaults.{KnownFields}
@@ -61,7 +61,7 @@ known_types composites =
     }
 
 -- converts a formal parameter of the code to a formal parameter of the definitions
-abbrev pub formal_of : formal.FormalParameter → KnownFormal TypeId
+abbrev pub formal_of : formal.FormalParameter → KnownParameter TypeId
 formal_of f = record { by_place = f.by_place; of = f.of }
 
 -- converts the meaning of a declaration from the code to the definitions

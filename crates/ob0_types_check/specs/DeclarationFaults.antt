@@ -9,7 +9,7 @@ use Rattle.ob0_scope_table.specs.Resolution.{Resolution, is_undeclared_fault}
 use Rattle.ob0_types_table.specs.declared.types.TypeId.{TypeId}
 use Rattle.ob0_tree.specs.ParsedModule.{tree_of}
 use Rattle.ob0_tree.specs.Tree.{Tree, begins, block, body, constant, declares, declares_constant, declares_procedure, declares_type, declares_variable, end, further_section, forms_block, item, items, maybe, more, names, none, one, procedure, then_section, type_definition, value_section, variable, variable_section, written_type}
-use Rattle.ob0_types_check.specs.Known.{KnownFormal, Reported, a_constant, a_procedure, a_type, a_variable}
+use Rattle.ob0_types_check.specs.Known.{KnownParameter, Reported, a_constant, a_procedure, a_type, a_variable}
 use Rattle.ob0_types_check.specs.Operations.{without_fault, ◌>>=◌}
 use Rattle.ob0_types_check.specs.KnownDeclarations.{KnownDeclarations, TypeWithState, state_at_start, define, define_all, facts_at}
 use Rattle.ob0_types_check.specs.StatementFaults.{sequence_faults}
@@ -69,7 +69,7 @@ reported_variables p (more g rest) = do
 
 -- the parameters found so far in a procedure's heading, and the state after these parameters
 pub record KnownHeading : Type 0 where
-  pub formals : List (KnownFormal TypeId)
+  pub formals : List (KnownParameter TypeId)
   pub following : KnownDeclarations
 
 -- Returns a heading to which a parameter of one type is added for each of these name tokens. The parameters are also

@@ -25,7 +25,7 @@ pub record Types (T : Type 0) : Type 0 where
   pub form : T → Form T
 
 -- a formal parameter: its type, and whether it is passed by reference (VAR) or by value
-pub record KnownFormal (T : Type 0) : Type 0 where
+pub record KnownParameter (T : Type 0) : Type 0 where
   pub by_place : Bool
   pub of : T
 
@@ -35,7 +35,7 @@ pub data Meaning (T : Type 0) : Type 0 where
   a_type : T → Meaning T
   a_constant : Option Value → Meaning T
   a_variable : T → Meaning T
-  a_procedure : List (KnownFormal T) → Meaning T
+  a_procedure : List (KnownParameter T) → Meaning T
 
 -- The facts at a place of a text: the tokens, the types, and the meaning of the name at each token.
 -- The meaning is None if it isn't known. If `only_constants` is true, names may only refer to

@@ -81,12 +81,12 @@ field_type_of_composite None x = None
 field_type_of_composite (Some m) x = field_type_of_parts m.parts x
 
 -- returns the form of a type, given the array and record types found so far
-abbrev pub form_at : List CompositeType → TypeId → Form TypeId
-form_at made type.Integer = a_scalar
-form_at made type.Boolean = a_scalar
-form_at made (type.Array i) = an_array (element_type_of_composite (slice_get made i))
-form_at made (type.Record i) = a_record (field_type_of_composite (slice_get made i))
-form_at made type.Unknown = unknown_form
+abbrev pub form_of_type_so_far : List CompositeType → TypeId → Form TypeId
+form_of_type_so_far made type.Integer = a_scalar
+form_of_type_so_far made type.Boolean = a_scalar
+form_of_type_so_far made (type.Array i) = an_array (element_type_of_composite (slice_get made i))
+form_of_type_so_far made (type.Record i) = a_record (field_type_of_composite (slice_get made i))
+form_of_type_so_far made type.Unknown = unknown_form
 
 -- returns the representation of types (`Types`) by `TypeId`, given the array and record types found so far
 abbrev pub types_so_far : List CompositeType → Types TypeId
@@ -96,7 +96,7 @@ types_so_far made =
       boolean = type.Boolean;
       unknown = type.Unknown;
       same = same_type;
-      form = form_at made;
+      form = form_of_type_so_far made;
     }
 
 -- returns the meaning of the name at a token; None if the name is unbound or its declaration isn't known yet
@@ -142,8 +142,8 @@ abbrev pub scalar_size : Size
 scalar_size = record { scalars = 1; depth = 0 }
 
 -- returns the size of an unknown type, or of an empty list of fields: no scalars and depth 0
-abbrev pub empty_size : Size
-empty_size = record { scalars = 0; depth = 0 }
+abbrev pub zero_size : Size
+zero_size = record { scalars = 0; depth = 0 }
 
 -- returns the size of an array or record type; for None, the size of one scalar
 abbrev pub composite_size : Option CompositeType → Size
@@ -151,12 +151,12 @@ composite_size None = scalar_size
 composite_size (Some m) = m.size
 
 -- returns the size of a type, given the array and record types found so far; the unknown type has no scalars
-abbrev pub size_at : List CompositeType → TypeId → Size
-size_at made type.Integer = scalar_size
-size_at made type.Boolean = scalar_size
-size_at made (type.Array i) = composite_size (slice_get made i)
-size_at made (type.Record i) = composite_size (slice_get made i)
-size_at made type.Unknown = empty_size
+abbrev pub size_of_type_so_far : List CompositeType → TypeId → Size
+size_of_type_so_far made type.Integer = scalar_size
+size_of_type_so_far made type.Boolean = scalar_size
+size_of_type_so_far made (type.Array i) = composite_size (slice_get made i)
+size_of_type_so_far made (type.Record i) = composite_size (slice_get made i)
+size_of_type_so_far made type.Unknown = zero_size
 
 -- returns whether a type of this size has at most 65,536 scalars, and arrays and records nested at most 100 deep
 abbrev pub is_within_limits : Size → Bool
@@ -188,8 +188,8 @@ append_composite p ordinal parts size = record {
 
 -- reports `TypeTooLarge` at `word`, the token ARRAY or RECORD of a type; returns the unknown type, with the state
 -- unchanged
-abbrev pub type_too_large : KnownDeclarations → ℕ → Reported TypeWithState
-type_too_large p word =
+abbrev pub reported_too_large_type : KnownDeclarations → ℕ → Reported TypeWithState
+reported_too_large_type p word =
     record {
       known = record { of = type.Unknown; following = p };
       faults = fault_at_token (facts_at p false) code.TypeTooLarge word;
@@ -199,7 +199,7 @@ type_too_large p word =
 -- at `word`, its word ARRAY or RECORD, instead
 abbrev pub make_type : KnownDeclarations → ℕ → ℕ → PartTypes → Size → Reported TypeWithState
 make_type p word ordinal parts size =
-    if is_within_limits size then without_fault (append_composite p ordinal parts size) else type_too_large p word
+    if is_within_limits size then without_fault (append_composite p ordinal parts size) else reported_too_large_type p word
 
 -- returns the meanings of the predeclared names, by ordinal: INTEGER, BOOLEAN, TRUE, FALSE, Read,
 -- Write, WriteLn

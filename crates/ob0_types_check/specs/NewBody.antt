@@ -3,7 +3,7 @@
 use Rattle.std.specs.Prelude.{◌≡◌, ℕ, true}
 use Rattle.ob0_language_names.specs.Names.{naming_by_spelling}
 use Rattle.ob0_language_types.specs.WellTyped.{passes_type_check}
-use Rattle.ob0_scope_table.specs.BodyReplaced.{PathToBody, closing_name_in_module, module_without_body}
+use Rattle.ob0_scope_table.specs.BodyReplaced.{PathToBody, closing_name_at_path, module_without_body}
 use Rattle.ob0_scope_table.specs.Resolution.{Resolution}
 use Rattle.ob0_tree.specs.ParsedModule.{tree_of}
 use Rattle.ob0_tree.specs.Places.{tree_with_names}
@@ -12,6 +12,6 @@ use Rattle.ob0_tree.specs.Places.{tree_with_names}
 -- name is the token `closing`. Nothing is required of these statements.
 pub record PassesTypeCheckWithoutBody (r : Resolution) (closing : ℕ) : Type 0 where
   pub path : PathToBody
-  pub at : closing_name_in_module path (tree_of r.module_read) ≡ closing
+  pub at : closing_name_at_path path (tree_of r.module_read) ≡ closing
   pub fits : passes_type_check naming_by_spelling (tree_with_names r.module_read.source (module_without_body path (tree_of r.module_read)))
       ≡ true

@@ -131,8 +131,8 @@ abbrev pub comparison_type : {T : Type 0} → Types T → T → T
 comparison_type types t = if types.same t types.unknown then types.unknown else types.boolean
 
 -- returns the result, as an operand, of an operation on the operands `a` and `b`, with the type `of` and this value
-abbrev pub joint_operand : {T : Type 0} → T → Option Value → Operand T → Operand T → Operand T
-joint_operand of value a b =
+abbrev pub operand_of_operation : {T : Type 0} → T → Option Value → Operand T → Operand T → Operand T
+operand_of_operation of value a b =
     record { of = of; value = value; may_be_variable = false; first = a.first; last = b.last }
 
 -- returns the result, as an operand, of a sign or `~` before the operand `o`, with the type `of` and this value
@@ -149,7 +149,7 @@ abbrev pub add_operands : {T : Type 0}
     → Reported (Operand T)
 add_operands facts o a b = do
   t ← required_type_of_both facts (operand_type_of_addition facts.types o) a b
-  without_fault (joint_operand t (option_and_then (sum_value o b.value) a.value) a b)
+  without_fault (operand_of_operation t (option_and_then (sum_value o b.value) a.value) a b)
 
 -- returns the faults of `*`, DIV, MOD or `&` between two operands, and the resulting operand
 abbrev pub multiply_operands : {T : Type 0}
@@ -160,7 +160,7 @@ abbrev pub multiply_operands : {T : Type 0}
     → Reported (Operand T)
 multiply_operands facts o a b = do
   t ← required_type_of_both facts (operand_type_of_multiplication facts.types o) a b
-  without_fault (joint_operand t (option_and_then (product_value o b.value) a.value) a b)
+  without_fault (operand_of_operation t (option_and_then (product_value o b.value) a.value) a b)
 
 -- returns the faults of a relation between two operands, and the resulting operand
 abbrev pub relate_operands : {T : Type 0}
@@ -171,7 +171,7 @@ abbrev pub relate_operands : {T : Type 0}
     → Reported (Operand T)
 relate_operands facts r a b = do
   t ← required_type_of_both facts (operand_type_of_relation facts.types r a.of) a b
-  without_fault (joint_operand (comparison_type facts.types t)
+  without_fault (operand_of_operation (comparison_type facts.types t)
       (apply_to_both (λ x y. outcome_value (apply_relation r x y)) a.value b.value) a b)
 
 -- returns the faults of an operand with an optional sign before it, and the resulting operand; a sign requires INTEGER

@@ -14,7 +14,7 @@ use Rattle.ob0_types_check.specs.Operations.{◌>>=◌}
 use Rattle.ob0_types_check.specs.KnownDeclarations.{CompositeType, KnownDeclarations, facts_at, types_so_far}
 use Rattle.ob0_types_check.specs.StatementFaults.{sequence_faults}
 use Rattle.ob0_types_check.specs.TypeFaults.{length_of, reported_constant}
-use Rattle.ob0_types_check.specs.Agreement.{FactsAgree, TableAgrees, TypesAgree, shape_in}
+use Rattle.ob0_types_check.specs.Agreement.{TypesAndMeaningsAgree, TableAgrees, TypesAgree, shape_in}
 
 -- returns these meanings of names; if the Bool is true, only the meanings of constants are kept
 abbrev pub allowed_meanings : {N : Type 0} → Bool → TypeMeanings N → TypeMeanings N
@@ -35,12 +35,12 @@ pub record OperandAgrees
   pub placed : o.may_be_variable ≡ true → variable_type meaning (lone_designator e) ≡ Some of
 
 -- States that if no fault is reported for an expression, the operand found agrees with the expression. The facts known
--- at the expression must be correct (`FactsAgree`).
+-- at the expression must be correct (`TypesAndMeaningsAgree`).
 abbrev pub ExpressionsWithoutFaultAgree : Type 0 → Type 0
 ExpressionsWithoutFaultAgree N =
     (p : KnownDeclarations) (only_constants : Bool) (shapes : List Shape) (label : ℕ → N) (meaning : TypeMeanings N)
     (e : Tree ℕ expression)
-    → FactsAgree (facts_at p only_constants) (shape_in shapes) label meaning e
+    → TypesAndMeaningsAgree (facts_at p only_constants) (shape_in shapes) label meaning e
     → (reported_expression (facts_at p only_constants) e).faults ≡ []
     → OperandAgrees (shape_in shapes) (allowed_meanings only_constants meaning)
     (reported_expression (facts_at p only_constants) e).known (mapped_tree label (token_value_at p.source) e)
@@ -56,11 +56,11 @@ pub record ConstantAgrees
   pub scalar : is_some (value_type value) ≡ true
 
 -- States that if no fault is reported for the right side of a constant's declaration, the value found is the value of
--- the right side. The facts known at the right side must be correct (`FactsAgree`).
+-- the right side. The facts known at the right side must be correct (`TypesAndMeaningsAgree`).
 abbrev pub ConstantsWithoutFaultAgree : Type 0 → Type 0
 ConstantsWithoutFaultAgree N =
     (p : KnownDeclarations) (shapes : List Shape) (label : ℕ → N) (meaning : TypeMeanings N) (e : Tree ℕ expression)
-    → FactsAgree (facts_at p true) (shape_in shapes) label meaning e
+    → TypesAndMeaningsAgree (facts_at p true) (shape_in shapes) label meaning e
     → (reported_constant (facts_at p true) e).faults ≡ []
     → ConstantAgrees meaning (reported_constant (facts_at p true) e).known
     (mapped_tree label (token_value_at p.source) e)
@@ -76,23 +76,23 @@ pub record LengthAgrees
   pub counted : array_length value ≡ Some length
 
 -- States that if no fault is reported for the length in an array type, the length found is the value of its expression.
--- The facts known at that expression must be correct (`FactsAgree`).
+-- The facts known at that expression must be correct (`TypesAndMeaningsAgree`).
 abbrev pub LengthsWithoutFaultAgree : Type 0 → Type 0
 LengthsWithoutFaultAgree N =
     (p : KnownDeclarations) (shapes : List Shape) (label : ℕ → N) (meaning : TypeMeanings N) (e : Tree ℕ expression)
-    → FactsAgree (facts_at p true) (shape_in shapes) label meaning e
+    → TypesAndMeaningsAgree (facts_at p true) (shape_in shapes) label meaning e
     → (reported_expression (facts_at p true) e >>= length_of (facts_at p false)).faults ≡ []
     → LengthAgrees meaning
     (reported_expression (facts_at p true) e >>= length_of (facts_at p false)).known
     (mapped_tree label (token_value_at p.source) e)
 
 -- States that statements are well-typed if no fault is reported for them. The facts known at the statements must be
--- correct (`FactsAgree`).
+-- correct (`TypesAndMeaningsAgree`).
 abbrev pub StatementsWithoutFaultAreTyped : Type 0 → Type 0
 StatementsWithoutFaultAreTyped N =
     (p : KnownDeclarations) (shapes : List Shape) (label : ℕ → N) (meaning : TypeMeanings N)
     (statements : Tree ℕ sequence)
-    → FactsAgree (facts_at p false) (shape_in shapes) label meaning statements
+    → TypesAndMeaningsAgree (facts_at p false) (shape_in shapes) label meaning statements
     → sequence_faults (facts_at p false) statements ≡ []
     → sequence_is_well_typed meaning (mapped_tree label (token_value_at p.source) statements) ≡ true
 

@@ -26,9 +26,9 @@ pub record WalkProgress : Type 0 where
 
 -- appends `own`, the closing name of a body's block, to the list `bodies_with_faults` if the body's list of faults
 -- isn't empty
-abbrev pub with_faulty_body : List Fault → ℕ → List ℕ → List ℕ
-with_faulty_body [] own bodies_with_faults = bodies_with_faults
-with_faulty_body (fault ∷ faults) own bodies_with_faults = bodies_with_faults ++ own ∷ []
+abbrev pub with_body_if_faulty : List Fault → ℕ → List ℕ → List ℕ
+with_body_if_faulty [] own bodies_with_faults = bodies_with_faults
+with_body_if_faulty (fault ∷ faults) own bodies_with_faults = bodies_with_faults ++ own ∷ []
 
 -- If the Bool is true, returns the faults of a body. If there are any, appends `own`, the closing name of the body's
 -- block, to `bodies_with_faults`. If the Bool is false, returns no fault and changes nothing.
@@ -39,7 +39,7 @@ report_body_if_wanted true own w statements =
       known =
           record {
             so_far = w.so_far;
-            bodies_with_faults = with_faulty_body (reported_body w.so_far statements).faults own w.bodies_with_faults;
+            bodies_with_faults = with_body_if_faulty (reported_body w.so_far statements).faults own w.bodies_with_faults;
           };
       faults = (reported_body w.so_far statements).faults;
     }

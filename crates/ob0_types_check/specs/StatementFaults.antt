@@ -6,7 +6,7 @@ use Rattle.ob0_scan.specs.declared.fault.FaultCode.TheVariants as code
 use Rattle.ob0_scan.specs.declared.fault.Fault.{Fault}
 use Rattle.ob0_tree.specs.Tree.{Tree, assigns, branches, calls, else_branch, else_part, elsif_branch, elsif_part, empty, end, expression, further_statement, items, maybe, more, none, one, repeat_loop, runs, selector, sequence, statement, then_statement, while_loop}
 use Rattle.ob0_language_types.specs.Arguments.{arguments_listed}
-use Rattle.ob0_types_check.specs.Known.{Facts, KnownFormal, Meaning, Operand, Reported, a_constant, a_procedure, a_type, a_variable}
+use Rattle.ob0_types_check.specs.Known.{Facts, KnownParameter, Meaning, Operand, Reported, a_constant, a_procedure, a_type, a_variable}
 use Rattle.ob0_types_check.specs.ExpressionFaults.{reported_expression, reported_selectors}
 use Rattle.ob0_types_check.specs.Operations.{typed_name_operand, required_type, fault_at_operand, fault_at_token, without_fault, ◌>>=◌}
 
@@ -59,7 +59,7 @@ assignment_faults facts target e = target.faults ++ typed_expression_faults fact
 
 -- Requires that an argument has the type of its parameter. An argument for a VAR parameter must also be a variable with
 -- its selectors. If it isn't, only `NotVariable` is reported, and the result is the unknown type.
-abbrev pub required_type_of_argument : {T : Type 0} → Facts T → KnownFormal T → Operand T → Reported T
+abbrev pub required_type_of_argument : {T : Type 0} → Facts T → KnownParameter T → Operand T → Reported T
 required_type_of_argument facts f o =
     if f.by_place && not o.may_be_variable
     then record { known = facts.types.unknown; faults = fault_at_operand facts code.NotVariable o }
@@ -68,7 +68,7 @@ required_type_of_argument facts f o =
 -- returns the faults of an argument, including a mismatch with its parameter
 unfoldable pub faults_of_argument : {T : Type 0}
     → Facts T
-    → KnownFormal T
+    → KnownParameter T
     → Tree ℕ expression
     → List Fault
 unfolding reported_expression
@@ -78,7 +78,7 @@ faults_of_argument facts f e = (reported_expression facts e >>= required_type_of
 -- parameters are ignored
 abbrev pub argument_faults : {T : Type 0}
     → Facts T
-    → List (KnownFormal T)
+    → List (KnownParameter T)
     → List (Tree ℕ expression)
     → List Fault
 argument_faults facts [] es = []

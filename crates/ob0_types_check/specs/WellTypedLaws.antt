@@ -18,46 +18,46 @@ use Rattle.ob0_types_check.specs.ReportLaws.{allowed_meanings}
 use Rattle.ob0_types_check.specs.KnownDeclarations.{KnownDeclarations, facts_at}
 use Rattle.ob0_types_check.specs.StatementFaults.{sequence_faults, reported_target}
 use Rattle.ob0_types_check.specs.TypeFaults.{length_of, reported_constant}
-use Rattle.ob0_types_check.specs.Agreement.{FactsAgree, shape_in}
+use Rattle.ob0_types_check.specs.Agreement.{TypesAndMeaningsAgree, shape_in}
 
 -- States that no fault is reported for an expression that has a type. The facts known at the expression must be correct
--- (`FactsAgree`).
+-- (`TypesAndMeaningsAgree`).
 abbrev pub TypedExpressionsHaveNoFault : Type 0 → Type 0
 TypedExpressionsHaveNoFault N =
     (p : KnownDeclarations) (only_constants : Bool) (shapes : List Shape) (label : ℕ → N) (meaning : TypeMeanings N)
     (e : Tree ℕ expression)
-    → FactsAgree (facts_at p only_constants) (shape_in shapes) label meaning e
+    → TypesAndMeaningsAgree (facts_at p only_constants) (shape_in shapes) label meaning e
     → is_some (type_of (allowed_meanings only_constants meaning) (mapped_tree label (token_value_at p.source) e))
     ≡ true
     → (reported_expression (facts_at p only_constants) e).faults ≡ []
 
 -- States that no fault is reported for a constant expression that has a value. The facts known at the expression must
--- be correct (`FactsAgree`).
+-- be correct (`TypesAndMeaningsAgree`).
 abbrev pub ValuedConstantsHaveNoFault : Type 0 → Type 0
 ValuedConstantsHaveNoFault N =
     (p : KnownDeclarations) (shapes : List Shape) (label : ℕ → N) (meaning : TypeMeanings N) (e : Tree ℕ expression)
-    → FactsAgree (facts_at p true) (shape_in shapes) label meaning e
+    → TypesAndMeaningsAgree (facts_at p true) (shape_in shapes) label meaning e
     → is_some (constant_value meaning (mapped_tree label (token_value_at p.source) e)) ≡ true
     → (reported_constant (facts_at p true) e).faults ≡ []
 
 -- States that no fault is reported for a valid array length. The facts known at the length must be correct
--- (`FactsAgree`).
+-- (`TypesAndMeaningsAgree`).
 abbrev pub ValidLengthsHaveNoFault : Type 0 → Type 0
 ValidLengthsHaveNoFault N =
     (p : KnownDeclarations) (shapes : List Shape) (label : ℕ → N) (meaning : TypeMeanings N) (e : Tree ℕ expression)
-    → FactsAgree (facts_at p true) (shape_in shapes) label meaning e
+    → TypesAndMeaningsAgree (facts_at p true) (shape_in shapes) label meaning e
     → is_some
     (option_and_then array_length (constant_value meaning (mapped_tree label (token_value_at p.source) e)))
     ≡ true
     → (reported_expression (facts_at p true) e >>= length_of (facts_at p false)).faults ≡ []
 
 -- States that no fault is reported for an assignment's target that is a variable or parameter with well-typed
--- selectors. The facts known at the target must be correct (`FactsAgree`).
+-- selectors. The facts known at the target must be correct (`TypesAndMeaningsAgree`).
 abbrev pub TypedTargetsHaveNoFault : Type 0 → Type 0
 TypedTargetsHaveNoFault N =
     (p : KnownDeclarations) (shapes : List Shape) (label : ℕ → N) (meaning : TypeMeanings N) (x : ℕ)
     (path : Tree ℕ (items selector))
-    → FactsAgree (facts_at p false) (shape_in shapes) label meaning (designator x path)
+    → TypesAndMeaningsAgree (facts_at p false) (shape_in shapes) label meaning (designator x path)
     → is_some (variable_type meaning (Some (label x, mapped_tree label (token_value_at p.source) path))) ≡ true
     → (reported_target (facts_at p false) x path).faults ≡ []
 
@@ -75,13 +75,13 @@ HaveDistinctOrdinals shapes =
     → ordinal_of_shape s ≡ Some k → ordinal_of_shape t ≡ Some k → i ≡ j
 
 -- States that no fault is reported for well-typed statements. The facts known at the statements must be correct
--- (`FactsAgree`), and no two types may be made by the same word ARRAY or RECORD.
+-- (`TypesAndMeaningsAgree`), and no two types may be made by the same word ARRAY or RECORD.
 abbrev pub TypedStatementsHaveNoFault : Type 0 → Type 0
 TypedStatementsHaveNoFault N =
     (p : KnownDeclarations) (shapes : List Shape) (label : ℕ → N) (meaning : TypeMeanings N)
     (statements : Tree ℕ sequence)
     → HaveDistinctOrdinals shapes
-    → FactsAgree (facts_at p false) (shape_in shapes) label meaning statements
+    → TypesAndMeaningsAgree (facts_at p false) (shape_in shapes) label meaning statements
     → sequence_is_well_typed meaning (mapped_tree label (token_value_at p.source) statements) ≡ true
     → sequence_faults (facts_at p false) statements ≡ []
 

@@ -10,7 +10,7 @@ use Rattle.ob0_tree.specs.Tree.{Tree, array_type, end, fields, further_fields, i
 use Rattle.ob0_types_check.specs.ExpressionFaults.{reported_expression}
 use Rattle.ob0_types_check.specs.Known.{Operand, Reported}
 use Rattle.ob0_types_check.specs.Operations.{without_fault, token_before, ◌>>=◌}
-use Rattle.ob0_types_check.specs.KnownDeclarations.{Size, KnownDeclarations, TypeWithState, KnownField, facts_at, make_type, empty_size, of_elements, of_fields, size_at}
+use Rattle.ob0_types_check.specs.KnownDeclarations.{Size, KnownDeclarations, TypeWithState, KnownField, facts_at, make_type, zero_size, of_elements, of_fields, size_of_type_so_far}
 use Rattle.ob0_types_check.specs.TypeFaults.{length_of, type_named_at}
 
 -- returns the size of an array of `n` elements that each have this size
@@ -31,7 +31,7 @@ made_array_type ordinal o None element =
     without_fault (record { of = type.Unknown; following = element.following })
 made_array_type ordinal o (Some n) element =
     make_type element.following (token_before o.first) ordinal (of_elements n element.of)
-    (array_size n (size_at element.following.made element.of))
+    (array_size n (size_of_type_so_far element.following.made element.of))
 
 -- the fields of a record found so far, their total size, and the state after these fields
 pub record KnownFields : Type 0 where
@@ -41,7 +41,7 @@ pub record KnownFields : Type 0 where
 
 -- returns the state before the first field of a record, with no fields and no scalars
 abbrev pub no_known_fields : KnownDeclarations → KnownFields
-no_known_fields p = record { fields = []; size = empty_size; following = p }
+no_known_fields p = record { fields = []; size = zero_size; following = p }
 
 -- returns the size of two parts together: the sum of their scalars and the greater of their depths
 abbrev pub sum_of_sizes : Size → Size → Size
@@ -53,7 +53,7 @@ abbrev pub with_known_field : TypeId → KnownFields → ℕ → KnownFields
 with_known_field t g token =
     record {
       fields = g.fields ++ record { name = token_text_at g.following.source token; of = t } ∷ [];
-      size = sum_of_sizes g.size (size_at g.following.made t);
+      size = sum_of_sizes g.size (size_of_type_so_far g.following.made t);
       following = g.following;
     }
 
@@ -73,13 +73,13 @@ abbrev pub record_size : Size → Size
 record_size z = record { scalars = max z.scalars 1; depth = z.depth + 1 }
 
 -- returns the token of the first name in a list
-abbrev pub first_name : Tree ℕ names → ℕ
-first_name (listed x rest) = x
+abbrev pub token_of_first_name : Tree ℕ names → ℕ
+token_of_first_name (listed x rest) = x
 
 -- Returns the token before a group of fields, which is RECORD or a semicolon. `following` is the token between this
 -- group and the next group, or 0 if no later group has a field. It is used only if this group is empty.
 abbrev pub token_before_group : Tree ℕ fields → ℕ → ℕ
-token_before_group (some_fields ns t) following = token_before (first_name ns)
+token_before_group (some_fields ns t) following = token_before (token_of_first_name ns)
 token_before_group no_fields following = token_before following
 
 -- Returns the token before these groups of fields. For all groups of a record, this token is the word RECORD. Between

@@ -8,27 +8,27 @@ ghost use Rattle.ob0_types_check.specs.WellTypedLaws.{TypedModulesHaveBoundNames
 ghost use Rattle.ob0_language_names.specs.Names.{Name};
 
 /// Proves that if no fault is reported for an expression, the type and value found for it are
-/// correct. The law assumes that the facts known at the expression are correct (`FactsAgree`).
+/// correct. The law assumes that the facts known at the expression are correct (`TypesAndMeaningsAgree`).
 pub fn expressions_without_fault_agree()
     ensures { ExpressionsWithoutFaultAgree Name }
 {}
 
 /// Proves that if no fault is reported for the right side of a constant's declaration, the value
 /// found is the value of the right side. The law assumes that the facts known at the right side are
-/// correct (`FactsAgree`).
+/// correct (`TypesAndMeaningsAgree`).
 pub fn constants_without_fault_agree()
     ensures { ConstantsWithoutFaultAgree Name }
 {}
 
 /// Proves that if no fault is reported for the length in an array type, the length found is the
 /// value of its expression. The law assumes that the facts known at that expression are correct
-/// (`FactsAgree`).
+/// (`TypesAndMeaningsAgree`).
 pub fn lengths_without_fault_agree()
     ensures { LengthsWithoutFaultAgree Name }
 {}
 
 /// Proves that statements are well-typed if no fault is reported for them. The law assumes that the
-/// facts known at the statements are correct (`FactsAgree`).
+/// facts known at the statements are correct (`TypesAndMeaningsAgree`).
 pub fn statements_without_fault_are_typed()
     ensures { StatementsWithoutFaultAreTyped Name }
 {}
@@ -52,32 +52,32 @@ pub fn walk_without_fault_finds_meanings()
 {}
 
 /// Proves that no fault is reported for an expression that has a type. The law assumes that the
-/// facts known at the expression are correct (`FactsAgree`).
+/// facts known at the expression are correct (`TypesAndMeaningsAgree`).
 pub fn typed_expressions_have_no_fault()
     ensures { TypedExpressionsHaveNoFault Name }
 {}
 
 /// Proves that no fault is reported for a constant expression that has a value. The law assumes
-/// that the facts known at the expression are correct (`FactsAgree`).
+/// that the facts known at the expression are correct (`TypesAndMeaningsAgree`).
 pub fn valued_constants_have_no_fault()
     ensures { ValuedConstantsHaveNoFault Name }
 {}
 
 /// Proves that no fault is reported for a valid array length. The law assumes that the facts known
-/// at the length are correct (`FactsAgree`).
+/// at the length are correct (`TypesAndMeaningsAgree`).
 pub fn valid_lengths_have_no_fault()
     ensures { ValidLengthsHaveNoFault Name }
 {}
 
 /// Proves that no fault is reported for an assignment's target if the target is a variable or
 /// parameter with well-typed selectors. The law assumes that the facts known at the target are
-/// correct (`FactsAgree`).
+/// correct (`TypesAndMeaningsAgree`).
 pub fn typed_targets_have_no_fault()
     ensures { TypedTargetsHaveNoFault Name }
 {}
 
 /// Proves that no fault is reported for well-typed statements. The law assumes that the facts known
-/// at the statements are correct (`FactsAgree`), and that no two types are made by the same word
+/// at the statements are correct (`TypesAndMeaningsAgree`), and that no two types are made by the same word
 /// ARRAY or RECORD.
 pub fn typed_statements_have_no_fault()
     ensures { TypedStatementsHaveNoFault Name }

@@ -6,14 +6,14 @@ use Rattle.ob0_tree.specs.Places.{token_text_at, token_value_at}
 use Rattle.ob0_language_names.specs.Names.{Name, same_name}
 use Rattle.ob0_scope_table.specs.Resolution.{ordinal_in}
 use Rattle.ob0_language_fields.specs.Fields.{rename_fields_in_module}
-use Rattle.ob0_types_fields.specs.Owners.{RenamingFollowsOwners, field_names_by_record}
+use Rattle.ob0_types_fields.specs.Owners.{RenamingFollowsOwners, renaming_by_record}
 use Rattle.ob0_language_fields.specs.Renaming.{single_field_renaming}
 
 -- returns the spelling of a field of the record `k` after one field was renamed
 abbrev in_record : ℕ → Name → Name → ℕ → Name → Name
 in_record r f new k x = if (k == r) && same_name x f then new else x
 
-of_one : (r : ℕ) (f new : Name) (o : Option ℕ) (x : Name) → single_field_renaming r f new o x ≡ field_names_by_record (in_record r f new) o x
+of_one : (r : ℕ) (f new : Name) (o : Option ℕ) (x : Name) → single_field_renaming r f new o x ≡ renaming_by_record (in_record r f new) o x
 of_one r f new None x = refl
 of_one r f new (Some k) x = refl
 

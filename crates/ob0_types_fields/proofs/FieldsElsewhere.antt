@@ -22,7 +22,7 @@ use Rattle.ob0_language_fields.specs.Fields.{rename_fields_in_module}
 use Rattle.ob0_language_values.specs.Values.{Shape}
 use Rattle.ob0_tree.specs.FirstIdentifier.{token_of_first_identifier}
 use Rattle.ob0_tree.proofs.MappedIdentifiers.{leaves_mapped}
-use Rattle.ob0_scope_table.specs.BodyReplaced.{IsBodyReplaced, PathToBody, body_at_path, closing_name_in_module, moved_token_index, module_without_body}
+use Rattle.ob0_scope_table.specs.BodyReplaced.{IsBodyReplaced, PathToBody, body_at_path, closing_name_at_path, moved_token_index, module_without_body}
 use Rattle.ob0_scope_table.specs.Resolution.{IsResolution, Resolution, ordinal_in}
 use Rattle.ob0_scope_table.proofs.BodyReplaced.{names_outside, without_mapped}
 use Rattle.ob0_scope_table.proofs.FewTokens.{few_tokens}
@@ -32,14 +32,14 @@ use Rattle.ob0_types_fields.specs.declared.field_name.FieldName.{FieldName}
 use Rattle.ob0_types_fields.specs.Identifiers.{declared_fields, fields_declared_in_block, field_identifiers}
 use Rattle.ob0_types_fields.specs.FieldLists.{AreFieldListsOf, FieldLists, moved_field, fields_before, fields_from, old_token_index}
 use Rattle.ob0_types_fields.specs.Owned.{AgreesWithOwnerList, fields_with_owners, fields_in_tree, owners_in_tree, owners_in_module, owners_in_resolution, meanings_by_token}
-use Rattle.ob0_types_fields.specs.Owners.{field_names_by_record}
+use Rattle.ob0_types_fields.specs.Owners.{renaming_by_record}
 use Rattle.ob0_types_fields.proofs.DeclaredMoved.{among_placed, declared_among, declared_placed, declared_without, field_placed, placed}
 use Rattle.ob0_types_fields.proofs.WalkFindsAllFields.{fields_in_tree-fields, module-fields}
 use Rattle.ob0_types_fields.proofs.OwnedAround.{IsAround, module_split}
 use Rattle.ob0_types_fields.proofs.OwnedStatements.{owners_split}
 use Rattle.ob0_types_fields.proofs.OwnedTokens.{fields_have-owners, module-tokens, owners_in_tree-tokens, entered_fields_complete_owner_table-holds, tokens, with_owners}
-use Rattle.ob0_types_fields.proofs.RefieldedWithout.{refielded_without}
-use Rattle.ob0_types_fields.proofs.Seams.{AreBetween, Between, all_between, among_each, between, fields_around, keeps_first, keeps_last, same_seam, weaker}
+use Rattle.ob0_types_fields.proofs.FieldRenamingOutside.{refielded_without}
+use Rattle.ob0_types_fields.proofs.SplitAroundClosingName.{AreBetween, Between, all_between, among_each, between, fields_around, keeps_first, keeps_last, same_seam, weaker}
 
 -- ---- the new indexes of tokens
 
@@ -70,7 +70,7 @@ with_owner k x = k ∷ x
 longer : (k : ℕ) (x : List ℕ) → x ≡ k ∷ x → ⊥
 longer k x h = let long : length x ≡ suc (length x) = ap length h in omega (arith, long)
 
-same_owner : (o p : Option ℕ) (x y : Name) → x ≡ y → field_names_by_record with_owner o x ≡ field_names_by_record with_owner p y → o ≡ p
+same_owner : (o p : Option ℕ) (x y : Name) → x ≡ y → renaming_by_record with_owner o x ≡ renaming_by_record with_owner p y → o ≡ p
 same_owner None None x y e h = refl
 same_owner None (Some k) x y e h = absurd (longer k y (sym e ∙ h))
 same_owner (Some j) None x y e h = absurd (longer j x (e ∙ sym h))
@@ -78,7 +78,7 @@ same_owner (Some j) (Some k) x y e h = ap Some (heads h).0
 
 -- If identifiers with their owners have the same spelling as before, their owners are the same.
 owners_kept : (at : ℕ → ℕ) (before now : ℕ → Option ℕ) (written writes : ℕ → Name) (xs : List ℕ)
-    → map (λ i. field_names_by_record with_owner (now i) (writes i)) (map at xs) ≡ map (λ i. field_names_by_record with_owner (before i) (written i)) xs
+    → map (λ i. renaming_by_record with_owner (now i) (writes i)) (map at xs) ≡ map (λ i. renaming_by_record with_owner (before i) (written i)) xs
     → map writes (map at xs) ≡ map written xs → AllByRecursion (λ i. now (at i) ≡ before i) xs
 owners_kept at before now written writes [] e h = tt
 owners_kept at before now written writes (x ∷ xs) e h =
@@ -112,13 +112,13 @@ meant q = meanings_by_token (declared_object (named_tree_of q.module_read)) q
 -- In a well-typed module without some statements, putting the owner before each field's name is the same as rewriting
 -- each token according to the table.
 written_without : (q : Resolution) (path : PathToBody) → IsResolution q → WellTyped (named_tree_of q.module_read)
-    → rename_fields_in_module (field_names_by_record with_owner) (tree_with_names q.module_read.source (module_without_body path (tree_of q.module_read)))
-    ≡ mapped_tree (λ i. field_names_by_record with_owner (ordinal_in (with_owners q) i) (token_text_at q.module_read.source i)) (token_value_at q.module_read.source) (module_without_body path (tree_of q.module_read))
+    → rename_fields_in_module (renaming_by_record with_owner) (tree_with_names q.module_read.source (module_without_body path (tree_of q.module_read)))
+    ≡ mapped_tree (λ i. renaming_by_record with_owner (ordinal_in (with_owners q) i) (token_text_at q.module_read.source i)) (token_value_at q.module_read.source) (module_without_body path (tree_of q.module_read))
 written_without q path named_q fits =
     let m = q.module_read in
-    let writes : ℕ → Name = λ i. field_names_by_record with_owner (ordinal_in (with_owners q) i) (token_text_at m.source i) in
-    sym (ap (rename_fields_in_module (field_names_by_record with_owner)) (without_mapped (token_text_at m.source) (token_value_at m.source) path (tree_of m)))
-    ∙ (sym (refielded_without (field_names_by_record with_owner) path (named_tree_of m))
+    let writes : ℕ → Name = λ i. renaming_by_record with_owner (ordinal_in (with_owners q) i) (token_text_at m.source i) in
+    sym (ap (rename_fields_in_module (renaming_by_record with_owner)) (without_mapped (token_text_at m.source) (token_value_at m.source) path (tree_of m)))
+    ∙ (sym (refielded_without (renaming_by_record with_owner) path (named_tree_of m))
     ∙ (ap (module_without_body path) (entered_fields_complete_owner_table-holds q named_q fits with_owner) ∙ without_mapped writes (token_value_at m.source) path (tree_of m)))
 
 module _ (old r : Resolution) (path : PathToBody) (s : SameParts) (is : IsBodyReplaced old.module_read r.module_read path s)
@@ -146,26 +146,26 @@ module _ (old r : Resolution) (path : PathToBody) (s : SameParts) (is : IsBodyRe
       ∙ (ap identifier_names (names_outside old.module_read r.module_read path s is) ∙ leaves_mapped (token_text_at old.module_read.source) (token_value_at old.module_read.source) (module_without_body path before)))
 
   abbrev writes_before : ℕ → Name
-  writes_before i = field_names_by_record with_owner (ordinal_in (with_owners old) i) (token_text_at old.module_read.source i)
+  writes_before i = renaming_by_record with_owner (ordinal_in (with_owners old) i) (token_text_at old.module_read.source i)
 
   abbrev writes_now : ℕ → Name
-  writes_now i = field_names_by_record with_owner (ordinal_in (with_owners r) i) (token_text_at r.module_read.source i)
+  writes_now i = renaming_by_record with_owner (ordinal_in (with_owners r) i) (token_text_at r.module_read.source i)
 
   written_same : map writes_now (map (moved_token_index s) (identifier_names (module_without_body path before))) ≡ map writes_before (identifier_names (module_without_body path before))
   written_same =
       ap (map writes_now) (sym leaves_now)
       ∙ (sym (leaves_mapped writes_now (token_value_at r.module_read.source) (module_without_body path now))
-      ∙ (ap identifier_names (sym (written_without r path is_named is_typed) ∙ (ap (rename_fields_in_module (field_names_by_record with_owner)) (names_outside old.module_read r.module_read path s is) ∙ written_without old path was_named was_typed))
+      ∙ (ap identifier_names (sym (written_without r path is_named is_typed) ∙ (ap (rename_fields_in_module (renaming_by_record with_owner)) (names_outside old.module_read r.module_read path s is) ∙ written_without old path was_named was_typed))
       ∙ leaves_mapped writes_before (token_value_at old.module_read.source) (module_without_body path before)))
 
   owners_same : AllByRecursion (λ i. ordinal_in (with_owners r) (moved_token_index s i) ≡ ordinal_in (with_owners old) i) (identifier_names (module_without_body path before))
   owners_same =
       owners_kept (moved_token_index s) (ordinal_in (with_owners old)) (ordinal_in (with_owners r)) (token_text_at old.module_read.source) (token_text_at r.module_read.source) (identifier_names (module_without_body path before)) written_same texts_same
 
-  around_before : IsAround (owners_in_module meant_before before) (owners_in_module meant_before (module_without_body path before)) (owners_in_tree meant_before None (body_at_path path before)) (closing_name_in_module path before)
+  around_before : IsAround (owners_in_module meant_before before) (owners_in_module meant_before (module_without_body path before)) (owners_in_tree meant_before None (body_at_path path before)) (closing_name_at_path path before)
   around_before = module_split meant_before path before
 
-  around_now : IsAround (owners_in_module meant_now now) (owners_in_module meant_now (module_without_body path now)) (owners_in_tree meant_now None (body_at_path path now)) (closing_name_in_module path now)
+  around_now : IsAround (owners_in_module meant_now now) (owners_in_module meant_now (module_without_body path now)) (owners_in_tree meant_now None (body_at_path path now)) (closing_name_at_path path now)
   around_now = module_split meant_now path now
 
   abbrev inner_before : List (ℕ × Option ℕ)
@@ -174,15 +174,15 @@ module _ (old r : Resolution) (path : PathToBody) (s : SameParts) (is : IsBodyRe
   abbrev inner_now : List (ℕ × Option ℕ)
   inner_now = owners_in_tree meant_now None (body_at_path path now)
 
-  between_before : AreBetween around_before.before inner_before around_before.after is.first (closing_name_in_module path before) (length old.module_read.source.tokens)
+  between_before : AreBetween around_before.before inner_before around_before.after is.first (closing_name_at_path path before) (length old.module_read.source.tokens)
   between_before =
-      between around_before.before inner_before around_before.after is.first (closing_name_in_module path before) (length old.module_read.source.tokens) (identifiers role.Declaring (body_at_path path before))
+      between around_before.before inner_before around_before.after is.first (closing_name_at_path path before) (length old.module_read.source.tokens) (identifiers role.Declaring (body_at_path path before))
       (subst (λ xs. AreAscending 0 xs (length old.module_read.source.tokens)) (sym (module-tokens meant_before before) ∙ ap tokens around_before.whole) (leaves_ascend old.module_read is.old_parsed))
       (owners_in_tree-tokens meant_before None (body_at_path path before)) is.first_identifier_of_old_body
 
-  between_now : AreBetween around_now.before inner_now around_now.after is.first (closing_name_in_module path now) (length r.module_read.source.tokens)
+  between_now : AreBetween around_now.before inner_now around_now.after is.first (closing_name_at_path path now) (length r.module_read.source.tokens)
   between_now =
-      between around_now.before inner_now around_now.after is.first (closing_name_in_module path now) (length r.module_read.source.tokens) (identifiers role.Declaring (body_at_path path now))
+      between around_now.before inner_now around_now.after is.first (closing_name_at_path path now) (length r.module_read.source.tokens) (identifiers role.Declaring (body_at_path path now))
       (subst (λ xs. AreAscending 0 xs (length r.module_read.source.tokens)) (sym (module-tokens meant_now now) ∙ ap tokens around_now.whole) (leaves_ascend r.module_read is.new_parsed))
       (owners_in_tree-tokens meant_now None (body_at_path path now)) is.first_identifier_of_new_body
 
@@ -192,10 +192,10 @@ module _ (old r : Resolution) (path : PathToBody) (s : SameParts) (is : IsBodyRe
   stay = stays s around_before.before (weaker (λ x. x.0 < is.first) (λ x. x.0 < s.prefix) (λ x h. omega (arith, h, is.front)) around_before.before between_before.below)
 
   abbrev rest_before : List (ℕ × Option ℕ)
-  rest_before = around_before.before ++ ((closing_name_in_module path before, None) ∷ around_before.after)
+  rest_before = around_before.before ++ ((closing_name_at_path path before, None) ∷ around_before.after)
 
   abbrev rest_now : List (ℕ × Option ℕ)
-  rest_now = around_now.before ++ ((closing_name_in_module path now, None) ∷ around_now.after)
+  rest_now = around_now.before ++ ((closing_name_at_path path now, None) ∷ around_now.after)
 
   tokens_before : tokens rest_before ≡ identifier_names (module_without_body path before)
   tokens_before = ap tokens (sym around_before.left) ∙ module-tokens meant_before (module_without_body path before)
@@ -204,21 +204,21 @@ module _ (old r : Resolution) (path : PathToBody) (s : SameParts) (is : IsBodyRe
   rest_placed =
       placed_alike (moved_token_index s) (ordinal_in (with_owners old)) (ordinal_in (with_owners r)) rest_now rest_before
       (ap tokens (sym around_now.left) ∙ (module-tokens meant_now (module_without_body path now) ∙ (leaves_now ∙ ap (map (moved_token_index s)) (sym tokens_before))))
-      (owners_around (ordinal_in (with_owners r)) around_now.before inner_now ((closing_name_in_module path now, None) ∷ around_now.after) (subst (AgreesWithOwnerList (ordinal_in (with_owners r))) around_now.whole (fields_have-owners r is_named)))
-      (owners_around (ordinal_in (with_owners old)) around_before.before inner_before ((closing_name_in_module path before, None) ∷ around_before.after) (subst (AgreesWithOwnerList (ordinal_in (with_owners old))) around_before.whole (fields_have-owners old was_named)))
+      (owners_around (ordinal_in (with_owners r)) around_now.before inner_now ((closing_name_at_path path now, None) ∷ around_now.after) (subst (AgreesWithOwnerList (ordinal_in (with_owners r))) around_now.whole (fields_have-owners r is_named)))
+      (owners_around (ordinal_in (with_owners old)) around_before.before inner_before ((closing_name_at_path path before, None) ∷ around_before.after) (subst (AgreesWithOwnerList (ordinal_in (with_owners old))) around_before.whole (fields_have-owners old was_named)))
       (subst (AllByRecursion (λ i. ordinal_in (with_owners r) (moved_token_index s i) ≡ ordinal_in (with_owners old) i)) (sym tokens_before) owners_same)
 
-  seam : rest_now ≡ around_before.before ++ ((closing_name_in_module path now, None) ∷ map (placed (moved_token_index s)) around_before.after)
+  seam : rest_now ≡ around_before.before ++ ((closing_name_at_path path now, None) ∷ map (placed (moved_token_index s)) around_before.after)
   seam =
       rest_placed
-      ∙ (map-append (placed (moved_token_index s)) around_before.before ((closing_name_in_module path before, None) ∷ around_before.after)
+      ∙ (map-append (placed (moved_token_index s)) around_before.before ((closing_name_at_path path before, None) ∷ around_before.after)
       ∙ (λ i. stay i ++ ((sym is.closing i, None) ∷ map (placed (moved_token_index s)) around_before.after)))
 
   sides : (around_now.before ≡ around_before.before) × (around_now.after ≡ map (placed (moved_token_index s)) around_before.after)
   sides =
-      same_seam (closing_name_in_module path now) None around_now.before around_before.before around_now.after (map (placed (moved_token_index s)) around_before.after)
-      (weaker (λ x. x.0 < is.first) (λ x. x.0 < closing_name_in_module path now) (λ x h. omega (arith, h, between_now.reaches)) around_now.before between_now.below)
-      (weaker (λ x. x.0 < is.first) (λ x. x.0 < closing_name_in_module path now) (λ x h. omega (arith, h, between_now.reaches)) around_before.before between_before.below)
+      same_seam (closing_name_at_path path now) None around_now.before around_before.before around_now.after (map (placed (moved_token_index s)) around_before.after)
+      (weaker (λ x. x.0 < is.first) (λ x. x.0 < closing_name_at_path path now) (λ x h. omega (arith, h, between_now.reaches)) around_now.before between_now.below)
+      (weaker (λ x. x.0 < is.first) (λ x. x.0 < closing_name_at_path path now) (λ x h. omega (arith, h, between_now.reaches)) around_before.before between_before.below)
       seam
 
   few : length r.module_read.source.tokens < 2 ^ 64
@@ -226,7 +226,7 @@ module _ (old r : Resolution) (path : PathToBody) (s : SameParts) (is : IsBodyRe
 
   after_same : fields_with_owners around_now.after ≡ map (moved_field s) (fields_with_owners around_before.after)
   after_same =
-      let low : AllByRecursion (λ x. x.0 < length r.module_read.source.tokens) around_now.after = weaker (λ x. (closing_name_in_module path now + 1 ≤ x.0) × (x.0 < length r.module_read.source.tokens)) (λ x. x.0 < length r.module_read.source.tokens) (λ x h. h.1) around_now.after between_now.above in
+      let low : AllByRecursion (λ x. x.0 < length r.module_read.source.tokens) around_now.after = weaker (λ x. (closing_name_at_path path now + 1 ≤ x.0) × (x.0 < length r.module_read.source.tokens)) (λ x. x.0 < length r.module_read.source.tokens) (λ x h. h.1) around_now.after between_now.above in
       let there = of_made (placed (moved_token_index s)) (λ x. x.0 < length r.module_read.source.tokens) around_before.after (subst (AllByRecursion (λ x. x.0 < length r.module_read.source.tokens)) sides.1 low) in
       let small = weaker (λ x. moved_token_index s x.0 < length r.module_read.source.tokens) (λ x. moved_token_index s x.0 < 2 ^ 64) (λ x h. omega (arith, h, few)) around_before.after there in
       ap fields_with_owners sides.1
@@ -235,12 +235,12 @@ module _ (old r : Resolution) (path : PathToBody) (s : SameParts) (is : IsBodyRe
   -- ---- the lists
 
   all_before : field_identifiers old ≡ fields_with_owners around_before.before ++ (fields_with_owners inner_before ++ fields_with_owners around_before.after)
-  all_before = ap fields_with_owners around_before.whole ∙ fields_around around_before.before inner_before around_before.after (closing_name_in_module path before)
+  all_before = ap fields_with_owners around_before.whole ∙ fields_around around_before.before inner_before around_before.after (closing_name_at_path path before)
 
   all_now : field_identifiers r ≡ fields_with_owners around_before.before ++ (fields_in_tree meant_now (body_at_path path now) ++ map (moved_field s) (fields_with_owners around_before.after))
   all_now =
       ap fields_with_owners around_now.whole
-      ∙ (fields_around around_now.before inner_now around_now.after (closing_name_in_module path now)
+      ∙ (fields_around around_now.before inner_now around_now.after (closing_name_at_path path now)
       ∙ (λ i. fields_with_owners (sides.0 i) ++ (fields_in_tree-fields meant_now (body_at_path path now) i ++ after_same i)))
 
   kept_before : fields_before is.first (field_identifiers old) ≡ fields_with_owners around_before.before
@@ -249,13 +249,13 @@ module _ (old r : Resolution) (path : PathToBody) (s : SameParts) (is : IsBodyRe
       ap (fields_before is.first) all_before
       ∙ keeps_first (λ x. nat_lt x.token is.first) (fields_with_owners around_before.before) (fields_with_owners inner_before) (fields_with_owners around_before.after)
       (among_each (λ t. nat_lt t is.first ≡ true) around_before.before (weaker (λ x. x.0 < is.first) (λ x. nat_lt x.0 is.first ≡ true) (λ x h. lt-ltb x.0 is.first h) around_before.before b.below))
-      (among_each (λ t. nat_lt t is.first ≡ false) inner_before (weaker (λ x. (is.first ≤ x.0) × (x.0 < closing_name_in_module path before)) (λ x. nat_lt x.0 is.first ≡ false) (λ x h. le-ltb x.0 is.first h.0) inner_before b.inside))
-      (among_each (λ t. nat_lt t is.first ≡ false) around_before.after (weaker (λ x. (closing_name_in_module path before + 1 ≤ x.0) × (x.0 < length old.module_read.source.tokens)) (λ x. nat_lt x.0 is.first ≡ false) (λ x h. le-ltb x.0 is.first (omega (arith, h.0, b.reaches))) around_before.after b.above))
+      (among_each (λ t. nat_lt t is.first ≡ false) inner_before (weaker (λ x. (is.first ≤ x.0) × (x.0 < closing_name_at_path path before)) (λ x. nat_lt x.0 is.first ≡ false) (λ x h. le-ltb x.0 is.first h.0) inner_before b.inside))
+      (among_each (λ t. nat_lt t is.first ≡ false) around_before.after (weaker (λ x. (closing_name_at_path path before + 1 ≤ x.0) × (x.0 < length old.module_read.source.tokens)) (λ x. nat_lt x.0 is.first ≡ false) (λ x h. le-ltb x.0 is.first (omega (arith, h.0, b.reaches))) around_before.after b.above))
 
-  kept_after : fields_from (closing_name_in_module path before) (field_identifiers old) ≡ fields_with_owners around_before.after
+  kept_after : fields_from (closing_name_at_path path before) (field_identifiers old) ≡ fields_with_owners around_before.after
   kept_after =
       let b = between_before in
-      let c : ℕ = closing_name_in_module path before in
+      let c : ℕ = closing_name_at_path path before in
       ap (fields_from c) all_before
       ∙ keeps_last (λ x. nat_le c x.token) (fields_with_owners around_before.before) (fields_with_owners inner_before) (fields_with_owners around_before.after)
       (among_each (λ t. nat_le c t ≡ false) around_before.before (weaker (λ x. x.0 < is.first) (λ x. nat_le c x.0 ≡ false) (λ x h. lt-leb c x.0 (omega (arith, h, b.reaches))) around_before.before b.below))
@@ -263,11 +263,11 @@ module _ (old r : Resolution) (path : PathToBody) (s : SameParts) (is : IsBodyRe
       (among_each (λ t. nat_le c t ≡ true) around_before.after (weaker (λ x. (c + 1 ≤ x.0) × (x.0 < length old.module_read.source.tokens)) (λ x. nat_le c x.0 ≡ true) (λ x h. le-leb c x.0 (omega (arith, h.0))) around_before.after b.above))
 
   -- The old index of the closing name follows from its new index.
-  closing_before : old_token_index s (closing_name_in_module path now) ≡ closing_name_in_module path before
+  closing_before : old_token_index s (closing_name_at_path path now) ≡ closing_name_at_path path before
   closing_before =
-      let c : ℕ = closing_name_in_module path before in
+      let c : ℕ = closing_name_at_path path before in
       let at = is.closing ∙ moved_above s c is.old_range (omega (arith, is.back)) in
-      let back : closing_name_in_module path now - s.new_suffix + s.old_suffix ≡ c = omega (arith, at, is.back) in
+      let back : closing_name_at_path path now - s.new_suffix + s.old_suffix ≡ c = omega (arith, at, is.back) in
       let small = few_tokens old.module_read.source is.old_scan in
       ap (λ n. min n (2 ^ 64 - 1)) back ∙ sym (at_most c (omega (arith, small, between_before.closes)))
 
@@ -293,13 +293,13 @@ module _ (old r : Resolution) (path : PathToBody) (s : SameParts) (is : IsBodyRe
 
   -- The lists that are made from the old fields are the module's fields.
   pub fields_elsewhere : (fields f : FieldLists) (t : Tables) → AreFieldListsOf old fields → ((k : ℕ) → declared_object_in t k ≡ declared_object (named_tree_of r.module_read) k)
-      → (statements : Tree ℕ (maybe body)) → statements ≡ body_at_path path now → (first closing : ℕ) → token_of_first_identifier (identifiers role.Declaring (body_at_path path now)) ≡ Some first → closing ≡ closing_name_in_module path now
+      → (statements : Tree ℕ (maybe body)) → statements ≡ body_at_path path now → (first closing : ℕ) → token_of_first_identifier (identifiers role.Declaring (body_at_path path now)) ≡ Some first → closing ≡ closing_name_at_path path now
       → f.declared ≡ map (moved_field s) fields.declared
       → f.all ≡ fields_before first fields.all ++ (fields_in_tree (meanings_by_token (declared_object_in t) r) statements ++ map (moved_field s) (fields_from (old_token_index s closing) fields.all))
       → AreFieldListsOf r f
   fields_elsewhere fields f t were holds statements here first closing begins closes of_declared of_all =
       let same : first ≡ is.first = ap (λ o. unwrap_or o first) (sym begins ∙ is.first_identifier_of_new_body) in
-      let at : old_token_index s closing ≡ closing_name_in_module path before = ap (old_token_index s) closes ∙ closing_before in (
+      let at : old_token_index s closing ≡ closing_name_at_path path before = ap (old_token_index s) closes ∙ closing_before in (
         of_declared ∙ (ap (map (moved_field s)) were.0 ∙ (sym (same_places s (declared_fields old.module_read) declared_few) ∙ sym declared_now)),
         of_all
             ∙ ((λ i. fields_before (same i) (were.1 i) ++ (fields_in_tree (meanings_by_token (λ k. holds k i) r) (here i) ++ map (moved_field s) (fields_from (at i) (were.1 i))))

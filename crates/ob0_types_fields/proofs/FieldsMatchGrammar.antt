@@ -21,11 +21,11 @@ use Rattle.ob0_language_types.specs.Typing.{addition_type, array_length, negatio
 use Rattle.ob0_language_types.specs.WellTyped.{Signature, TypeEnvironment, TypeMeanings, TypedParameter, WellTyped, bind_names, bind_typed_parameters, block_is_well_typed, declare_typed_variables, passes_type_check, bind_procedure, procedure_is_well_typed, procedures_are_well_typed, section_mode, typed_parameters}
 use Rattle.ob0_language_values.specs.Values.{FieldShapes, Shape, Value, array_shape, boolean_shape, elements, integer_shape, members, number, record_shape, truth}
 use Rattle.ob0_language_fields.specs.Fields.{FieldRenaming, type_including_selector, rename_fields, rename_fields_in_block, rename_fields_in_formals, rename_fields_in_group, rename_fields_in_groups, rename_fields_in_procedure, rename_fields_in_procedures, rename_fields_in_section, rename_fields_in_sections, rename_fields_in_type, rename_fields_in_type_section, rename_fields_in_types, rename_fields_in_variable_section, rename_fields_in_variables, rename_fields_in_module}
-use Rattle.ob0_types_fields.specs.Owners.{field_names_by_record}
+use Rattle.ob0_types_fields.specs.Owners.{renaming_by_record}
 use Rattle.ob0_language_fields.specs.Renaming.{RecordFields, records}
 use Rattle.ob0_language_fields.proofs.AgreeingFields.{NamesAgree, RecordsAgree}
 use Rattle.ob0_language_fields.proofs.AgreeingModules.{module-alike}
-use Rattle.ob0_language_fields.proofs.NamesMeant.{parameter_of}
+use Rattle.ob0_language_fields.proofs.MeaningsByName.{parameter_of}
 use Rattle.ob0_language_types.specs.Bindings.{declared_object}
 use Rattle.ob0_language_types.proofs.Conditions.{both_true, hold-true, of_some}
 use Rattle.ob0_language_types.proofs.TypedElsewhere.{then_some}
@@ -355,7 +355,7 @@ module-marked (is_module x b closing) h = ap (λ z. (role.ModuleName, x) ∷ z) 
 -- ---- the declarations of records have the same spelling, whatever is used for an unknown record
 
 abbrev by_record : FieldRenaming
-by_record = field_names_by_record (λ k x. again x)
+by_record = renaming_by_record (λ k x. again x)
 
 alike-names : (k : ℕ) (xs : List Name) → NamesAgree every by_record k xs
 alike-names k [] = tt
@@ -371,7 +371,7 @@ longer : (f : List ℕ) → f ≡ 0 ∷ f → ⊥
 longer f h = let long : length f ≡ suc (length f) = ap length h in omega (arith, long)
 
 abbrev owner_writes : TextWithTokens → (ℕ → Option ℕ) → ℕ → Name
-owner_writes source table i = field_names_by_record (λ k x. again x) (table i) (token_text_at source i)
+owner_writes source table i = renaming_by_record (λ k x. again x) (table i) (token_text_at source i)
 
 -- holds if an identifier has an owner exactly if it is in the place of a field
 abbrev Matches : Role → Option ℕ → Type 0
@@ -380,7 +380,7 @@ Matches role.FieldName (Some k) = Unit {0}
 Matches _ None = Unit {0}
 Matches _ (Some k) = ⊥
 
-matched : (x : Name) (r : Role) (o : Option ℕ) → mark r x ≡ field_names_by_record (λ k x. again x) o x → Matches r o
+matched : (x : Name) (r : Role) (o : Option ℕ) → mark r x ≡ renaming_by_record (λ k x. again x) o x → Matches r o
 matched x role.FieldName None h = longer x (sym h)
 matched x role.FieldName (Some k) h = tt
 matched x role.Declaring None h = tt
@@ -403,7 +403,7 @@ listed_fields source table ((i, o) ∷ xs) ((r, j) ∷ ys) e has h =
     let same : i ≡ j = (heads e).0 in
     let owners_in_tree : table j ≡ o = ap table (sym same) ∙ has.0 in
     let written : mark r (token_text_at source j) ≡ owner_writes source table j = ap (λ z. z.1) (heads h).0 in
-    by_role r o same (matched (token_text_at source j) r o (written ∙ ap (λ o. field_names_by_record (λ k x. again x) o (token_text_at source j)) owners_in_tree))
+    by_role r o same (matched (token_text_at source j) r o (written ∙ ap (λ o. renaming_by_record (λ k x. again x) o (token_text_at source j)) owners_in_tree))
     (listed_fields source table xs ys (heads e).1 has.1 (heads h).1)
   where
     by_role : (r : Role) (o : Option ℕ) → i ≡ j → Matches r o → token_indexes (fields_with_owners xs) ≡ field_role_tokens ys → token_indexes (fields_with_owners ((i, o) ∷ xs)) ≡ field_role_tokens ((r, j) ∷ ys)

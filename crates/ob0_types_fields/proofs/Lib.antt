@@ -8,7 +8,7 @@ pub mod OwnedTokens
 pub mod MarkWalks
 pub mod MarkPaths
 pub mod FieldLookups
-pub mod AloneFactors
+pub mod SingleFactorFields
 pub mod WalkFindsAllFields
 pub mod GroupWalks
 pub mod DeclaredWalks
@@ -23,10 +23,10 @@ pub mod FieldLabels
 pub mod ConstructorWalks
 pub mod DeclaredTypes
 pub mod TypedFields
-pub mod MarkedSame
+pub mod SameSelectedFields
 pub mod OwnedAround
-pub mod RefieldedWithout
+pub mod FieldRenamingOutside
 pub mod DeclaredMoved
-pub mod Seams
+pub mod SplitAroundClosingName
 pub mod FieldsElsewhere
-mod WrittenOver
+mod OverwritingFields

@@ -37,11 +37,11 @@ use Rattle.ob0_language_types.proofs.TypesByOrdinal.{TypeNoted, TypedBelow, Type
 use Rattle.ob0_language_types.proofs.ConstantsDeclared as blocks
 use Rattle.ob0_language_types.proofs.ConstantsDeclared.{block-listed, block-parts, predeclared-below}
 use Rattle.ob0_language_fields.specs.Fields.{environment_after_heading, environment_after_procedures, environment_after_variables, parameters_of, rename_fields, rename_fields_in_block, rename_fields_in_procedures, rename_fields_in_variable_section}
-use Rattle.ob0_types_fields.specs.Owners.{field_names_by_record}
+use Rattle.ob0_types_fields.specs.Owners.{renaming_by_record}
 use Rattle.ob0_types_fields.specs.Owned.{AgreesWithOwnerList, AgreeingTableIsOwnerTable, owners_in_tree, owners_in_block, owners_in_formals, owners_in_procedure, owners_in_procedures, owners_in_type_section, owners_in_variable_section, meanings_by_token, identifiers_without_owners}
 use Rattle.ob0_types_fields.proofs.OwnedStatements.{Alike, SameTypes, owners_in_tree-alike, owners_split, recorded, recorded-alike, recorded-mapped_tree, identifiers_without_owners-all}
 use Rattle.ob0_types_fields.proofs.OwnedTypes.{counted_formals_section, counted_procedure, counted_type_section, counted_variable_section, formals-owners_in_tree, type_section-owners_in_tree, variable_section-owners_in_tree}
-use Rattle.ob0_language_fields.proofs.NamesMeant.{object_in}
+use Rattle.ob0_language_fields.proofs.MeaningsByName.{object_in}
 use Rattle.ob0_types_fields.proofs.Selecting.{body-selects, here}
 use Rattle.ob0_types_fields.proofs.DeclaredInOrder.{Descends, Grown, Right, block_grows, bound_right, descends_join, heading_grows, right_join, right_split}
 
@@ -181,7 +181,7 @@ module _ (l : ℕ → Name → Name) (at : ℕ → Option ℕ) (text : ℕ → N
     pub descends : Descends (ordinal_after_block k (mapped_tree text value b)) (block_bindings naming_by_label (typed_by_ordinal noted) j (relabel_block naming_by_spelling (label_from_ordinal naming_by_spelling) (typed_scope noted) k (mapped_tree text value b))) k
     pub written : Right objects (typed_by_ordinal noted) → Right objects (block_bindings naming_by_label (typed_by_ordinal noted) j (relabel_block naming_by_spelling (label_from_ordinal naming_by_spelling) (typed_scope noted) k (mapped_tree text value b)))
         → relabel_block naming_by_spelling (label_from_ordinal naming_by_spelling) (typed_scope noted) k (mapped_tree text value b) ≡ mapped_tree label value b → AgreesWithOwnerList at (owners_in_block by_token j b)
-        → rename_fields_in_block (field_names_by_record l) (typed_by_name noted) j (mapped_tree text value b) ≡ mapped_tree (λ i. field_names_by_record l (at i) (text i)) value b
+        → rename_fields_in_block (renaming_by_record l) (typed_by_name noted) j (mapped_tree text value b) ≡ mapped_tree (λ i. renaming_by_record l (at i) (text i)) value b
 
   record ProceduresHeld (noted : TypeNoted Name) (j k : ℕ) (statements : Tree Label (maybe body)) (ps : Tree ℕ (items procedure)) : Type 0 where
     pub descends : Descends (ordinal_after_procedures k (mapped_tree text value ps)) (procedures_bindings naming_by_label (typed_by_ordinal noted) j (relabel_procedures naming_by_spelling (label_from_ordinal naming_by_spelling) (typed_scope noted) k (mapped_tree text value ps))) k
@@ -192,7 +192,7 @@ module _ (l : ℕ → Name → Name) (at : ℕ → Option ℕ) (text : ℕ → N
     pub scoped : typed_scope last ≡ declare_procedure_names k (mapped_tree text value ps) (typed_scope noted)
     pub written : Right objects (typed_by_ordinal noted) → Right objects (procedures_bindings naming_by_label (typed_by_ordinal noted) j (relabel_procedures naming_by_spelling (label_from_ordinal naming_by_spelling) (typed_scope noted) k (mapped_tree text value ps)))
         → relabel_procedures naming_by_spelling (label_from_ordinal naming_by_spelling) (typed_scope noted) k (mapped_tree text value ps) ≡ mapped_tree label value ps → AgreesWithOwnerList at (owners_in_procedures by_token j ps)
-        → (rename_fields_in_procedures (field_names_by_record l) (typed_by_name noted) j (mapped_tree text value ps) ≡ mapped_tree (λ i. field_names_by_record l (at i) (text i)) value ps) × Right objects (typed_by_ordinal last)
+        → (rename_fields_in_procedures (renaming_by_record l) (typed_by_name noted) j (mapped_tree text value ps) ≡ mapped_tree (λ i. renaming_by_record l (at i) (text i)) value ps) × Right objects (typed_by_ordinal last)
 
   no-procedures : (noted : TypeNoted Name) (j k : ℕ) → TypedBelow k noted → (statements : Tree Label (maybe body)) → procedures_are_well_typed naming_by_label (typed_by_ordinal noted) j statements end ≡ true → ProceduresHeld noted j k statements end
   unfolding block_bindings block_is_well_typed
@@ -211,7 +211,7 @@ module _ (l : ℕ → Name → Name) (at : ℕ → Option ℕ) (text : ℕ → N
 
   statements-written : (noted last : TypeNoted Name) (n : ℕ) → TypedBelow n last → Right objects (typed_by_ordinal last) → (scope : Scope Name) → typed_scope last ≡ scope → (st : Tree ℕ (maybe body))
       → body_is_well_typed naming_by_label (typed_by_ordinal last) (relabel_uses naming_by_spelling (label_from_ordinal naming_by_spelling) scope (mapped_tree text value st)) ≡ true → relabel_uses naming_by_spelling (label_from_ordinal naming_by_spelling) scope (mapped_tree text value st) ≡ mapped_tree label value st
-      → AgreesWithOwnerList at (owners_in_tree by_token None st) → rename_fields (field_names_by_record l) (meanings naming_by_spelling (typed_by_name last)) None (mapped_tree text value st) ≡ mapped_tree (λ i. field_names_by_record l (at i) (text i)) value st
+      → AgreesWithOwnerList at (owners_in_tree by_token None st) → rename_fields (renaming_by_record l) (meanings naming_by_spelling (typed_by_name last)) None (mapped_tree text value st) ≡ mapped_tree (λ i. renaming_by_record l (at i) (text i)) value st
   statements-written noted last n below right scope scoped st fits numbered has =
       let alike = body-alike last right st (ap (λ s. relabel_uses naming_by_spelling (label_from_ordinal naming_by_spelling) s (mapped_tree text value st)) scoped ∙ numbered) in
       let fitting : body_is_well_typed naming_by_spelling (typed_by_name last) (mapped_tree text value st) ≡ true =
@@ -251,13 +251,13 @@ module _ (l : ℕ → Name → Name) (at : ℕ → Option ℕ) (text : ℕ → N
             let s3 = owners_split at B C s2.1 in
             let r = q.written right_last two.0 (ap (λ s. relabel_procedures naming_by_spelling (label_from_ordinal naming_by_spelling) s kp nps) o.within.0 ∙ ap block_procedures numbered) s3.1 in
             let following_all : typed_scope q.last ≡ declare_procedure_names kp nps (procedures_scope k nb scope) = q.scoped ∙ ap (declare_procedure_names kp nps) o.within.0 in
-            let variables-written : rename_fields_in_variable_section (field_names_by_record l) (constructors_before_variables j nb) (mapped_tree text value vs) ≡ mapped_tree (λ i. field_names_by_record l (at i) (text i)) value vs =
-            (λ i. rename_fields_in_variable_section (field_names_by_record l) (j + counted_type_section text value ts i) (mapped_tree text value vs)) ∙ variable_section-owners_in_tree l at text value (constructors_before_variables j b) vs s3.0 in
-            let procedures-written : rename_fields_in_procedures (field_names_by_record l) (environment_after_variables (typed_by_name noted) j nb) (constructors_before_procedures j nb) nps ≡ mapped_tree (λ i. field_names_by_record l (at i) (text i)) value ps =
-            (λ i. rename_fields_in_procedures (field_names_by_record l) (o.named i) (counted i) nps) ∙ r.0 in
+            let variables-written : rename_fields_in_variable_section (renaming_by_record l) (constructors_before_variables j nb) (mapped_tree text value vs) ≡ mapped_tree (λ i. renaming_by_record l (at i) (text i)) value vs =
+            (λ i. rename_fields_in_variable_section (renaming_by_record l) (j + counted_type_section text value ts i) (mapped_tree text value vs)) ∙ variable_section-owners_in_tree l at text value (constructors_before_variables j b) vs s3.0 in
+            let procedures-written : rename_fields_in_procedures (renaming_by_record l) (environment_after_variables (typed_by_name noted) j nb) (constructors_before_procedures j nb) nps ≡ mapped_tree (λ i. renaming_by_record l (at i) (text i)) value ps =
+            (λ i. rename_fields_in_procedures (renaming_by_record l) (o.named i) (counted i) nps) ∙ r.0 in
             let environment : environment_after_procedures (environment_after_variables (typed_by_name noted) j nb) (constructors_before_procedures j nb) nps ≡ typed_by_name q.last = (λ i. environment_after_procedures (o.named i) (counted i) nps) ∙ q.following in
-            let body-written : rename_fields (field_names_by_record l) (meanings naming_by_spelling (environment_after_procedures (environment_after_variables (typed_by_name noted) j nb) (constructors_before_procedures j nb) nps)) None (mapped_tree text value st) ≡ mapped_tree (λ i. field_names_by_record l (at i) (text i)) value st =
-            ap (λ e. rename_fields (field_names_by_record l) (meanings naming_by_spelling e) None (mapped_tree text value st)) environment
+            let body-written : rename_fields (renaming_by_record l) (meanings naming_by_spelling (environment_after_procedures (environment_after_variables (typed_by_name noted) j nb) (constructors_before_procedures j nb) nps)) None (mapped_tree text value st) ≡ mapped_tree (λ i. renaming_by_record l (at i) (text i)) value st =
+            ap (λ e. rename_fields (renaming_by_record l) (meanings naming_by_spelling e) None (mapped_tree text value st)) environment
             ∙ statements-written noted q.last (ordinal_after_procedures kp nps) q.below r.1 (declare_procedure_names kp nps (procedures_scope k nb scope)) following_all st q.fits (ap block_statements numbered) s0.1 in
             λ i. forms_block (declares (identifiers_without_owners-all l at text value cs s1.0 i) (type_section-owners_in_tree l at text value j ts s2.0 i) (variables-written i) (procedures-written i)) (body-written i);
       }
@@ -351,13 +351,13 @@ module _ (l : ℕ → Name → Name) (at : ℕ → Option ℕ) (text : ℕ → N
             let s1 = owners_split at (owners_in_formals j fs) (owners_in_block by_token (constructors_before_procedure_block j p) b ++ ((closing, None) ∷ [])) s0.0.1 in
             let s2 = owners_split at (owners_in_block by_token (constructors_before_procedure_block j p) b) ((closing, None) ∷ []) s1.1 in
             let w = later.written right_own two.0 (ap rest_items numbered) s0.1 in
-            let block-written : rename_fields_in_block (field_names_by_record l) (bind_typed_parameters (parameters_of (typed_by_name noted) j np) (environment_after_heading (typed_by_name noted) j np)) (constructors_before_procedure_block j np) nb ≡ mapped_tree (λ i. field_names_by_record l (at i) (text i)) value b =
-            (λ i. rename_fields_in_block (field_names_by_record l) (bind_typed_parameters (t.pars i) (bind_procedure (text x) (t.pars i) (typed_by_name noted))) (j + counted_formals_section text value fs i) nb)
-            ∙ (ap (λ z. rename_fields_in_block (field_names_by_record l) z (constructors_before_procedure_block j p) nb) (bind_typed_parameters-by_name (suc k) t.listed own)
+            let block-written : rename_fields_in_block (renaming_by_record l) (bind_typed_parameters (parameters_of (typed_by_name noted) j np) (environment_after_heading (typed_by_name noted) j np)) (constructors_before_procedure_block j np) nb ≡ mapped_tree (λ i. renaming_by_record l (at i) (text i)) value b =
+            (λ i. rename_fields_in_block (renaming_by_record l) (bind_typed_parameters (t.pars i) (bind_procedure (text x) (t.pars i) (typed_by_name noted))) (j + counted_formals_section text value fs i) nb)
+            ∙ (ap (λ z. rename_fields_in_block (renaming_by_record l) z (constructors_before_procedure_block j p) nb) (bind_typed_parameters-by_name (suc k) t.listed own)
             ∙ inside.written right_inner three.0 (ap (λ s. relabel_block naming_by_spelling (label_from_ordinal naming_by_spelling) s m nb) t.inner_scope ∙ ap (λ z. procedure_block (first_item (mapped_tree label value p) z)) numbered) s2.0) in
-            let rest-written : rename_fields_in_procedures (field_names_by_record l) (environment_after_heading (typed_by_name noted) j np) (j + procedure_constructor_count np) nrest ≡ mapped_tree (λ i. field_names_by_record l (at i) (text i)) value rest =
-            (λ i. rename_fields_in_procedures (field_names_by_record l) (bind_procedure (text x) (t.pars i) (typed_by_name noted)) (j + counted_procedure text value p i) nrest) ∙ w.0 in (
-              λ i. more (declares_procedure (field_names_by_record l (sym s0.0.0 i) (text x)) (formals-owners_in_tree l at text value j fs s1.0 i) (block-written i) (field_names_by_record l (sym s2.1.0 i) (text closing))) (rest-written i),
+            let rest-written : rename_fields_in_procedures (renaming_by_record l) (environment_after_heading (typed_by_name noted) j np) (j + procedure_constructor_count np) nrest ≡ mapped_tree (λ i. renaming_by_record l (at i) (text i)) value rest =
+            (λ i. rename_fields_in_procedures (renaming_by_record l) (bind_procedure (text x) (t.pars i) (typed_by_name noted)) (j + counted_procedure text value p i) nrest) ∙ w.0 in (
+              λ i. more (declares_procedure (renaming_by_record l (sym s0.0.0 i) (text x)) (formals-owners_in_tree l at text value j fs s1.0 i) (block-written i) (renaming_by_record l (sym s2.1.0 i) (text closing))) (rest-written i),
               w.1,
             );
       }
@@ -413,4 +413,4 @@ agreeing_table_is_owner_table-holds r owners named fits has = λ l.
     let two = right_split objects all (outermost_environment naming_by_label) right in
     let s = owners_split (ordinal_in owners) (owners_in_block (meanings_by_token objects r) 0 b) ((p.closing, None) ∷ []) has.1 in
     let block-written = held.written two.1 two.0 (ap module_block named.numbering) s.0 in
-    λ i. is_module (field_names_by_record l (sym has.0 i) (text p.name)) (block-written i) (field_names_by_record l (sym s.1.0 i) (text p.closing))
+    λ i. is_module (renaming_by_record l (sym has.0 i) (text p.name)) (block-written i) (renaming_by_record l (sym s.1.0 i) (text p.closing))

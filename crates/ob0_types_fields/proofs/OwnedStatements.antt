@@ -10,7 +10,7 @@ use Rattle.ob0_language_types.specs.Typing.{field_type, type_of_variable_or_cons
 use Rattle.ob0_language_types.specs.WellTyped.{TypeMeanings}
 use Rattle.ob0_language_values.specs.Values.{Shape}
 use Rattle.ob0_language_fields.specs.Fields.{type_including_selector, record_ordinal, rename_fields}
-use Rattle.ob0_types_fields.specs.Owners.{field_names_by_record}
+use Rattle.ob0_types_fields.specs.Owners.{renaming_by_record}
 use Rattle.ob0_types_fields.specs.Owned.{AgreesWithOwnerList, owners_in_tree, owner, type_after_selector, identifiers_without_owners, unowned_identifiers}
 
 pub owners_split : (at : ℕ → Option ℕ) (xs ys : List (ℕ × Option ℕ)) → AgreesWithOwnerList at (xs ++ ys) → AgreesWithOwnerList at xs × AgreesWithOwnerList at ys
@@ -30,7 +30,7 @@ all_none : (at : ℕ → Option ℕ) (xs : List (Role × ℕ)) → AgreesWithOwn
 all_none at [] h = tt
 all_none at (x ∷ xs) h = (h.0, all_none at xs h.1)
 
-identifiers_without_owners-mapped_tree : (l : ℕ → Name → Name) (at : ℕ → Option ℕ) (text : ℕ → Name) (value : ℕ → ℕ) (r : Role) {s : Sort} (t : Tree ℕ s) → AllNone at (identifiers r t) → mapped_tree text value t ≡ mapped_tree (λ j. field_names_by_record l (at j) (text j)) value t
+identifiers_without_owners-mapped_tree : (l : ℕ → Name → Name) (at : ℕ → Option ℕ) (text : ℕ → Name) (value : ℕ → ℕ) (r : Role) {s : Sort} (t : Tree ℕ s) → AllNone at (identifiers r t) → mapped_tree text value t ≡ mapped_tree (λ j. renaming_by_record l (at j) (text j)) value t
 identifiers_without_owners-mapped_tree l at text value r none h = refl
 identifiers_without_owners-mapped_tree l at text value r (one a) h = λ i. one (identifiers_without_owners-mapped_tree l at text value r a h i)
 identifiers_without_owners-mapped_tree l at text value r end h = refl
@@ -49,17 +49,17 @@ identifiers_without_owners-mapped_tree l at text value r (product a b) h =
     let s0 = none_split at (identifiers r a) (identifiers r b) h in
     λ i. product (identifiers_without_owners-mapped_tree l at text value r a s0.0 i) (identifiers_without_owners-mapped_tree l at text value r b s0.1 i)
 identifiers_without_owners-mapped_tree l at text value r (multiplies a b) h = λ i. multiplies a (identifiers_without_owners-mapped_tree l at text value r b h i)
-identifiers_without_owners-mapped_tree l at text value r (designator a b) h = λ i. designator (field_names_by_record l (sym h.0 i) (text a)) (identifiers_without_owners-mapped_tree l at text value r b h.1 i)
+identifiers_without_owners-mapped_tree l at text value r (designator a b) h = λ i. designator (renaming_by_record l (sym h.0 i) (text a)) (identifiers_without_owners-mapped_tree l at text value r b h.1 i)
 identifiers_without_owners-mapped_tree l at text value r (integer a) h = refl
 identifiers_without_owners-mapped_tree l at text value r (parenthesised a) h = λ i. parenthesised (identifiers_without_owners-mapped_tree l at text value r a h i)
 identifiers_without_owners-mapped_tree l at text value r (negation a) h = λ i. negation (identifiers_without_owners-mapped_tree l at text value r a h i)
-identifiers_without_owners-mapped_tree l at text value r (field a) h = λ i. field (field_names_by_record l (sym h.0 i) (text a))
+identifiers_without_owners-mapped_tree l at text value r (field a) h = λ i. field (renaming_by_record l (sym h.0 i) (text a))
 identifiers_without_owners-mapped_tree l at text value r (index a) h = λ i. index (identifiers_without_owners-mapped_tree l at text value r a h i)
 identifiers_without_owners-mapped_tree l at text value r empty h = refl
 identifiers_without_owners-mapped_tree l at text value r (assigns a b c) h =
     let s0 = none_split at (identifiers r b) (identifiers r c) h.1 in
-    λ i. assigns (field_names_by_record l (sym h.0 i) (text a)) (identifiers_without_owners-mapped_tree l at text value r b s0.0 i) (identifiers_without_owners-mapped_tree l at text value r c s0.1 i)
-identifiers_without_owners-mapped_tree l at text value r (calls a b) h = λ i. calls (field_names_by_record l (sym h.0 i) (text a)) (identifiers_without_owners-mapped_tree l at text value r b h.1 i)
+    λ i. assigns (renaming_by_record l (sym h.0 i) (text a)) (identifiers_without_owners-mapped_tree l at text value r b s0.0 i) (identifiers_without_owners-mapped_tree l at text value r c s0.1 i)
+identifiers_without_owners-mapped_tree l at text value r (calls a b) h = λ i. calls (renaming_by_record l (sym h.0 i) (text a)) (identifiers_without_owners-mapped_tree l at text value r b h.1 i)
 identifiers_without_owners-mapped_tree l at text value r (branches a b c d) h =
     let s0 = none_split at (identifiers r a) (identifiers r b ++ (identifiers r c ++ (identifiers r d))) h in
     let s1 = none_split at (identifiers r b) (identifiers r c ++ (identifiers r d)) s0.1 in
@@ -84,9 +84,9 @@ identifiers_without_owners-mapped_tree l at text value r (elsif_branch a b) h =
     let s0 = none_split at (identifiers r a) (identifiers r b) h in
     λ i. elsif_branch (identifiers_without_owners-mapped_tree l at text value r a s0.0 i) (identifiers_without_owners-mapped_tree l at text value r b s0.1 i)
 identifiers_without_owners-mapped_tree l at text value r (else_branch a) h = λ i. else_branch (identifiers_without_owners-mapped_tree l at text value r a h i)
-identifiers_without_owners-mapped_tree l at text value r (listed a b) h = λ i. listed (field_names_by_record l (sym h.0 i) (text a)) (identifiers_without_owners-mapped_tree l at text value r b h.1 i)
-identifiers_without_owners-mapped_tree l at text value r (then_name a) h = λ i. then_name (field_names_by_record l (sym h.0 i) (text a))
-identifiers_without_owners-mapped_tree l at text value r (named_type a) h = λ i. named_type (field_names_by_record l (sym h.0 i) (text a))
+identifiers_without_owners-mapped_tree l at text value r (listed a b) h = λ i. listed (renaming_by_record l (sym h.0 i) (text a)) (identifiers_without_owners-mapped_tree l at text value r b h.1 i)
+identifiers_without_owners-mapped_tree l at text value r (then_name a) h = λ i. then_name (renaming_by_record l (sym h.0 i) (text a))
+identifiers_without_owners-mapped_tree l at text value r (named_type a) h = λ i. named_type (renaming_by_record l (sym h.0 i) (text a))
 identifiers_without_owners-mapped_tree l at text value r (array_type a b) h =
     let s0 = none_split at (identifiers r a) (identifiers r b) h in
     λ i. array_type (identifiers_without_owners-mapped_tree l at text value r a s0.0 i) (identifiers_without_owners-mapped_tree l at text value r b s0.1 i)
@@ -109,9 +109,9 @@ identifiers_without_owners-mapped_tree l at text value r (variable_section a b) 
     let s0 = none_split at (identifiers role.Declaring a) (identifiers r b) h in
     λ i. variable_section (identifiers_without_owners-mapped_tree l at text value role.Declaring a s0.0 i) (identifiers_without_owners-mapped_tree l at text value r b s0.1 i)
 identifiers_without_owners-mapped_tree l at text value r (then_section a) h = λ i. then_section (identifiers_without_owners-mapped_tree l at text value r a h i)
-identifiers_without_owners-mapped_tree l at text value r (declares_constant a b) h = λ i. declares_constant (field_names_by_record l (sym h.0 i) (text a)) (identifiers_without_owners-mapped_tree l at text value r b h.1 i)
+identifiers_without_owners-mapped_tree l at text value r (declares_constant a b) h = λ i. declares_constant (renaming_by_record l (sym h.0 i) (text a)) (identifiers_without_owners-mapped_tree l at text value r b h.1 i)
 identifiers_without_owners-mapped_tree l at text value r (declares_constants a) h = λ i. declares_constants (identifiers_without_owners-mapped_tree l at text value r a h i)
-identifiers_without_owners-mapped_tree l at text value r (declares_type a b) h = λ i. declares_type (field_names_by_record l (sym h.0 i) (text a)) (identifiers_without_owners-mapped_tree l at text value r b h.1 i)
+identifiers_without_owners-mapped_tree l at text value r (declares_type a b) h = λ i. declares_type (renaming_by_record l (sym h.0 i) (text a)) (identifiers_without_owners-mapped_tree l at text value r b h.1 i)
 identifiers_without_owners-mapped_tree l at text value r (declares_types a) h = λ i. declares_types (identifiers_without_owners-mapped_tree l at text value r a h i)
 identifiers_without_owners-mapped_tree l at text value r (declares_variable a b) h =
     let s0 = none_split at (identifiers role.Declaring a) (identifiers r b) h in
@@ -120,7 +120,7 @@ identifiers_without_owners-mapped_tree l at text value r (declares_variables a) 
 identifiers_without_owners-mapped_tree l at text value r (declares_procedure a b c d) h =
     let s0 = none_split at (identifiers r b) (identifiers r c ++ ((role.ClosingName, d) ∷ [])) h.1 in
     let s1 = none_split at (identifiers r c) ((role.ClosingName, d) ∷ []) s0.1 in
-    λ i. declares_procedure (field_names_by_record l (sym h.0 i) (text a)) (identifiers_without_owners-mapped_tree l at text value r b s0.0 i) (identifiers_without_owners-mapped_tree l at text value r c s1.0 i) (field_names_by_record l (sym s1.1.0 i) (text d))
+    λ i. declares_procedure (renaming_by_record l (sym h.0 i) (text a)) (identifiers_without_owners-mapped_tree l at text value r b s0.0 i) (identifiers_without_owners-mapped_tree l at text value r c s1.0 i) (renaming_by_record l (sym s1.1.0 i) (text d))
 identifiers_without_owners-mapped_tree l at text value r (declares a b c d) h =
     let s0 = none_split at (identifiers r a) (identifiers r b ++ (identifiers r c ++ (identifiers r d))) h in
     let s1 = none_split at (identifiers r b) (identifiers r c ++ (identifiers r d)) s0.1 in
@@ -132,10 +132,10 @@ identifiers_without_owners-mapped_tree l at text value r (forms_block a b) h =
     λ i. forms_block (identifiers_without_owners-mapped_tree l at text value r a s0.0 i) (identifiers_without_owners-mapped_tree l at text value r b s0.1 i)
 identifiers_without_owners-mapped_tree l at text value r (is_module a b c) h =
     let s0 = none_split at (identifiers r b) ((role.ModuleName, c) ∷ []) h.1 in
-    λ i. is_module (field_names_by_record l (sym h.0 i) (text a)) (identifiers_without_owners-mapped_tree l at text value r b s0.0 i) (field_names_by_record l (sym s0.1.0 i) (text c))
+    λ i. is_module (renaming_by_record l (sym h.0 i) (text a)) (identifiers_without_owners-mapped_tree l at text value r b s0.0 i) (renaming_by_record l (sym s0.1.0 i) (text c))
 
 -- Rewriting a part without fields changes nothing.
-pub identifiers_without_owners-all : (l : ℕ → Name → Name) (at : ℕ → Option ℕ) (text : ℕ → Name) (value : ℕ → ℕ) {s : Sort} (t : Tree ℕ s) → AgreesWithOwnerList at (identifiers_without_owners t) → mapped_tree text value t ≡ mapped_tree (λ j. field_names_by_record l (at j) (text j)) value t
+pub identifiers_without_owners-all : (l : ℕ → Name → Name) (at : ℕ → Option ℕ) (text : ℕ → Name) (value : ℕ → ℕ) {s : Sort} (t : Tree ℕ s) → AgreesWithOwnerList at (identifiers_without_owners t) → mapped_tree text value t ≡ mapped_tree (λ j. renaming_by_record l (at j) (text j)) value t
 identifiers_without_owners-all l at text value t h = identifiers_without_owners-mapped_tree l at text value role.Declaring t (all_none at (identifiers role.Declaring t) h)
 
 -- holds if names have values of the same types by name and by token
@@ -209,7 +209,7 @@ recorded m s t = identifiers_without_owners t
 
 -- Rewriting the fields in a part of a statement is the same as rewriting each token according to the table.
 pub recorded-mapped_tree : {P : Type 0} (l : ℕ → Name → Name) (at : ℕ → Option ℕ) (meaning : TypeMeanings Name) (m : Meanings ℕ Shape P) (value : ℕ → ℕ) (s : Option Shape) {sort : Sort} (t : Tree ℕ sort)
-    → AgreesWithOwnerList at (recorded m s t) → Alike meaning m (occurrences t) → rename_fields (field_names_by_record l) meaning s (mapped_tree m.written value t) ≡ mapped_tree (λ j. field_names_by_record l (at j) (m.written j)) value t
+    → AgreesWithOwnerList at (recorded m s t) → Alike meaning m (occurrences t) → rename_fields (renaming_by_record l) meaning s (mapped_tree m.written value t) ≡ mapped_tree (λ j. renaming_by_record l (at j) (m.written j)) value t
 recorded-mapped_tree l at meaning m value s none h e = refl
 recorded-mapped_tree l at meaning m value s (one a) h e = λ i. one (recorded-mapped_tree l at meaning m value None a h e i)
 recorded-mapped_tree l at meaning m value s end h e = refl
@@ -217,7 +217,7 @@ recorded-mapped_tree l at meaning m value s (more a b) h e =
     let p = owners_split at (recorded m s a) (recorded m (type_after_selector m s a) b) h in
     let q = alike_split meaning m (occurrences a) (occurrences b) e in
     λ i. more (recorded-mapped_tree l at meaning m value s a p.0 q.0 i)
-    ((ap (λ z. rename_fields (field_names_by_record l) meaning z (mapped_tree m.written value b)) (following-mapped_tree m value s a) ∙ recorded-mapped_tree l at meaning m value (type_after_selector m s a) b p.1 q.1) i)
+    ((ap (λ z. rename_fields (renaming_by_record l) meaning z (mapped_tree m.written value b)) (following-mapped_tree m value s a) ∙ recorded-mapped_tree l at meaning m value (type_after_selector m s a) b p.1 q.1) i)
 recorded-mapped_tree l at meaning m value s (compares a b) h e =
     let p0 = owners_split at (recorded m None a) (recorded m None b) h in
     let q0 = alike_split meaning m (occurrences a) (occurrences b) e in
@@ -233,18 +233,18 @@ recorded-mapped_tree l at meaning m value s (product a b) h e =
     let q0 = alike_split meaning m (occurrences a) (occurrences b) e in
     λ i. product (recorded-mapped_tree l at meaning m value None a p0.0 q0.0 i) (recorded-mapped_tree l at meaning m value None b p0.1 q0.1 i)
 recorded-mapped_tree l at meaning m value s (multiplies a b) h e = λ i. multiplies a (recorded-mapped_tree l at meaning m value None b h e i)
-recorded-mapped_tree l at meaning m value s (designator a b) h e = λ i. designator (field_names_by_record l (sym h.0 i) (m.written a)) ((ap (λ z. rename_fields (field_names_by_record l) meaning z (mapped_tree m.written value b)) e.0 ∙ recorded-mapped_tree l at meaning m value (type_of_variable_or_constant (m.object_for a)) b h.1 e.1) i)
+recorded-mapped_tree l at meaning m value s (designator a b) h e = λ i. designator (renaming_by_record l (sym h.0 i) (m.written a)) ((ap (λ z. rename_fields (renaming_by_record l) meaning z (mapped_tree m.written value b)) e.0 ∙ recorded-mapped_tree l at meaning m value (type_of_variable_or_constant (m.object_for a)) b h.1 e.1) i)
 recorded-mapped_tree l at meaning m value s (integer a) h e = refl
 recorded-mapped_tree l at meaning m value s (parenthesised a) h e = λ i. parenthesised (recorded-mapped_tree l at meaning m value None a h e i)
 recorded-mapped_tree l at meaning m value s (negation a) h e = λ i. negation (recorded-mapped_tree l at meaning m value None a h e i)
-recorded-mapped_tree l at meaning m value s (field a) h e = λ i. field (field_names_by_record l (sym h.0 i) (m.written a))
+recorded-mapped_tree l at meaning m value s (field a) h e = λ i. field (renaming_by_record l (sym h.0 i) (m.written a))
 recorded-mapped_tree l at meaning m value s (index a) h e = λ i. index (recorded-mapped_tree l at meaning m value None a h e i)
 recorded-mapped_tree l at meaning m value s empty h e = refl
 recorded-mapped_tree l at meaning m value s (assigns a b c) h e =
     let p0 = owners_split at (recorded m (type_of_variable_or_constant (m.object_for a)) b) (recorded m None c) h.1 in
     let q0 = alike_split meaning m (occurrences b) (occurrences c) e.1 in
-    λ i. assigns (field_names_by_record l (sym h.0 i) (m.written a)) ((ap (λ z. rename_fields (field_names_by_record l) meaning z (mapped_tree m.written value b)) e.0 ∙ recorded-mapped_tree l at meaning m value (type_of_variable_or_constant (m.object_for a)) b p0.0 q0.0) i) (recorded-mapped_tree l at meaning m value None c p0.1 q0.1 i)
-recorded-mapped_tree l at meaning m value s (calls a b) h e = λ i. calls (field_names_by_record l (sym h.0 i) (m.written a)) (recorded-mapped_tree l at meaning m value None b h.1 e.1 i)
+    λ i. assigns (renaming_by_record l (sym h.0 i) (m.written a)) ((ap (λ z. rename_fields (renaming_by_record l) meaning z (mapped_tree m.written value b)) e.0 ∙ recorded-mapped_tree l at meaning m value (type_of_variable_or_constant (m.object_for a)) b p0.0 q0.0) i) (recorded-mapped_tree l at meaning m value None c p0.1 q0.1 i)
+recorded-mapped_tree l at meaning m value s (calls a b) h e = λ i. calls (renaming_by_record l (sym h.0 i) (m.written a)) (recorded-mapped_tree l at meaning m value None b h.1 e.1 i)
 recorded-mapped_tree l at meaning m value s (branches a b c d) h e =
     let p0 = owners_split at (recorded m None a) (recorded m None b ++ (recorded m None c ++ (recorded m None d))) h in
     let q0 = alike_split meaning m (occurrences a) (occurrences b ++ (occurrences c ++ (occurrences d))) e in

@@ -16,7 +16,7 @@ use Rattle.ob0_language_values.specs.Values.{FieldShapes, Shape, array_shape, bo
 use Rattle.ob0_language_fields.specs.Fields.{record_ordinal}
 use Rattle.ob0_types_fields.specs.Owned.{owners_in_tree, owner}
 use Rattle.ob0_language_fields.proofs.AgreeingFields.{lone_designator-typed}
-use Rattle.ob0_language_fields.proofs.NamesMeant.{named, object_in}
+use Rattle.ob0_language_fields.proofs.MeaningsByName.{named, object_in}
 use Rattle.ob0_types_fields.proofs.OwnedStatements.{recorded}
 
 place-found : (fs : FieldShapes) (x : Name) (u : Shape) → shape_of_field fs x ≡ Some u → (i : ℕ) × (position_of_field fs x ≡ Some i)

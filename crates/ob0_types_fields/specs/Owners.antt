@@ -14,9 +14,9 @@ use Rattle.ob0_language_fields.specs.Renaming.{with_renamed_field}
 
 -- Returns a renaming of fields. The field `x` of the record with ordinal `k` gets the name `l k x`.
 -- If the record isn't known (None), the field keeps its name.
-abbrev pub field_names_by_record : (ℕ → Name → Name) → FieldRenaming
-field_names_by_record l None x = x
-field_names_by_record l (Some k) x = l k x
+abbrev pub renaming_by_record : (ℕ → Name → Name) → FieldRenaming
+renaming_by_record l None x = x
+renaming_by_record l (Some k) x = l k x
 
 -- States that the table `owners` has, at each token that declares or selects a field, the ordinal
 -- of the field's record. This is stated through renaming: for any new names `l` of fields, two
@@ -25,8 +25,8 @@ field_names_by_record l (Some k) x = l k x
 abbrev pub IsOwnerTable : ParsedModule → List (Option ℕ) → Type 0
 IsOwnerTable m owners =
     (l : ℕ → Name → Name)
-    → rename_fields_in_module (field_names_by_record l) (named_tree_of m)
-    ≡ mapped_tree (λ i. field_names_by_record l (ordinal_in owners i) (token_text_at m.source i)) (token_value_at m.source)
+    → rename_fields_in_module (renaming_by_record l) (named_tree_of m)
+    ≡ mapped_tree (λ i. renaming_by_record l (ordinal_in owners i) (token_text_at m.source i)) (token_value_at m.source)
     (tree_of m)
 
 -- returns whether the token with index `i` declares or selects the field `f` of the record with

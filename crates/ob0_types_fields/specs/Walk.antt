@@ -19,8 +19,8 @@ abbrev pub field_walk_meanings : FieldWalk → Meanings ℕ Shape Signature
 field_walk_meanings w = meanings_by_token (declared_object_in w.table.now) w.resolved.now
 
 -- returns the shape of a record type in the walk's table of declarations
-abbrev pub record_shape_in : FieldWalk → RecordShape → Shape
-record_shape_in w r = entry_shape (shapes_of w.table.now) (made.Record r)
+abbrev pub record_shape_in_walk : FieldWalk → RecordShape → Shape
+record_shape_in_walk w r = entry_shape (shapes_of w.table.now) (made.Record r)
 
 -- returns the field identifiers in one selector: the selected field, or the fields in an index's
 -- expression; `s` is the type of the designator before the selector

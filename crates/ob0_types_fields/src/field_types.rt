@@ -86,7 +86,7 @@ enum Search {
 impl Search {
     /// Returns the state of the search after one more word ARRAY or RECORD. This word constructs
     /// the type `of`, or an unknown type if `of` is None.
-    fn pass_constructor(self, of: Option<TypeId>) -> Search
+    fn after_constructor(self, of: Option<TypeId>) -> Search
         ensures { (shapes : List Shape)
             → search_view shapes result
             ≡ state_after_constructor (search_view shapes self) (option_map (type_shape shapes) of) }
@@ -157,7 +157,7 @@ impl<'a, 't> ConstructorWalk<'a, 't> {
             WrittenType::Named(_) => search,
             WrittenType::Array(a) => {
                 self.search_type(
-                    search.pass_constructor(of),
+                    search.after_constructor(of),
                     self.element_type_of(of),
                     &a.element,
                 )
@@ -175,7 +175,7 @@ impl<'a, 't> ConstructorWalk<'a, 't> {
             ≡ state_after_constructors (search_view_in_walk self.now search)
             (constructed_types (constructor_walk_meanings self.now) (shape_in_walk self.now of) (record_type_of r.now)) }
     {
-        let mut search = search.pass_constructor(of);
+        let mut search = search.after_constructor(of);
         for group in &r.groups {
             search = self.search_group(search, of, group);
         }

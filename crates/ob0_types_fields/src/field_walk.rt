@@ -18,7 +18,7 @@ ghost use Rattle.ob0_types_table.specs.Tables.{type_shape};
 ghost use Rattle.ob0_language_types.specs.Typing.{element_type, field_type, type_of_variable_or_constant};
 ghost use Rattle.ob0_language_values.specs.Values.{integer_shape};
 ghost use Rattle.ob0_types_fields.specs.Owned.{field_if_owned, fields_in_tree, fields_in_block, fields_in_procedure, owner, type_after_selector};
-ghost use Rattle.ob0_types_fields.specs.Walk.{fields_in_selector, field_walk_meanings, record_shape_in};
+ghost use Rattle.ob0_types_fields.specs.Walk.{fields_in_selector, field_walk_meanings, record_shape_in_walk};
 
 use crate::declared::{add_formal_fields, add_type_section_fields, add_variable_section_fields};
 use crate::field_name::{FieldName, FieldNameList};
@@ -97,11 +97,11 @@ impl<'a, 't> FieldWalk<'a, 't> {
     ) -> Result<Option<TypeId>, AllocError>
         ensures found { IfOk result (λ _. found.new.items
             ≡ found.old.items
-            ++ field_if_owned name (owner (Some (record_shape_in self.now shape.now))
+            ++ field_if_owned name (owner (Some (record_shape_in_walk self.now shape.now))
             ((field_walk_meanings self.now).written name))) }
         ensures following { IfOk result (λ t.
             option_map (type_shape (shapes_of self.now.table.now)) t
-            ≡ field_type (record_shape_in self.now shape.now)
+            ≡ field_type (record_shape_in_walk self.now shape.now)
             ((field_walk_meanings self.now).written name)) }
     {
         match shape

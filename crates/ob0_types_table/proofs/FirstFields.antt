@@ -13,7 +13,7 @@ use Rattle.ob0_language_names.proofs.NameEquality.{same_name-comm}
 use Rattle.ob0_types_table.specs.declared.field_table.FirstField.{FirstField}
 use Rattle.ob0_types_table.specs.declared.known.Field.{Field}
 use Rattle.ob0_types_table.specs.declared.types.TypeId.{TypeId}
-use Rattle.ob0_types_table.specs.FieldIndex.{IsFieldIndexFrom, first_field_numbered_from, first_field_type}
+use Rattle.ob0_types_table.specs.FieldIndex.{IsFirstFieldMapFrom, first_field_numbered_from, first_field_type}
 use Rattle.ob0_types_table.specs.FieldPlaces.{position_of_field}
 use Rattle.ob0_types_table.specs.Tables.{field_shapes, type_shape}
 use Rattle.ob0_language_types.specs.Typing.{shape_of_field}
@@ -55,7 +55,7 @@ first-place shapes fs x = first_field_numbered_from-place shapes 0 fs x ∙ none
 
 -- holds if the map has the fields from a position onwards
 pub record Filled (map : BTreeMap (String Global) FirstField) (fs : List Field) (left : ℕ) : Type 0 where
-  pub index : IsFieldIndexFrom map left (drop left fs)
+  pub index : IsFirstFieldMapFrom map left (drop left fs)
   pub within : left ≤ length fs
 
 pub filled_on : (map next : BTreeMap (String Global) FirstField) (fs : List Field) (left : ℕ) (bytes : List ℕ) (f d : Field) → Filled map fs left → 0 < left → f ≡ get_or fs (left - 1) d → bytes ≡ string_bytes f.name

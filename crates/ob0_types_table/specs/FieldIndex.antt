@@ -25,10 +25,10 @@ first_field_type (f ∷ fs) x =
 
 -- States that the map has, for each name, the first field with this name in the list. The position that the map has for
 -- the field is the field's index in the list plus `k`.
-pub record IsFieldIndexFrom
+pub record IsFirstFieldMapFrom
     (map : BTreeMap (String Global) FirstField) (k : ℕ) (fields : List Field) : Type 0 where
   pub found : (x : Name) → get_by_text map x ≡ first_field_numbered_from k fields x
 
 -- states that the map has, for each name, the first field with this name, and its index in the list
-abbrev pub IsFieldIndex : BTreeMap (String Global) FirstField → List Field → Type 0
-IsFieldIndex map fields = IsFieldIndexFrom map 0 fields
+abbrev pub IsFirstFieldMap : BTreeMap (String Global) FirstField → List Field → Type 0
+IsFirstFieldMap map fields = IsFirstFieldMapFrom map 0 fields

@@ -84,7 +84,7 @@ HasSizeOfShape (made.Record r) s = (r.scalars ≡ scalars s) × (r.depth ≡ dep
 
 -- States that an entry refers only to the entries before it, and has the number of scalars and the depth of its shape.
 -- The entries before it have the shapes `shapes`.
-pub record IsEntry (shapes : List Shape) (m : code.TypeEntry) : Type 0 where
+pub record IsValidEntry (shapes : List Shape) (m : code.TypeEntry) : Type 0 where
   pub parts : PartsAreAmongEntries (length shapes) m
   pub counted : HasSizeOfShape m (entry_shape shapes m)
 
@@ -93,7 +93,7 @@ pub record IsEntry (shapes : List Shape) (m : code.TypeEntry) : Type 0 where
 abbrev pub AreEntriesInOrder : List Shape → List code.TypeEntry → Type 0
 AreEntriesInOrder known [] = Unit {0}
 AreEntriesInOrder known (m ∷ ms) =
-    IsEntry known m × AreEntriesInOrder (known ++ entry_shape known m ∷ []) ms
+    IsValidEntry known m × AreEntriesInOrder (known ++ entry_shape known m ∷ []) ms
 
 -- returns the mode of a parameter: by place if the Bool is true, otherwise by value
 abbrev pub mode_of : Bool → Mode

@@ -2,11 +2,11 @@
 //!
 //! In contracts, the value of a table is only the list of its fields. The map isn't part of this
 //! value, because the table's invariant determines the map: it has, for each name, the first field
-//! with this name in the list (`IsFieldIndex`).
+//! with this name in the list (`IsFirstFieldMap`).
 
 ghost use Rattle.std.specs.Prelude.{◌≡◌, List, IfOk, option_map};
 ghost use Rattle.ob0_language_values.specs.Values as shape;
-ghost use Rattle.ob0_types_table.specs.FieldIndex.{IsFieldIndex, first_field_type};
+ghost use Rattle.ob0_types_table.specs.FieldIndex.{IsFirstFieldMap, first_field_type};
 ghost use Rattle.ob0_types_table.specs.FieldPlaces.{position_of_field};
 ghost use Rattle.ob0_types_table.specs.Tables.{field_shapes, type_shape};
 ghost use Rattle.ob0_language_types.specs.Typing.{shape_of_field};
@@ -38,11 +38,11 @@ impl Model for FieldTable {
 
     ghost Value = { List Field };
 
-    ghost use Rattle.ob0_types_table.specs.FieldIndex.{IsFieldIndex};
+    ghost use Rattle.ob0_types_table.specs.FieldIndex.{IsFirstFieldMap};
 
     ghost view = { λ t. t.fields.items };
 
-    ghost invariant = { λ t. IsFieldIndex t.first_field_by_name t.fields.items };
+    ghost invariant = { λ t. IsFirstFieldMap t.first_field_by_name t.fields.items };
 }
 
 /// Returns a map from each name to the first field with this name. The map is filled starting at
@@ -51,7 +51,7 @@ fn first_field_by_name(
     alloc: Global,
     fields: &[Field],
 ) -> Result<BTreeMap<String, FirstField>, AllocError>
-    ensures { IfOk result (λ m. IsFieldIndex m fields.now) }
+    ensures { IfOk result (λ m. IsFirstFieldMap m fields.now) }
 {
     let mut first = BTreeMap::new(alloc);
     let mut left = fields.len();

@@ -31,9 +31,9 @@ use Rattle.ob0_rpc.specs.Messages.{ReadsContent, meaning_of_content, meaning_of}
 use Rattle.ob0_rpc.specs.Shapes.{result_message, error_message}
 use Rattle.ob0_rpc.specs.declared.clients.ClientFeatures.{ClientFeatures}
 use Rattle.ob0_edits.specs.Inlinings.{OffersInlining}
-use Rattle.ob0_session_answers.specs.Actions.{RequestedActions, ListsActions, allows_inlining, wants_inlining, actions_offset, actions_array}
+use Rattle.ob0_session_answers.specs.Actions.{RequestedActions, ListsActions, kinds_include_inlining, wants_inlining, actions_offset, actions_array}
 use Rattle.ob0_session_server.specs.Answers as answers_of
-use Rattle.ob0_session_server.specs.Answers.{ServerState, Reply, AreContentsOfReply, Sends, Reaction, react, apply_notification, react_to_notification, react_to_method, react_to_request as requested_in, react_to_known_request, react_about_document, formats_text, renames, offers_actions, publication_reply, Answers, AnswersInPhase, AnswersBeforeEnd, says}
+use Rattle.ob0_session_server.specs.Answers.{ServerState, Reply, AreContentsOfReply, Sends, Reaction, react, apply_notification, react_to_notification, react_to_method, react_to_request as requested_in, react_to_known_request, react_about_document, formatting_reply, renames, actions_reply, publication_reply, Answers, AnswersInPhase, AnswersBeforeEnd, says}
 use Rattle.ob0_analysis.specs.Diagnosed.{ReportedDiagnosis, IsWellTypedModule, Reports, ReportsFaults, reported_diagnosis_of_fault}
 use Rattle.ob0_session_answers.specs.Diagnostics.{AreDiagnosticsOf, diagnostic_of}
 use Rattle.ob0_analysis.specs.Texts.{utf8}
@@ -342,7 +342,7 @@ module _ (number_of : Data → Option ℕ) (requested : List SentAsk) where
   answered : (id : Data) (k : ℕ) (uri : List ℕ) (ask : Ask) (answer : Data) → Asks id k uri ask → option_and_then (answer_to requested answer) (number_of id) ≡ Some (answers k (edits_for uri ask answer))
   answered id k uri ask answer of =
       ap (option_and_then (answer_to requested answer)) of.numbered
-      ∙ ap (option_map (λ (a : SentAsk). answers k (edits_for a.uri a.ask answer))) of.is.is ∙ (λ i. Some (answers k (edits_for (of.is.about i) (of.is.asks_this i) answer)))
+      ∙ ap (option_map (λ (a : SentAsk). answers k (edits_for a.uri a.ask answer))) of.is.is ∙ (λ i. Some (answers k (edits_for (of.is.about i) (of.is.same_ask i) answer)))
 
   -- states that the contents are the answer to ask k about this document
   record Answered (k : ℕ) (ask : Ask) (unit : Unit) (o : Option Document) (sent : List (List ℕ)) : Type 0 where
@@ -361,7 +361,7 @@ module _ (number_of : Data → Option ℕ) (requested : List SentAsk) where
       }
 
   formatted : (id : Data) (k : ℕ) (uri : List ℕ) (indent : Indent) (unit : Unit) (version : ℤ) (text : List ℕ) (sent : List (List ℕ)) → Asks id k uri (format indent)
-      → AreContentsOfReply (formats_text unit id (clamped_indent indent) text) sent → Answered k (format indent) unit (Some (InStep version text)) sent
+      → AreContentsOfReply (formatting_reply unit id (clamped_indent indent) text) sent → Answered k (format indent) unit (Some (InStep version text)) sent
   formatted id k uri indent unit version text sent of (message, how, sends) = go how
     where
       go : AnswersFormatting unit id (clamped_indent indent) text message → Answered k (format indent) unit (Some (InStep version text)) sent
@@ -393,8 +393,8 @@ module _ (number_of : Data → Option ℕ) (requested : List SentAsk) where
       go (inr (inr (unfit, is))) = refused id k uri (rename position name) unit (Some (InStep version text)) (minus 32803) (codes "ill-typed") sent of (subst (λ m. Sends m sent) is sends) (unfit_answer unit text (rename position name) unfit)
 
   inlined_in : (how : Inlining) (id : Data) (k : ℕ) (uri : List ℕ) (position : Position) (range : Range) (only : Option (List (List ℕ))) (client : ClientFeatures) (unit : Unit) (version : ℤ) (text : List ℕ) (sent : List (List ℕ))
-      → client.accepts_literal_actions ≡ true → allows_inlining only ≡ true → actions_offset unit text range ≡ position_offset unit text position → Asks id k uri (inlining_at how position)
-      → AreContentsOfReply (offers_actions unit (actions_requested_in client id uri range only version) text) sent → Answered k (inlining_at how position) unit (Some (InStep version text)) sent
+      → client.accepts_literal_actions ≡ true → kinds_include_inlining only ≡ true → actions_offset unit text range ≡ position_offset unit text position → Asks id k uri (inlining_at how position)
+      → AreContentsOfReply (actions_reply unit (actions_requested_in client id uri range only version) text) sent → Answered k (inlining_at how position) unit (Some (InStep version text)) sent
   inlined_in how id k uri position range only client unit version text sent literal allowed place of (message, (value, how_listed, is), sends) = go how_listed
     where
       request : RequestedActions
@@ -417,7 +417,7 @@ module _ (number_of : Data → Option ℕ) (requested : List SentAsk) where
       wants false c is also not = cc
 
       unfit : (wants_inlining request ≡ false) ⊎ ¬ IsWellTypedModule (utf8 text) → ¬ IsWellTypedModule (utf8 text)
-      unfit (inl unwanted) = absurd (wants client.accepts_literal_actions (allows_inlining only) literal allowed unwanted)
+      unfit (inl unwanted) = absurd (wants client.accepts_literal_actions (kinds_include_inlining only) literal allowed unwanted)
       unfit (inr ill_typed) = ill_typed
 
       go : ListsActions unit request text value → Answered k (inlining_at how position) unit (Some (InStep version text)) sent
@@ -430,7 +430,7 @@ module _ (number_of : Data → Option ℕ) (requested : List SentAsk) where
 
   inlined : (how : Inlining) (id : Data) (k : ℕ) (uri : List ℕ) (position : Position) (client : ClientFeatures) (unit : Unit) (version : ℤ) (text : List ℕ) (sent : List (List ℕ)) → client.accepts_literal_actions ≡ true
       → Asks id k uri (inlining_at how position)
-      → AreContentsOfReply (offers_actions unit (actions_requested_at client id uri position version) text) sent → Answered k (inlining_at how position) unit (Some (InStep version text)) sent
+      → AreContentsOfReply (actions_reply unit (actions_requested_at client id uri position version) text) sent → Answered k (inlining_at how position) unit (Some (InStep version text)) sent
   inlined how id k uri position client unit version text sent literal of saying =
       inlined_in how id k uri position (empty_range_at position) None client unit version text sent literal refl (place_is unit text position) of saying
 
@@ -463,19 +463,19 @@ module _ (number_of : Data → Option ℕ) (requested : List SentAsk) where
       (λ version text. renamed id k uri position name before.client before.held.unit version text sent of) (document_at before.held uri) refl
       (is ∙ ap (λ (x : Reaction). x.after) so) (subst (λ (x : Reaction). AreContentsOfReply x.reply sent) so saying)
   request_served id k uri (inline_here position) params before after sent running takes of call is saying =
-      let say : ℤ → List ℕ → Reply = λ version. offers_actions before.held.unit (actions_requested_at before.client id uri position version) in
+      let say : ℤ → List ℕ → Reply = λ version. actions_reply before.held.unit (actions_requested_at before.client id uri position version) in
       let so : react_to_method before id (method_of (inline_here position)) params ≡ react_about_document before id (document_at before.held uri) say = ap (react_to_known_request before id) call in
       about_document id k uri (inline_here position) say before after sent running of
       (λ version text. inlined OneUse id k uri position before.client before.held.unit version text sent takes of) (document_at before.held uri) refl
       (is ∙ ap (λ (x : Reaction). x.after) so) (subst (λ (x : Reaction). AreContentsOfReply x.reply sent) so saying)
   request_served id k uri (inline_all position) params before after sent running takes of call is saying =
-      let say : ℤ → List ℕ → Reply = λ version. offers_actions before.held.unit (actions_requested_at before.client id uri position version) in
+      let say : ℤ → List ℕ → Reply = λ version. actions_reply before.held.unit (actions_requested_at before.client id uri position version) in
       let so : react_to_method before id (method_of (inline_all position)) params ≡ react_about_document before id (document_at before.held uri) say = ap (react_to_known_request before id) call in
       about_document id k uri (inline_all position) say before after sent running of
       (λ version text. inlined Everywhere id k uri position before.client before.held.unit version text sent takes of) (document_at before.held uri) refl
       (is ∙ ap (λ (x : Reaction). x.after) so) (subst (λ (x : Reaction). AreContentsOfReply x.reply sent) so saying)
   request_served id k uri (format indent) params before after sent running takes of call is saying =
-      let say : ℤ → List ℕ → Reply = λ version. formats_text before.held.unit id (clamped_indent indent) in
+      let say : ℤ → List ℕ → Reply = λ version. formatting_reply before.held.unit id (clamped_indent indent) in
       let so : react_to_method before id (method_of (format indent)) params ≡ react_about_document before id (document_at before.held uri) say = ap (react_to_known_request before id) call in
       about_document id k uri (format indent) say before after sent running of
       (λ version text. formatted id k uri indent before.held.unit version text sent of) (document_at before.held uri) refl
@@ -483,11 +483,11 @@ module _ (number_of : Data → Option ℕ) (requested : List SentAsk) where
 
   -- A request for the actions in a range is answered as an inlining if the range and the position have the same offset.
   inline_served : (how : Inlining) (id : Data) (k : ℕ) (uri : List ℕ) (position : Position) (range : Range) (only : Option (List (List ℕ))) (params : Data) (before after : ServerState) (sent : List (List ℕ)) → before.phase ≡ Running → AcceptsActions before.client
-      → Asks id k uri (inlining_at how position) → allows_inlining only ≡ true → ((unit : Unit) (text : List ℕ) → actions_offset unit text range ≡ position_offset unit text position) → request_by_method (codes "textDocument/codeAction") params ≡ Ok (code_action uri range only)
+      → Asks id k uri (inlining_at how position) → kinds_include_inlining only ≡ true → ((unit : Unit) (text : List ℕ) → actions_offset unit text range ≡ position_offset unit text position) → request_by_method (codes "textDocument/codeAction") params ≡ Ok (code_action uri range only)
       → after ≡ (react_to_method before id (codes "textDocument/codeAction") params).after → AreContentsOfReply (react_to_method before id (codes "textDocument/codeAction") params).reply sent
       → Served (requests k uri (inlining_at how position)) before after sent
   inline_served how id k uri position range only params before after sent running takes of allowed place call is saying =
-      let say : ℤ → List ℕ → Reply = λ version. offers_actions before.held.unit (actions_requested_in before.client id uri range only version) in
+      let say : ℤ → List ℕ → Reply = λ version. actions_reply before.held.unit (actions_requested_in before.client id uri range only version) in
       let so : react_to_method before id (codes "textDocument/codeAction") params ≡ react_about_document before id (document_at before.held uri) say = ap (react_to_known_request before id) call in
       about_document id k uri (inlining_at how position) say before after sent running of
       (λ version text. inlined_in how id k uri position range only before.client before.held.unit version text sent takes allowed (place before.held.unit text) of) (document_at before.held uri) refl

@@ -21,7 +21,7 @@ use Rattle.ob0_world_rules.specs.PublicationsInOrder.{AreMadeInOrder}
 use Rattle.ob0_world_rules.proofs.ModelEditor.{holds_in_every_interleaving, publications_in_order}
 use Rattle.ob0_world_rules.proofs.CourseIsDetermined.{course_is_determined}
 use Rattle.ob0_world.specs.Code.{event_of, played_edits, played_publications}
-use Rattle.ob0_world.specs.Worlds.{Wire, Connection, Begins, SessionTakesFirst, EditorGetsFirst, WritesContent, MovesWire, ConnectionStep, ConnectionCourse, ResultsMatch, ContentsMatch, Plays, PlaysPrefix, SameHistory}
+use Rattle.ob0_world.specs.Worlds.{Wire, Connection, Begins, SessionTakesFirst, EditorTakesFirst, WritesContent, MovesWire, ConnectionStep, ConnectionCourse, ResultsMatch, ContentsMatch, Plays, PlaysPrefix, SameHistory}
 
 -- ---- one event more
 
@@ -53,7 +53,7 @@ takes_conversed (content ∷ rest) old new (after, sent, answers, is) h =
     let more = conversation_then server.start old.taken (old.got ++ old.to_editor) old.session (content ∷ []) sent after h (answered_once old.session content sent after answers) in
     subst Conversed (sym is) (subst (λ x. Conversation server.start (old.taken ++ content ∷ []) x after) (append_assoc old.got old.to_editor sent) more)
 
-pub gets_conversed : (q : List (List ℕ)) (old new : Wire) → old.to_editor ≡ q → EditorGetsFirst q old new → Conversed old → Conversed new
+pub gets_conversed : (q : List (List ℕ)) (old new : Wire) → old.to_editor ≡ q → EditorTakesFirst q old new → Conversed old → Conversed new
 unfolding Conversed
 gets_conversed [] old new waits is h = subst Conversed (sym is) h
 gets_conversed (content ∷ rest) old new waits is h =

@@ -25,14 +25,14 @@ use Rattle.ob0_rpc.specs.Shapes.{result_message, error_message}
 use Rattle.ob0_session_answers.specs.Questions.{NameQuestion, hover_question, definition_question, references_question, prepare_rename_question}
 use Rattle.ob0_session_answers.specs.Actions.{RequestedActions}
 use Rattle.ob0_session_json.specs.Shapes.{edits_value, workspace_edit}
-use Rattle.ob0_session_server.specs.Answers.{ServerState, Reply, AreContentsOfReply, Sends, Reaction, react, react_to_request, react_to_notification, apply_notification, react_to_known_request, react_to_method, react_about_document, answers_question, react_to_question, renames, offers_actions, formats_text, react_with_error, Answers}
+use Rattle.ob0_session_server.specs.Answers.{ServerState, Reply, AreContentsOfReply, Sends, Reaction, react, react_to_request, react_to_notification, apply_notification, react_to_known_request, react_to_method, react_about_document, question_reply, react_to_question, renames, actions_reply, formatting_reply, react_with_error, Answers}
 use Rattle.ob0_world_editor.specs.MessagesToServer.{request_number, sent_request, message_of_notification, message_to_server_of, message_to_server_in}
 use Rattle.ob0_world_editor.specs.MessagesToEditor.{message_to_editor_in, publication_of_notification, answer_of_response, message_to_editor_of, message_to_editor_by, answer_to, edits_for}
 use Rattle.ob0_world_editor.proofs.Hearing.{said, says_heard, read_as}
 use Rattle.ob0_world_rules.specs.Asks.{Ask, rename, inline_here, inline_all, format}
 use Rattle.ob0_world_rules.specs.ClientAndServer.{OpenDocument, SentAsk, Editor, request_numbered, MessageToServer, notifies, requests, MessageToEditor, publishes, answers, PublicationWithText, after_message}
 use Rattle.ob0_world_rules.specs.EditorActs.{ActResult, after_reading, without_answer}
-use Rattle.ob0_world_rules.specs.Editors.{Revision, Move, to_open, to_revise, to_close, to_ask, to_apply, to_drop, revised_document, with_document, Revises, IsAllowedMove}
+use Rattle.ob0_world_rules.specs.Editors.{Revision, Move, to_open, to_revise, to_close, to_ask, to_apply, to_discard, revised_document, with_document, Revises, IsAllowedMove}
 use Rattle.ob0_world_rules.specs.EveryEditor.{EditorAndServer, initial_editor_and_server, modeled_messages, notifications_among, Turn, editor_moves, editor_sends_unmodeled, server_takes, editor_takes, MayHappen, MayLeadTo, HoldsWithEditor}
 use Rattle.ob0_world_rules.specs.Answers.{OneUse, Everywhere, IsEmptyIfWellTyped}
 use Rattle.ob0_world_rules.specs.Serving.{Publishes, Replies}
@@ -96,7 +96,7 @@ module _ (client : ClientFeatures) (ids later : List SentRequestId) (requested m
     is,
     record {
       numbered = ask_with_still ids later id k of.numbered;
-      is = record { sent = of.is.sent; is = numbered_push requested more k of.is.sent of.is.is; about = of.is.about; asks_this = of.is.asks_this };
+      is = record { sent = of.is.sent; is = numbered_push requested more k of.is.sent of.is.is; about = of.is.about; same_ask = of.is.same_ask };
     },
     takes,
   )
@@ -159,7 +159,7 @@ asks_more e (to_revise uri revisions) done announced (new, revises, is) = asks_n
 asks_more e (to_close uri) done announced (is, are) = asks_none e done (ap (λ (x : ActResult). x.editor.requested) is)
 asks_more e (to_ask uri ask) done announced (d, at, is, are) = (record { ask = ask; uri = uri; text = d.text; opening = d.opening; version = d.version } ∷ [], ap (λ (x : ActResult). x.editor.requested) is)
 asks_more e (to_apply k revisions) done announced a = asks_none e done (ap (λ (x : ActResult). x.editor.requested) a.is ∙ revises_asks revisions (without_answer e k) a.requested.uri a.new announced a.revises)
-asks_more e (to_drop k) done announced (is, are) = asks_none e done (ap (λ (x : ActResult). x.editor.requested) is)
+asks_more e (to_discard k) done announced (is, are) = asks_none e done (ap (λ (x : ActResult). x.editor.requested) is)
 
 names_more : (ids : List SentRequestId) (sent : List MessageToServer) (new : List SentRequestId) → AssignsAskIds ids sent new → (later : List SentRequestId) × (new ≡ ids ++ later)
 names_more ids [] new is = ([], is ∙ sym (append-nil ids))
@@ -225,7 +225,7 @@ module _ (ids : List SentRequestId) (requested : List SentAsk) (before after : S
   about_served id say own in_step (Some OutOfStep) same saying = refused_other id (minus 32803) (codes "out of step") own same saying
   about_served id say own in_step (Some (InStep version text)) same saying = reply_is_determined id own same (in_step version text saying)
 
-  named_replied : (unit : Unit) (id : Data) (at : DocumentPlace) (question : NameQuestion) (text : List ℕ) → AreContentsOfReply (answers_question unit id at question text) sent → Replied id
+  named_replied : (unit : Unit) (id : Data) (at : DocumentPlace) (question : NameQuestion) (text : List ℕ) → AreContentsOfReply (question_reply unit id at question text) sent → Replied id
   named_replied unit id at question text (value, answers_it, sends) = (result_message id value, sends, (refl, refl))
 
   rename_replied : (unit : Unit) (r : RequestedRename) (text : List ℕ) → AreContentsOfReply (renames unit r text) sent → Replied r.id
@@ -233,10 +233,10 @@ module _ (ids : List SentRequestId) (requested : List SentAsk) (before after : S
   rename_replied unit r text (message, inr (inl (refusal, why, is)), sends) = (error_message r.id (minus 32803) (refusal_text refusal), subst (λ m. Sends m sent) is sends, (refl, refl))
   rename_replied unit r text (message, inr (inr (unfit, is)), sends) = (error_message r.id (minus 32803) (codes "ill-typed"), subst (λ m. Sends m sent) is sends, (refl, refl))
 
-  actions_replied : (unit : Unit) (r : RequestedActions) (text : List ℕ) → AreContentsOfReply (offers_actions unit r text) sent → Replied r.id
+  actions_replied : (unit : Unit) (r : RequestedActions) (text : List ℕ) → AreContentsOfReply (actions_reply unit r text) sent → Replied r.id
   actions_replied unit r text (message, (value, how, is), sends) = (result_message r.id value, subst (λ m. Sends m sent) is sends, (refl, refl))
 
-  layout_replied : (unit : Unit) (id : Data) (indent : Indent) (text : List ℕ) → AreContentsOfReply (formats_text unit id indent text) sent → Replied id
+  layout_replied : (unit : Unit) (id : Data) (indent : Indent) (text : List ℕ) → AreContentsOfReply (formatting_reply unit id indent text) sent → Replied id
   layout_replied unit id indent text (message, inl (edits, laid, is), sends) = (result_message id (edits_value edits), subst (λ m. Sends m sent) is sends, (refl, refl))
   layout_replied unit id indent text (message, inr (inl (long, is)), sends) = (error_message id (minus 32803) (refusal_text TooLong), subst (λ m. Sends m sent) is sends, (refl, refl))
   layout_replied unit id indent text (message, inr (inr (unfit, is)), sends) = (error_message id (minus 32803) (codes "ill-typed"), subst (λ m. Sends m sent) is sends, (refl, refl))
@@ -244,7 +244,7 @@ module _ (ids : List SentRequestId) (requested : List SentAsk) (before after : S
   -- A question about the name at a position changes nothing and gets one reply or a refusal.
   name_served : (id : Data) (at : DocumentPlace) (question : NameQuestion) → IsNonAskId ids (id_of_value id) → after ≡ (react_to_question before id at question).after → AreContentsOfReply (react_to_question before id at question).reply sent → OtherServed ids requested before after sent
   name_served id at question own same saying =
-      about_served id (λ version. answers_question before.held.unit id at question) own (λ version text. named_replied before.held.unit id at question text) (document_at before.held at.uri) same saying
+      about_served id (λ version. question_reply before.held.unit id at question) own (λ version text. named_replied before.held.unit id at question text) (document_at before.held at.uri) same saying
 
   question_served : (id : Data) → IsNonAskId ids (id_of_value id) → (q : Result ClientRequest RpcFault) → IsReadOnlyRequest q → after ≡ (react_to_known_request before id q).after → AreContentsOfReply (react_to_known_request before id q).reply sent → OtherServed ids requested before after sent
   question_served id own (Ok (asked.initialize client)) h same saying = absurd h
@@ -257,10 +257,10 @@ module _ (ids : List SentRequestId) (requested : List SentAsk) (before after : S
       about_served id (λ version. renames before.held.unit (record { id = id; client = before.client; at = at; version = version; new = name })) own
       (λ version text. rename_replied before.held.unit (record { id = id; client = before.client; at = at; version = version; new = name }) text) (document_at before.held at.uri) same saying
   question_served id own (Ok (asked.code_action uri range only)) h same saying =
-      about_served id (λ version. offers_actions before.held.unit (record { id = id; client = before.client; uri = uri; version = version; range = range; only = only })) own
+      about_served id (λ version. actions_reply before.held.unit (record { id = id; client = before.client; uri = uri; version = version; range = range; only = only })) own
       (λ version text. actions_replied before.held.unit (record { id = id; client = before.client; uri = uri; version = version; range = range; only = only }) text) (document_at before.held uri) same saying
   question_served id own (Ok (asked.formatting uri indent)) h same saying =
-      about_served id (λ version. formats_text before.held.unit id indent) own (λ version text. layout_replied before.held.unit id indent text) (document_at before.held uri) same saying
+      about_served id (λ version. formatting_reply before.held.unit id indent) own (λ version text. layout_replied before.held.unit id indent text) (document_at before.held uri) same saying
   question_served id own (Err fault) h same saying = refused_other id (error_code fault) (error_text fault) own same saying
 
   message_served : before.phase ≡ Running → (m : MessageMeaning) → IsUnmodeledMessage ids m → after ≡ (react before m).after → AreContentsOfReply (react before m).reply sent → OtherServed ids requested before after sent

@@ -27,7 +27,7 @@ use Rattle.ob0_session_answers.specs.Formatted.{AnswersFormatting}
 use Rattle.ob0_session_answers.specs.Renamed.{RequestedRename, AnswersRenaming}
 use Rattle.ob0_session_json.specs.Shapes.{document_edit, edits_value, workspace_edit, publication}
 use Rattle.ob0_session_server.specs.Answers as answers_of
-use Rattle.ob0_session_server.specs.Answers.{ServerState, Reply, AreContentsOfReply, Sends, Reaction, state_after_initialize, react, apply_notification, react_to_notification, react_to_method, react_to_known_request, react_about_document, formats_text, renames, offers_actions, publication_reply, Answers, AnswersInPhase, AnswersBeforeEnd, says}
+use Rattle.ob0_session_server.specs.Answers.{ServerState, Reply, AreContentsOfReply, Sends, Reaction, state_after_initialize, react, apply_notification, react_to_notification, react_to_method, react_to_known_request, react_about_document, formatting_reply, renames, actions_reply, publication_reply, Answers, AnswersInPhase, AnswersBeforeEnd, says}
 use Rattle.ob0_session_server.specs.Units.{unit_for}
 use Rattle.ob0_world_editor.specs.InitializeRequest.{client_for}
 use Rattle.ob0_world_editor.specs.MessagesToServer.{IsMessageToServer, IsAsk, notification_for, client_request_for, request_number}
@@ -44,7 +44,7 @@ use Rattle.ob0_world_rules.proofs.PerformsAct.{of_each}
 use Rattle.ob0_world_rules.proofs.Asked.{numbered_push, slice_get_last}
 use Rattle.ob0_world.specs.Queues.{IsReachable, RunsWithEditor}
 use Rattle.ob0_world.specs.Versions.{answer_uri_and_version, edited_uri_and_version, MentionsAskedDocument, MentionsDocumentOfAsk, IsFormatting, AnswersMentionVersions, VersionsSuffice}
-use Rattle.ob0_world.specs.Worlds.{Wire, Connection, Begins, SessionTakesFirst, EditorGetsFirst, AreMessagesToServer, QueuesMatch, ConnectionStep, ConnectionCourse}
+use Rattle.ob0_world.specs.Worlds.{Wire, Connection, Begins, SessionTakesFirst, EditorTakesFirst, AreMessagesToServer, QueuesMatch, ConnectionStep, ConnectionCourse}
 use Rattle.ob0_world.proofs.Answering.{reacts_so, request_reaction, served, runs_on, inlining_at, none_read_back, actions_requested_at}
 use Rattle.ob0_world.proofs.Stepping.{reached_start, reached_more, reached_mirrors}
 
@@ -190,7 +190,7 @@ module _ (requested : List SentAsk) (k : ℕ) (uri : List ℕ) (sent : List (Lis
       (λ n is. (
         of.sent,
         subst (λ x. request_numbered requested x ≡ Some of.sent) (same_Some k n (sym numbered ∙ is)) of.is,
-        subst (λ u. NamesFor of.sent.ask u of.sent.version message) (sym of.about) (subst (λ x. NamesFor x uri of.sent.version message) (sym of.asks_this) names),
+        subst (λ u. NamesFor of.sent.ask u of.sent.version message) (sym of.about) (subst (λ x. NamesFor x uri of.sent.version message) (sym of.same_ask) names),
       ))
 
   refusal_names : (ask : Ask) (of : IsAsk requested k uri ask) (code : ℤ) (why : List ℕ) (message : Data) → Sends message sent → message ≡ error_message (number (unsigned k)) code why → All (MentionsDocumentOfAsk requested) sent
@@ -210,7 +210,7 @@ module _ (requested : List SentAsk) (k : ℕ) (uri : List ℕ) (sent : List (Lis
       go (inr (inr (unfit, is))) = refusal_names (rename position name) of (minus 32803) (codes "ill-typed") message sends is
 
   inline_names : (how : Inlining) (position : Position) (of : IsAsk requested k uri (inlining_at how position)) (client : ClientFeatures) (unit : Unit) (text : List ℕ) → client.accepts_document_changes ≡ true
-      → AreContentsOfReply (offers_actions unit (actions_requested_at client (number (unsigned k)) uri position of.sent.version) text) sent → All (MentionsDocumentOfAsk requested) sent
+      → AreContentsOfReply (actions_reply unit (actions_requested_at client (number (unsigned k)) uri position of.sent.version) text) sent → All (MentionsDocumentOfAsk requested) sent
   inline_names how position of client unit text takes (message, (value, listed, is), sends) = go listed
     where
       request : RequestedActions
@@ -235,7 +235,7 @@ module _ (requested : List SentAsk) (k : ℕ) (uri : List ℕ) (sent : List (Lis
       go (inl h) = with_value (actions_array request h.here h.everywhere) h.listed (offered how h.here h.everywhere)
       go (inr (why, none)) = with_value (array no_items) none (inr (inl (none_read_back how position uri (number (unsigned k)))))
 
-  layout_names : (indent : Indent) (of : IsAsk requested k uri (format indent)) (unit : Unit) (text : List ℕ) → AreContentsOfReply (formats_text unit (number (unsigned k)) (clamped_indent indent) text) sent → All (MentionsDocumentOfAsk requested) sent
+  layout_names : (indent : Indent) (of : IsAsk requested k uri (format indent)) (unit : Unit) (text : List ℕ) → AreContentsOfReply (formatting_reply unit (number (unsigned k)) (clamped_indent indent) text) sent → All (MentionsDocumentOfAsk requested) sent
   layout_names indent of unit text (message, how, sends) = go how
     where
       go : AnswersFormatting unit (number (unsigned k)) (clamped_indent indent) text message → All (MentionsDocumentOfAsk requested) sent
@@ -253,17 +253,17 @@ module _ (requested : List SentAsk) (k : ℕ) (uri : List ℕ) (sent : List (Lis
       rename_names position name of before.client before.held.unit text running.1 (subst (λ (x : Reaction). AreContentsOfReply x.reply sent) (so ∙ ap (λ o. react_about_document before id o say) holds) saying)
   request_names (inline_here position) of params before text running holds call saying =
       let id : Data = number (unsigned k) in
-      let say : ℤ → List ℕ → Reply = λ version. offers_actions before.held.unit (actions_requested_at before.client (number (unsigned k)) uri position version) in
+      let say : ℤ → List ℕ → Reply = λ version. actions_reply before.held.unit (actions_requested_at before.client (number (unsigned k)) uri position version) in
       let so : react_to_method before id (method_of (inline_here position)) params ≡ react_about_document before id (document_at before.held uri) say = ap (react_to_known_request before id) call in
       inline_names OneUse position of before.client before.held.unit text running.1 (subst (λ (x : Reaction). AreContentsOfReply x.reply sent) (so ∙ ap (λ o. react_about_document before id o say) holds) saying)
   request_names (inline_all position) of params before text running holds call saying =
       let id : Data = number (unsigned k) in
-      let say : ℤ → List ℕ → Reply = λ version. offers_actions before.held.unit (actions_requested_at before.client (number (unsigned k)) uri position version) in
+      let say : ℤ → List ℕ → Reply = λ version. actions_reply before.held.unit (actions_requested_at before.client (number (unsigned k)) uri position version) in
       let so : react_to_method before id (method_of (inline_all position)) params ≡ react_about_document before id (document_at before.held uri) say = ap (react_to_known_request before id) call in
       inline_names Everywhere position of before.client before.held.unit text running.1 (subst (λ (x : Reaction). AreContentsOfReply x.reply sent) (so ∙ ap (λ o. react_about_document before id o say) holds) saying)
   request_names (format indent) of params before text running holds call saying =
       let id : Data = number (unsigned k) in
-      let say : ℤ → List ℕ → Reply = λ version. formats_text before.held.unit id (clamped_indent indent) in
+      let say : ℤ → List ℕ → Reply = λ version. formatting_reply before.held.unit id (clamped_indent indent) in
       let so : react_to_method before id (method_of (format indent)) params ≡ react_about_document before id (document_at before.held uri) say = ap (react_to_known_request before id) call in
       layout_names indent of before.held.unit text (subst (λ (x : Reaction). AreContentsOfReply x.reply sent) (so ∙ ap (λ o. react_about_document before id o say) holds) saying)
 
@@ -326,11 +326,11 @@ take_keeps w (publishes uri version empty ∷ rest) contents asked named = (aske
 take_keeps w (answers k [] ∷ rest) contents asked named = (asked, named)
 take_keeps w (answers k (edit ∷ edits) ∷ rest) contents asked named = (asked, named)
 
-gets_names : (P : List ℕ → Type 0) (c : List (List ℕ)) (old new : Wire) → old.to_editor ≡ c → EditorGetsFirst c old new → All P old.to_editor → All P new.to_editor
+gets_names : (P : List ℕ → Type 0) (c : List (List ℕ)) (old new : Wire) → old.to_editor ≡ c → EditorTakesFirst c old new → All P old.to_editor → All P new.to_editor
 gets_names P [] old new waits is all = subst (λ (x : Wire). All P x.to_editor) (sym is) all
 gets_names P (content ∷ rest) old new waits is all = subst (λ (x : Wire). All P x.to_editor) (sym is) (All-tail P content rest (subst (All P) waits all))
 
-gets_session : (c : List (List ℕ)) (old new : Wire) → EditorGetsFirst c old new → new.session ≡ old.session
+gets_session : (c : List (List ℕ)) (old new : Wire) → EditorTakesFirst c old new → new.session ≡ old.session
 gets_session [] old new is = ap (λ (x : Wire). x.session) is
 gets_session (content ∷ rest) old new is = ap (λ (x : Wire). x.session) is
 

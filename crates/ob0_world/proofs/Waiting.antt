@@ -52,7 +52,7 @@ module _ (f g : Data → Option ℕ) (requested more : List SentAsk) (grows : (d
 module _ (requested more : List SentAsk) where
   pub says_still : (m : MessageToServer) (content : List ℕ) → IsMessageToServer requested m content → IsMessageToServer (requested ++ more) m content
   says_still (notifies note) content is = is
-  says_still (requests k uri ask) content (is, of) = (is, record { sent = of.sent; is = numbered_push requested more k of.sent of.is; about = of.about; asks_this = of.asks_this })
+  says_still (requests k uri ask) content (is, of) = (is, record { sent = of.sent; is = numbered_push requested more k of.sent of.is; about = of.about; same_ask = of.same_ask })
 
   pub understood_still : (content : List ℕ) (m : MessageToEditor) → message_to_editor_in requested content ≡ Some m → message_to_editor_in (requested ++ more) content ≡ Some m
   understood_still content m h = read_still request_number request_number requested more (λ d k a is named. named) content m h

@@ -18,7 +18,7 @@ use Rattle.ob0_rpc.specs.Notifications.{other, notification_by_method}
 use Rattle.ob0_rpc.specs.Shapes.{result_message}
 use Rattle.ob0_rpc.specs.Requesting as asked
 use Rattle.ob0_rpc.specs.Requesting.{ClientRequest, request_by_method}
-use Rattle.ob0_session_answers.specs.Actions.{allows_inlining}
+use Rattle.ob0_session_answers.specs.Actions.{kinds_include_inlining}
 use Rattle.ob0_session_server.specs.Answers as server
 use Rattle.ob0_session_server.specs.Answers.{ServerState, state_after_initialize, Sends, Conversation}
 use Rattle.ob0_session_server.specs.declared.session.Phase.TheVariants.{Ended}
@@ -196,7 +196,7 @@ pub record IsActionsRequest (id : Data) (uri : List ℕ) (position : Position) (
       ≡ Ok (asked.code_action uri range only)
   pub from : range.start ≡ position
   pub ordered : IsAtOrBefore range.start range.end
-  pub allowed : allows_inlining only ≡ true
+  pub allowed : kinds_include_inlining only ≡ true
 
 -- States that the content is the request with this id for this ask about the document with this
 -- uri. For an inlining, it is a request for code actions.

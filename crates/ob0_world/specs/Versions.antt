@@ -101,8 +101,8 @@ has_version version d = same_version d.version version
 -- Returns the result of applying an answer's edits in a client that goes by the uri and the version
 -- in the answer. The edits are made in the open document with this uri. None if no open document
 -- has this uri and this version, or if two edits share a character.
-abbrev pub apply_result_by_version : Editor → List ℕ → ℤ → List Replacement → Option ActResult
-apply_result_by_version e uri version edits =
+abbrev pub applying_result_by_version : Editor → List ℕ → ℤ → List Replacement → Option ActResult
+applying_result_by_version e uri version edits =
     option_and_then
     (λ d. option_and_then
     (λ text. Some (rewriting_result e uri d text (whole_text_change text ∷ [])
@@ -123,4 +123,4 @@ VersionsSuffice =
     (e : Editor) (k : ℕ) (a : SentAsk) (edits : List Replacement)
     → request_numbered e.requested k ≡ Some a
     → IsNotReopened e a
-    → apply_result_by_version e a.uri a.version edits ≡ applying_result e k edits
+    → applying_result_by_version e a.uri a.version edits ≡ applying_result e k edits

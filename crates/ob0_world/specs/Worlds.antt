@@ -74,9 +74,9 @@ SessionTakesFirst (content ∷ rest) old new =
 
 -- States that the editor takes the first content that waits for it. If no content waits for the
 -- editor, nothing changes.
-abbrev pub EditorGetsFirst : List (List ℕ) → Wire → Wire → Type 0
-EditorGetsFirst [] old new = new ≡ old
-EditorGetsFirst (content ∷ rest) old new =
+abbrev pub EditorTakesFirst : List (List ℕ) → Wire → Wire → Type 0
+EditorTakesFirst [] old new = new ≡ old
+EditorTakesFirst (content ∷ rest) old new =
     new ≡ record old { got = old.got ++ content ∷ []; to_editor = rest }
 
 -- states that the editor writes at most one content, which is appended to the queue to the session
@@ -91,7 +91,7 @@ WritesContent old new =
 abbrev pub MovesWire : Event → Wire → Wire → Type 0
 MovesWire (editor_acts act) old new = WritesContent old new
 MovesWire serve old new = SessionTakesFirst old.to_server old new
-MovesWire take_message old new = EditorGetsFirst old.to_editor old new
+MovesWire take_message old new = EditorTakesFirst old.to_editor old new
 
 -- states that there are as many contents as messages, and that the n-th content is the n-th message
 -- to the server

@@ -27,7 +27,7 @@ use Rattle.ob0_session_answers.specs.Diagnostics.{diagnostic_of}
 use Rattle.ob0_session_answers.specs.Formatted.{AnswersFormatting}
 use Rattle.ob0_session_answers.specs.Renamed.{AnswersRenaming, RequestedRename, edits_for_client}
 use Rattle.ob0_session_json.specs.Shapes.{action_value, edit_refusal, edit_value, publication, versioned_document}
-use Rattle.ob0_session_server.specs.Answers.{Sends, diagnoses, answers_question, formats_text, nothing, offers_actions, renames, says}
+use Rattle.ob0_session_server.specs.Answers.{Sends, diagnoses, question_reply, formatting_reply, nothing, actions_reply, renames, says}
 use Rattle.ob0_world_rules.proofs.OneInlining.{inlines_or_refused, inlines_parts}
 use Rattle.ob0_world_rules.proofs.OneLayout.{lays_out_or_long, lays_out_said}
 use Rattle.ob0_world_rules.proofs.OneRenaming.{refuses_one, renames_or_refused, renames_parts}
@@ -139,9 +139,9 @@ reply_is_determined reports tables (says message) sent other h k = sends_one mes
 reply_is_determined reports tables (diagnoses unit uri version text) sent other (ds, (list, reports_list, is), sends) (es, (more, reports_too, too), sends_too) =
     let same : ds ≡ es = is ∙ ap (map (diagnostic_of unit text)) (reports (utf8 text) list more reports_list reports_too) ∙ sym too in
     sends_one _ _ sent other (ap (publication uri (Some version)) same) sends sends_too
-reply_is_determined reports tables (formats_text unit id indent text) sent other (message, h, sends) (another, k, sends_too) = sends_one message another sent other (formats_one unit id indent text message another h k) sends sends_too
-reply_is_determined reports tables (answers_question unit id at question text) sent other (value, h, sends) (another, k, sends_too) =
+reply_is_determined reports tables (formatting_reply unit id indent text) sent other (message, h, sends) (another, k, sends_too) = sends_one message another sent other (formats_one unit id indent text message another h k) sends sends_too
+reply_is_determined reports tables (question_reply unit id at question text) sent other (value, h, sends) (another, k, sends_too) =
     sends_one _ _ sent other (ap (result_message id) (name_one tables unit text at question value another h k)) sends sends_too
 reply_is_determined reports tables (renames unit requested text) sent other (message, h, sends) (another, k, sends_too) = sends_one message another sent other (renaming_one unit requested text message another h k) sends sends_too
-reply_is_determined reports tables (offers_actions unit requested text) sent other (message, (value, h, is), sends) (another, (more, k, too), sends_too) =
+reply_is_determined reports tables (actions_reply unit requested text) sent other (message, (value, h, is), sends) (another, (more, k, too), sends_too) =
     sends_one message another sent other (is ∙ ap (result_message requested.id) (lists_one unit requested text value more h k) ∙ sym too) sends sends_too

@@ -11,7 +11,7 @@ use Rattle.std.proofs.lemmas.List.{take-append-drop}
 use Rattle.std.proofs.lemmas.List.Sorted.{sum_by-IsPermutation}
 use Rattle.std.proofs.lemmas.List.Sums.{sum_by-cons}
 use Rattle.std.proofs.lemmas.Map.Lookups.{exact_unsigned}
-use Rattle.ob0_scan.specs.Faults.{AreReportedOf}
+use Rattle.ob0_scan.specs.Faults.{AreReportedFaultsOf}
 use Rattle.ob0_scan.specs.TextWithTokens.{TextWithTokens, IsScan, IsScannable, IsScanOf}
 use Rattle.ob0_scan.specs.declared.fault.FaultCode.{FaultCode}
 use Rattle.ob0_scan.specs.declared.fault.FaultCode.TheVariants as code
@@ -31,7 +31,7 @@ use Rattle.ob0_language_names.specs.Parts.{module_block}
 use Rattle.ob0_scope_table.specs.Resolution.{Resolution, IsResolution, declaring_names, is_duplicate_or_end_name, is_undeclared_fault, undeclared_faults_by_labels}
 use Rattle.ob0_tree.specs.declared.tree.Role.TheVariants as role
 use Rattle.ob0_tree.specs.Tree.{identifiers}
-use Rattle.ob0_types.specs.FaultOrder.{AreFirstFaults, code_number, fault_cmp, faults_in, place_cmp}
+use Rattle.ob0_types.specs.FaultOrder.{AreFirstFaults, code_number, fault_cmp, all_faults_of, span_cmp}
 use Rattle.ob0_types_check.specs.DeclarationFaults.{module_faults, reported_block}
 use Rattle.ob0_types_check.specs.KnownDeclarations.{state_at_start, predeclared_meanings}
 use Rattle.ob0_analysis.specs.Diagnosed.{ReportedDiagnosis, ReportsRefusal, RefusalIsUnique, Reports, ReportsFaults, ReportsLexicalFaults, ReportsParserRefusal, ReportsNameAndTypeFaults, reported_diagnosis_of_fault}
@@ -43,7 +43,7 @@ abbrev pub OneScan : Type 0
 OneScan = (s t : TextWithTokens) → IsScan s → IsScan t → s.text ≡ t.text → s ≡ t
 
 abbrev pub OneScanReport : Type 0
-OneScanReport = (text : List ℕ) (faults others : List Fault) → AreReportedOf text faults → AreReportedOf text others → faults ≡ others
+OneScanReport = (text : List ℕ) (faults others : List Fault) → AreReportedFaultsOf text faults → AreReportedFaultsOf text others → faults ≡ others
 
 -- ---- a text has no lexemes, no tree or no types
 
@@ -108,7 +108,7 @@ then_equal Greater b h = absurd (cc)
 
 same_fault : (x y : Fault) → fault_cmp x y ≡ Equal → x ≡ y
 same_fault x y h =
-    let parts = then_equal (place_cmp x y) (nat_cmp (code_number x.code) (code_number y.code)) h in
+    let parts = then_equal (span_cmp x y) (nat_cmp (code_number x.code) (code_number y.code)) h in
     let places = then_equal (nat_cmp x.span.start y.span.start) (nat_cmp x.span.end y.span.end) parts.0 in
     let starts : x.span.start ≡ y.span.start = exact_unsigned x.span.start y.span.start places.0 in
     let ends : x.span.end ≡ y.span.end = exact_unsigned x.span.end y.span.end places.1 in
@@ -201,7 +201,7 @@ module _ (r q : Resolution) (h : IsResolution r) (k : IsResolution q) (e : Same 
 
   same_faults : (xs ys : List Fault) → AreFirstFaults r xs → AreFirstFaults q ys → xs ≡ ys
   same_faults xs ys a b =
-      let found : faults_in r ≡ faults_in q = λ i. same_reported i ++ filter is_duplicate_or_end_name (same_of_names i) in
+      let found : all_faults_of r ≡ all_faults_of q = λ i. same_reported i ++ filter is_duplicate_or_end_name (same_of_names i) in
       a.first ∙ ap (take 100) (sorted_one _ a.all b.all (subst (λ fs. IsPermutation fs a.all) found a.joined) b.joined a.in_order b.in_order) ∙ sym b.first
 
 types_one : (text : List ℕ) (list other : List ReportedDiagnosis) → TableIsDetermined → ReportsNameAndTypeFaults text list → ReportsNameAndTypeFaults text other → list ≡ other

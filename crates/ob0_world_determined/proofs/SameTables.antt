@@ -13,7 +13,7 @@ use Rattle.ob0_types_check.specs.DeclarationFaults.{KnownHeading, state_after_he
 use Rattle.ob0_types_check.specs.ExpressionFaults.{reported_expression}
 use Rattle.ob0_types_check.specs.Known.{Facts, Meaning, Operand, Reported, a_constant, a_procedure, a_type, a_variable}
 use Rattle.ob0_types_check.specs.Operations.{fault_at_token, without_fault, token_before}
-use Rattle.ob0_types_check.specs.KnownDeclarations.{PartTypes, Size, KnownDeclarations, TypeWithState, define, define_all, facts_at, is_within_limits, append_composite, make_type, of_elements, of_fields, size_at, type_too_large, type_at_index, types_so_far, with_meaning}
+use Rattle.ob0_types_check.specs.KnownDeclarations.{PartTypes, Size, KnownDeclarations, TypeWithState, define, define_all, facts_at, is_within_limits, append_composite, make_type, of_elements, of_fields, size_of_type_so_far, reported_too_large_type, type_at_index, types_so_far, with_meaning}
 use Rattle.ob0_types_check.specs.StatementFaults.{sequence_faults}
 use Rattle.ob0_types_check.specs.TypeFaults.{length_of, reported_constant, type_named_at}
 use Rattle.ob0_types_check.specs.WrittenTypeFaults.{KnownFields, made_array_type, array_size, sum_of_sizes, with_field_group, no_known_fields, next_type_ordinal, made_record_type, record_size, record_keyword, reported_fields, reported_groups, reported_type, with_known_field, with_known_fields, token_before_group}
@@ -88,7 +88,7 @@ made_like p q k l parts size same like = record {
 make_like : (p q : KnownDeclarations) (word k l : ℕ) (parts : PartTypes) (size : Size) → k ≡ l → Like p q → Both TypedLike (make_type p word k parts size) (make_type q word l parts size)
 make_like p q word k l parts size same like = go (is_within_limits size)
   where
-    go : (b : Bool) → Both TypedLike (cond b (without_fault (append_composite p k parts size)) (type_too_large p word)) (cond b (without_fault (append_composite q l parts size)) (type_too_large q word))
+    go : (b : Bool) → Both TypedLike (cond b (without_fault (append_composite p k parts size)) (reported_too_large_type p word)) (cond b (without_fault (append_composite q l parts size)) (reported_too_large_type q word))
     go true = right_both TypedLike (append_composite p k parts size) (append_composite q l parts size) (made_like p q k l parts size same like)
     go false = record { known = record { of = refl; following = like }; faults = ap (λ (f : Facts TypeId). fault_at_token f code.TypeTooLarge word) (same_facts p q false like) }
 
@@ -96,10 +96,10 @@ array_like : (k l : ℕ) (o : Operand TypeId) (n : Option ℕ) (t u : TypeWithSt
 array_like k l o None t u same like = right_both TypedLike _ _ (record { of = refl; following = like.following })
 array_like k l o (Some n) t u same like =
     let parts : of_elements n t.of ≡ of_elements n u.of = ap (of_elements n) like.of in
-    let size : array_size n (size_at t.following.made t.of) ≡ array_size n (size_at u.following.made u.of) = λ i. array_size n (size_at (like.following.made i) (like.of i)) in
-    subst (λ x. Both TypedLike (made_array_type k o (Some n) t) (make_type u.following (token_before o.first) l x (array_size n (size_at u.following.made u.of)))) parts
+    let size : array_size n (size_of_type_so_far t.following.made t.of) ≡ array_size n (size_of_type_so_far u.following.made u.of) = λ i. array_size n (size_of_type_so_far (like.following.made i) (like.of i)) in
+    subst (λ x. Both TypedLike (made_array_type k o (Some n) t) (make_type u.following (token_before o.first) l x (array_size n (size_of_type_so_far u.following.made u.of)))) parts
     (subst (λ z. Both TypedLike (made_array_type k o (Some n) t) (make_type u.following (token_before o.first) l (of_elements n t.of) z)) size
-    (make_like t.following u.following (token_before o.first) k l (of_elements n t.of) (array_size n (size_at t.following.made t.of)) same like.following))
+    (make_like t.following u.following (token_before o.first) k l (of_elements n t.of) (array_size n (size_of_type_so_far t.following.made t.of)) same like.following))
 
 arrays_like : (k l : ℕ) (o p : Operand TypeId) (n m : Option ℕ) (t u : TypeWithState) → k ≡ l → o ≡ p → n ≡ m → TypedLike t u → Both TypedLike (made_array_type k o n t) (made_array_type l p m u)
 arrays_like k l o p n m t u here same sized like =
@@ -108,7 +108,7 @@ arrays_like k l o p n m t u here same sized like =
 name_like : (t u : TypeId) (g h : KnownFields) (token : ℕ) → t ≡ u → GatheredLike g h → GatheredLike (with_known_field t g token) (with_known_field u h token)
 name_like t u g h token same like = record {
   fields = λ i. like.fields i ++ record { name = token_text_at (like.following.source i) token; of = same i } ∷ [];
-  size = λ i. sum_of_sizes (like.size i) (size_at (like.following.made i) (same i));
+  size = λ i. sum_of_sizes (like.size i) (size_of_type_so_far (like.following.made i) (same i));
   following = like.following;
 }
 

@@ -44,7 +44,7 @@ says_heard requested (notifies note) content is =
     said (λ d. message_to_server_of requested (meaning_of d)) content is.json is.reads ∙ ap (message_to_server_of requested) is.means ∙ ap message_of_notification is.reported ∙ reported_heard note
 says_heard requested (requests k uri ask) content (is, of) =
     said (λ d. message_to_server_of requested (meaning_of d)) content is.json is.reads ∙ ap (message_to_server_of requested) is.means
-    ∙ ap (option_map (λ a. requests k a.uri a.ask)) of.is ∙ (λ i. Some (requests k (of.about i) (of.asks_this i)))
+    ∙ ap (option_map (λ a. requests k a.uri a.ask)) of.is ∙ (λ i. Some (requests k (of.about i) (of.same_ask i)))
 
 -- A property of a call's value can be weakened.
 pub if_ok : {A X : Type 0} {P Q : A → Type 0} (r : Result A X) → ((x : A) → P x → Q x) → IfOk r P → IfOk r Q

@@ -6,7 +6,7 @@ use Rattle.std.proofs.lemmas.List.{map-append, length-map}
 use Rattle.std.proofs.lemmas.Option.{slice_get-map, slice_get_read}
 use Rattle.std.proofs.Math.Seq.{drop-cons}
 use Rattle.ob0_world_editor.specs.declared.editor.SentAsk as requested
-use Rattle.ob0_world_editor.specs.declared.editor.HeldAnswer as answer
+use Rattle.ob0_world_editor.specs.declared.editor.ReceivedAnswer as answer
 use Rattle.ob0_world_editor.specs.declared.applied.ApplyOutcome as applying
 use Rattle.ob0_world_editor.specs.declared.editor.RewrittenDocument as rewritten
 use Rattle.ob0_world_rules.specs.Edited.{Replacement}
@@ -37,15 +37,15 @@ numbered_past xs n i is past =
 -- ---- the place of an answer
 
 -- states that no answer before place i is the answer to ask k
-pub record Looked (xs : List answer.HeldAnswer) (k i : ℕ) : Type 0 where
+pub record Looked (xs : List answer.ReceivedAnswer) (k i : ℕ) : Type 0 where
   pub held : edits_of_answer k (map answer_of xs) ≡ edits_of_answer k (map answer_of (drop i xs))
   pub rest : answers_except k (map answer_of xs) ≡ map answer_of (take i xs) ++ answers_except k (map answer_of (drop i xs))
 
-pub looked_here : (xs : List answer.HeldAnswer) (k i : ℕ) (a : answer.HeldAnswer) → i < length xs → a ≡ get_or xs i a → a.number == k ≡ true → Looked xs k i → IsIndexOfAnswer xs k (Some i)
+pub looked_here : (xs : List answer.ReceivedAnswer) (k i : ℕ) (a : answer.ReceivedAnswer) → i < length xs → a ≡ get_or xs i a → a.number == k ≡ true → Looked xs k i → IsIndexOfAnswer xs k (Some i)
 looked_here xs k i a h at this looked =
     let cut : drop i xs ≡ a ∷ drop (suc i) xs = drop-cons xs i a h ∙ ap (λ x. x ∷ drop (suc i) xs) (sym at) in (
       h,
-      looked.held ∙ rw (cut, this) refl ∙ sym (ap (option_map (λ (x : answer.HeldAnswer). replacements x.edits.items)) (slice_get_read xs (length xs) i a refl h at)),
+      looked.held ∙ rw (cut, this) refl ∙ sym (ap (option_map (λ (x : answer.ReceivedAnswer). replacements x.edits.items)) (slice_get_read xs (length xs) i a refl h at)),
       looked.rest ∙ rw (cut, this) (sym (map-append answer_of (take i xs) (drop (suc i) xs))),
     )
 
@@ -60,8 +60,8 @@ none_goes k (a ∷ rest) h = go (a.number == k) h (none_goes k rest)
 
 -- ---- the outcome for an answer
 
-pub use_edits : (xs : List answer.HeldAnswer) (i : ℕ) (a : answer.HeldAnswer) → i < length xs → a ≡ get_or xs i a → Some (replacements a.edits.items) ≡ option_map (λ (x : answer.HeldAnswer). replacements x.edits.items) (slice_get xs i)
-use_edits xs i a h at = sym (ap (option_map (λ (x : answer.HeldAnswer). replacements x.edits.items)) (slice_get_read xs (length xs) i a refl h at))
+pub use_edits : (xs : List answer.ReceivedAnswer) (i : ℕ) (a : answer.ReceivedAnswer) → i < length xs → a ≡ get_or xs i a → Some (replacements a.edits.items) ≡ option_map (λ (x : answer.ReceivedAnswer). replacements x.edits.items) (slice_get xs i)
+use_edits xs i a h at = sym (ap (option_map (λ (x : answer.ReceivedAnswer). replacements x.edits.items)) (slice_get_read xs (length xs) i a refl h at))
 
 -- An editor with one answer less still has room for its counts.
 pub few_without : (e : Editor) (k : ℕ) → CountsCanGrow e → CountsCanGrow (without_answer e k)
@@ -129,7 +129,7 @@ asks_once_more e new uri ask d content n older this at were count is is_new requ
     subst (λ o. PerformsAct (unwrap_or (option_and_then (λ d. Some (asking_result e uri ask d)) o) (unchanged_result e)) (Some content) new) (sym at) (
       now,
       (
-        (subst (λ k. IsRequest k uri ask content.items) number request, subst (λ (x : Editor). IsAsk x.requested (suc (length e.requested)) uri ask) (sym now) (record { sent = a; is = slice_get_last e.requested a; about = refl; asks_this = refl })),
+        (subst (λ k. IsRequest k uri ask content.items) number request, subst (λ (x : Editor). IsAsk x.requested (suc (length e.requested)) uri ask) (sym now) (record { sent = a; is = slice_get_last e.requested a; about = refl; same_ask = refl })),
         refl,
       ),
     )

@@ -5,7 +5,7 @@ use Rattle.std.specs.Prelude.{pos, string_bytes}
 use Rattle.std.specs.Str.{chars}
 use Rattle.ob0_world_editor.specs.declared.asks.Ask as ask
 use Rattle.ob0_world_editor.specs.declared.editor.SentAsk as requested
-use Rattle.ob0_world_editor.specs.declared.editor.HeldAnswer as answer
+use Rattle.ob0_world_editor.specs.declared.editor.ReceivedAnswer as answer
 use Rattle.ob0_world_editor.specs.declared.reading.Message as message
 use Rattle.ob0_world_editor.specs.declared.applied.Applied as applied
 use Rattle.ob0_world_rules.specs.Edited.{replacements}
@@ -30,8 +30,8 @@ sent_ask_of a =
       version = pos a.version;
     }
 
--- returns the model's answer for a value of the code's type `HeldAnswer`
-abbrev pub answer_of : answer.HeldAnswer → Answer
+-- returns the model's answer for a value of the code's type `ReceivedAnswer`
+abbrev pub answer_of : answer.ReceivedAnswer → Answer
 answer_of a = record { number = a.number; edits = replacements a.edits.items }
 
 -- returns the model's message to the editor for a value of the code's type `Message`

@@ -115,7 +115,7 @@ pub record IsAsk (requested : List SentAsk) (k : ℕ) (uri : List ℕ) (ask : As
   pub sent : SentAsk
   pub is : request_numbered requested k ≡ Some sent
   pub about : sent.uri ≡ uri
-  pub asks_this : sent.ask ≡ ask
+  pub same_ask : sent.ask ≡ ask
 
 -- states that the content is this message to the server
 abbrev pub IsMessageToServer : List SentAsk → MessageToServer → List ℕ → Type 0

@@ -12,7 +12,7 @@ use Rattle.ob0_world_editor.specs.Code.{answer_of, applied_of}
 use Rattle.ob0_world_rules.specs.Edited.{replacements}
 use Rattle.ob0_world_editor.specs.MessagesToServer.{IsMessageToServer}
 use Rattle.ob0_world_editor.specs.declared.applied.ApplyOutcome as applying
-use Rattle.ob0_world_editor.specs.declared.editor.HeldAnswer as answer
+use Rattle.ob0_world_editor.specs.declared.editor.ReceivedAnswer as answer
 use Rattle.ob0_world_editor.specs.declared.editor.RewrittenDocument as rewritten
 
 -- states that each number that the editor counts (openings, asks, versions) is less than 2^63 - 1,
@@ -59,7 +59,7 @@ IsApplyOutcome done held (applying.TheVariants.Made applied content) new =
 -- States that this is the index, from 0, of the first answer to ask `k`, and that removing the
 -- answer at this index leaves the other answers (`answers_except`). For None, states that there is
 -- no such answer.
-abbrev pub IsIndexOfAnswer : List answer.HeldAnswer → ℕ → Option ℕ → Type 0
+abbrev pub IsIndexOfAnswer : List answer.ReceivedAnswer → ℕ → Option ℕ → Type 0
 IsIndexOfAnswer answers k (Some i) =
     (i < length answers)
     × (edits_of_answer k (map answer_of answers)

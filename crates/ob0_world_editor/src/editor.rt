@@ -43,7 +43,7 @@ pub struct SentAsk {
 
 /// An answer that the editor has, with the number of its request.
 #[derive(Drop)]
-pub struct HeldAnswer {
+pub struct ReceivedAnswer {
     pub number: u64,
     pub edits: Vec<Edit>,
 }
@@ -66,7 +66,7 @@ pub struct Editor {
     documents: OpenDocuments,
     openings: u64,
     requested: Vec<SentAsk>,
-    answers: Vec<HeldAnswer>,
+    answers: Vec<ReceivedAnswer>,
 }
 
 impl Model for Editor {
@@ -201,7 +201,7 @@ impl Editor {
         if edits.is_empty() {
             return Ok(false);
         }
-        self.answers.push(HeldAnswer { number, edits })?;
+        self.answers.push(ReceivedAnswer { number, edits })?;
         Ok(true)
     }
 
@@ -352,7 +352,7 @@ fn sent_ask(
 
 /// Returns the index, from 0, of the first answer to ask `k` in this list. None if there is no such
 /// answer.
-fn index_of_answer(answers: &[HeldAnswer], k: u64) -> Option<usize>
+fn index_of_answer(answers: &[ReceivedAnswer], k: u64) -> Option<usize>
     ensures { IsIndexOfAnswer answers.now k result }
 {
     for place in 0..answers.len() {

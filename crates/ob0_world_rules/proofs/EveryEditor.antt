@@ -17,7 +17,7 @@ use Rattle.ob0_world_rules.specs.Mirror.{documents_after_queue, in_step_document
 use Rattle.ob0_world_rules.specs.Headline.{KeepsTheRun}
 use Rattle.ob0_world_rules.specs.Laws.{EditsPreserveRun}
 use Rattle.ob0_world_rules.specs.PublicationsInOrder.{AnnouncedDocument, AreMadeForDocuments, versions_announced_by, versioned_uri}
-use Rattle.ob0_world_rules.specs.Editors.{Revision, Move, to_open, to_revise, to_close, to_ask, to_apply, to_drop, revised_document, with_document, Revises, notifications_of, AppliesAnswer, opening_result_as, IsAllowedMove}
+use Rattle.ob0_world_rules.specs.Editors.{Revision, Move, to_open, to_revise, to_close, to_ask, to_apply, to_discard, revised_document, with_document, Revises, notifications_of, AppliesAnswer, opening_result_as, IsAllowedMove}
 use Rattle.ob0_world_rules.specs.EveryEditor.{EditorAndServer, initial_editor_and_server, modeled_messages, notifications_among, model_state_of, Turn, editor_moves, editor_sends_unmodeled, server_takes, editor_takes, after_move, ServerTakesNext, after_editor_takes_next, MayHappen, MayLeadTo, HoldsWithEditor, HoldsForEveryEditor}
 use Rattle.ob0_world_rules.proofs.UriLaws.{get_put, uri_itself}
 use Rattle.ob0_world_rules.proofs.Asked.{Known}
@@ -179,7 +179,7 @@ module _ (unit : Unit) where
       (subst (λ ts. Good (after_move w (asking_result w.editor uri ask d) ts)) (sym are)
       (one_sent w (asking_result w.editor uri ask d).editor (requests (suc (length w.editor.requested)) uri ask) [] [] good (ask_kept unit (model_state_of w) uri ask d at good.kept) (λ held mirror. refl) refl))
   move_good w (to_apply k revisions) done announced good may = apply_good w k revisions done announced good may
-  move_good w (to_drop k) done announced good (is, are) =
+  move_good w (to_discard k) done announced good (is, are) =
       subst (λ x. Good (after_move w x announced)) (sym is)
       (subst (λ ts. Good (after_move w (unchanged_result (without_answer w.editor k)) ts)) (sym are)
       (none_sent w (without_answer w.editor k) [] good (still_kept unit (record (model_state_of w) { editor = without_answer w.editor k }) (without_kept unit (model_state_of w) k good.kept))))

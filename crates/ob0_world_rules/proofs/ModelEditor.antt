@@ -12,7 +12,7 @@ use Rattle.ob0_world_rules.specs.Headline.{Holds}
 use Rattle.ob0_world_rules.specs.Mirror.{Mirrors}
 use Rattle.ob0_world_rules.specs.Laws.{HoldsInEveryInterleaving, ServerMirrorsEditor}
 use Rattle.ob0_world_rules.specs.PublicationsInOrder.{AnnouncedDocument, document_if_open, documents_announced_in, documents_announced_at, AreAnnounced, versions_announced_in, PublicationsInOrder}
-use Rattle.ob0_world_rules.specs.Editors.{Revision, Move, to_open, to_revise, to_close, to_ask, to_apply, to_drop, revised_document, with_document, Revises, AppliesAnswer, IsAllowedMove}
+use Rattle.ob0_world_rules.specs.Editors.{Revision, Move, to_open, to_revise, to_close, to_ask, to_apply, to_discard, revised_document, with_document, Revises, AppliesAnswer, IsAllowedMove}
 use Rattle.ob0_world_rules.specs.EveryEditor.{EditorAndServer, model_state_of, Turn, editor_moves, server_takes, editor_takes, ServerTakesNext, after_editor_takes_next, MayHappen, MayLeadTo, HoldsWithEditor, ModelEditorKeepsRules}
 use Rattle.ob0_world_rules.proofs.SameDocument.{Same, Knows, same_text, knows_first, knows_other, knows_open, knows_rewrite, knows_close, knows_ask}
 use Rattle.ob0_world_rules.proofs.PerformsAct.{edit_of, of_each}
@@ -161,7 +161,7 @@ act_may e act knows =
           let r : Revision = rewrite_of d.version text (whole_text_change text ∷ []) in
           moves e (rewriting_result (without_answer e k) a.uri d text (whole_text_change text ∷ []) (edit_of a.uri d text ∷ [])) (to_apply k (r ∷ [])) (record { uri = a.uri; document = revised_document d r } ∷ [])
           (put_announced e.documents a.uri (revised_document d r)) (applied_so e k edits a d text answered numbered same (same_text e k a d knows numbered same) makes);
-      dropped = λ k. inr (to_drop k, (refl, refl));
+      dropped = λ k. inr (to_discard k, (refl, refl));
     })
     act
 

@@ -17,7 +17,7 @@ use Rattle.ob0_language_names.specs.Names as written
 use Rattle.ob0_scope_table.specs.Resolution.{Resolution, ordinal_in}
 use Rattle.ob0_types.specs.CheckedModules.{IsWellTyped}
 use Rattle.ob0_language_fields.specs.Fields.{rename_fields_in_module}
-use Rattle.ob0_types_fields.specs.Owners.{IsOwnerTable, field_names_by_record}
+use Rattle.ob0_types_fields.specs.Owners.{IsOwnerTable, renaming_by_record}
 use Rattle.ob0_types_fields.specs.Identifiers.{field_identifiers}
 use Rattle.ob0_types_fields.specs.Owned.{AgreesWithOwnerList, fields_with_owners, owners_in_resolution, table_with_owners}
 use Rattle.ob0_types_fields.proofs.OwnedModules.{agreeing_table_is_owner_table-holds}
@@ -87,7 +87,7 @@ marked_by k x = k ∷ x
 longer : (k : ℕ) (x : List ℕ) → x ≡ k ∷ x → ⊥
 longer k x h = let long : length x ≡ suc (length x) = ap length h in omega (arith, long)
 
-one_owner : (a b : Option ℕ) (x : written.Name) → field_names_by_record marked_by a x ≡ field_names_by_record marked_by b x → a ≡ b
+one_owner : (a b : Option ℕ) (x : written.Name) → renaming_by_record marked_by a x ≡ renaming_by_record marked_by b x → a ≡ b
 one_owner None None x h = refl
 one_owner None (Some k) x h = absurd (longer k x h)
 one_owner (Some k) None x h = absurd (longer k x (sym h))
@@ -101,7 +101,7 @@ tail_is h = cc
 
 -- returns the name that a table gives a token
 abbrev writes : (ℕ → written.Name) → List (Option ℕ) → ℕ → written.Name
-writes text table i = field_names_by_record marked_by (ordinal_in table i) (text i)
+writes text table i = renaming_by_record marked_by (ordinal_in table i) (text i)
 
 same_owned : (text : ℕ → written.Name) (a b : List (Option ℕ)) (xs ys : List (ℕ × Option ℕ)) → AgreesWithOwnerList (ordinal_in a) xs → AgreesWithOwnerList (ordinal_in b) ys → tokens xs ≡ tokens ys
     → map (writes text a) (tokens xs) ≡ map (writes text b) (tokens ys) → xs ≡ ys
@@ -127,7 +127,7 @@ module _ (r q : Resolution) (well : IsWellTyped r) (also : IsWellTyped q) (e : S
   same_writing : map (writes (token_text_at r.module_read.source) (table_of r)) (identifier_names (tree_of r.module_read)) ≡ map (writes (token_text_at q.module_read.source) (table_of q)) (identifier_names (tree_of q.module_read))
   same_writing =
       sym (leaves_mapped (writes (token_text_at r.module_read.source) (table_of r)) (token_value_at r.module_read.source) (tree_of r.module_read))
-      ∙ (ap identifier_names (sym (table_owns r well marked_by) ∙ (ap (rename_fields_in_module (field_names_by_record marked_by)) (one_named_tree e) ∙ table_owns q also marked_by))
+      ∙ (ap identifier_names (sym (table_owns r well marked_by) ∙ (ap (rename_fields_in_module (renaming_by_record marked_by)) (one_named_tree e) ∙ table_owns q also marked_by))
       ∙ leaves_mapped (writes (token_text_at q.module_read.source) (table_of q)) (token_value_at q.module_read.source) (tree_of q.module_read))
 
   pub one_list_of_fields : field_identifiers r ≡ field_identifiers q

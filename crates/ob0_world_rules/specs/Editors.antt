@@ -26,9 +26,9 @@ pub data Move : Type 0 where
   to_close : List ℕ → Move
   to_ask : List ℕ → Ask → Move
   -- `to_apply` makes the edits of the answer to the request with this number, and sends them as
-  -- revisions; `to_drop` discards the answer
+  -- revisions; `to_discard` discards the answer
   to_apply : ℕ → List Revision → Move
-  to_drop : ℕ → Move
+  to_discard : ℕ → Move
 
 -- ---- revisions
 
@@ -116,4 +116,4 @@ IsAllowedMove e (to_close uri) done announced = (done ≡ closing_result e uri) 
 IsAllowedMove e (to_ask uri ask) done announced =
     (d : OpenDocument) × (open_at e uri ≡ Some d) × (done ≡ asking_result e uri ask d) × (announced ≡ [])
 IsAllowedMove e (to_apply k revisions) done announced = AppliesAnswer e k revisions done announced
-IsAllowedMove e (to_drop k) done announced = (done ≡ unchanged_result (without_answer e k)) × (announced ≡ [])
+IsAllowedMove e (to_discard k) done announced = (done ≡ unchanged_result (without_answer e k)) × (announced ≡ [])

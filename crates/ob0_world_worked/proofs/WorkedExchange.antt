@@ -24,7 +24,7 @@ use Rattle.ob0_edits.specs.Inlinings.{InlinesIn}
 use Rattle.ob0_session_answers.specs.Actions.{actions_offset, actions_array, ListsInlinings}
 use Rattle.ob0_session_answers.specs.Questions.{hover_with_range, hover_question, offset_in, value_or_null}
 use Rattle.ob0_session_server.specs.Answers as server
-use Rattle.ob0_session_server.specs.Answers.{Answers, Conversation, AreContentsOfReply, Sends, ServerState, react_about_document, answers_question, apply_notification, state_after_initialize, offers_actions, publication_reply}
+use Rattle.ob0_session_server.specs.Answers.{Answers, Conversation, AreContentsOfReply, Sends, ServerState, react_about_document, question_reply, apply_notification, state_after_initialize, actions_reply, publication_reply}
 use Rattle.ob0_world_editor.specs.InitializeRequest.{client_for, initialize_message}
 use Rattle.ob0_world_editor.specs.Shapes.{change_object, change_params, open_params}
 use Rattle.ob0_world_editor.specs.MessagesToEditor.{message_to_editor_by, message_to_editor_of}
@@ -236,7 +236,7 @@ hovered_so : Answers session₁ (content_of hover_request) (content_of no_hover 
 hovered_so = (
   Some hover_request,
   reads_so hover_request hover_read refl,
-  subst (λ (o : Option Document). let r = react_about_document session₁ (number (unsigned 1)) o (λ version. answers_question Utf16 (number (unsigned 1)) hover_place hover_question) in (session₁ ≡ r.after) × AreContentsOfReply r.reply (content_of no_hover ∷ [])) (sym held_is)
+  subst (λ (o : Option Document). let r = react_about_document session₁ (number (unsigned 1)) o (λ version. question_reply Utf16 (number (unsigned 1)) hover_place hover_question) in (session₁ ≡ r.after) × AreContentsOfReply r.reply (content_of no_hover ∷ [])) (sym held_is)
       (refl, (null, inl (worked_names, worked_in_bytes, no_name), sends no_hover no_hover_read refl)),
 )
 
@@ -270,7 +270,7 @@ turn₇ = (
   content_of actions_request ∷ [],
   (document₀, open_is, refl, refl),
   (number_id 2, refl, refl),
-  ((number (unsigned 2), asks_so, record { numbered = refl; is = record { sent = the_ask; is = refl; about = refl; asks_this = refl } }, refl), tt),
+  ((number (unsigned 2), asks_so, record { numbered = refl; is = record { sent = the_ask; is = refl; about = refl; same_ask = refl } }, refl), tt),
   refl,
 )
 
@@ -293,7 +293,7 @@ module _ (alone : ConstantUsesAreFactors) (keeps : InliningKeepsTypingAndRuns) (
   offered_so = (
     Some actions_request,
     reads_so actions_request actions_read refl,
-    subst (λ (o : Option Document). let r = react_about_document session₁ (number (unsigned 2)) o (λ version. offers_actions Utf16 (record requested_actions { version = version })) in (session₁ ≡ r.after) × AreContentsOfReply r.reply (content_of two_actions ∷ [])) (sym held_is)
+    subst (λ (o : Option Document). let r = react_about_document session₁ (number (unsigned 2)) o (λ version. actions_reply Utf16 (record requested_actions { version = version })) in (session₁ ≡ r.after) × AreContentsOfReply r.reply (content_of two_actions ∷ [])) (sym held_is)
         (refl, (two_actions, (actions_array requested_actions (Some here_edits) (Some everywhere_edits), inl lists_so, refl), sends two_actions two_actions_read refl)),
   )
 

@@ -6,7 +6,7 @@ ghost use Rattle.ob0_types_table.specs.declared.types.TypeId.TheVariants as type
 ghost use Rattle.ob0_tree.specs.Places.{token_text_at};
 ghost use Rattle.ob0_types_check.specs.Known.{a_procedure};
 ghost use Rattle.ob0_types_check.specs.Operations.{ReturnsAndReports, fault_between, token_after};
-ghost use Rattle.ob0_types_check.specs.KnownDeclarations.{define, is_within_limits, make_type, predeclared_meanings, size_at, with_meaning};
+ghost use Rattle.ob0_types_check.specs.KnownDeclarations.{define, is_within_limits, make_type, predeclared_meanings, size_of_type_so_far, with_meaning};
 ghost use Rattle.ob0_types_check.specs.CheckerViews.{capped_size, meaning_in_state, entry_element_type, entry_field_type, composite_type_of, meaning_view, size_of, declarations_in_state};
 ghost use Rattle.ob0_types_check.specs.WrittenTypeFaults.{array_size, sum_of_sizes, next_type_ordinal, record_size};
 
@@ -67,7 +67,7 @@ pub(crate) struct Size {
 }
 
 /// The size of an unknown type: no scalars and depth 0.
-pub(crate) const UNKNOWN_SIZE: Size = Size {
+pub(crate) const ZERO_SIZE: Size = Size {
     scalars: 0,
     depth: 0,
 };
@@ -254,21 +254,21 @@ impl<'t> CheckerState<'t> {
 
     /// Returns the size of a type.
     pub(crate) fn size_of(&self, of: TypeId) -> Size
-        ensures { size_of result ≡ size_at (declarations_in_state self.now).made of }
+        ensures { size_of result ≡ size_of_type_so_far (declarations_in_state self.now).made of }
     {
         match of {
             TypeId::Array(place) => self.composite_size(place),
             TypeId::Record(place) => self.composite_size(place),
             TypeId::Integer => SCALAR_SIZE,
             TypeId::Boolean => SCALAR_SIZE,
-            TypeId::Unknown => UNKNOWN_SIZE,
+            TypeId::Unknown => ZERO_SIZE,
         }
     }
 
     /// Returns the size of the array or record type at the index `place` of `composites`. If there
     /// is no type at this index, returns the size of a scalar.
     fn composite_size(&self, place: usize) -> Size
-        ensures { size_of result ≡ size_at (declarations_in_state self.now).made (type.Array place) }
+        ensures { size_of result ≡ size_of_type_so_far (declarations_in_state self.now).made (type.Array place) }
     {
         match self.composites.get(place) {
             None => SCALAR_SIZE,

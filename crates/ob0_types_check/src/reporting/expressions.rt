@@ -7,7 +7,7 @@ ghost use Rattle.ob0_types_table.specs.declared.types.TypeId.TheVariants as type
 ghost use Rattle.ob0_tree.specs.View.{compound_of, expression_of, factor_of, selector_of, simple_of, term_of};
 ghost use Rattle.ob0_language_types.specs.Selected.{selectors_in};
 ghost use Rattle.ob0_types_check.specs.ExpressionFaults.{reported_expression, reported_factor, reported_selector, reported_selectors, reported_simple, reported_term};
-ghost use Rattle.ob0_types_check.specs.Operations.{ReturnsAndReports, constant_name_operand, number_operand, add_operands, required_type, required_type_of_both, fault_at_operand, prefixed_operand, complement_operand, element_type_in_form, element_operand, operand_in_parentheses, field_type_in_form, field_operand, may_be_same_type, joint_operand, multiply_operands, name_operand, extended_operand, relate_operands, sign_operand, comparison_type, operand_type_of_addition, operand_type_of_equality, operand_type_of_multiplication, operand_type_of_relation, value_type};
+ghost use Rattle.ob0_types_check.specs.Operations.{ReturnsAndReports, constant_name_operand, number_operand, add_operands, required_type, required_type_of_both, fault_at_operand, prefixed_operand, complement_operand, element_type_in_form, element_operand, operand_in_parentheses, field_type_in_form, field_operand, may_be_same_type, operand_of_operation, multiply_operands, name_operand, extended_operand, relate_operands, sign_operand, comparison_type, operand_type_of_addition, operand_type_of_equality, operand_type_of_multiplication, operand_type_of_relation, value_type};
 ghost use Rattle.ob0_types_check.specs.TypeFaults.{operand_value, reported_constant};
 ghost use Rattle.ob0_types_check.specs.KnownDeclarations.{same_type};
 ghost use Rattle.ob0_types_check.specs.CheckerViews.{facts_in, form_of_type_in, operand_of, known_types};
@@ -148,9 +148,9 @@ impl Operand {
 
     /// Returns the operand of an operation on this operand and the operand `right`. The result has
     /// the type `of` and the given value.
-    fn join_operand(self, right: Operand, of: TypeId, value: Option<Scalar>) -> Operand
+    fn joined_operand(self, right: Operand, of: TypeId, value: Option<Scalar>) -> Operand
         ensures { operand_of result
-            ≡ joint_operand of (option_map scalar_value value) (operand_of self)
+            ≡ operand_of_operation of (option_map scalar_value value) (operand_of self)
             (operand_of right) }
     {
         Operand {
@@ -164,7 +164,7 @@ impl Operand {
 
     /// Returns the operand of a designator that extends this operand's designator by a selector.
     /// `last` is the last token of that selector. The result has the type `of` and no value.
-    fn extend_designator(self, of: TypeId, last: usize) -> Operand
+    fn operand_with_selector(self, of: TypeId, last: usize) -> Operand
         ensures { operand_of result ≡ extended_operand (operand_of self) of last }
     {
         Operand {
@@ -287,7 +287,7 @@ impl<'t> CheckerState<'t> {
         let wanted = operand_type_of_relation(relation, left.of);
         let of = self.require_both(faults, wanted, left, right)?;
         let value = operators::value_of_relation(relation, left.value, right.value);
-        Ok(left.join_operand(right, type_of_comparison(of), value))
+        Ok(left.joined_operand(right, type_of_comparison(of), value))
     }
 
     #[cycle(expressions)]
@@ -324,7 +324,7 @@ impl<'t> CheckerState<'t> {
     {
         let of = self.require_both(faults, operand_type_of_addition(operator), left, right)?;
         let value = operators::value_of_sum(operator, left.value, right.value);
-        Ok(left.join_operand(right, of, value))
+        Ok(left.joined_operand(right, of, value))
     }
 
     /// Returns the operand of a sign and the operand after it. A sign requires INTEGER, and a
@@ -386,7 +386,7 @@ impl<'t> CheckerState<'t> {
             right,
         )?;
         let value = operators::value_of_product(operator, left.value, right.value);
-        Ok(left.join_operand(right, of, value))
+        Ok(left.joined_operand(right, of, value))
     }
 
     #[cycle(expressions)]
@@ -405,7 +405,7 @@ impl<'t> CheckerState<'t> {
                 if d.selectors.is_empty() {
                     Ok(base)
                 } else {
-                    self.apply_selectors(faults, base, d, only_constants)
+                    self.check_selectors(faults, base, d, only_constants)
                 }
             }
             Factor::Integer(token) => Ok(self.integer_operand(*token)),
@@ -490,7 +490,7 @@ impl<'t> CheckerState<'t> {
                         self.report_at(faults, FaultCode::NotConstant, token)?;
                         return Ok(unknown);
                     }
-                    Ok(unknown.extend_designator(*of, token))
+                    Ok(unknown.operand_with_selector(*of, token))
                 }
                 Meaning::Named(_) => {
                     self.report_at(faults, FaultCode::WrongKind, token)?;
@@ -507,7 +507,7 @@ impl<'t> CheckerState<'t> {
     /// Returns the operand of the designator `d`, whose name has the operand `base`. Reports the
     /// faults of the designator's selectors.
     #[cycle(expressions)]
-    pub(crate) fn apply_selectors(
+    pub(crate) fn check_selectors(
         &self,
         faults: &mut Vec<Fault>,
         base: Operand,
@@ -561,7 +561,7 @@ impl<'t> CheckerState<'t> {
     {
         let index_type = self.require_type(faults, TypeId::Integer, index)?;
         let of = self.array_element_type(faults, base.of, index, index_type)?;
-        Ok(base.extend_designator(of, self.token_after(index.last)))
+        Ok(base.operand_with_selector(of, self.token_after(index.last)))
     }
 
     /// Returns the type of an element of the type `base`, and reports `NotArray` if `base` is known
@@ -619,7 +619,7 @@ impl<'t> CheckerState<'t> {
             (field_operand (facts_in self.now false) (operand_of base) name)) }
     {
         let of = self.field_type(faults, base.of, name)?;
-        Ok(base.extend_designator(of, name))
+        Ok(base.operand_with_selector(of, name))
     }
 
     /// Returns the type of the field of the type `base` whose name is at the token `name`. Reports

@@ -125,7 +125,7 @@ impl<'t> CheckerState<'t> {
             first: token,
             last: token,
         };
-        let target = self.apply_selectors(faults, base, &a.target, false)?;
+        let target = self.check_selectors(faults, base, &a.target, false)?;
         self.check_typed_expression(faults, target.of, &a.value)
     }
 

@@ -8,14 +8,14 @@ ghost use Rattle.ob0_language_types.specs.Typing.{array_length};
 ghost use Rattle.ob0_language_values.specs.Scalars.{scalar_value};
 ghost use Rattle.ob0_types_check.specs.Known.{a_variable};
 ghost use Rattle.ob0_types_check.specs.Operations.{ReturnsAndReports};
-ghost use Rattle.ob0_types_check.specs.KnownDeclarations.{empty_size};
+ghost use Rattle.ob0_types_check.specs.KnownDeclarations.{zero_size};
 ghost use Rattle.ob0_types_check.specs.CheckerViews.{AddsKnownFields, HasKnownFields, facts_in, fields_in, operand_of, size_of, declarations_in_state};
 ghost use Rattle.ob0_types_check.specs.TypeFaults.{length_of, type_by_meaning, type_named_at};
 ghost use Rattle.ob0_types_check.specs.WrittenTypeFaults.{made_array_type, no_known_fields, made_record_type, record_keyword, reported_fields, reported_groups, reported_type, with_known_field, with_known_fields};
 ghost use Rattle.ob0_types_check.specs.WrittenTypeFaults as spec;
 
 use crate::reporting::Reporter;
-use crate::reporting::checker_state::{CheckerState, Meaning, Size, UNKNOWN_SIZE, sum_or_error};
+use crate::reporting::checker_state::{CheckerState, Meaning, Size, ZERO_SIZE, sum_or_error};
 use crate::reporting::expressions::{Operand, same_type};
 use ob0_language_values::Scalar;
 use ob0_scan::{Fault, FaultCode};
@@ -55,11 +55,11 @@ impl KnownFields {
     /// Returns an empty list of fields, with no scalars and depth 0.
     fn new(alloc: Global) -> KnownFields
         ensures fields { fields_in result.fields.items ≡ [] }
-        ensures size { size_of result.size ≡ empty_size }
+        ensures size { size_of result.size ≡ zero_size }
     {
         KnownFields {
             fields: Vec::new(alloc),
-            size: UNKNOWN_SIZE,
+            size: ZERO_SIZE,
         }
     }
 

@@ -5,8 +5,8 @@ use Rattle.ob0_text.specs.declared.edits.Edit.{Edit}
 use Rattle.ob0_tree.specs.ParsedModule.{ParsedModule, tree_of}
 use Rattle.ob0_tree.specs.Tree.{nesting}
 use Rattle.ob0_edits_tokens.specs.Changed.{changes_at, changed_words, words_of}
-use Rattle.ob0_edits_tokens.specs.Removed.{IsDeclaration, changes_with_removal}
-use Rattle.ob0_edits_tokens.specs.Replaced.{AreIdentifierIndexes, LeavesWords, ReplacesName}
+use Rattle.ob0_edits_tokens.specs.Removed.{MayBeConstantDeclaration, changes_with_removal}
+use Rattle.ob0_edits_tokens.specs.Replaced.{AreIdentifierIndexes, LeavesWords, MayReplaceName}
 use Rattle.ob0_inline.specs.Everywhere.{tree_inlined_everywhere, uses_of}
 use Rattle.ob0_inline.specs.Values.{value_words}
 use Rattle.ob0_inline.proofs.Ended.{are_uses, is_taken, left_spelled}
@@ -16,7 +16,7 @@ use Rattle.ob0_inline.proofs.everywhere.constant_edits.Goals as goal
 
 pub removal_edits-requires-clause-declaration : goal.removal_edits-requires-clause-declaration
 removal_edits-requires-clause-declaration g c =
-    subst (λ (s : TextWithTokens). IsDeclaration s.tokens c.args.constant.first c.args.constant.last) (sym c.tokens.ensures)
+    subst (λ (s : TextWithTokens). MayBeConstantDeclaration s.tokens c.args.constant.first c.args.constant.last) (sym c.tokens.ensures)
     (is_taken c.args.names.now c.module-read.ensures.resolved c.args.constant c.requires.is_constant)
 
 pub removal_edits-requires-clause-names : goal.removal_edits-requires-clause-names
@@ -36,7 +36,7 @@ returns-then-branch-clause-too_deep g c = λ alone _.
     let items = c.in_ok-edits.edits.items in
     let ws : List Word = changed_words (changes_with_removal k.first k.last (changes_at (uses_of m k.ordinal) vs)) 0 (words_of m.source) in
     let spelled = left_spelled c.args.names.now c.module-read.ensures.resolved k c.requires.is_constant alone in
-    let can_replace = subst (λ n. ReplacesName n vs) (sym (c.deref-2.ensures ∙ c.in_ok-text.ensures.text)) c.value_text.ensures.can_replace in
+    let can_replace = subst (λ n. MayReplaceName n vs) (sym (c.deref-2.ensures ∙ c.in_ok-text.ensures.text)) c.value_text.ensures.can_replace in
     let uses = c.deref.ensures.value ∙ c.in_ok-uses.ensures in
     let leaves : LeavesWords unit content items ws =
     subst (λ (ps : List ℕ). LeavesWords unit content items (changed_words (changes_with_removal k.first k.last (changes_at ps vs)) 0 (words_of m.source))) uses
@@ -55,7 +55,7 @@ returns-clause-inlined g c = λ alone.
     let items = c.in_ok-edits.edits.items in
     let ws : List Word = changed_words (changes_with_removal k.first k.last (changes_at (uses_of m k.ordinal) vs)) 0 (words_of m.source) in
     let spelled = left_spelled c.args.names.now c.module-read.ensures.resolved k c.requires.is_constant alone in
-    let can_replace = subst (λ n. ReplacesName n vs) (sym (c.deref-2.ensures ∙ c.in_ok-text.ensures.text)) c.value_text.ensures.can_replace in
+    let can_replace = subst (λ n. MayReplaceName n vs) (sym (c.deref-2.ensures ∙ c.in_ok-text.ensures.text)) c.value_text.ensures.can_replace in
     let uses = c.deref.ensures.value ∙ c.in_ok-uses.ensures in
     let leaves : LeavesWords unit content items ws =
     subst (λ (ps : List ℕ). LeavesWords unit content items (changed_words (changes_with_removal k.first k.last (changes_at ps vs)) 0 (words_of m.source))) uses

@@ -5,7 +5,7 @@ use Rattle.ob0_text.specs.declared.edits.Edit.{Edit}
 use Rattle.ob0_tree.specs.ParsedModule.{ParsedModule, tree_of}
 use Rattle.ob0_tree.specs.Tree.{nesting}
 use Rattle.ob0_edits_tokens.specs.Changed.{changes_at, changed_words, words_of}
-use Rattle.ob0_edits_tokens.specs.Replaced.{AreIdentifierIndexes, LeavesWords, ReplacesName}
+use Rattle.ob0_edits_tokens.specs.Replaced.{AreIdentifierIndexes, LeavesWords, MayReplaceName}
 use Rattle.ob0_language_names.specs.Inlining.{single_occurrence}
 use Rattle.ob0_inline.specs.Uses.{tree_inlined_here}
 use Rattle.ob0_inline.specs.Values.{value_words}
@@ -29,7 +29,7 @@ returns-then-branch-clause-too_deep g c = λ alone _.
     let vs = value_words u.value in
     let ws : List Word = changed_words (changes_at (u.token ∷ []) vs) 0 (words_of m.source) in
     let spelled = here_spelled c.args.names.now c.module-read.ensures.resolved u c.requires.is_use alone in
-    let can_replace = subst (λ n. ReplacesName n vs) (sym (c.deref.ensures ∙ c.in_ok-text.ensures.text)) c.value_text.ensures.can_replace in
+    let can_replace = subst (λ n. MayReplaceName n vs) (sym (c.deref.ensures ∙ c.in_ok-text.ensures.text)) c.value_text.ensures.can_replace in
     let leaves : LeavesWords unit content items ws =
     subst (λ (s : TextWithTokens). LeavesWords unit content items (changed_words (changes_at (u.token ∷ []) vs) 0 (words_of s))) c.tokens.ensures (c.in_ok-edits.ensures.words vs can_replace) in
     let shallow = subst (λ (p : ParsedModule). nesting (tree_inlined_here m u) ≤ nesting (tree_of p) + 1) (sym c.module-read.ensures.value) (inlined_shallow m (single_occurrence u.occurrence) u.value) in
@@ -46,7 +46,7 @@ returns-clause-inlined g c = λ alone.
     let vs = value_words u.value in
     let ws : List Word = changed_words (changes_at (u.token ∷ []) vs) 0 (words_of m.source) in
     let spelled = here_spelled c.args.names.now c.module-read.ensures.resolved u c.requires.is_use alone in
-    let can_replace = subst (λ n. ReplacesName n vs) (sym (c.deref.ensures ∙ c.in_ok-text.ensures.text)) c.value_text.ensures.can_replace in
+    let can_replace = subst (λ n. MayReplaceName n vs) (sym (c.deref.ensures ∙ c.in_ok-text.ensures.text)) c.value_text.ensures.can_replace in
     let leaves : LeavesWords unit content items ws =
     subst (λ (s : TextWithTokens). LeavesWords unit content items (changed_words (changes_at (u.token ∷ []) vs) 0 (words_of s))) c.tokens.ensures (c.in_ok-edits.ensures.words vs can_replace) in
     let shallow = subst (λ (p : ParsedModule). nesting (tree_inlined_here m u) ≤ nesting (tree_of p) + 1) (sym c.module-read.ensures.value) (inlined_shallow m (single_occurrence u.occurrence) u.value) in

@@ -11,16 +11,16 @@ pub loop-next-init : goal.loop-next-init
 loop-next-init c = λ scan.
     passing_at_start c.args.indent c.as_bytes-text.result.now c.args.tokens.now scan c.args.roles.now _ _ _ (c.as_bytes-text.ensures.value ∙ c.text.ensures.value) c.tokens-left.ensures c.comments-comments.ensures c.new-sites.ensures.items
 
-pub slice_bounds-begins_line-count : goal.slice_bounds-begins_line-count
-slice_bounds-begins_line-count c =
+pub slice_bounds-comment_begins_line-count : goal.slice_bounds-comment_begins_line-count
+slice_bounds-comment_begins_line-count c =
     (at_comment _ _ _ _ _ _ _ _ _ _ (c.loop-next.invariant c.text.ensures.scan) c.in-Comment.span (sym c.next_lexeme.ensures ∙ c.in-Some.is ∙ ap Some c.in-Comment.is)).up
 
-pub slice_bounds-begins_line-start : goal.slice_bounds-begins_line-start
-slice_bounds-begins_line-start c =
+pub slice_bounds-comment_begins_line-start : goal.slice_bounds-comment_begins_line-start
+slice_bounds-comment_begins_line-start c =
     (at_comment _ _ _ _ _ _ _ _ _ _ (c.loop-next.invariant c.text.ensures.scan) c.in-Comment.span (sym c.next_lexeme.ensures ∙ c.in-Some.is ∙ ap Some c.in-Comment.is)).up
 
-pub slice_bounds-begins_line-end : goal.slice_bounds-begins_line-end
-slice_bounds-begins_line-end c =
+pub slice_bounds-comment_begins_line-end : goal.slice_bounds-comment_begins_line-end
+slice_bounds-comment_begins_line-end c =
     let next = at_comment _ _ _ _ _ _ _ _ _ _ (c.loop-next.invariant c.text.ensures.scan) c.in-Comment.span (sym c.next_lexeme.ensures ∙ c.in-Some.is ∙ ap Some c.in-Comment.is) in
     omega (arith, next.ordered, next.within)
 
@@ -43,7 +43,7 @@ pub loop-next-preserved-in-Comment : goal.loop-next-preserved-in-Comment
 loop-next-preserved-in-Comment c = λ scan.
     let before = c.loop-next.before in
     let next = at_comment _ _ _ _ _ _ _ _ _ _ (c.loop-next.invariant scan) c.in-Comment.span (sym c.next_lexeme.ensures ∙ c.in-Some.is ∙ ap Some c.in-Comment.is) in
-    let role_is = c.comment_role-role.ensures ∙ (λ i. comment_role (c.begins_line-broken.ensures i) (c.next_line_level.ensures i)) in
+    let role_is = c.comment_role-role.ensures ∙ (λ i. comment_role (c.comment_begins_line-broken.ensures i) (c.next_line_level.ensures i)) in
     let gap_is = c.gap_before-gap.ensures ∙ ap (gap_before before lexeme.Comment) role_is in
     passing_moved _ _ next.after refl c.without_first_item-comments.ensures refl (ap (λ (st : LineRole). Some (make_solid lexeme.Comment st)) role_is) refl
     (c.in_ok-add_gap_if_changed-in-Comment.ensures ∙ ap (λ g. c.loop-next.sites.items ++ changed_sites c.args.indent c.as_bytes-text.result.now (make_site c.loop-next.start c.in-Comment.span.start g ∷ [])) gap_is)

@@ -12,8 +12,8 @@ returns c =
     let m = c.args.names.now.module_read in
     let signature = signature_view c.args.known.now c.args.formals.now in
     let name : c.token_text_at.result.now ≡ token_text_at m.source c.args.name.token = c.token_text_at.ensures ∙ ap (λ s. token_text_at s c.args.name.token) c.tokens-2.ensures in
-    let following : map (token_text_at c.tokens.result.now) c.declarations_after-following.result.now ≡ names_declared_after m c.args.name.ordinal =
-    ap (λ s. map (token_text_at s) c.declarations_after-following.result.now) c.tokens.ensures ∙ ap (map (token_text_at m.source)) c.declarations_after-following.ensures in
+    let following : map (token_text_at c.tokens.result.now) c.declaring_tokens_after-following.result.now ≡ names_declared_after m c.args.name.ordinal =
+    ap (λ s. map (token_text_at s) c.declaring_tokens_after-following.result.now) c.tokens.ensures ∙ ap (map (token_text_at m.source)) c.declaring_tokens_after-following.ensures in
     let list : map parameter_view c.as_slice.result.now ≡ hover_parameters (names_declared_after m c.args.name.ordinal) signature =
     ap (map parameter_view) c.as_slice.ensures.value ∙ c.in_ok-parameters.ensures ∙ ap (λ xs. hover_parameters xs signature) following in
     IfOk-weaker c.procedure_text.result _ _ (λ text h. h ∙ ap₂ procedure_text name list) c.procedure_text.ensures

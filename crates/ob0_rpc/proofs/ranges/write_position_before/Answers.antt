@@ -3,7 +3,7 @@ use Rattle.ob0_rpc.proofs.ranges.write_position_before.Goals as goal
 
 pub returns-clause-text : goal.returns-clause-text
 returns-clause-text c =
-    position_written c.args.position _ _ _ _ _ _ c.write_piece_before-following_line.ensures.text c.write_digits_before-at_line.ensures.text c.write_piece_before-following_character.ensures.text
+    position_written c.args.position _ _ _ _ _ _ c.write_piece_before-index_after_line.ensures.text c.write_digits_before-at_line.ensures.text c.write_piece_before-index_after_character.ensures.text
     c.write_digits_before-at_character.ensures.text c.write_piece_before.ensures.text
 
 pub returns-clause-reads : goal.returns-clause-reads

@@ -3,7 +3,7 @@ use Rattle.ob0_rpc.proofs.ranges.write_range_before.Goals as goal
 
 pub returns-clause-text : goal.returns-clause-text
 returns-clause-text c =
-    range_text c.args.start c.args.end _ _ _ _ _ _ c.write_piece_before-following_start.ensures.text c.write_position_before-at_start.ensures.text c.write_piece_before-following_end.ensures.text
+    range_text c.args.start c.args.end _ _ _ _ _ _ c.write_piece_before-index_after_start.ensures.text c.write_position_before-at_start.ensures.text c.write_piece_before-index_after_end.ensures.text
     c.write_position_before-at_end.ensures.text c.write_piece_before.ensures.text
 
 pub returns-clause-reads : goal.returns-clause-reads

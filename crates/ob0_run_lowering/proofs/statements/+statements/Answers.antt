@@ -82,7 +82,7 @@ pub lower_sequence-loop-s-preserved : goal.lower_sequence-loop-s-preserved
 lower_sequence-loop-s-preserved t c =
     let scene = c.args.scene.now in
     let P : List Instruction → Type 0 = λ made. SequenceMade scene scene.resolved.now c.deref-s-items.result.now (c.loop-s.s-index + 1) made in
-    subst P (sym c.in_ok-push_if_any.ensures) (sequence_goes_on c.s-item.result c.in_ok-next.next c.loop-s.invariant c.loop-s-test.true c.s-item.is c.in_ok-next.ensures)
+    subst P (sym c.in_ok-push_if_some.ensures) (sequence_goes_on c.s-item.result c.in_ok-next.next c.loop-s.invariant c.loop-s-test.true c.s-item.is c.in_ok-next.ensures)
 
 pub lower_sequence-returns : goal.lower_sequence-returns
 lower_sequence-returns t c =

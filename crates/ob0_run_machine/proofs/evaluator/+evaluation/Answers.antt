@@ -29,19 +29,19 @@ evaluate_general_operation-returns-in-Ok t c =
     let ls = levels_of c.args.level.now in
     let o = out-Operation c.args.o.now in
     let a : SFits w32 c.in-Ok.left = search rules in
-    c.into_flat.ensures ∙ c.apply.ensures ∙ ap (outcome_of_applied_link ls c.args.cells.now o.link) (to_z-of_z a) ∙ ap (λ z. z >>= outcome_of_applied_link ls c.args.cells.now o.link) c.in-Ok.ensures ∙ sym (applied_to ls c.args.cells.now (first_of o.first) o.link)
+    c.into_flat_outcome.ensures ∙ c.apply.ensures ∙ ap (outcome_of_applied_link ls c.args.cells.now o.link) (to_z-of_z a) ∙ ap (λ z. z >>= outcome_of_applied_link ls c.args.cells.now o.link) c.in-Ok.ensures ∙ sym (applied_to ls c.args.cells.now (first_of o.first) o.link)
 
 pub evaluate_general_operation-returns-in-Err : goal.evaluate_general_operation-returns-in-Err
 evaluate_general_operation-returns-in-Err t c =
     let ls = levels_of c.args.level.now in
     let o = out-Operation c.args.o.now in
-    c.into_flat-in-Err.ensures ∙ ap (λ z. z >>= outcome_of_applied_link ls c.args.cells.now o.link) c.in-Err.ensures ∙ sym (applied_to ls c.args.cells.now (first_of o.first) o.link)
+    c.into_flat_outcome-in-Err.ensures ∙ ap (λ z. z >>= outcome_of_applied_link ls c.args.cells.now o.link) c.in-Err.ensures ∙ sym (applied_to ls c.args.cells.now (first_of o.first) o.link)
 
 pub evaluate_operation-returns-in-Variable : goal.evaluate_operation-returns-in-Variable
 evaluate_operation-returns-in-Variable t c =
     let ls = levels_of c.args.level.now in
     let o = out-Operation c.args.o.now in
     let a : SFits w32 c.value_of.result = search rules in
-    c.into_flat.ensures ∙ c.apply.ensures ∙ ap (outcome_of_applied_link ls c.args.cells.now o.link) (to_z-of_z a)
+    c.into_flat_outcome.ensures ∙ c.apply.ensures ∙ ap (outcome_of_applied_link ls c.args.cells.now o.link) (to_z-of_z a)
     ∙ ap (λ z. z >>= outcome_of_applied_link ls c.args.cells.now o.link) (sym c.value_of.ensures ∙ sym (ap (λ f. number ls c.args.cells.now (first_of f)) c.in-Variable.is))
     ∙ sym (applied_to ls c.args.cells.now (first_of o.first) o.link)

@@ -8,7 +8,7 @@ use Rattle.ob0_scan.proofs.incremental_scan.continue_scan.Given as goal
 -- the change and at or after this place.
 abbrev pub invariant-loop-scanner : goal.invariant-loop-scanner
 invariant-loop-scanner l = record {
-  under_way : IsConsistentScanner l.scanner;
+  consistent_scanner : IsConsistentScanner l.scanner;
   same_text : l.scanner.text ≡ l.fn.scanner.text;
   same_front : l.scanner.front ≡ l.fn.scanner.front;
   reads : length l.scanner.faults.items ≡ 0 → AddsNewLexemes l.old l.change.from l.change.removed l.change.added l.fn.scanner l.scanner;

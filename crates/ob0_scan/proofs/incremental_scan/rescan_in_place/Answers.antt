@@ -29,7 +29,7 @@ returns-in_ok-tokens-in-Ok-clause-alike c =
     let b = c.in-Ok.between in
     λ alike. ap (λ (s : TextWithTokens). kinds s.tokens) c.in_ok-tokens-in-Ok.ensures
     ∙ kinds_stay c.args.old.tokens b.tokens.items b.old_start.tokens b.old_end.tokens c.args.removed c.args.added c.in-Ok.ensures.ok.tokens_ordered
-    (c.has_kinds_of-same_kinds.ensures alike
+    (c.has_kinds_of_replaced-same_kinds.ensures alike
     ∙ ap (λ (l : List Token). kinds (take (b.old_end.tokens - b.old_start.tokens) (drop b.old_start.tokens l))) c.tokens.ensures)
 
 pub returns-in_ok-tokens-in-Ok-clause-same_names : goal.returns-in_ok-tokens-in-Ok-clause-same_names
@@ -37,14 +37,14 @@ returns-in_ok-tokens-in-Ok-clause-same_names c =
     let b = c.in-Ok.between in
     λ same. ap (λ (s : TextWithTokens). names_in s.text s.tokens) c.in_ok-tokens-in-Ok.ensures
     ∙ names_stay c.args.old c.args.new_text.now c.args.from c.args.removed c.args.added b c.requires c.in-Ok.ensures.ok
-    (c.has_names_of-same_names.ensures same)
+    (c.has_names_of_replaced-same_names.ensures same)
 
 pub returns-in_ok-tokens-in-Ok-clause-same_words : goal.returns-in_ok-tokens-in-Ok-clause-same_words
 returns-in_ok-tokens-in-Ok-clause-same_words c =
     let b = c.in-Ok.between in
     λ same. ap (λ (s : TextWithTokens). words_of_tokens s.text s.tokens) c.in_ok-tokens-in-Ok.ensures
     ∙ words_stay c.args.old c.args.new_text.now c.args.from c.args.removed c.args.added b c.requires c.in-Ok.ensures.ok
-    (c.has_words_of-same_words.ensures same)
+    (c.has_words_of_replaced-same_words.ensures same)
 
 pub returns-in_ok-tokens-in-Ok-clause-same : goal.returns-in_ok-tokens-in-Ok-clause-same
 returns-in_ok-tokens-in-Ok-clause-same c =

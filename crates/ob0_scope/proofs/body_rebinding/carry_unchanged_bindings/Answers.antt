@@ -3,7 +3,7 @@ use Rattle.std.specs.List.{list_any}
 use Rattle.ob0_scan.specs.TextWithTokens.{TextWithTokens}
 use Rattle.ob0_tree.specs.ParsedModule.{tree_of}
 use Rattle.ob0_scope_table.specs.Resolution.{is_duplicate_or_end_name, undeclared_faults_by_table}
-use Rattle.ob0_scope_numbering.specs.BodyWalk.{renumber_module, initial_walk_over}
+use Rattle.ob0_scope_numbering.specs.BodyWalk.{renumber_module, initial_walk_state_with_table}
 use Rattle.ob0_scope_numbering.specs.Written.{original_spellings}
 use Rattle.ob0_scope.specs.Carried.{carried_tokens, carried_ordinals}
 use Rattle.ob0_scope.proofs.NewBody.{new_body_bound}
@@ -27,7 +27,7 @@ returns c =
     let within : length m.source.tokens ≤ length c.in_ok-table.table.items = omega (arith, c.if-len-tokens.false, c.len.ensures, count, c.in_ok-table.table.ok) in
     let long : length m.source.tokens ≤ length (carried_ordinals range b.ordinals.items) = subst (λ (t : List (Option ℕ)). length m.source.tokens ≤ length t) table within in
     let declared : c.in_ok-declaration_tokens.declaration_tokens.items ≡ carried_tokens range b.declaration_tokens.items [] = c.in_ok-declaration_tokens.ensures ∙ ap (λ is. carried_tokens range is []) c.deref-2.ensures.value in
-    let numbered = c.in_ok-ordinals.ensures ∙ (λ i. (renumber_module (c.deref-3.ensures.value i) range.first (tree_of m) (initial_walk_over (original_spellings m.source) (table i))).marks) in
+    let numbered = c.in_ok-ordinals.ensures ∙ (λ i. (renumber_module (c.deref-3.ensures.value i) range.first (tree_of m) (initial_walk_state_with_table (original_spellings m.source) (table i))).marks) in
     let used : c.in_ok-occurrences.occurrences.items ≡ carried_tokens range b.occurrences.items own = c.in_ok-occurrences.ensures ∙ ap (λ is. carried_tokens range is own) c.deref-4.ensures.value in
     let all = c.in_ok-report_undeclared.ensures
     ∙ (λ i. c.in_ok-faults.faults.items ++ undeclared_faults_by_table (c.tokens-tokens.ensures.source i) (c.deref-6.ensures.value i) (c.deref-7.ensures.value i)) in

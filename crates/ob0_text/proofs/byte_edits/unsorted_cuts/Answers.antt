@@ -6,7 +6,7 @@ use Rattle.ob0_text.specs.Texts.{offset_of}
 use Rattle.ob0_text.specs.Units.{width_of}
 use Rattle.ob0_text.specs.declared.edits.Edit.{Edit}
 use Rattle.ob0_text.specs.Patches.{cuts_of}
-use Rattle.ob0_text.specs.StoredCuts.{stored_cut, cut_in_bytes}
+use Rattle.ob0_text.specs.StoredCuts.{cut_of_byte_edit, cut_in_bytes}
 use Rattle.ob0_text.proofs.PatchSteps.{cuts_further, any_default, as_long}
 use Rattle.ob0_text.proofs.byte_edits.unsorted_cuts.Goals as goal
 
@@ -22,9 +22,9 @@ loop-i-preserved g c =
     let a : c.index.result.now ≡ get_or c.in_ok-from.from.items c.loop-i.i 0 = c.index.ensures ∙ any_default _ c.loop-i.i _ 0 (long_enough c.in_ok-from.from.items (λ (e : Edit). e.range.start) from) in
     let b : c.index-in-loop-i.result.now ≡ get_or c.in_ok-to.to.items c.loop-i.i 0 = c.index-in-loop-i.ensures ∙ any_default _ c.loop-i.i _ 0 (long_enough c.in_ok-to.to.items (λ (e : Edit). e.range.end) to) in
     let t : c.as_str.result.now ≡ string_bytes (get_or c.args.edits.now c.loop-i.i edit).text = c.as_str.ensures.value ∙ ap (λ (e : Edit). string_bytes e.text) c.index-edits-i.is in
-    let made : stored_cut c.cut_between.result ≡ record { from = min (get_or c.in_ok-from.from.items c.loop-i.i 0) (get_or c.in_ok-to.to.items c.loop-i.i 0); to = max (get_or c.in_ok-from.from.items c.loop-i.i 0) (get_or c.in_ok-to.to.items c.loop-i.i 0); new = chars (string_bytes (get_or c.args.edits.now c.loop-i.i edit).text) } =
+    let made : cut_of_byte_edit c.cut_between.result ≡ record { from = min (get_or c.in_ok-from.from.items c.loop-i.i 0) (get_or c.in_ok-to.to.items c.loop-i.i 0); to = max (get_or c.in_ok-from.from.items c.loop-i.i 0) (get_or c.in_ok-to.to.items c.loop-i.i 0); new = chars (string_bytes (get_or c.args.edits.now c.loop-i.i edit).text) } =
     c.cut_between.ensures ∙ (λ j. record { from = min (a j) (b j); to = max (a j) (b j); new = chars (t j) }) in
-    ap (map stored_cut) c.in_ok-push.ensures.items
+    ap (map cut_of_byte_edit) c.in_ok-push.ensures.items
     ∙ cuts_further width text c.args.edits.now c.in_ok-from.from.items c.in_ok-to.to.items from to
     c.loop-i.cuts.items c.loop-i.i c.loop-i-test.true c.cut_between.result edit c.loop-i.invariant made
 

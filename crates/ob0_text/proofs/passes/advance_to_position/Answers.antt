@@ -9,7 +9,7 @@ use Rattle.ob0_text.proofs.passes.advance_to_position.Goals as goal
 use Rattle.ob0_text.proofs.passes.advance_to_position.Goals.{then-line-position+then-ends_line, then-line-position+else-ends_line, else-line-position+else-is_line_break+else-position-character}
 
 pub range_from-requires : goal.range_from-requires
-range_from-requires c = λ _. rest_border c.args.text.now _ c.skip_stretches-from.result.offset c.skip_stretches-from.ensures.place.rest_is
+range_from-requires c = λ _. rest_border c.args.text.now _ c.skip_stretches_to_position-from.result.offset c.skip_stretches_to_position-from.ensures.place.rest_is
 
 pub loop-c-preserved : goal.loop-c-preserved
 loop-c-preserved c =

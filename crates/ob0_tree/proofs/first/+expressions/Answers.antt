@@ -29,41 +29,41 @@ further_factors t xs e none same =
     ∙ (found_later (identifiers role.Declaring (factor_of (out-Term t).first)) (identifiers role.Declaring (items_of multiplier_of (out-Term t).more.items)) e none
     ∙ ap first_identifier (sym (term_parts t)))
 
-pub first_in_simple_expression-returns-then-is_some : goal.first_in_simple_expression-returns-then-is_some
-first_in_simple_expression-returns-then-is_some t c =
+pub first_identifier_in_simple_expression-returns-then-is_some : goal.first_identifier_in_simple_expression-returns-then-is_some
+first_identifier_in_simple_expression-returns-then-is_some t c =
     let s = out-SimpleExpression c.args.s.now in
-    found_first (identifiers role.Declaring (term_of s.first)) (identifiers role.Declaring (items_of addend_of s.more.items)) c.first_in_term-found.ensures (sym c.is_some.ensures ∙ c.if-is_some.true)
+    found_first (identifiers role.Declaring (term_of s.first)) (identifiers role.Declaring (items_of addend_of s.more.items)) c.first_identifier_in_term-found.ensures (sym c.is_some.ensures ∙ c.if-is_some.true)
     ∙ ap first_identifier (sym (simple_parts c.args.s.now))
 
-pub first_in_simple_expression-returns-then-is_some-2 : goal.first_in_simple_expression-returns-then-is_some-2
-first_in_simple_expression-returns-then-is_some-2 t c =
+pub first_identifier_in_simple_expression-returns-then-is_some-2 : goal.first_identifier_in_simple_expression-returns-then-is_some-2
+first_identifier_in_simple_expression-returns-then-is_some-2 t c =
     found_here addend_of c.addend-item.result c.loop-addend.invariant c.loop-addend-test.true c.addend-item.is
-    (c.first_in_term-found-in-loop-addend.ensures ∙ ap first_identifier (sym (addend_parts c.addend-item.result))) (sym c.is_some-in-loop-addend.ensures ∙ c.if-is_some-2.true)
-    ∙ further_terms c.args.s.now c.deref-addend-items.result.now c.first_in_term-found.ensures (sym c.is_some.ensures ∙ c.if-is_some.false) c.deref-addend-items.ensures.value
+    (c.first_identifier_in_term-found-in-loop-addend.ensures ∙ ap first_identifier (sym (addend_parts c.addend-item.result))) (sym c.is_some-in-loop-addend.ensures ∙ c.if-is_some-2.true)
+    ∙ further_terms c.args.s.now c.deref-addend-items.result.now c.first_identifier_in_term-found.ensures (sym c.is_some.ensures ∙ c.if-is_some.false) c.deref-addend-items.ensures.value
 
-pub first_in_simple_expression-loop-addend-preserved : goal.first_in_simple_expression-loop-addend-preserved
-first_in_simple_expression-loop-addend-preserved t c =
+pub first_identifier_in_simple_expression-loop-addend-preserved : goal.first_identifier_in_simple_expression-loop-addend-preserved
+first_identifier_in_simple_expression-loop-addend-preserved t c =
     seeks_on addend_of c.addend-item.result c.loop-addend.invariant c.loop-addend-test.true c.addend-item.is
-    (c.first_in_term-found-in-loop-addend.ensures ∙ ap first_identifier (sym (addend_parts c.addend-item.result))) (sym c.is_some-in-loop-addend.ensures ∙ c.if-is_some-2.false)
+    (c.first_identifier_in_term-found-in-loop-addend.ensures ∙ ap first_identifier (sym (addend_parts c.addend-item.result))) (sym c.is_some-in-loop-addend.ensures ∙ c.if-is_some-2.false)
 
-pub first_in_simple_expression-returns : goal.first_in_simple_expression-returns
-first_in_simple_expression-returns t c =
+pub first_identifier_in_simple_expression-returns : goal.first_identifier_in_simple_expression-returns
+first_identifier_in_simple_expression-returns t c =
     none_found c.loop-addend.invariant c.loop-addend-test.false
-    ∙ further_terms c.args.s.now c.deref-addend-items.result.now c.first_in_term-found.ensures (sym c.is_some.ensures ∙ c.if-is_some.false) c.deref-addend-items.ensures.value
+    ∙ further_terms c.args.s.now c.deref-addend-items.result.now c.first_identifier_in_term-found.ensures (sym c.is_some.ensures ∙ c.if-is_some.false) c.deref-addend-items.ensures.value
 
-pub first_in_term-returns-then-is_some : goal.first_in_term-returns-then-is_some
-first_in_term-returns-then-is_some t c =
+pub first_identifier_in_term-returns-then-is_some : goal.first_identifier_in_term-returns-then-is_some
+first_identifier_in_term-returns-then-is_some t c =
     let x = out-Term c.args.t.now in
-    found_first (identifiers role.Declaring (factor_of x.first)) (identifiers role.Declaring (items_of multiplier_of x.more.items)) c.first_in_factor-found.ensures (sym c.is_some.ensures ∙ c.if-is_some.true)
+    found_first (identifiers role.Declaring (factor_of x.first)) (identifiers role.Declaring (items_of multiplier_of x.more.items)) c.first_identifier_in_factor-found.ensures (sym c.is_some.ensures ∙ c.if-is_some.true)
     ∙ ap first_identifier (sym (term_parts c.args.t.now))
 
-pub first_in_term-returns-then-is_some-2 : goal.first_in_term-returns-then-is_some-2
-first_in_term-returns-then-is_some-2 t c =
-    found_here multiplier_of c.multiplier-item.result c.loop-multiplier.invariant c.loop-multiplier-test.true c.multiplier-item.is c.first_in_factor-found-in-loop-multiplier.ensures
+pub first_identifier_in_term-returns-then-is_some-2 : goal.first_identifier_in_term-returns-then-is_some-2
+first_identifier_in_term-returns-then-is_some-2 t c =
+    found_here multiplier_of c.multiplier-item.result c.loop-multiplier.invariant c.loop-multiplier-test.true c.multiplier-item.is c.first_identifier_in_factor-found-in-loop-multiplier.ensures
     (sym c.is_some-in-loop-multiplier.ensures ∙ c.if-is_some-2.true)
-    ∙ further_factors c.args.t.now c.deref-multiplier-items.result.now c.first_in_factor-found.ensures (sym c.is_some.ensures ∙ c.if-is_some.false) c.deref-multiplier-items.ensures.value
+    ∙ further_factors c.args.t.now c.deref-multiplier-items.result.now c.first_identifier_in_factor-found.ensures (sym c.is_some.ensures ∙ c.if-is_some.false) c.deref-multiplier-items.ensures.value
 
-pub first_in_term-returns : goal.first_in_term-returns
-first_in_term-returns t c =
+pub first_identifier_in_term-returns : goal.first_identifier_in_term-returns
+first_identifier_in_term-returns t c =
     none_found c.loop-multiplier.invariant c.loop-multiplier-test.false
-    ∙ further_factors c.args.t.now c.deref-multiplier-items.result.now c.first_in_factor-found.ensures (sym c.is_some.ensures ∙ c.if-is_some.false) c.deref-multiplier-items.ensures.value
+    ∙ further_factors c.args.t.now c.deref-multiplier-items.result.now c.first_identifier_in_factor-found.ensures (sym c.is_some.ensures ∙ c.if-is_some.false) c.deref-multiplier-items.ensures.value

@@ -47,50 +47,50 @@ module _ (i : If) where
         in_last_branch : is_some d ≡ false → token_of_first_identifier last_branch ≡ first_identifier (if_of i)
         in_last_branch none = found_later elsif_parts last_branch is_d none ∙ after_two
 
-pub first_in_if-returns-then-is_some : goal.first_in_if-returns-then-is_some
-first_in_if-returns-then-is_some t c = in_condition c.args.i.now c.first_in_expression-found.ensures (sym c.is_some.ensures ∙ c.if-is_some.true)
+pub first_identifier_in_if-returns-then-is_some : goal.first_identifier_in_if-returns-then-is_some
+first_identifier_in_if-returns-then-is_some t c = in_condition c.args.i.now c.first_identifier_in_expression-found.ensures (sym c.is_some.ensures ∙ c.if-is_some.true)
 
-pub first_in_if-returns-then-is_some-2 : goal.first_in_if-returns-then-is_some-2
-first_in_if-returns-then-is_some-2 t c =
-    in_first_branch c.args.i.now c.first_in_expression-found.ensures (sym c.is_some.ensures ∙ c.if-is_some.false) c.first_in_sequence-found.ensures (sym c.is_some-2.ensures ∙ c.if-is_some-2.true)
+pub first_identifier_in_if-returns-then-is_some-2 : goal.first_identifier_in_if-returns-then-is_some-2
+first_identifier_in_if-returns-then-is_some-2 t c =
+    in_first_branch c.args.i.now c.first_identifier_in_expression-found.ensures (sym c.is_some.ensures ∙ c.if-is_some.false) c.first_identifier_in_sequence-found.ensures (sym c.is_some-2.ensures ∙ c.if-is_some-2.true)
 
-pub first_in_if-returns-then-is_some-3 : goal.first_in_if-returns-then-is_some-3
-first_in_if-returns-then-is_some-3 t c =
-    in_elsifs c.args.i.now c.first_in_expression-found.ensures (sym c.is_some.ensures ∙ c.if-is_some.false) c.first_in_sequence-found.ensures (sym c.is_some-2.ensures ∙ c.if-is_some-2.false) c.first_in_elsifs-found.ensures
+pub first_identifier_in_if-returns-then-is_some-3 : goal.first_identifier_in_if-returns-then-is_some-3
+first_identifier_in_if-returns-then-is_some-3 t c =
+    in_elsifs c.args.i.now c.first_identifier_in_expression-found.ensures (sym c.is_some.ensures ∙ c.if-is_some.false) c.first_identifier_in_sequence-found.ensures (sym c.is_some-2.ensures ∙ c.if-is_some-2.false) c.first_identifier_in_elsifs-found.ensures
     (sym c.is_some-3.ensures ∙ c.if-is_some-3.true)
 
-pub first_in_if-returns-in-Some : goal.first_in_if-returns-in-Some
-first_in_if-returns-in-Some t c =
-    c.first_in_sequence.ensures
+pub first_identifier_in_if-returns-in-Some : goal.first_identifier_in_if-returns-in-Some
+first_identifier_in_if-returns-in-Some t c =
+    c.first_identifier_in_sequence.ensures
     ∙ (ap (λ o. first_identifier (else_part_of o)) (sym c.in-Some.is)
-    ∙ in_last_branch c.args.i.now c.first_in_expression-found.ensures (sym c.is_some.ensures ∙ c.if-is_some.false) c.first_in_sequence-found.ensures (sym c.is_some-2.ensures ∙ c.if-is_some-2.false) c.first_in_elsifs-found.ensures
+    ∙ in_last_branch c.args.i.now c.first_identifier_in_expression-found.ensures (sym c.is_some.ensures ∙ c.if-is_some.false) c.first_identifier_in_sequence-found.ensures (sym c.is_some-2.ensures ∙ c.if-is_some-2.false) c.first_identifier_in_elsifs-found.ensures
     (sym c.is_some-3.ensures ∙ c.if-is_some-3.false))
 
-pub first_in_if-returns-in-None : goal.first_in_if-returns-in-None
-first_in_if-returns-in-None t c =
+pub first_identifier_in_if-returns-in-None : goal.first_identifier_in_if-returns-in-None
+first_identifier_in_if-returns-in-None t c =
     ap (λ o. first_identifier (else_part_of o)) (sym c.in-None.is)
-    ∙ in_last_branch c.args.i.now c.first_in_expression-found.ensures (sym c.is_some.ensures ∙ c.if-is_some.false) c.first_in_sequence-found.ensures (sym c.is_some-2.ensures ∙ c.if-is_some-2.false) c.first_in_elsifs-found.ensures
+    ∙ in_last_branch c.args.i.now c.first_identifier_in_expression-found.ensures (sym c.is_some.ensures ∙ c.if-is_some.false) c.first_identifier_in_sequence-found.ensures (sym c.is_some-2.ensures ∙ c.if-is_some-2.false) c.first_identifier_in_elsifs-found.ensures
     (sym c.is_some-3.ensures ∙ c.if-is_some-3.false)
 
-pub first_in_statement-returns-else-is_some : goal.first_in_statement-returns-else-is_some
-first_in_statement-returns-else-is_some t c =
+pub first_identifier_in_statement-returns-else-is_some : goal.first_identifier_in_statement-returns-else-is_some
+first_identifier_in_statement-returns-else-is_some t c =
     let condition = identifiers role.Declaring (expression_of c.deref-in-While.result.now.condition) in
     let body = identifiers role.Declaring (sequence_of_list c.deref-in-While-2.result.now.body.items) in
-    c.first_in_sequence.ensures
-    ∙ (found_later condition body c.first_in_expression-found.ensures (sym c.is_some.ensures ∙ c.if-is_some.false)
+    c.first_identifier_in_sequence.ensures
+    ∙ (found_later condition body c.first_identifier_in_expression-found.ensures (sym c.is_some.ensures ∙ c.if-is_some.false)
     ∙ ap first_identifier (sym (while_read c.in-While.w c.deref-in-While.ensures c.deref-in-While-2.ensures) ∙ sym (ap statement_of c.in-While.is)))
 
-pub first_in_statement-returns-then-is_some-2 : goal.first_in_statement-returns-then-is_some-2
-first_in_statement-returns-then-is_some-2 t c =
+pub first_identifier_in_statement-returns-then-is_some-2 : goal.first_identifier_in_statement-returns-then-is_some-2
+first_identifier_in_statement-returns-then-is_some-2 t c =
     let body = identifiers role.Declaring (sequence_of_list c.deref-in-Repeat.result.now.body.items) in
     let condition = identifiers role.Declaring (expression_of c.deref-in-Repeat.result.now.condition) in
-    found_first body condition c.first_in_sequence-found.ensures (sym c.is_some-in-Repeat.ensures ∙ c.if-is_some-2.true)
+    found_first body condition c.first_identifier_in_sequence-found.ensures (sym c.is_some-in-Repeat.ensures ∙ c.if-is_some-2.true)
     ∙ ap first_identifier (sym (repeat_read c.in-Repeat.r c.deref-in-Repeat.ensures c.deref-in-Repeat.ensures) ∙ sym (ap statement_of c.in-Repeat.is))
 
-pub first_in_statement-returns-else-is_some-2 : goal.first_in_statement-returns-else-is_some-2
-first_in_statement-returns-else-is_some-2 t c =
+pub first_identifier_in_statement-returns-else-is_some-2 : goal.first_identifier_in_statement-returns-else-is_some-2
+first_identifier_in_statement-returns-else-is_some-2 t c =
     let body = identifiers role.Declaring (sequence_of_list c.deref-in-Repeat.result.now.body.items) in
     let condition = identifiers role.Declaring (expression_of c.deref-in-Repeat-2.result.now.condition) in
-    c.first_in_expression.ensures
-    ∙ (found_later body condition c.first_in_sequence-found.ensures (sym c.is_some-in-Repeat.ensures ∙ c.if-is_some-2.false)
+    c.first_identifier_in_expression.ensures
+    ∙ (found_later body condition c.first_identifier_in_sequence-found.ensures (sym c.is_some-in-Repeat.ensures ∙ c.if-is_some-2.false)
     ∙ ap first_identifier (sym (repeat_read c.in-Repeat.r c.deref-in-Repeat.ensures c.deref-in-Repeat-2.ensures) ∙ sym (ap statement_of c.in-Repeat.is)))

@@ -1,7 +1,7 @@
 use Rattle.std.proofs.Common.{◌+◌, ◌<◌, ◌≤◌, drop, length, sym, ap, ◌∙◌, arith}
 use Rattle.std.proofs.lemmas.List.{drop_more}
 use Rattle.ob0_types_fields.specs.FieldLists.{overwritten_fields}
-use Rattle.ob0_types_fields.proofs.WrittenOver.{past_end}
+use Rattle.ob0_types_fields.proofs.OverwritingFields.{past_end}
 use Rattle.ob0_types_fields.proofs.field_lists.overwrite_fields_from.Goals as goal
 use Rattle.ob0_types_fields.proofs.field_lists.overwrite_fields_from.Goals.{then-place-len, else-place-len}
 

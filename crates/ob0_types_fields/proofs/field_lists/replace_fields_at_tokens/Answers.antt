@@ -2,7 +2,7 @@ use Rattle.std.proofs.Common.{◌≡◌, List, true, false, nat_lt, ap, sym, ◌
 use Rattle.std.specs.List.Sorted.{IsNonDecreasingBy, IsPartitionPoint}
 use Rattle.std.specs.Prelude.{option_copied}
 use Rattle.ob0_types_fields.specs.declared.field_name.FieldName.{FieldName}
-use Rattle.ob0_types_fields.proofs.WrittenOver.{over_others, rise, start_found, without_others}
+use Rattle.ob0_types_fields.proofs.OverwritingFields.{over_others, rise, start_found, without_others}
 use Rattle.ob0_types_fields.proofs.field_lists.replace_fields_at_tokens.Goals as goal
 
 pub returns-in-Some : goal.returns-in-Some

@@ -7,8 +7,8 @@ use Rattle.ob0_analysis.proofs.scanned_text.ScannedText.reanalyse_module.Goals a
 pub reanalyse_changed_kinds-requires : goal.reanalyse_changed_kinds-requires
 reanalyse_changed_kinds-requires c = had_module c.args.changed c.args.tree c.args.bindings c.args.types c.args.places c.requires
 
-pub reanalyse_same_words-requires : goal.reanalyse_same_words-requires
-reanalyse_same_words-requires c =
+pub reanalyse_with_same_spellings-requires : goal.reanalyse_with_same_spellings-requires
+reanalyse_with_same_spellings-requires c =
     let before = c.requires in
     let tree = c.args.tree in
     record {
@@ -18,7 +18,7 @@ reanalyse_same_words-requires c =
         old_scan = before.old_scan;
         new_scan = before.new_scan;
         same_words = before.same_words c.if-same_words.true;
-        same_front = c.begins_alike.ensures c.if-begins_alike.true ∙ before.was.places_are.front;
+        same_front = c.begins_like_module_text.ensures c.if-begins_like_module_text.true ∙ before.was.places_are.front;
       };
       parsed = tree_stays (parsed_module before.old tree) (parsed_module c.args.changed.rescan.tokens tree) before.was.parsed refl before.new_scan.short (before.same_kinds c.if-not-same_kinds.false);
     }

@@ -6,7 +6,7 @@ use Rattle.ob0_run_lowering.specs.declared.scene.Scene.{Scene}
 use Rattle.ob0_run_machine.specs.declared.code.Routine.{Routine}
 use Rattle.ob0_run_lowering.specs.Blocks.{LowersBlock}
 use Rattle.ob0_run_lowering.specs.PlacedNames.{IsRestored}
-use Rattle.ob0_run_lowering.specs.declared.visible_sites.Frame.{Frame}
+use Rattle.ob0_run_lowering.specs.declared.visible_locations.Frame.{Frame}
 use Rattle.ob0_run_lowering.proofs.LoweredBlocks.{block_means, goes_itself, goes_on, procedure_means}
 use Rattle.ob0_run_lowering.proofs.FollowingSites.{follows_then}
 use Rattle.ob0_run_lowering.proofs.programs.Lowering.+blocks.Goals as goal

@@ -12,7 +12,7 @@ pub returns-in-None : goal.returns-in-None
 returns-in-None c =
     let scene = c.args.self.now in
     let e = expression_of c.args.e.now in
-    alone-not scene e c.unknown_place.result (labelled_designator scene.resolved.now e ∙ sym (ap (option_map (parts_in scene.resolved.now)) c.in-None.ensures))
+    alone-not scene e c.fallback_place.result (labelled_designator scene.resolved.now e ∙ sym (ap (option_map (parts_in scene.resolved.now)) c.in-None.ensures))
 
 pub returns-in-Some : goal.returns-in-Some
 returns-in-Some c =

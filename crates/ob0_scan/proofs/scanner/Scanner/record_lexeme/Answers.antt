@@ -9,8 +9,8 @@ use Rattle.ob0_scan.proofs.Steps.{some_bytes, lexeme_step, progress_same}
 use Rattle.ob0_scan.proofs.scanner.Scanner.record_lexeme.Goals as goal
 use Rattle.ob0_scan.proofs.scanner.Scanner.record_lexeme.Goals.{in-Space, in-Comment+in_ok-push-in-Comment, in-Token+in_ok-push-in-Token}
 
-pub returns-clause-under_way : goal.returns-clause-under_way
-returns-clause-under_way c =
+pub returns-clause-consistent_scanner : goal.returns-clause-consistent_scanner
+returns-clause-consistent_scanner c =
     let old = c.args.self.now in
     let text = old.text.now in
     let at = old.at in
@@ -18,7 +18,7 @@ returns-clause-under_way c =
     let span = span_from at c.args.len in
     let front = old.front.tokens.now in
     let before = old.front.comments.now in
-    let taken = lexeme_step text at kind c.args.len c.requires.first (front ++ old.tokens.items) (before ++ old.comments.items) old.faults.items c.requires.under_way in
+    let taken = lexeme_step text at kind c.args.len c.requires.first (front ++ old.tokens.items) (before ++ old.comments.items) old.faults.items c.requires.consistent_scanner in
     let Kept = λ (s : Scanner). ScanProgress s.text.now (at + c.args.len) (s.front.tokens.now ++ s.tokens.items) (s.front.comments.now ++ s.comments.items) s.faults.items in
     let with_found : (us : List Token) (ds : List Span) → us ≡ old.tokens.items ++ token_at kind span → ds ≡ old.comments.items ++ comment_at kind span → ScanProgress text (at + c.args.len) (front ++ us) (before ++ ds) old.faults.items = λ us ds et ec.
     progress_same text (at + c.args.len) ((front ++ old.tokens.items) ++ token_at kind span) (front ++ us) ((before ++ old.comments.items) ++ comment_at kind span) (before ++ ds) old.faults.items old.faults.items

@@ -5,8 +5,8 @@ use Rattle.ob0_scan.proofs.Steps.{progress_same}
 use Rattle.ob0_scan.proofs.Reusing.{progress_following}
 use Rattle.ob0_scan.proofs.scanner.Scanner.scanner_after.Goals as goal
 
-pub returns-clause-under_way : goal.returns-clause-under_way
-returns-clause-under_way c =
+pub returns-clause-consistent_scanner : goal.returns-clause-consistent_scanner
+returns-clause-consistent_scanner c =
     let text = c.args.text.now in
     let tokens = c.args.front.tokens.now in
     let comments = c.args.front.comments.now in

@@ -3,11 +3,11 @@ use Rattle.std.proofs.lemmas.Result.{on_ok_weaker}
 use Rattle.serde_json.specs.Data.{Members, boolean, member, no_members}
 use Rattle.ob0_rpc.specs.declared.clients.ClientFeatures.{ClientFeatures}
 use Rattle.ob0_rpc.proofs.Appending.{are_names, object_of, rebuilt}
-use Rattle.ob0_session_json.specs.Shapes.{code_action_options, remaining_members}
+use Rattle.ob0_session_json.specs.Shapes.{code_action_options, members_after_definition_provider}
 use Rattle.ob0_session_json.proofs.capabilities.ServerCapabilitiesWriteJson.write.Goals as goal
 
 abbrev from_definition : ClientFeatures → Members
-from_definition client = member (codes "definitionProvider") (boolean true) (remaining_members client)
+from_definition client = member (codes "definitionProvider") (boolean true) (members_after_definition_provider client)
 
 abbrev from_actions : ClientFeatures → Members
 from_actions client = member (codes "codeActionProvider") code_action_options (from_definition client)
@@ -40,4 +40,4 @@ returns-in_ok-write_first_member-2 c =
     let client = c.args.self.now.client in
     rw c.if-self.false
     (on_ok_weaker c.write_remaining_members-else-self.result (λ rest.
-    object_of _ _ (remaining_members client) _ _ (names_by client.offers_utf8 client refl) (order_by client.offers_utf8 client refl) (_, c.in_ok-write_first_member-2.ensures, rest)) c.write_remaining_members-else-self.ensures)
+    object_of _ _ (members_after_definition_provider client) _ _ (names_by client.offers_utf8 client refl) (order_by client.offers_utf8 client refl) (_, c.in_ok-write_first_member-2.ensures, rest)) c.write_remaining_members-else-self.ensures)

@@ -6,5 +6,5 @@ use Rattle.ob0_session_server.proofs.session.Session.apply_notification.Goals as
 
 pub returns-in-Change : goal.returns-in-Change
 returns-in-Change g c =
-    IfOk-weaker c.change_and_publish.result _ _ (λ sent h.
-    rw c.in-Change.is (rw (to_z-of_z {w = w64} {z = c.in-Change.version} (search rules)) at h)) c.change_and_publish.ensures
+    IfOk-weaker c.change_and_publish_diagnostics.result _ _ (λ sent h.
+    rw c.in-Change.is (rw (to_z-of_z {w = w64} {z = c.in-Change.version} (search rules)) at h)) c.change_and_publish_diagnostics.ensures

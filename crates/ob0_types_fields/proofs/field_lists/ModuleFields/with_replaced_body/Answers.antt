@@ -1,6 +1,6 @@
 use Rattle.std.proofs.Common.{◌++◌, map, ap, ◌∙◌}
 use Rattle.ob0_types_fields.specs.FieldLists.{FieldLists, moved_field, fields_from}
-use Rattle.ob0_types_fields.proofs.Seams.{all_from_start}
+use Rattle.ob0_types_fields.proofs.SplitAroundClosingName.{all_from_start}
 use Rattle.ob0_types_fields.proofs.field_lists.ModuleFields.with_replaced_body.Goals as goal
 
 pub returns-clause-declared : goal.returns-clause-declared

@@ -9,7 +9,7 @@ use Rattle.ob0_types_fields.specs.Walk.{field_walk_meanings}
 use Rattle.ob0_tree.specs.View.{items_of, compound_of, expression_of, addend_of, multiplier_of, selector_of, term_of, factor_of}
 use Rattle.ob0_types_fields.proofs.MarkWalks.{walk_ends, after_two}
 use Rattle.ob0_types_fields.proofs.MarkPaths.{path_goes_on}
-use Rattle.ob0_types_fields.proofs.AloneFactors.{factor_marked, is_nothing}
+use Rattle.ob0_types_fields.proofs.SingleFactorFields.{factor_marked, is_nothing}
 use Rattle.ob0_types_fields.proofs.field_walk.FieldWalk.+expressions.Goals as goal
 
 pub add_factor_fields-returns-in-Designator : goal.add_factor_fields-returns-in-Designator
