@@ -18,7 +18,7 @@ use Rattle.ob0_run_machine.specs.Allocations.{has_failed}
 use Rattle.ob0_run_machine.specs.Answers.{end_of_stop, end_of}
 use Rattle.ob0_run_machine.specs.declared.code.Variable.{Variable}
 use Rattle.ob0_run_machine.specs.declared.code.Comparator.TheVariants as relation
-use Rattle.ob0_run_machine.specs.Evaluation.{Halt, Levels, StepResult, TurnBound, address, cell_at, compare, ends, gives, truth, ◌>>=◌}
+use Rattle.ob0_run_machine.specs.Evaluation.{Halt, Levels, StepResult, TurnBound, address, cell_at, compare, ends, gives, number, truth, ◌>>=◌}
 use Rattle.ob0_run_machine.specs.Execution.{CallEffect, CallArguments, MachineProgress, MachineState, choose_by_truth, levels_in_call, execute, execute_sequence, execute_branches, continue_with, no_room, pass_all, running, stopped, execute_while, execute_repeat, use_result}
 use Rattle.ob0_run_machine.specs.Lowered as lowered
 use Rattle.ob0_run_machine.specs.Machines.{StepHasEffect, CodeEffect, PerformsCalls, CallPostcondition, IsProgressAfterStep, StopsRun, StopsPassing, statement_effect, sequence_effect, elsifs_effect, entry_effect, output_items, passed_arguments, state_of}
@@ -262,16 +262,17 @@ steps_by m r p e q h = subst (λ r. IsProgressAfterStep r m p) (sym q.1) (subst 
 pub steps_as : (enters : CallEffect) (t : ℕ) (ls : Levels) (v : Variable) (r : Result (Unit {0}) Stop) (m : Machine) (s : MachineState) {a b : ℤ} → a ≡ b → IsProgressAfterStep r m (execute enters t ls (variable_increase v a) s) → IsProgressAfterStep r m (execute enters t ls (variable_increase v b) s)
 steps_as enters t ls v r m s e h = subst (λ n. IsProgressAfterStep r m (execute enters t ls (variable_increase v n) s)) e h
 
-pub loop_as : {post : CallPostcondition} {r : Result (Unit {0}) Stop} {m m' : Machine} (t : ℕ) (ls : Levels) (v u : Variable) (xs : List Instruction) {n n' b b' : ℤ} → n ≡ n' → b ≡ b'
-    → StepHasEffect post r m m' (statement_effect t ls (lowered.while_loop (variable_relation relation.Less v (lowered.literal n)) (sequence_of (xs ++ Increase u b ∷ []))))
-    → StepHasEffect post r m m' (statement_effect t ls (lowered.while_loop (variable_relation relation.Less v (lowered.literal n')) (sequence_of (xs ++ Increase u b' ∷ []))))
-loop_as {post = post} {r = r} {m = m} {m' = m'} t ls v u xs {n = n} {b' = b'} e f h =
-    subst (λ n. StepHasEffect post r m m' (statement_effect t ls (lowered.while_loop (variable_relation relation.Less v (lowered.literal n)) (sequence_of (xs ++ Increase u b' ∷ []))))) e
-    (subst (λ b. StepHasEffect post r m m' (statement_effect t ls (lowered.while_loop (variable_relation relation.Less v (lowered.literal n)) (sequence_of (xs ++ Increase u b ∷ []))))) f h)
+pub loop_as : {post : CallPostcondition} {r : Result (Unit {0}) Stop} {m m' : Machine} (t : ℕ) (ls : Levels) (w : lowered.Truth) (u : Variable) (xs : List Instruction) {b b' : ℤ} → b ≡ b'
+    → StepHasEffect post r m m' (statement_effect t ls (lowered.while_loop w (sequence_of (xs ++ Increase u b ∷ []))))
+    → StepHasEffect post r m m' (statement_effect t ls (lowered.while_loop w (sequence_of (xs ++ Increase u b' ∷ []))))
+loop_as {post = post} {r = r} {m = m} {m' = m'} t ls w u xs e h =
+    subst (λ b. StepHasEffect post r m m' (statement_effect t ls (lowered.while_loop w (sequence_of (xs ++ Increase u b ∷ []))))) e h
 
--- a variable at a known address that is compared with a literal
-pub compared_at : (ls : Levels) (cells : List ℤ) (v : Variable) (a : ℕ) (n : ℤ) (b : Bool) → address ls cells (variable_of v) ≡ gives a → b ≡ compare lowered.less (cell_at cells a) n → gives b ≡ truth ls cells (variable_relation relation.Less v (lowered.literal n))
-compared_at ls cells v a n b h e = ap gives e ∙ ap (λ o. (o >>= (λ a. gives (cell_at cells a))) >>= (λ x. gives (compare lowered.less x n))) (sym h)
+-- Compares a variable at a known address with an expression of a known value.
+pub compared_at : (ls : Levels) (cells : List ℤ) (v : Variable) (a : ℕ) (n : lowered.Number) (x : ℤ) (b : Bool) → address ls cells (variable_of v) ≡ gives a → number ls cells n ≡ gives x → b ≡ compare lowered.less (cell_at cells a) x → gives b ≡ truth ls cells (variable_relation relation.Less v n)
+compared_at ls cells v a n x b h k e =
+    ap gives e ∙ ap (λ o. o >>= (λ y. gives (compare lowered.less (cell_at cells a) y))) (sym k)
+    ∙ ap (λ o. (o >>= (λ a. gives (cell_at cells a))) >>= (λ z. number ls cells n >>= (λ y. gives (compare lowered.less z y)))) (sym h)
 
 -- REPEAT
 

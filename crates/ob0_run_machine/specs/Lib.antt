@@ -3,6 +3,7 @@ pub mod Evaluation
 pub mod Execution
 pub mod View
 pub mod Levels
+pub mod CountingLoops
 pub mod Answers
 pub mod Machines
 pub mod Outcomes

@@ -1,9 +1,10 @@
 //! Executes statements. A call is performed by the closure `enter`, which is passed to each
 //! function that may reach a call.
 
-ghost use Rattle.std.specs.Prelude.{◌≡◌, ◌++◌, ◌∷◌, [], List, ℕ, ℤ};
+ghost use Rattle.std.specs.Prelude.{◌≡◌, ◌++◌, ◌∷◌, [], IfSome, List, ℕ, ℤ};
 ghost use Rattle.ob0_run_machine.specs.Answers.{outcome_of_result};
-ghost use Rattle.ob0_run_machine.specs.Evaluation.{Levels, address as address_of, gives, truth};
+ghost use Rattle.ob0_run_machine.specs.Evaluation.{Levels, address as address_of, gives, number, truth};
+ghost use Rattle.ob0_run_machine.specs.CountingLoops.{HasLimit, IsCountCondition, limit_value};
 ghost use Rattle.ob0_run_machine.specs.declared.code.Comparator.TheVariants.{Less};
 ghost use Rattle.ob0_run_machine.specs.declared.code.Instruction.{Increase};
 ghost use Rattle.ob0_run_machine.specs.Execution.{CallEffect, execute};
@@ -452,19 +453,67 @@ fn increase_or_stop(address: usize, by: i32, machine: &mut Machine<'_>) -> Resul
     Ok(increase_at(address, by, machine)?)
 }
 
-/// Returns whether the variable at an address is less than a number.
+/// The limit of a counting loop: a literal, or the address of the variable that is the limit.
+#[derive(Clone, Copy, PartialEq, Eq, Debug)]
+enum CountLimit {
+    Literal(i32),
+    Address(usize),
+}
+
+/// A condition `variable < limit`.
+#[derive(Clone, Copy, PartialEq, Eq, Debug)]
+struct CountCondition {
+    variable: Variable,
+    limit: CountLimit,
+}
+
+/// Returns the variable and the limit of a condition that compares a variable by `<` with a literal
+/// or a variable. Returns None for any other condition.
+#[inline(always)]
+fn count_condition(condition: &Truth, level: &Level<'_>) -> Option<CountCondition>
+    ensures { IfSome result (λ c. IsCountCondition (levels_of level.now) condition.now c) }
+{
+    match condition {
+        Truth::LessThanLiteral(v, n) => Some(CountCondition {
+            variable: *v,
+            limit: CountLimit::Literal(*n),
+        }),
+        Truth::ComparedToVariable(relation, v, w) => match relation {
+            Comparator::Less => Some(CountCondition {
+                variable: *v,
+                limit: CountLimit::Address(variable_address(*w, level)),
+            }),
+            _ => None,
+        },
+        _ => None,
+    }
+}
+
+/// Returns the number that a loop's limit is, in these cells.
+#[inline(always)]
+fn limit_in(limit: CountLimit, cells: &[i32]) -> i32
+    ensures { result ≡ limit_value cells.now limit }
+{
+    match limit {
+        CountLimit::Literal(n) => n,
+        CountLimit::Address(address) => cell_at(cells, address),
+    }
+}
+
+/// Returns whether the variable at an address is less than a limit.
 #[tactic(auto, using(crate::proofs::Executing::compared_at))]
 #[inline(always)]
-fn is_below(address: usize, limit: i32, machine: &Machine<'_>) -> bool
-    ensures { (ls : Levels) (v : Variable)
+fn is_below(address: usize, limit: CountLimit, machine: &Machine<'_>) -> bool
+    ensures { (ls : Levels) (v : Variable) (n : lowered.Number)
         → address_of ls machine.now.cells.items (variable_of v) ≡ gives address
-        → gives result
-        ≡ truth ls machine.now.cells.items (variable_relation Less v (lowered.literal limit)) }
+        → number ls machine.now.cells.items n ≡ gives (limit_value machine.now.cells.items limit)
+        → gives result ≡ truth ls machine.now.cells.items (variable_relation Less v n) }
 {
+    let cells = machine.cells.as_slice();
     compare(
         Comparator::Less,
-        cell_at(machine.cells.as_slice(), address),
-        limit,
+        cell_at(cells, address),
+        limit_in(limit, cells),
     )
 }
 
@@ -493,15 +542,14 @@ fn run_counted_body<F: Fn(&mut Machine<'_>, usize, &Level<'_>) -> Result<(), Sto
     increase_or_stop(address, by, machine)
 }
 
-/// Runs a counting loop: a WHILE whose condition is that a variable is less than a literal, and
-/// whose last statement adds a literal to a variable. The two variables may differ. Their addresses
-/// are computed once, before the first iteration. The loop ends the run with TurnBound as
+/// Runs a counting loop: a WHILE whose condition is that a variable is less than a literal or a
+/// variable, and whose last statement adds a literal to a variable. The variables may differ. Their
+/// addresses are computed once, before the first iteration. The loop ends the run with TurnBound as
 /// `run_while` does.
 #[inline(always)]
 #[cycle(execution)]
 fn run_counting_loop<F: Fn(&mut Machine<'_>, usize, &Level<'_>) -> Result<(), Stop>>(
-    variable: Variable,
-    limit: i32,
+    condition: CountCondition,
     statements: &[Instruction],
     increased: Variable,
     by: i32,
@@ -511,16 +559,18 @@ fn run_counting_loop<F: Fn(&mut Machine<'_>, usize, &Level<'_>) -> Result<(), St
     enter: &F,
 ) -> Result<(), Stop>
     requires { F.IsAlwaysCallable enter.now }
-    ensures { StepHasEffect (F.post enter.now) result machine.old machine.new
+    ensures { (n : lowered.Number)
+        → HasLimit (levels_of level.now) n condition.limit
+        → StepHasEffect (F.post enter.now) result machine.old machine.new
         (statement_effect turns (levels_of level.now) (lowered.while_loop
-        (variable_relation Less variable (lowered.literal limit))
+        (variable_relation Less condition.variable n)
         (sequence_of (statements.now ++ Increase increased by ∷ [])))) }
 {
-    let compared = variable_address(variable, level);
+    let compared = variable_address(condition.variable, level);
     let changed = variable_address(increased, level);
     let mut left = turns;
     'again: loop {
-        if !is_below(compared, limit, machine) {
+        if !is_below(compared, condition.limit, machine) {
             return Ok(());
         }
         if left == 0 {
@@ -546,12 +596,10 @@ fn run_while<F: Fn(&mut Machine<'_>, usize, &Level<'_>) -> Result<(), Stop>>(
     ensures { StepHasEffect (F.post enter.now) result machine.old machine.new
         (statement_effect turns (levels_of level.now) (while_of w.now)) }
 {
-    if let Truth::LessThanLiteral(v, limit) = &w.condition
+    if let Some(condition) = count_condition(&w.condition, level)
         && let Some((Instruction::Increase(u, by), statements)) = w.body.as_slice().split_last()
     {
-        return run_counting_loop(
-            *v, *limit, statements, *u, *by, level, turns, machine, enter,
-        );
+        return run_counting_loop(condition, statements, *u, *by, level, turns, machine, enter);
     }
     run_general_while(w, level, turns, machine, enter)
 }

@@ -1,9 +1,10 @@
 use Rattle.std.proofs.Math.Facts.{to_z-of_z}
 use Rattle.std.proofs.Common.{arith, refl, sym, ap, ◌∙◌}
+use Rattle.ob0_run_machine.specs.declared.code.Comparator.TheVariants.{Less}
 use Rattle.ob0_run_machine.specs.declared.code.Instruction.{Increase}
 use Rattle.std.proofs.lemmas.Result.{err_from_is_err_and}
 use Rattle.ob0_run_machine.specs.Levels.{levels_of}
-use Rattle.ob0_run_machine.specs.View.{statement_of}
+use Rattle.ob0_run_machine.specs.View.{statement_of, variable_relation}
 use Rattle.ob0_run_machine.proofs.Executing.{before_last, branch_taken, branches_begin, does_statement, ending_by, branches_end, branches_fail, branches_on, if_fails, if_passed, if_taken, leaving, loop_as, repeat_begins, repeat_body_fails, repeat_bound, repeat_ends, repeat_fails, repeat_on, sequence_begins, sequence_ends, sequence_fails, sequence_on, settled, steps_as, then_last, turn_made, while_begins, while_body_fails, while_bound, while_ends, while_fails, while_on}
 use Rattle.ob0_run_machine.proofs.Viewed.{if_made, repeat_made, while_made}
 use Rattle.ob0_run_machine.proofs.statements.+execution.Goals as goal
@@ -117,23 +118,23 @@ run_counted_body-returns g t c = λ v found. then_last c.args.turns (levels_of c
     (record { has_effect = λ enters p. steps_as enters c.args.turns (levels_of c.args.level.now) v c.increase_or_stop.result _ _ (to_z-of_z c.ranges.by) (c.increase_or_stop.ensures enters c.args.turns (levels_of c.args.level.now) v (found _)) })
 
 pub run_counting_loop-again-init : goal.run_counting_loop-again-init
-run_counting_loop-again-init g t c = while_begins
+run_counting_loop-again-init g t c = λ n known. while_begins
 
 pub run_counting_loop-returns-then-not-is_below : goal.run_counting_loop-returns-then-not-is_below
-run_counting_loop-returns-then-not-is_below g t c = loop_as c.args.turns (levels_of c.args.level.now) c.args.variable c.args.increased c.args.statements.now (to_z-of_z c.ranges.limit) (to_z-of_z c.ranges.by)
-    (while_ends tt c.again.invariant (settled (c.is_below.ensures (levels_of c.args.level.now) c.args.variable (c.variable_address-compared.ensures _)) c.if-not-is_below.true))
+run_counting_loop-returns-then-not-is_below g t c = λ n known. loop_as c.args.turns (levels_of c.args.level.now) (variable_relation Less c.args.condition.variable n) c.args.increased c.args.statements.now (to_z-of_z c.ranges.by)
+    (while_ends tt (c.again.invariant n known) (settled (c.is_below.ensures (levels_of c.args.level.now) c.args.condition.variable n (c.variable_address-compared.ensures _) (known _)) c.if-not-is_below.true))
 
 pub run_counting_loop-returns-then-left-eq0 : goal.run_counting_loop-returns-then-left-eq0
-run_counting_loop-returns-then-left-eq0 g t c = loop_as c.args.turns (levels_of c.args.level.now) c.args.variable c.args.increased c.args.statements.now (to_z-of_z c.ranges.limit) (to_z-of_z c.ranges.by)
-    (while_bound c.again.invariant (settled (c.is_below.ensures (levels_of c.args.level.now) c.args.variable (c.variable_address-compared.ensures _)) c.if-not-is_below.false) c.if-left-eq0.true)
+run_counting_loop-returns-then-left-eq0 g t c = λ n known. loop_as c.args.turns (levels_of c.args.level.now) (variable_relation Less c.args.condition.variable n) c.args.increased c.args.statements.now (to_z-of_z c.ranges.by)
+    (while_bound (c.again.invariant n known) (settled (c.is_below.ensures (levels_of c.args.level.now) c.args.condition.variable n (c.variable_address-compared.ensures _) (known _)) c.if-not-is_below.false) c.if-left-eq0.true)
 
 pub run_counting_loop-again-preserved : goal.run_counting_loop-again-preserved
-run_counting_loop-again-preserved g t c = while_on c.in_ok-run_counted_body.field-0 _ c.again.invariant
-    (settled (c.is_below.ensures (levels_of c.args.level.now) c.args.variable (c.variable_address-compared.ensures _)) c.if-not-is_below.false) c.if-left-eq0.false refl
+run_counting_loop-again-preserved g t c = λ n known. while_on c.in_ok-run_counted_body.field-0 _ (c.again.invariant n known)
+    (settled (c.is_below.ensures (levels_of c.args.level.now) c.args.condition.variable n (c.variable_address-compared.ensures _) (known _)) c.if-not-is_below.false) c.if-left-eq0.false refl
     (c.in_ok-run_counted_body.ensures c.args.increased (λ cells. c.variable_address-changed.ensures cells))
 
 pub run_counting_loop-returns-in_err-run_counted_body : goal.run_counting_loop-returns-in_err-run_counted_body
-run_counting_loop-returns-in_err-run_counted_body g t c = leaving (err_from_is_err_and c.from_residual.result c.from_residual.ensures.1)
-    (loop_as c.args.turns (levels_of c.args.level.now) c.args.variable c.args.increased c.args.statements.now (to_z-of_z c.ranges.limit) (to_z-of_z c.ranges.by) (while_body_fails c.in_err-run_counted_body.field-0.0 _ c.again.invariant
-    (settled (c.is_below.ensures (levels_of c.args.level.now) c.args.variable (c.variable_address-compared.ensures _)) c.if-not-is_below.false) c.if-left-eq0.false refl
+run_counting_loop-returns-in_err-run_counted_body g t c = λ n known. leaving (err_from_is_err_and c.from_residual.result c.from_residual.ensures.1)
+    (loop_as c.args.turns (levels_of c.args.level.now) (variable_relation Less c.args.condition.variable n) c.args.increased c.args.statements.now (to_z-of_z c.ranges.by) (while_body_fails c.in_err-run_counted_body.field-0.0 _ (c.again.invariant n known)
+    (settled (c.is_below.ensures (levels_of c.args.level.now) c.args.condition.variable n (c.variable_address-compared.ensures _) (known _)) c.if-not-is_below.false) c.if-left-eq0.false refl
     (c.in_err-run_counted_body.ensures c.args.increased (λ cells. c.variable_address-changed.ensures cells))))
