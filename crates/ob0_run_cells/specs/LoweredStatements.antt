@@ -60,7 +60,7 @@ pub record Target : Type 0 where
   pub procedure : ℕ
   pub up : ℕ
 
--- The data that stays the same while the statements of a body run: the types of the store, the
+-- The data that is unchanged while the statements of a body run: the types of the store, the
 -- meanings of names, and the activations that the body can see. `enters` is the effect of the
 -- module's calls, and `lowered_call_effect` is the effect of lowered calls.
 pub record Body (N : Type 0) : Type 0 where

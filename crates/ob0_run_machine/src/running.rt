@@ -15,7 +15,7 @@ use crate::memory::Memory;
 use crate::statements::run_sequence;
 use std::alloc::{AllocError, Global};
 
-/// How a run ended: normally (`Done`), or by which fault or bound.
+/// The way in which a run ended: normally (`Done`), or by a fault or a bound.
 #[derive(Clone, Copy, PartialEq, Eq, Debug)]
 pub enum End {
     /// The end of the program was reached.

@@ -54,7 +54,7 @@ pub record IsMovable (removed added : ℕ) (span : Span) : Type 0 where
   pub ordered : span.start ≤ span.end
   pub small : span.end + added < 2 ^ 32
 
--- States that one lexeme, which begins at the byte offset `s.at`, turns the scanner `s` into the
+-- States that one lexeme, which begins at the byte offset `s.at`, changes the scanner `s` to the
 -- scanner `t`. `t` has the tokens and comments of `s`, and also this lexeme if it is a token or a
 -- comment. White space adds nothing. The scanner `s` has found no fault.
 pub record AddsOneLexeme (s t : Scanner) : Type 0 where

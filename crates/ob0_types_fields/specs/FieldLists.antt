@@ -38,7 +38,7 @@ field_lists_of t r = record {
 abbrev pub AreFieldListsOf : Resolution → FieldLists → Type 0
 AreFieldListsOf r f = (f.declared ≡ declared_fields r.module_read) × (f.all ≡ field_identifiers r)
 
--- returns the list `xs` in which the items of the second list replace the items from index `k` on;
+-- returns the list `xs` in which the items of the second list replace the items that begin at index `k`;
 -- items that would lie after the end of `xs` are ignored
 abbrev pub overwritten_fields : List FieldName → ℕ → List FieldName → List FieldName
 overwritten_fields xs k [] = xs

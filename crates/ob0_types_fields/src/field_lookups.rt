@@ -17,7 +17,7 @@ use std::alloc::{AllocError, Global};
 /// Returns the first identifier in the list `found` that contains the byte offset `offset` or ends
 /// there. Returns None if there is none. The list must be in text order. A binary search finds the
 /// first identifier that doesn't end before the offset. If this identifier starts after the offset,
-/// all later ones do too, so the result is None.
+/// all later ones also start after it, so the result is None.
 pub(crate) fn field_at_offset(
     tokens: &Tokens,
     offset: usize,

@@ -65,14 +65,14 @@ abbrev pub extended_shapes : List Shape → List code.TypeEntry → List Shape
 extended_shapes known [] = known
 extended_shapes known (m ∷ ms) = extended_shapes (known ++ entry_shape known m ∷ []) ms
 
--- states that the type refers to none of the table's entries, or to one of the first `n` entries
+-- states that the type refers to no entry of the table, or to one of the first `n` entries
 abbrev pub IsTypeAmongEntries : ℕ → TypeId → Type 0
 IsTypeAmongEntries n (type.Array i) = i < n
 IsTypeAmongEntries n (type.Record i) = i < n
 IsTypeAmongEntries n _ = Unit {0}
 
--- states that the element type of an array, or the type of each field of a record, refers to none of the table's
--- entries or to one of the first `n` entries
+-- states that the element type of an array, or the type of each field of a record, refers to no entry of the table
+-- or to one of the first `n` entries
 abbrev pub PartsAreAmongEntries : ℕ → code.TypeEntry → Type 0
 PartsAreAmongEntries n (made.Array a) = IsTypeAmongEntries n a.element
 PartsAreAmongEntries n (made.Record r) = All (λ f. IsTypeAmongEntries n f.of) r.fields
