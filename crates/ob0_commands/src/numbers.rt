@@ -72,7 +72,8 @@ fn word_len(bytes: &[u8]) -> usize
     bytes.iter().take_while(|byte| !is_space(**byte)).count()
 }
 
-/// Returns the number that a word spells, or None if the word isn't a number.
+/// Returns the number of 32 bits that a word spells by digits, perhaps after `-`. Returns None if
+/// the word spells no such number.
 fn parse_number(word: &[u8]) -> Option<i32>
     ensures { MatchOption result (¬ ((n : ℤ) × SpellsNumber word.now n))
         (λ number. SpellsNumber word.now number) }

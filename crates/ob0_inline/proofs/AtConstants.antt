@@ -26,7 +26,7 @@ use Rattle.ob0_language_values.specs.declared.scalar.Scalar.TheVariants as scala
 use Rattle.ob0_language_values.specs.Scalars.{scalar_value}
 use Rattle.ob0_inline.specs.declared.constants.NamedConstant.{NamedConstant}
 use Rattle.ob0_inline.specs.Everywhere.{InlinesEverywhere, IsConstant, IsConstantAt, HasNoConstantAt, UsesAreFactors, any_use_shadowed, declaration_has_comment, tree_inlined_everywhere, is_shadowed_use, refusal_everywhere, text_after_inlining, uses_of}
-use Rattle.ob0_inline.specs.Uses.{is_predeclared_truth}
+use Rattle.ob0_inline.specs.Uses.{value_text_keeps_meaning}
 use Rattle.ob0_inline.specs.Values.{value_factor, value_text}
 use Rattle.ob0_inline.proofs.AtUses.{literal_of, shown_is}
 use Rattle.ob0_inline.proofs.Refusals.{MakeText, Refused, other_is_first, refused_first}
@@ -54,10 +54,10 @@ bound_inside (l ∷ ls) zero d e = omega arith
 bound_inside (l ∷ ls) (suc k) d e = let h = bound_inside ls k d e in omega (arith, h)
 
 module _ (m : Tree Name module_text) (c : NamedConstant) (none : any_use_shadowed m c ≡ false) where
-  shown_each : (k : ℕ) → ordinal_bound_at m k ≡ Some c.ordinal → is_predeclared_truth m k c.value ≡ true
+  shown_each : (k : ℕ) → ordinal_bound_at m k ≡ Some c.ordinal → value_text_keeps_meaning m k c.value ≡ true
   shown_each k e =
       let here : is_shadowed_use m c k ≡ false = ap (is_shadowed_use m c) (let z : k ≡ 0 + k = omega arith in z) ∙ none_passes (is_shadowed_use m c) 0 (length (bindings m)) k none (bound_inside (bindings m) k c.ordinal e) in
-      one (is_predeclared_truth m k c.value) (sym (ap (λ o. same_ordinal o c.ordinal && not (is_predeclared_truth m k c.value)) e ∙ ap (λ b. b && not (is_predeclared_truth m k c.value)) (eq-eqb c.ordinal c.ordinal refl)) ∙ here)
+      one (value_text_keeps_meaning m k c.value) (sym (ap (λ o. same_ordinal o c.ordinal && not (value_text_keeps_meaning m k c.value)) e ∙ ap (λ b. b && not (value_text_keeps_meaning m k c.value)) (eq-eqb c.ordinal c.ordinal refl)) ∙ here)
     where
       one : (b : Bool) → not b ≡ false → b ≡ true
       one true e = refl
@@ -78,7 +78,7 @@ none_of f (k ∷ ks) = one (f k) ∙ none_of f ks
 
 pub numbers_shown : (m : Tree Name module_text) (c : NamedConstant) (n : ℤ) → c.value ≡ scalar.Number n → any_use_shadowed m c ≡ false
 numbers_shown m c n e =
-    (λ i. list_any (λ k. same_ordinal (ordinal_bound_at m k) c.ordinal && not (is_predeclared_truth m k (e i))) (range_with_len 0 (length (bindings m))))
+    (λ i. list_any (λ k. same_ordinal (ordinal_bound_at m k) c.ordinal && not (value_text_keeps_meaning m k (e i))) (range_with_len 0 (length (bindings m))))
     ∙ none_of (λ k. same_ordinal (ordinal_bound_at m k) c.ordinal) (range_with_len 0 (length (bindings m)))
 
 -- The constant with the name at the place is the constant at the place.

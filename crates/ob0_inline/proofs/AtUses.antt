@@ -36,7 +36,7 @@ use Rattle.ob0_language_values.specs.Scalars.{scalar_value}
 use Rattle.ob0_inline.specs.declared.uses.ConstantUse.{ConstantUse}
 use Rattle.ob0_inline.specs.Everywhere.{UsesAreFactors}
 use Rattle.ob0_inline.specs.Inlined.{EditsGiveModule}
-use Rattle.ob0_inline.specs.Uses.{InlinesHere, IsUse, IsUseAt, tree_inlined_here, is_predeclared_truth, refusal_here}
+use Rattle.ob0_inline.specs.Uses.{InlinesHere, IsUse, IsUseAt, tree_inlined_here, value_text_keeps_meaning, refusal_here}
 use Rattle.ob0_inline.specs.Values.{value_factor, value_text, value_words}
 use Rattle.ob0_inline.proofs.ModuleTexts.{spelled_by_words, value_spelled}
 use Rattle.ob0_inline.proofs.Refusals.{MakeText, Refused, other_is_first, refused_first}
@@ -48,7 +48,7 @@ pub literal_of : (value : Scalar) → value_literal (scalar_value value) ≡ Som
 literal_of (scalar.Truth true) = refl
 literal_of _ = refl
 
-pub shown_is : (m : Tree Name module_text) (k : ℕ) (value : Scalar) → is_predeclared_truth m k value ≡ true → MeansPredeclaredTruth m k (scalar_value value)
+pub shown_is : (m : Tree Name module_text) (k : ℕ) (value : Scalar) → value_text_keeps_meaning m k value ≡ true → MeansPredeclaredTruth m k (scalar_value value)
 shown_is m k (scalar.Number n) e = tt
 shown_is m k (scalar.Truth true) e = same_ordinal-true _ 2 e
 shown_is m k (scalar.Truth false) e = same_ordinal-true _ 3 e
@@ -110,10 +110,10 @@ module _ (r : Resolution) (well : IsWellTyped r) (u : ConstantUse) (use_so : IsU
   pub is_alone : ConstantUsesAreFactors → IsScalar (scalar_value u.value) → UsesAreFactors r.module_read u.constant
   is_alone law fits_so = law (named_tree_of r.module_read) u.constant (scalar_value u.value) (value_factor u.value) (written fits_so) well.well_typed
 
-  shown_so : is_predeclared_truth (named_tree_of r.module_read) u.occurrence u.value ≡ true → MeansPredeclaredTruth (named_tree_of r.module_read) u.occurrence (scalar_value u.value)
+  shown_so : value_text_keeps_meaning (named_tree_of r.module_read) u.occurrence u.value ≡ true → MeansPredeclaredTruth (named_tree_of r.module_read) u.occurrence (scalar_value u.value)
   shown_so e = shown_is (named_tree_of r.module_read) u.occurrence u.value e
 
-  uses_so : is_predeclared_truth (named_tree_of r.module_read) u.occurrence u.value ≡ true → AreInlinableUses (named_tree_of r.module_read) u.constant (scalar_value u.value) (single_occurrence u.occurrence)
+  uses_so : value_text_keeps_meaning (named_tree_of r.module_read) u.occurrence u.value ≡ true → AreInlinableUses (named_tree_of r.module_read) u.constant (scalar_value u.value) (single_occurrence u.occurrence)
   uses_so e =
       let m = named_tree_of r.module_read in
       record {
@@ -125,7 +125,7 @@ module _ (r : Resolution) (well : IsWellTyped r) (u : ConstantUse) (use_so : IsU
   pub inlines : InliningKeepsTypingAndRuns → IsScalar (scalar_value u.value) → (unit : counting.Unit) (text : List ℕ) (edits : List Edit)
       → map range_and_text edits ≡ replacement_at_token unit text r.module_read.source.tokens (value_text u.value) u.token ∷ []
       → EditsGiveModule unit text edits (tree_inlined_here r.module_read u)
-      → is_predeclared_truth (named_tree_of r.module_read) u.occurrence u.value ≡ true → InlinesHere unit text r.module_read u edits
+      → value_text_keeps_meaning (named_tree_of r.module_read) u.occurrence u.value ≡ true → InlinesHere unit text r.module_read u edits
   inlines law fits_so unit text edits made leaves shown =
       let kept = law (named_tree_of r.module_read) u.constant (scalar_value u.value) (value_factor u.value) (single_occurrence u.occurrence) (written fits_so) (uses_so shown) well.well_typed in
       record { here = made; leaves = leaves; well_typed = kept.0; same_runs = kept.1 }
@@ -146,24 +146,24 @@ module _ (r : Resolution) (well : IsWellTyped r) (u : ConstantUse) (use_so : IsU
   abbrev hidden : Bool → Option EditRefusal
   hidden shown = if shown then None else Some Shadowed
 
-  made_first : (unit : counting.Unit) (text : List ℕ) (edits : List Edit) → Made r u unit text edits → (shown : Bool) → is_predeclared_truth (named_tree_of r.module_read) u.occurrence u.value ≡ shown
+  made_first : (unit : counting.Unit) (text : List ℕ) (edits : List Edit) → Made r u unit text edits → (shown : Bool) → value_text_keeps_meaning (named_tree_of r.module_read) u.occurrence u.value ≡ shown
       → refusal_here r.module_read u ≡ hidden shown
   made_first unit text edits h shown e =
-      other_is_first (UsesAreFactors r.module_read u.constant) (is_alone r well u use_so law scalar_so) (new_text r u) (tree_inlined_here r.module_read u) (hidden (is_predeclared_truth (named_tree_of r.module_read) u.occurrence u.value)) unit text edits h.make_text
+      other_is_first (UsesAreFactors r.module_read u.constant) (is_alone r well u use_so law scalar_so) (new_text r u) (tree_inlined_here r.module_read u) (hidden (value_text_keeps_meaning (named_tree_of r.module_read) u.occurrence u.value)) unit text edits h.make_text
       ∙ ap hidden e
 
-  pub answer_ok : InliningKeepsTypingAndRuns → (unit : counting.Unit) (text : List ℕ) (edits : List Edit) → Made r u unit text edits → is_predeclared_truth (named_tree_of r.module_read) u.occurrence u.value ≡ true
+  pub answer_ok : InliningKeepsTypingAndRuns → (unit : counting.Unit) (text : List ℕ) (edits : List Edit) → Made r u unit text edits → value_text_keeps_meaning (named_tree_of r.module_read) u.occurrence u.value ≡ true
       → (refusal_here r.module_read u ≡ None) × InlinesHere unit text r.module_read u edits
   answer_ok keeps unit text edits h shown =
       (made_first unit text edits h true shown, inlines r well u use_so keeps scalar_so unit text edits h.edits_are (h.make_text.leaves (is_alone r well u use_so law scalar_so)) shown)
 
-  pub answer_shadowed : (unit : counting.Unit) (text : List ℕ) (edits : List Edit) → Made r u unit text edits → is_predeclared_truth (named_tree_of r.module_read) u.occurrence u.value ≡ false
+  pub answer_shadowed : (unit : counting.Unit) (text : List ℕ) (edits : List Edit) → Made r u unit text edits → value_text_keeps_meaning (named_tree_of r.module_read) u.occurrence u.value ≡ false
       → refusal_here r.module_read u ≡ Some Shadowed
   answer_shadowed unit text edits h shown = made_first unit text edits h false shown
 
   pub answer_refused : (refusal : EditRefusal) → IsRefused r u refusal → (refusal_here r.module_read u ≡ Some refusal) ⊎ (refusal ≡ Memory)
   answer_refused =
-      refused_first (UsesAreFactors r.module_read u.constant) (is_alone r well u use_so law scalar_so) (new_text r u) (tree_inlined_here r.module_read u) (hidden (is_predeclared_truth (named_tree_of r.module_read) u.occurrence u.value))
+      refused_first (UsesAreFactors r.module_read u.constant) (is_alone r well u use_so law scalar_so) (new_text r u) (tree_inlined_here r.module_read u) (hidden (value_text_keeps_meaning (named_tree_of r.module_read) u.occurrence u.value))
 
 -- A search finds the first entry that is this token, with its index.
 pub found_there : (token j k : ℕ) (is : List ℕ) → position_from (λ i. i == token) j is ≡ Some k → (n : ℕ) × (k ≡ j + n) × (slice_get is n ≡ Some token)

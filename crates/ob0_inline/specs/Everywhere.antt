@@ -30,7 +30,7 @@ use Rattle.ob0_language_runs.specs.EditLaws.{HaveSameRuns}
 use Rattle.ob0_inline.specs.declared.constants.NamedConstant.{NamedConstant}
 use Rattle.ob0_inline.specs.Declarations.{contains_span, is_semicolon}
 use Rattle.ob0_inline.specs.Inlined.{EditsGiveModule, first_refusal}
-use Rattle.ob0_inline.specs.Uses.{is_predeclared_truth}
+use Rattle.ob0_inline.specs.Uses.{value_text_keeps_meaning}
 use Rattle.ob0_inline.specs.Values.{value_factor, value_text}
 
 -- States that `c` is a constant of a CONST section, with its ordinal and value. The token with the
@@ -81,7 +81,7 @@ text_after_inlining m c = text_after_removal m.source c.first c.last (uses_of m 
 -- Returns whether the occurrence with the number `k` is a use of the constant `c` at which TRUE or
 -- FALSE, written for the constant's value, wouldn't mean the predeclared name.
 abbrev pub is_shadowed_use : Tree Name module_text → NamedConstant → ℕ → Bool
-is_shadowed_use m c k = same_ordinal (ordinal_bound_at m k) c.ordinal && not (is_predeclared_truth m k c.value)
+is_shadowed_use m c k = same_ordinal (ordinal_bound_at m k) c.ordinal && not (value_text_keeps_meaning m k c.value)
 
 -- Returns whether the constant `c` has a use at which TRUE or FALSE, written for the constant's
 -- value, wouldn't mean the predeclared name.

@@ -51,9 +51,9 @@ truth_name_ordinal false = 3
 -- Returns whether TRUE or FALSE, written for a truth value in place of the occurrence with the
 -- number `occurrence`, would mean the predeclared name. If the value is a number, the result is
 -- true.
-abbrev pub is_predeclared_truth : Tree Name module_text → ℕ → Scalar → Bool
-is_predeclared_truth m occurrence (scalar.Number n) = true
-is_predeclared_truth m occurrence (scalar.Truth b) =
+abbrev pub value_text_keeps_meaning : Tree Name module_text → ℕ → Scalar → Bool
+value_text_keeps_meaning m occurrence (scalar.Number n) = true
+value_text_keeps_meaning m occurrence (scalar.Truth b) =
     same_ordinal (resolve_at_occurrence m occurrence (truth_text b)) (truth_name_ordinal b)
 
 -- Returns the tree of the module after the constant is inlined at the use `u`: the constant's value
@@ -66,7 +66,7 @@ tree_inlined_here m u = inlined (named_tree_of m) (single_occurrence u.occurrenc
 abbrev pub refusal_here : ParsedModule → ConstantUse → Option EditRefusal
 refusal_here m u =
     first_refusal (text_after_replacement m.source (u.token ∷ []) (value_text u.value)) (tree_inlined_here m u)
-    (if is_predeclared_truth (named_tree_of m) u.occurrence u.value then None else Some Shadowed)
+    (if value_text_keeps_meaning (named_tree_of m) u.occurrence u.value then None else Some Shadowed)
 
 -- States that the edits write the constant's value in place of the use `u` and change no other
 -- character. The edited text is the inlined module, which is well-typed and has the same runs as

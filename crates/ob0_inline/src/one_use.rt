@@ -6,7 +6,7 @@ ghost use Rattle.ob0_text.specs.Texts.{offset_of};
 ghost use Rattle.ob0_text.specs.Units.{width_of};
 ghost use Rattle.ob0_inline.specs.Uses.{AnswersInlineHere, AnswersForUse, IsUse};
 
-use crate::truth_names::is_predeclared_truth;
+use crate::truth_names::value_text_keeps_meaning;
 use crate::use_edit::use_edits;
 use crate::uses::{ConstantUse, use_at};
 use crate::written::value_is_scalar;
@@ -53,7 +53,7 @@ fn inline_use<T: TextStore>(
     let names = module.resolved();
     match use_edits(alloc, store, names, found) {
         Ok(edits) => {
-            if is_predeclared_truth(alloc, names, found.occurrence, found.value)? {
+            if value_text_keeps_meaning(alloc, names, found.occurrence, found.value)? {
                 Ok(edits)
             } else {
                 Err(EditRefusal::Shadowed)

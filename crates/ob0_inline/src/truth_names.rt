@@ -8,7 +8,7 @@ ghost use Rattle.ob0_language_names.specs.Occurrences.{bindings, ordinal_bound_a
 ghost use Rattle.ob0_language_names.specs.Scopes.{same_ordinal};
 ghost use Rattle.ob0_language_names.specs.OccurrenceLookup.{resolve_at_occurrence};
 ghost use Rattle.ob0_inline.specs.Everywhere.{any_use_shadowed};
-ghost use Rattle.ob0_inline.specs.Uses.{is_predeclared_truth};
+ghost use Rattle.ob0_inline.specs.Uses.{value_text_keeps_meaning};
 
 use crate::constants::NamedConstant;
 use ob0_language_values::Scalar;
@@ -19,14 +19,14 @@ use std::alloc::{AllocError, Global};
 /// Returns whether TRUE or FALSE, written for the truth value `value` in place of an occurrence,
 /// would mean the predeclared name. If the value is a number, the result is true. `occurrence` is
 /// the number of the occurrence in text order, counted from 0.
-pub(crate) fn is_predeclared_truth(
+pub(crate) fn value_text_keeps_meaning(
     alloc: Global,
     names: &Resolved,
     occurrence: usize,
     value: Scalar,
 ) -> Result<bool, AllocError>
     ensures { IfOk result (λ shown. shown
-        ≡ is_predeclared_truth (named_tree_of names.now.module_read) occurrence value) }
+        ≡ value_text_keeps_meaning (named_tree_of names.now.module_read) occurrence value) }
 {
     match value {
         Scalar::Number(_) => Ok(true),

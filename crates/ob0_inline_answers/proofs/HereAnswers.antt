@@ -34,7 +34,7 @@ use Rattle.ob0_analysis.specs.Texts.{utf8}
 use Rattle.ob0_analysis.proofs.Scanning.{is_module, utf8_of}
 use Rattle.ob0_inline.specs.declared.uses.ConstantUse.{ConstantUse}
 use Rattle.ob0_inline.specs.Inlined.{EditsGiveModule}
-use Rattle.ob0_inline.specs.Uses.{AnswersInlineHere, IsUse, IsUseAt, tree_inlined_here, is_predeclared_truth, refusal_here}
+use Rattle.ob0_inline.specs.Uses.{AnswersInlineHere, IsUse, IsUseAt, tree_inlined_here, value_text_keeps_meaning, refusal_here}
 use Rattle.ob0_inline.specs.Values.{value_text, value_words}
 use Rattle.ob0_inline.proofs.AtUses.{Made, answer_ok, are_names, here_spelled, no_use, use_found, use_is}
 use Rattle.ob0_inline.proofs.ModuleTexts.{leaves_module}
@@ -135,7 +135,7 @@ module _ (alone : ConstantUsesAreFactors) (keeps : InliningKeepsTypingAndRuns) (
     deep = nesting (tree_inlined_here r.module_read u)
 
     abbrev shown : Bool
-    shown = is_predeclared_truth (named_tree_of r.module_read) u.occurrence u.value
+    shown = value_text_keeps_meaning (named_tree_of r.module_read) u.occurrence u.value
 
     abbrev first_of : Bool → Bool → Bool → Option EditRefusal
     first_of a b c = if a then Some TooLong else if b then Some TooDeep else if c then None else Some Shadowed

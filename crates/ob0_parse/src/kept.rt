@@ -124,7 +124,7 @@ impl KeptTrees {
             body,
         } = self;
         let mut kept = relocate_waiting_procedures(alloc, waiting, same)?;
-        relocate_made_procedures(&mut kept, &mut made, same)?;
+        relocate_parsed_procedures(&mut kept, &mut made, same)?;
         Ok(KeptTrees {
             made,
             waiting: kept,
@@ -176,7 +176,7 @@ fn relocate_waiting_procedures(
 /// procedure, so that `kept` is in reverse text order. Each procedure gets the range of its
 /// tokens in the changed text. Drops the procedures whose tokens the changed text doesn't have.
 /// Afterwards `made` is empty.
-fn relocate_made_procedures(
+fn relocate_parsed_procedures(
     kept: &mut Vec<KeptProcedure>,
     made: &mut Vec<Procedure>,
     same: SameParts,

@@ -7,7 +7,7 @@ use Rattle.ob0_language_runs.specs.TypeAgreement.{EachElementHasShape, HasShape,
 use Rattle.ob0_language_types.proofs.Conditions.{of_some}
 use Rattle.ob0_language_types.proofs.TypedElsewhere.{then_some}
 use Rattle.ob0_language_runs.proofs.Sound.{below_of}
-use Rattle.ob0_run_cells.specs.Cells.{cells_of, element_cells, field_offset, field_sizes, member_cells, offset, size, step_offset}
+use Rattle.ob0_run_cells.specs.Cells.{cells_of, element_cells, field_offset, total_field_size, member_cells, offset, size, step_offset}
 use Rattle.ob0_run_cells.proofs.Splits.{Lies, lies-alone, lies-following, lies-first, lies-within}
 
 -- how many cells
@@ -28,7 +28,7 @@ mutual
       let both : length (cells_of v ++ element_cells rest) ≡ length (cells_of v) + length (element_cells rest) = length-append (cells_of v) (element_cells rest) in
       omega (arith, first, others, both)
 
-  pub members-size : (ms : Members) (fs : FieldShapes) → MembersHaveShapes ms fs → length (member_cells ms) ≡ field_sizes fs
+  pub members-size : (ms : Members) (fs : FieldShapes) → MembersHaveShapes ms fs → length (member_cells ms) ≡ total_field_size fs
   members-size no_member no_field_shape h = refl
   members-size (next_member x v rest) (next_field_shape y s others) h =
       length-append (cells_of v) (member_cells rest) ∙ (ap (λ n. n + length (member_cells rest)) (cells-size v s h.1) ∙ ap (λ n. size s + n) (members-size rest others h.2))

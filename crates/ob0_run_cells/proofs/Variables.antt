@@ -4,7 +4,7 @@ use Rattle.std.proofs.lemmas.List.{replicate-append-replicate, take_at}
 use Rattle.ob0_language_values.specs.Values.{FieldShapes, Shape, Store, Value, array_shape, copies, initial_value, initial_members, next_field_shape, no_field_shape, record_shape}
 use Rattle.ob0_language_runs.specs.TypeAgreement.{HasShape, PlaceHasType, StoreHasTypes, StoreTyping, shape_at_path}
 use Rattle.ob0_language_runs.proofs.SoundCalls.{initial-fits, last-shape, store-appends}
-use Rattle.ob0_run_cells.specs.Cells.{address, all_cells, cells_of, element_cells, field_sizes, member_cells, offset, size, store_size}
+use Rattle.ob0_run_cells.specs.Cells.{address, all_cells, cells_of, element_cells, total_field_size, member_cells, offset, size, store_size}
 use Rattle.ob0_run_cells.proofs.Places.{store-size}
 
 pub zeros-join : (m n : ℕ) (a b : List ℤ) → a ≡ replicate m (pos 0) → b ≡ replicate n (pos 0) → a ++ b ≡ replicate (m + n) (pos 0)
@@ -22,9 +22,9 @@ mutual
   initial-zero (record_shape k fs) = initial_members-zero fs
   initial-zero _ = refl
 
-  pub initial_members-zero : (fs : FieldShapes) → member_cells (initial_members fs) ≡ replicate (field_sizes fs) (pos 0)
+  pub initial_members-zero : (fs : FieldShapes) → member_cells (initial_members fs) ≡ replicate (total_field_size fs) (pos 0)
   initial_members-zero no_field_shape = refl
-  initial_members-zero (next_field_shape x s rest) = zeros-join (size s) (field_sizes rest) (cells_of (initial_value s)) (member_cells (initial_members rest)) (initial-zero s) (initial_members-zero rest)
+  initial_members-zero (next_field_shape x s rest) = zeros-join (size s) (total_field_size rest) (cells_of (initial_value s)) (member_cells (initial_members rest)) (initial-zero s) (initial_members-zero rest)
 
 pub initial_cells_are_zero : (s : Shape) → HasShape (initial_value s) s × (cells_of (initial_value s) ≡ replicate (size s) (pos 0))
 initial_cells_are_zero s = (initial-fits s, initial-zero s)

@@ -44,12 +44,12 @@ abbrev mutual
   size integer_shape = 1
   size boolean_shape = 1
   size (array_shape k n s) = n * size s
-  size (record_shape k fs) = field_sizes fs
+  size (record_shape k fs) = total_field_size fs
 
   -- returns the number of cells of the fields of a record
-  pub field_sizes : FieldShapes → ℕ
-  field_sizes no_field_shape = 0
-  field_sizes (next_field_shape x s rest) = size s + field_sizes rest
+  pub total_field_size : FieldShapes → ℕ
+  total_field_size no_field_shape = 0
+  total_field_size (next_field_shape x s rest) = size s + total_field_size rest
 
 -- returns the number of cells of all variables in a store with these types
 abbrev pub store_size : StoreTyping → ℕ

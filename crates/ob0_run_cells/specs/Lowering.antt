@@ -141,9 +141,9 @@ PlaceMeans {N} checked slots q s value =
     ≡ (value m >>= (λ p. succeeds_with (address m.typing p))))
     × PlaceOutcomeFits m.typing s (value m)
 
--- States that the evaluation `value` returns the value that is stored at a place, at each moment
--- that belongs to the checked module (`IsMomentOfModule`). The lowered place `q` agrees with this
--- place (`PlaceMeans`), which has values of the type `s`.
+-- States that there is a place with values of the type `s` that the lowered place `q` means
+-- (`PlaceMeans`), and that `value` returns the value stored there, at each moment of the checked
+-- module (`IsMomentOfModule`).
 abbrev pub HoldsValue : {N : Type 0}
     → TypeMeanings N
     → (N → Slot)

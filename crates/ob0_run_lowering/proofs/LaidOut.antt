@@ -15,7 +15,7 @@ use Rattle.ob0_types_table.specs.declared.known.FieldId.{FieldId}
 use Rattle.ob0_types_table.specs.declared.known.TypeEntry as code
 use Rattle.ob0_types_table.specs.declared.known.Field.{Field}
 use Rattle.ob0_language_values.specs.Values.{FieldShapes, Shape, array_shape, next_field_shape, no_field_shape, number, record_shape}
-use Rattle.ob0_run_cells.specs.Cells.{field_offset, field_sizes, size}
+use Rattle.ob0_run_cells.specs.Cells.{field_offset, total_field_size, size}
 use Rattle.ob0_run_lowering.specs.Layouts.{AreLaidOut, HasLayout, HaveLayouts, offsets_from}
 use Rattle.ob0_run_lowering.specs.declared.types.Layout.{Layout}
 use Rattle.ob0_run_lowering.specs.declared.types.Layout.TheVariants as layout
@@ -75,18 +75,18 @@ further-past : (b : Bool) (k : ℕ) (o : Option ℕ) (f g : ℕ) → (o ≡ None
 further-past false k None f g later h = ap (λ n. k + n) (later refl)
 further-past _ k _ f g later h = absurd (cc)
 
-pub offset-past : (fs : FieldShapes) (x : Name) → position_of_field fs x ≡ None → field_offset fs x ≡ field_sizes fs
+pub offset-past : (fs : FieldShapes) (x : Name) → position_of_field fs x ≡ None → field_offset fs x ≡ total_field_size fs
 offset-past no_field_shape x h = refl
-offset-past (next_field_shape y s rest) x h = further-past (same_name x y) (size s) (position_of_field rest x) (field_offset rest x) (field_sizes rest) (λ h. offset-past rest x h) h
+offset-past (next_field_shape y s rest) x h = further-past (same_name x y) (size s) (position_of_field rest x) (field_offset rest x) (total_field_size rest) (λ h. offset-past rest x h) h
 
 -- the fields so far, and those that are left
 pub record LaidSoFar (shapes : List Shape) (fields : List Field) (done cells : ℕ) (offsets : List ℕ) : Type 0 where
-  pub cells_left : cells + field_sizes (field_shapes shapes (drop done fields)) ≡ field_sizes (field_shapes shapes fields)
+  pub cells_left : cells + total_field_size (field_shapes shapes (drop done fields)) ≡ total_field_size (field_shapes shapes fields)
   pub offsets_left : offsets ++ offsets_from cells (field_shapes shapes (drop done fields)) ≡ offsets_from 0 (field_shapes shapes fields)
 
 pub laid_begins : (shapes : List Shape) (fields : List Field) (offsets : List ℕ) → offsets ≡ [] → LaidSoFar shapes fields 0 0 offsets
 laid_begins shapes fields offsets none = record {
-  cells_left = zero-add (field_sizes (field_shapes shapes fields));
+  cells_left = zero-add (total_field_size (field_shapes shapes fields));
   offsets_left = ap (λ os. os ++ offsets_from 0 (field_shapes shapes fields)) none;
 }
 
@@ -95,7 +95,7 @@ pub laid_goes_on : {shapes : List Shape} {fields : List Field} {done cells : ℕ
 laid_goes_on {shapes} {fields} {done} {cells} {offsets} d more cells' offsets' h less sized sum pushed =
     let rest = field_shapes shapes (drop (done + 1) fields) in
     let split : drop done fields ≡ get_or fields done d ∷ drop (done + 1) fields = drop_more fields done d less in
-    let sizes : field_sizes (field_shapes shapes (drop done fields)) ≡ size (type_shape shapes (get_or fields done d).of) + field_sizes rest = ap (λ xs. field_sizes (field_shapes shapes xs)) split in
+    let sizes : total_field_size (field_shapes shapes (drop done fields)) ≡ size (type_shape shapes (get_or fields done d).of) + total_field_size rest = ap (λ xs. total_field_size (field_shapes shapes xs)) split in
     let left = h.cells_left in
     record {
       cells_left = omega (arith, sizes, left, sized, sum);
@@ -106,10 +106,10 @@ laid_goes_on {shapes} {fields} {done} {cells} {offsets} d more cells' offsets' h
           ∙ h.offsets_left;
     }
 
-pub laid_ends : {shapes : List Shape} {fields : List Field} {done cells : ℕ} {offsets : List ℕ} → LaidSoFar shapes fields done cells offsets → length fields ≤ done → (cells ≡ field_sizes (field_shapes shapes fields)) × (offsets ≡ offsets_from 0 (field_shapes shapes fields))
+pub laid_ends : {shapes : List Shape} {fields : List Field} {done cells : ℕ} {offsets : List ℕ} → LaidSoFar shapes fields done cells offsets → length fields ≤ done → (cells ≡ total_field_size (field_shapes shapes fields)) × (offsets ≡ offsets_from 0 (field_shapes shapes fields))
 laid_ends {shapes} {fields} {done} {cells} {offsets} h all =
     let none : drop done fields ≡ [] = drop_all done fields all in (
-      sym (add-zero cells) ∙ sym (ap (λ xs. cells + field_sizes (field_shapes shapes xs)) none) ∙ h.cells_left,
+      sym (add-zero cells) ∙ sym (ap (λ xs. cells + total_field_size (field_shapes shapes xs)) none) ∙ h.cells_left,
       sym (append-nil offsets) ∙ sym (ap (λ xs. offsets ++ offsets_from cells (field_shapes shapes xs)) none) ∙ h.offsets_left,
     )
 

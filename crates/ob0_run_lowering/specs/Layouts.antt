@@ -5,7 +5,7 @@ use Rattle.std.specs.Prelude.{◌≡◌, ℕ, ◌+◌, List, [], ◌∷◌, Some
 use Rattle.std.specs.Borrow.{Bor}
 use Rattle.ob0_types_table.specs.Tables.{faulty_shape}
 use Rattle.ob0_language_values.specs.Values.{FieldShapes, Shape, array_shape, next_field_shape, no_field_shape, record_shape}
-use Rattle.ob0_run_cells.specs.Cells.{field_sizes, size}
+use Rattle.ob0_run_cells.specs.Cells.{total_field_size, size}
 use Rattle.ob0_run_lowering.specs.declared.types.Layout.{Layout}
 use Rattle.ob0_run_lowering.specs.declared.types.Layout.TheVariants as layout
 use Rattle.ob0_run_lowering.specs.declared.types.RecordLayout.{RecordLayout}
@@ -19,7 +19,7 @@ offsets_from n (next_field_shape x s rest) = n ∷ offsets_from (n + size s) res
 -- states that the layout of a record has the number of cells of these fields, and the offset of
 -- each field
 pub record AreLaidOut (fs : FieldShapes) (r : RecordLayout) : Type 0 where
-  pub cells : r.cells ≡ field_sizes fs
+  pub cells : r.cells ≡ total_field_size fs
   pub offsets : r.offsets.items ≡ offsets_from 0 fs
 
 -- States that a layout is right for a type. This is never true for a type that is neither an array

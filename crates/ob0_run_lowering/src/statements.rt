@@ -1,8 +1,8 @@
 //! Lowers statements.
 //!
-//! The invariant of each loop is about any code for the remaining parts: statements, branches or
-//! arguments. If this code is correct for these parts, the code so far followed by this code is
-//! correct for the whole (`SequenceMade`, `BranchesMade`, `ArgumentsMade`). At the end of the loop
+//! Each loop has this invariant: whatever correct code the remaining parts (statements, branches or
+//! arguments) get, the code so far followed by that code is correct for the whole
+//! (`SequenceMade`, `BranchesMade`, `ArgumentsMade`). At the end of the loop
 //! no part remains. An empty statement has no code, so there may be fewer instructions than
 //! statements.
 

@@ -109,8 +109,9 @@ abbrev pub passed_arguments : List ℤ → List ℕ → CallArguments
 passed_arguments cells addresses = record { cells = cells; addresses = addresses }
 
 -- Returns the effect of entering the procedure with the index `k`. The procedure is declared `up`
--- levels out from the caller's activation, which is the first of `ls`. `base` and `addresses` are
--- the address of the first cell and the VAR parameters' addresses of the procedure's activation.
+-- levels out from the caller's activation, which is the first of `ls`. The
+-- procedure's activation has its first cell at `base`, and `addresses` are the addresses of its VAR
+-- parameters.
 abbrev pub entry_effect : ℕ → ℕ → Levels → ℕ → List ℕ → CodeEffect
 entry_effect k up ls base addresses enters s =
     enters k (levels_in_call ls base up (passed_arguments s.cells addresses)) s

@@ -98,8 +98,8 @@ const RECORDS: &str =
     "MODULE M; TYPE T = RECORD f, g: INTEGER END; VAR t: T; PROCEDURE P(a, b: T); BEGIN a := b; a.f := t.g END P; \
     BEGIN P(t, t); z := t END M.";
 
-/// Texts of one line, each with a change outside or inside identifiers. A change has the character
-/// at which it starts, the character before which it ends, and the new text.
+/// Texts of one line, each with a change: the index of its first character, the index after its
+/// last one, and the new text.
 static CHANGES: &[(&str, u64, u64, &str)] = changes![
     // A number on which types depend.
     "MODULE M; CONST n = 2; VAR a: ARRAY n OF INTEGER; BEGIN a[n - 1] := 1; a[2] := n END M.", 20, 21, "20";

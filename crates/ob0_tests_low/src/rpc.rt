@@ -194,7 +194,7 @@ fn actions_in_words(only: &Option<Vec<String>>) -> &'static str {
 }
 
 /// Returns a word or two for the meaning of a request.
-fn word_of(call: &Call) -> &'static str {
+fn call_in_words(call: &Call) -> &'static str {
     match call {
         Call::Initialize(client) => client_in_words(*client),
         Call::Shutdown => "shutdown",
@@ -215,7 +215,7 @@ fn word_of(call: &Call) -> &'static str {
 /// Returns the meaning of a request with this method and these params, or its fault, in words.
 fn request_in_words(alloc: Global, method: &str, params: &Value) -> &'static str {
     match request(alloc, method, params) {
-        Ok(call) => word_of(&call),
+        Ok(call) => call_in_words(&call),
         Err(fault) => fault.text(),
     }
 }

@@ -100,7 +100,7 @@ fn commands_print_what_they_flush(rt: HostRuntime) {
 
 /// Returns the command of a command line in words, such as `serve`. A run of the file `m` with the
 /// default bounds is `run m`.
-fn word_of(line: &CommandLine<'_>) -> &'static str {
+fn command_in_words(line: &CommandLine<'_>) -> &'static str {
     match line {
         CommandLine::Serve => "serve",
         CommandLine::Check { .. } => "check",
@@ -114,11 +114,11 @@ fn word_of(line: &CommandLine<'_>) -> &'static str {
     }
 }
 
-/// Returns the command that the arguments `words` spell, in words (`word_of`). Returns `refused` if
+/// Returns the command that the arguments `words` spell, in words (`command_in_words`). Returns `refused` if
 /// the words are refused, and `out of memory` if an allocation fails.
 fn line_of(alloc: Global, words: &[&str]) -> &'static str {
     match command(alloc, words) {
-        Ok(line) => word_of(&line),
+        Ok(line) => command_in_words(&line),
         Err(CommandFault::Refused(_error)) => "refused",
         Err(CommandFault::Memory) => "out of memory",
     }

@@ -24,7 +24,7 @@ use Rattle.ob0_world_rules.specs.EveryEditor.{Turn, editor_moves, server_takes, 
 use Rattle.ob0_world_rules.specs.PublicationsInOrder.{AnnouncedDocument, documents_announced_in}
 use Rattle.ob0_world_rules.proofs.ModelEditor.{IsMove, act_may, knows_event}
 use Rattle.ob0_world.specs.Worlds.{Wire, Connection, SessionTakesFirst, EditorTakesFirst, MovesWire, AreMessagesToServer, ConnectionStep, ConnectionCourse}
-use Rattle.ob0_world.specs.Exchanges.{SentRequestId, number_id, ask_of_request_id, ask_number_by_id, AssignsAskIds, Exchange, BeginsExchange, IsActionsRequest, IsRequestFor, AcceptsActions, AcceptsEdits, IsMessageToSession, AreMessagesToSession, message_to_editor_by_ids, after_reading_if_any, EditorReadsFirst, with_contents, ExchangeCourse, ACourseIsAnExchange}
+use Rattle.ob0_world.specs.Exchanges.{SentRequest, number_id, ask_of_request_id, ask_number_by_id, AssignsAskIds, Exchange, BeginsExchange, IsActionsRequest, IsRequestFor, AcceptsActions, AcceptsEdits, IsMessageToSession, AreMessagesToSession, message_to_editor_by_ids, after_reading_if_any, EditorReadsFirst, with_contents, ExchangeCourse, ACourseIsAnExchange}
 use Rattle.ob0_world.proofs.Conversing.{answered_once}
 use Rattle.std.proofs.lemmas.Bool.{eqb-true, eqb-false}
 use Rattle.std.proofs.lemmas.Option.{same_Some, none-some}
@@ -38,7 +38,7 @@ use Rattle.ob0_world.proofs.Waiting.{read_still}
 -- ---- the ids of the model's editor
 
 -- returns the ids of asks that have their numbers as ids; the first has this number
-abbrev ids_from : ℕ → List SentAsk → List SentRequestId
+abbrev ids_from : ℕ → List SentAsk → List SentRequest
 ids_from n [] = []
 ids_from n (a ∷ list) = record { id = number_id n; ask = Some n } ∷ ids_from (suc n) list
 
@@ -234,7 +234,7 @@ module _ (c : Connection) (announced : List AnnouncedDocument) (goes : Goes c) w
       go (inr (move, may)) =
           let done : ActResult = act_result c.model.editor act in
           let more : List AnnouncedDocument = documents_announced_in done.editor done.sent in
-          let ids : List SentRequestId = ids_from 1 done.editor.requested in
+          let ids : List SentRequest = ids_from 1 done.editor.requested in
           let y : Exchange = record { editor = done.editor; ids = ids; wire = with_contents c.wire contents; announced = announced ++ more; applied = c.model.applied ++ done.applied } in
           record {
             turns = editor_moves move ∷ [];

@@ -43,7 +43,7 @@ use Rattle.ob0_world_rules.proofs.EveryEditor.{holds_for_every_editor}
 use Rattle.ob0_world.specs.Worlds.{Wire, SessionTakesFirst}
 use Rattle.ob0_session_server.specs.declared.session.Phase.TheVariants.{Running}
 use Rattle.ob0_world.specs.Queues.{publication_in_first_message}
-use Rattle.ob0_world.specs.Exchanges.{RequestId, id_of_value, same_id, SentRequestId, ask_of_request_id, ask_number_by_id, AssignsAskIds, with_non_ask_id, IsNonAskId, Exchange, BeginsExchange, IsMessageToSession, IsRequestFor, IsReadOnlyRequest, IsUnmodeledMessage, IsUnmodeledContent, message_to_editor_by_ids, after_reading_if_any, EditorReadsFirst, with_contents, Exchanges, ExchangeCourse, AreMessagesToSession, AreMessagesToEditor, EveryExchangeFollowsModel, VersionedPublication, versioned_publication, publications_in, AreCorrectFor, last_publication_of, notifications_in, HoldsForEveryExchange}
+use Rattle.ob0_world.specs.Exchanges.{RequestId, id_of_value, same_id, SentRequest, ask_of_request_id, ask_number_by_id, AssignsAskIds, with_non_ask_id, IsNonAskId, Exchange, BeginsExchange, IsMessageToSession, IsRequestFor, IsReadOnlyRequest, IsUnmodeledMessage, IsUnmodeledContent, message_to_editor_by_ids, after_reading_if_any, EditorReadsFirst, with_contents, Exchanges, ExchangeCourse, AreMessagesToSession, AreMessagesToEditor, EveryExchangeFollowsModel, VersionedPublication, versioned_publication, publications_in, AreCorrectFor, last_publication_of, notifications_in, HoldsForEveryExchange}
 use Rattle.ob0_world.proofs.Answering.{Served, note_answered, ask_answered, actions_answered, going_on, reacts_so}
 use Rattle.ob0_world.proofs.Waiting.{read_still}
 use Rattle.ob0_world.proofs.Ending.{ends_well}
@@ -55,7 +55,7 @@ use Rattle.std.proofs.lemmas.Option.{none-some}
 
 -- ---- more requests, and more contents
 
-sent_still : (ids later : List SentRequestId) (id : RequestId) (o : Option ℕ) → ask_of_request_id ids id ≡ Some o → ask_of_request_id (ids ++ later) id ≡ Some o
+sent_still : (ids later : List SentRequest) (id : RequestId) (o : Option ℕ) → ask_of_request_id ids id ≡ Some o → ask_of_request_id (ids ++ later) id ≡ Some o
 sent_still [] later id o h = absurd (none-some o h)
 sent_still (s ∷ ids) later id o h = go (same_id s.id id) h (sent_still ids later id o)
   where
@@ -63,7 +63,7 @@ sent_still (s ∷ ids) later id o h = go (same_id s.id id) h (sent_still ids lat
     go true is next = is
     go false is next = next is
 
-ask_with_still : (ids later : List SentRequestId) (d : Data) (k : ℕ) → ask_number_by_id ids d ≡ Some k → ask_number_by_id (ids ++ later) d ≡ Some k
+ask_with_still : (ids later : List SentRequest) (d : Data) (k : ℕ) → ask_number_by_id ids d ≡ Some k → ask_number_by_id (ids ++ later) d ≡ Some k
 ask_with_still ids later d k h = go (id_of_value d) h
   where
     at : (id : RequestId) (o : Option (Option ℕ)) → ask_of_request_id ids id ≡ o → option_and_then (λ ask. ask) o ≡ Some k → option_and_then (λ ask. ask) (ask_of_request_id (ids ++ later) id) ≡ Some k
@@ -74,7 +74,7 @@ ask_with_still ids later d k h = go (id_of_value d) h
     go None h = absurd (none-some k h)
     go (Some id) h = at id (ask_of_request_id ids id) refl h
 
-module _ (client : ClientFeatures) (ids later : List SentRequestId) (requested more : List SentAsk) where
+module _ (client : ClientFeatures) (ids later : List SentRequest) (requested more : List SentAsk) where
   id_still : (o : Option RequestId) → IsNonAskId ids o → IsNonAskId (ids ++ later) o
   id_still None h = tt
   id_still (Some id) h = sent_still ids later id None h
@@ -117,7 +117,7 @@ module _ (client : ClientFeatures) (ids later : List SentRequestId) (requested m
   means_on (Some m ∷ r) [] h = absurd h
   means_on (None ∷ r) [] h = absurd h
 
-module _ (client : ClientFeatures) (ids : List SentRequestId) (requested : List SentAsk) where
+module _ (client : ClientFeatures) (ids : List SentRequest) (requested : List SentAsk) where
   says_append : (q p : List (Option MessageToServer)) (contents others : List (List ℕ)) → AreMessagesToSession client ids requested q contents → AreMessagesToSession client ids requested p others → AreMessagesToSession client ids requested (q ++ p) (contents ++ others)
   says_append [] p [] others h k = k
   says_append (Some m ∷ q) p (c ∷ contents) others h k = (h.0, says_append q p contents others h.1 k)
@@ -161,16 +161,16 @@ asks_more e (to_ask uri ask) done announced (d, at, is, are) = (record { ask = a
 asks_more e (to_apply k revisions) done announced a = asks_none e done (ap (λ (x : ActResult). x.editor.requested) a.is ∙ revises_asks revisions (without_answer e k) a.requested.uri a.new announced a.revises)
 asks_more e (to_discard k) done announced (is, are) = asks_none e done (ap (λ (x : ActResult). x.editor.requested) is)
 
-names_more : (ids : List SentRequestId) (sent : List MessageToServer) (new : List SentRequestId) → AssignsAskIds ids sent new → (later : List SentRequestId) × (new ≡ ids ++ later)
+names_more : (ids : List SentRequest) (sent : List MessageToServer) (new : List SentRequest) → AssignsAskIds ids sent new → (later : List SentRequest) × (new ≡ ids ++ later)
 names_more ids [] new is = ([], is ∙ sym (append-nil ids))
 names_more ids (notifies note ∷ sent) new names = names_more ids sent new names
 names_more ids (requests k uri ask ∷ sent) new (id, fresh, names) =
-    let s : SentRequestId = record { id = id; ask = Some k } in
-    let more : (later : List SentRequestId) × (new ≡ (ids ++ s ∷ []) ++ later) = names_more (ids ++ s ∷ []) sent new names in
+    let s : SentRequest = record { id = id; ask = Some k } in
+    let more : (later : List SentRequest) × (new ≡ (ids ++ s ∷ []) ++ later) = names_more (ids ++ s ∷ []) sent new names in
     (s ∷ more.0, more.1 ∙ append_assoc ids (s ∷ []) more.0)
 
 -- The ids after another request are the old ids and perhaps one more.
-others_more : (ids : List SentRequestId) (id : Option RequestId) → (later : List SentRequestId) × (with_non_ask_id ids id ≡ ids ++ later)
+others_more : (ids : List SentRequest) (id : Option RequestId) → (later : List SentRequest) × (with_non_ask_id ids id ≡ ids ++ later)
 others_more ids None = ([], sym (append-nil ids))
 others_more ids (Some id) = (record { id = id; ask = None } ∷ [], refl)
 
@@ -181,7 +181,7 @@ abbrev IsReply : Data → Data → Type 0
 IsReply id message = (is_some (get (codes "method") message) ≡ false) × (get (codes "id") message ≡ Some id)
 
 -- A reply to a request that isn't an ask is no answer to an ask.
-no_answer_to : (ids : List SentRequestId) (id message : Data) → IsReply id message → IsNonAskId ids (id_of_value id) → (later : List SentRequestId) (requested : List SentAsk) → message_to_editor_of (ask_number_by_id (ids ++ later)) requested message ≡ None
+no_answer_to : (ids : List SentRequest) (id message : Data) → IsReply id message → IsNonAskId ids (id_of_value id) → (later : List SentRequest) (requested : List SentAsk) → message_to_editor_of (ask_number_by_id (ids ++ later)) requested message ≡ None
 no_answer_to ids id message (no_method, has_id) own later requested =
     ap (λ b. cond b (publication_of_notification message) (answer_of_response (ask_number_by_id (ids ++ later)) requested message)) no_method
     ∙ ap (λ o. option_and_then (answer_to requested message) (option_and_then (ask_number_by_id (ids ++ later)) o)) has_id
@@ -191,13 +191,13 @@ no_answer_to ids id message (no_method, has_id) own later requested =
     go None h = refl
     go (Some i) h = ap (λ x. option_and_then (answer_to requested message) (option_and_then (λ ask. ask) x)) (sent_still ids later i None h)
 
-record OtherServed (ids : List SentRequestId) (requested : List SentAsk) (before after : ServerState) (sent : List (List ℕ)) : Type 0 where
+record OtherServed (ids : List SentRequest) (requested : List SentAsk) (before after : ServerState) (sent : List (List ℕ)) : Type 0 where
   same : after ≡ before
   said : List (Option MessageToEditor)
   none : modeled_messages said ≡ []
   means : AreMessagesToEditor ids requested said sent
 
-module _ (ids : List SentRequestId) (requested : List SentAsk) (before after : ServerState) (sent : List (List ℕ)) where
+module _ (ids : List SentRequest) (requested : List SentAsk) (before after : ServerState) (sent : List (List ℕ)) where
   no_reply : after ≡ before → sent ≡ [] → OtherServed ids requested before after sent
   no_reply same none = record { same = same; said = []; none = refl; means = subst (AreMessagesToEditor ids requested []) (sym none) tt }
 
@@ -314,7 +314,7 @@ abbrev versions : List (Option MessageToEditor) → List VersionedPublication
 versions [] = []
 versions (o ∷ r) = versioned_publication o ++ versions r
 
-means_published : (ids : List SentRequestId) (requested : List SentAsk) (r : List (Option MessageToEditor)) (contents : List (List ℕ)) → AreMessagesToEditor ids requested r contents → publications_in contents ≡ versions r
+means_published : (ids : List SentRequest) (requested : List SentAsk) (r : List (Option MessageToEditor)) (contents : List (List ℕ)) → AreMessagesToEditor ids requested r contents → publications_in contents ≡ versions r
 means_published ids requested [] [] h = refl
 means_published ids requested (Some m ∷ r) (c ∷ contents) h = λ i. (sym (any_published (ask_number_by_id ids) requested c) ∙ ap versioned_publication h.0) i ++ means_published ids requested r contents h.1 i
 means_published ids requested (None ∷ r) (c ∷ contents) h =
@@ -376,7 +376,7 @@ shown_got got rest content wire made waits h =
 
 -- ---- what is replied to asks and notifications
 
-session_served : (ids : List SentRequestId) (requested : List SentAsk) (m : MessageToServer) (before after : ServerState) (content : List ℕ) (sent : List (List ℕ)) → before.phase ≡ Running → IsMessageToSession before.client ids requested m content → Answers before content sent after
+session_served : (ids : List SentRequest) (requested : List SentAsk) (m : MessageToServer) (before after : ServerState) (content : List ℕ) (sent : List (List ℕ)) → before.phase ≡ Running → IsMessageToSession before.client ids requested m content → Answers before content sent after
     → Served (ask_number_by_id ids) requested m before after sent
 session_served ids requested (notifies note) before after content sent running is answered = note_answered (ask_number_by_id ids) requested note before after content sent running is answered
 session_served ids requested (requests k uri (rename position name)) before after content sent running (id, is, of, takes) answered =
@@ -423,7 +423,7 @@ module _ (got : List (List ℕ)) (x : Exchange) (made : List PublicationWithText
       let client : ClientFeatures = x.wire.session.client in
       let known : List SentAsk = x.editor.requested in
       let more : AsksMore x.editor done = asks_more x.editor move done announced may in
-      let later : (later : List SentRequestId) × (ids ≡ x.ids ++ later) = names_more x.ids done.sent ids names in
+      let later : (later : List SentRequest) × (ids ≡ x.ids ++ later) = names_more x.ids done.sent ids names in
       subst (Step got (model_of x q r made) (editor_moves move)) (sym is)
       (record {
         q = q ++ map Some done.sent;
@@ -447,8 +447,8 @@ module _ (got : List (List ℕ)) (x : Exchange) (made : List PublicationWithText
   says_step q r y tied (id, content, is_other, is) =
       let client : ClientFeatures = x.wire.session.client in
       let known : List SentAsk = x.editor.requested in
-      let ids : List SentRequestId = with_non_ask_id x.ids id in
-      let later : (later : List SentRequestId) × (ids ≡ x.ids ++ later) = others_more x.ids id in
+      let ids : List SentRequest = with_non_ask_id x.ids id in
+      let later : (later : List SentRequest) × (ids ≡ x.ids ++ later) = others_more x.ids id in
       subst (Step got (model_of x q r made) editor_sends_unmodeled) (sym is)
       (record {
         q = q ++ None ∷ [];
@@ -668,7 +668,7 @@ ask_unheard id uri (inline_here position) content is = request_unheard content i
 ask_unheard id uri (inline_all position) content is = request_unheard content is.json id is.params (codes "textDocument/codeAction") is.reads is.means
 ask_unheard id uri (format indent) content is = request_unheard content is.json id is.params (codes "textDocument/formatting") is.reads is.means
 
-other_unheard : (ids : List SentRequestId) (content : List ℕ) → IsUnmodeledContent ids content → message_to_server_in [] content ≡ None
+other_unheard : (ids : List SentRequest) (content : List ℕ) → IsUnmodeledContent ids content → message_to_server_in [] content ≡ None
 unfolding message_to_server_in
 other_unheard ids content (json, reads_so, is) = said (λ d. message_to_server_of [] (meaning_of d)) content json reads_so ∙ go (meaning_of json) is
   where
@@ -680,7 +680,7 @@ other_unheard ids content (json, reads_so, is) = said (λ d. message_to_server_o
     go (notice method params) is = ap message_of_notification is
 
 -- The notifications in the waiting contents are the notifications among the model's messages.
-notes_waiting : (client : ClientFeatures) (ids : List SentRequestId) (requested : List SentAsk) (q : List (Option MessageToServer)) (contents : List (List ℕ)) → AreMessagesToSession client ids requested q contents → notifications_in contents ≡ notifications_among (modeled_messages q)
+notes_waiting : (client : ClientFeatures) (ids : List SentRequest) (requested : List SentAsk) (q : List (Option MessageToServer)) (contents : List (List ℕ)) → AreMessagesToSession client ids requested q contents → notifications_in contents ≡ notifications_among (modeled_messages q)
 notes_waiting client ids requested [] [] h = refl
 notes_waiting client ids requested (Some (notifies note) ∷ q) (c ∷ contents) h = λ i. cons_option (says_heard [] (notifies note) c h.0 i) (notes_waiting client ids requested q contents h.1 i)
 notes_waiting client ids requested (Some (requests k uri ask) ∷ q) (c ∷ contents) ((id, is, of, takes), h) = λ i. cons_option (ask_unheard id uri ask c is i) (notes_waiting client ids requested q contents h i)

@@ -65,26 +65,26 @@ same_id (text_id s) (text_id t) = bytes_eq s t
 
 -- The id of a request that the editor sent. If the request is for edits (an ask), `ask` is its
 -- number, counted from 1. For any other request, such as a hover request, `ask` is None.
-pub record SentRequestId : Type 0 where
+pub record SentRequest : Type 0 where
   pub id : RequestId
   pub ask : Option ℕ
 
 -- Searches the sent requests for the first one with this id. Returns `Some (Some k)` if that
 -- request is the ask (request for edits) with number `k`, `Some None` if it isn't an ask, and None
 -- if no request has this id.
-abbrev pub ask_of_request_id : List SentRequestId → RequestId → Option (Option ℕ)
+abbrev pub ask_of_request_id : List SentRequest → RequestId → Option (Option ℕ)
 ask_of_request_id [] id = None
 ask_of_request_id (s ∷ sent) id = if same_id s.id id then Some s.ask else ask_of_request_id sent id
 
 -- Returns the number of the ask (request for edits) that has this JSON value as its id. None if no
 -- request has this id, or if the first request with this id isn't an ask.
-abbrev pub ask_number_by_id : List SentRequestId → Data → Option ℕ
+abbrev pub ask_number_by_id : List SentRequest → Data → Option ℕ
 ask_number_by_id sent id = option_and_then (λ ask. ask) (option_and_then (ask_of_request_id sent) (id_of_value id))
 
 -- States that each ask (request for edits) among the messages `sent` gets an id that no request in
 -- `ids` and no earlier ask in `sent` has. The list `new` is `ids` with the ids of these asks
 -- appended, in order.
-abbrev pub AssignsAskIds : List SentRequestId → List MessageToServer → List SentRequestId → Type 0
+abbrev pub AssignsAskIds : List SentRequest → List MessageToServer → List SentRequest → Type 0
 AssignsAskIds ids [] new = new ≡ ids
 AssignsAskIds ids (notifies note ∷ sent) new = AssignsAskIds ids sent new
 AssignsAskIds ids (requests k uri ask ∷ sent) new =
@@ -94,14 +94,14 @@ AssignsAskIds ids (requests k uri ask ∷ sent) new =
 
 -- Returns `ids` with this id appended, as the id of a request that isn't for edits (not an ask).
 -- For None (the message has no valid id), the list is unchanged.
-abbrev pub with_non_ask_id : List SentRequestId → Option RequestId → List SentRequestId
+abbrev pub with_non_ask_id : List SentRequest → Option RequestId → List SentRequest
 with_non_ask_id ids None = ids
 with_non_ask_id ids (Some id) = ids ++ record { id = id; ask = None } ∷ []
 
 -- States that the id is None, or that the first request in `ids` with this id isn't for edits (not
 -- an ask). None means that the message has no valid id. If no request in `ids` has the id, the fact
 -- doesn't hold.
-abbrev pub IsNonAskId : List SentRequestId → Option RequestId → Type 0
+abbrev pub IsNonAskId : List SentRequest → Option RequestId → Type 0
 IsNonAskId ids None = ⊤
 IsNonAskId ids (Some id) = ask_of_request_id ids id ≡ Some None
 
@@ -112,7 +112,7 @@ IsNonAskId ids (Some id) = ask_of_request_id ids id ≡ Some None
 -- edits that it applied.
 pub record Exchange : Type 0 where
   pub editor : Editor
-  pub ids : List SentRequestId
+  pub ids : List SentRequest
   pub wire : Wire
   pub announced : List AnnouncedDocument
   pub applied : List Applied
@@ -162,7 +162,7 @@ IsReadOnlyRequest (Err fault) = ⊤
 -- requests no edits that the editor applies. It is a response, JSON that isn't a message, a
 -- notification that the server ignores, or a request that changes nothing in the session and
 -- doesn't have the id of a request for edits.
-abbrev pub IsUnmodeledMessage : List SentRequestId → MessageMeaning → Type 0
+abbrev pub IsUnmodeledMessage : List SentRequest → MessageMeaning → Type 0
 IsUnmodeledMessage ids not_json = ⊥
 IsUnmodeledMessage ids not_a_message = ⊤
 IsUnmodeledMessage ids response = ⊤
@@ -173,7 +173,7 @@ IsUnmodeledMessage ids (request id method params) =
 IsUnmodeledMessage ids (notice method params) = notification_by_method method params ≡ other
 
 -- states that the content is a message outside the model (`IsUnmodeledMessage`)
-abbrev pub IsUnmodeledContent : List SentRequestId → List ℕ → Type 0
+abbrev pub IsUnmodeledContent : List SentRequest → List ℕ → Type 0
 IsUnmodeledContent ids content =
     (json : Data) × ReadsContent content (Some json) × IsUnmodeledMessage ids (meaning_of json)
 
@@ -224,7 +224,7 @@ AcceptsEdits client (format indent) = ⊤
 
 -- states that the sent request with number `k` asks for these edits (`ask`) of the document with
 -- this uri, and that it has this id
-pub record IsAskWithId (ids : List SentRequestId) (requested : List SentAsk) (id : Data) (k : ℕ)
+pub record IsAskWithId (ids : List SentRequest) (requested : List SentAsk) (id : Data) (k : ℕ)
     (uri : List ℕ) (ask : Ask) : Type 0 where
   pub numbered : ask_number_by_id ids id ≡ Some k
   pub is : IsAsk requested k uri ask
@@ -232,7 +232,7 @@ pub record IsAskWithId (ids : List SentRequestId) (requested : List SentAsk) (id
 -- States that the content is this message to a session whose client has these features. If the
 -- message is a request for edits, the client must accept the edits (`AcceptsEdits`).
 abbrev pub IsMessageToSession : ClientFeatures
-    → List SentRequestId
+    → List SentRequest
     → List SentAsk
     → MessageToServer
     → List ℕ
@@ -247,7 +247,7 @@ IsMessageToSession client ids requested (requests k uri ask) content =
 -- States that there are as many contents as messages, and that the n-th content is the n-th message
 -- to the session. If the n-th message is None, the n-th content is a message outside the model.
 abbrev pub AreMessagesToSession : ClientFeatures
-    → List SentRequestId
+    → List SentRequest
     → List SentAsk
     → List (Option MessageToServer)
     → List (List ℕ)
@@ -267,7 +267,7 @@ AreMessagesToSession client ids requested (None ∷ messages) [] = ⊥
 -- Returns the message that the editor reads in a content, or None if the content is no message to
 -- the editor. The list `ids` has the ids of the sent requests, so it decides which request an
 -- answer belongs to.
-abbrev pub message_to_editor_by_ids : List SentRequestId → List SentAsk → List ℕ → Option MessageToEditor
+abbrev pub message_to_editor_by_ids : List SentRequest → List SentAsk → List ℕ → Option MessageToEditor
 message_to_editor_by_ids ids requested content = message_to_editor_by (ask_number_by_id ids) requested content
 
 -- Returns the editor after it has read this message. The editor stores an answer that has edits,
@@ -296,7 +296,7 @@ abbrev pub Exchanges : Exchange → Turn → Exchange → Type 0
 Exchanges old (editor_moves move) new =
     (done : ActResult)
     × (announced : List AnnouncedDocument)
-    × (ids : List SentRequestId)
+    × (ids : List SentRequest)
     × (contents : List (List ℕ))
     × IsAllowedMove old.editor move done announced
     × AssignsAskIds old.ids done.sent ids
@@ -334,15 +334,15 @@ ExchangeCourse old (turn ∷ turns) new =
 -- ---- the law that every exchange follows the model
 
 -- states that the editor reads no message in the content, whatever requests the editor sends later
-abbrev pub NeverMeansMessage : List SentRequestId → List ℕ → Type 0
+abbrev pub NeverMeansMessage : List SentRequest → List ℕ → Type 0
 NeverMeansMessage ids content =
-    (later : List SentRequestId) (requested : List SentAsk)
+    (later : List SentRequest) (requested : List SentAsk)
     → message_to_editor_by_ids (ids ++ later) requested content ≡ None
 
 -- States that there are as many contents as messages, and that the editor reads the n-th message in
 -- the n-th content. If the n-th message is None, the editor never reads a message in the n-th
 -- content.
-abbrev pub AreMessagesToEditor : List SentRequestId
+abbrev pub AreMessagesToEditor : List SentRequest
     → List SentAsk
     → List (Option MessageToEditor)
     → List (List ℕ)

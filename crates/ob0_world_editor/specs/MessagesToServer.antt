@@ -63,7 +63,7 @@ message_to_server_in requested content =
     then option_and_then (λ d. message_to_server_of requested (meaning_of d)) (read content)
     else None
 
--- ---- the contents that the server reads as a given message
+-- ---- messages as the server reads them, and the contents that hold them
 
 -- returns the notification, as the server reads it, for this event of a document
 abbrev pub notification_for : DocumentEvent → Notification

@@ -33,7 +33,7 @@ use Rattle.ob0_inline.specs.declared.constants.NamedConstant.{NamedConstant}
 use Rattle.ob0_inline.specs.declared.uses.ConstantUse.{ConstantUse}
 use Rattle.ob0_inline.specs.Declarations.{contains_span, is_semicolon}
 use Rattle.ob0_inline.specs.Everywhere.{AnswersInlineEverywhere, IsConstantAt, any_use_shadowed, refusal_everywhere}
-use Rattle.ob0_inline.specs.Uses.{AnswersInlineHere, IsUseAt, is_predeclared_truth, refusal_here}
+use Rattle.ob0_inline.specs.Uses.{AnswersInlineHere, IsUseAt, value_text_keeps_meaning, refusal_here}
 use Rattle.ob0_inline.specs.Values.{value_factor, value_text}
 use Rattle.ob0_inline.proofs.UsesAreIdentifiers.{one_place}
 use Rattle.ob0_edits.specs.Inlinings.{InlinesIn, IsInliningRefusedIn}
@@ -61,7 +61,7 @@ abbrev refused_at : TextWithTokens → Tree ℕ module_text → ℕ → ℕ → 
 refused_at s t token occurrence value =
     if nat_lt max_text (length (text_after_replacement s (token ∷ []) (value_text value))) then Some TooLong
     else if nat_lt 100 (nesting (inlined (tree_with_names s t) (single_occurrence occurrence) (value_factor value))) then Some TooDeep
-    else if is_predeclared_truth (tree_with_names s t) occurrence value then None
+    else if value_text_keeps_meaning (tree_with_names s t) occurrence value then None
     else Some Shadowed
 
 module _ {m n : ParsedModule} (e : Same m n) (parsed : IsParsed n) (offset : ℕ) (u v : ConstantUse) (at : IsUseAt m offset u) (also : IsUseAt n offset v) where

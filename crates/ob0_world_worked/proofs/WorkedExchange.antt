@@ -36,7 +36,7 @@ use Rattle.ob0_world_rules.specs.Editors.{AppliesAnswer, opening_result_as, revi
 use Rattle.ob0_world_rules.specs.EveryEditor.{editor_moves, editor_sends_unmodeled, editor_takes, server_takes}
 use Rattle.ob0_world_rules.specs.PublicationsInOrder.{AnnouncedDocument}
 use Rattle.ob0_world_rules.proofs.UriLaws.{get_put}
-use Rattle.ob0_world.specs.Exchanges.{BeginsExchange, Exchange, Exchanges, IsActionsRequest, SentRequestId, ask_number_by_id, number_id, message_to_editor_by_ids, after_reading_if_any}
+use Rattle.ob0_world.specs.Exchanges.{BeginsExchange, Exchange, Exchanges, IsActionsRequest, SentRequest, ask_number_by_id, number_id, message_to_editor_by_ids, after_reading_if_any}
 use Rattle.ob0_world_worked.specs.WorkedText.{line_position, worked_text}
 use Rattle.ob0_world_worked.specs.WorkedAnswers.{range_on_line, replacement_on_line}
 use Rattle.ob0_world_worked.specs.WorkedExchange.{WorkedExchangeExists, actions_params, actions_request, hover_request, hover_params, inlined_text, inlining_context, worked_revision, change_notification, initialized_notification, open_notification, worked_turns, uri}
@@ -86,10 +86,10 @@ editor₃ = record editor₂ { answers = record { number = 1; edits = the_edits 
 abbrev editor₄ : Editor
 editor₄ = with_document (without_answer editor₃ 1) uri (revised_document document₀ worked_revision)
 
-abbrev hover_id : SentRequestId
+abbrev hover_id : SentRequest
 hover_id = record { id = number_id 1; ask = None }
 
-abbrev ask_id : SentRequestId
+abbrev ask_id : SentRequest
 ask_id = record { id = number_id 2; ask = Some 1 }
 
 abbrev announced₀ : AnnouncedDocument
@@ -98,7 +98,7 @@ announced₀ = record { uri = uri; document = document₀ }
 abbrev announced₁ : AnnouncedDocument
 announced₁ = record { uri = uri; document = revised_document document₀ worked_revision }
 
-abbrev exchange : Editor → List SentRequestId → ServerState → List (List ℕ) → List (List ℕ) → List (List ℕ) → List (List ℕ) → List AnnouncedDocument → List Applied → Exchange
+abbrev exchange : Editor → List SentRequest → ServerState → List (List ℕ) → List (List ℕ) → List (List ℕ) → List (List ℕ) → List AnnouncedDocument → List Applied → Exchange
 exchange e ids session taken to_server got to_editor announced applied =
     record { editor = e; ids = ids; wire = record { session = session; taken = taken; to_server = to_server; got = got; to_editor = to_editor }; announced = announced; applied = applied }
 
@@ -302,7 +302,7 @@ module _ (alone : ConstantUsesAreFactors) (keeps : InliningKeepsTypingAndRuns) (
 
 -- ---- the editor takes what was sent
 
-abbrev ids₂ : List SentRequestId
+abbrev ids₂ : List SentRequest
 ids₂ = hover_id ∷ ask_id ∷ []
 
 reads_none : message_to_editor_by_ids ids₂ (the_ask ∷ []) (content_of shows_none) ≡ Some (publishes uri (Some (pos 0)) true)

@@ -1,7 +1,7 @@
 use Rattle.std.proofs.Common.{Err, inl, sym, ap, ◌∙◌, subst}
 use Rattle.ob0_tree.specs.ParsedModule.{named_tree_of}
 use Rattle.ob0_scope_table.specs.Resolution.{Resolution}
-use Rattle.ob0_inline.specs.Uses.{IsUse, is_predeclared_truth}
+use Rattle.ob0_inline.specs.Uses.{IsUse, value_text_keeps_meaning}
 use Rattle.ob0_inline.proofs.AtUses.{IsRefused, Made, answer_ok, answer_refused, answer_shadowed}
 use Rattle.ob0_inline.proofs.one_use.inline_use.Goals as goal
 
@@ -27,7 +27,7 @@ returns-then-branch g c =
     record { edits_are = c.in-Ok.ensures.edits; make_text = record { leaves = c.in-Ok.ensures.inlined; short = c.in-Ok.ensures.short } } in
     answer_ok c.args.«module».now c.resolved-names.ensures.well_typed u c.requires.is_use c.constant_uses_are_factors.ensures c.value_is_scalar.ensures c.inlining_keeps_typing_and_runs.ensures unit content edits
     (subst (λ (r : Resolution). Made r u unit content edits) c.resolved-names.ensures.value there)
-    (ap (λ (r : Resolution). is_predeclared_truth (named_tree_of r.module_read) u.occurrence u.value) (sym c.resolved-names.ensures.value) ∙ (sym c.in_ok-is_predeclared_truth-in-Ok.ensures ∙ c.if-branch.true))
+    (ap (λ (r : Resolution). value_text_keeps_meaning (named_tree_of r.module_read) u.occurrence u.value) (sym c.resolved-names.ensures.value) ∙ (sym c.in_ok-value_text_keeps_meaning-in-Ok.ensures ∙ c.if-branch.true))
 
 pub returns-else-branch : goal.returns-else-branch
 returns-else-branch g c =
@@ -39,4 +39,4 @@ returns-else-branch g c =
     record { edits_are = c.in-Ok.ensures.edits; make_text = record { leaves = c.in-Ok.ensures.inlined; short = c.in-Ok.ensures.short } } in
     inl (answer_shadowed c.args.«module».now c.resolved-names.ensures.well_typed u c.requires.is_use c.constant_uses_are_factors.ensures c.value_is_scalar.ensures unit content edits
     (subst (λ (r : Resolution). Made r u unit content edits) c.resolved-names.ensures.value there)
-    (ap (λ (r : Resolution). is_predeclared_truth (named_tree_of r.module_read) u.occurrence u.value) (sym c.resolved-names.ensures.value) ∙ (sym c.in_ok-is_predeclared_truth-in-Ok.ensures ∙ c.if-branch.false)))
+    (ap (λ (r : Resolution). value_text_keeps_meaning (named_tree_of r.module_read) u.occurrence u.value) (sym c.resolved-names.ensures.value) ∙ (sym c.in_ok-value_text_keeps_meaning-in-Ok.ensures ∙ c.if-branch.false)))

@@ -2,7 +2,7 @@ use Rattle.std.proofs.Common.{List, vec_len}
 use Rattle.ob0_scan.specs.declared.lexeme.Token.{Token}
 use Rattle.ob0_scan.specs.SameKinds.{HasSameKinds}
 use Rattle.ob0_parse.specs.KeptTokens.{HoldsForEach, IsProcedureInPlace, IsKeptInPlace}
-use Rattle.ob0_parse.proofs.kept.relocate_made_procedures.Given as goal
+use Rattle.ob0_parse.proofs.kept.relocate_parsed_procedures.Given as goal
 
 abbrev pub invariant-loop-procedure : goal.invariant-loop-procedure
 invariant-loop-procedure l = (old new : List Token) → HasSameKinds l.same old new → HoldsForEach (IsProcedureInPlace old) l.initial.made.items → HoldsForEach (IsKeptInPlace new) l.initial.kept.items → HoldsForEach (IsProcedureInPlace old) l.made.items × HoldsForEach (IsKeptInPlace new) l.kept.items

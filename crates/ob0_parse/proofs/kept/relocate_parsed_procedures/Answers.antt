@@ -2,7 +2,7 @@ use Rattle.std.proofs.Common.{◌∷◌, [], List, subst}
 use Rattle.ob0_tree.specs.declared.tree.Procedure.{Procedure}
 use Rattle.ob0_parse.specs.KeptTokens.{HoldsForEach, IsProcedureInPlace}
 use Rattle.ob0_parse.proofs.Carried.{each_before, each_following}
-use Rattle.ob0_parse.proofs.kept.relocate_made_procedures.Goals as goal
+use Rattle.ob0_parse.proofs.kept.relocate_parsed_procedures.Goals as goal
 
 pub loop-procedure-preserved : goal.loop-procedure-preserved
 loop-procedure-preserved c = λ old new h m w.
