@@ -19,5 +19,5 @@ returns-in_ok-field_hover_with_type-in-Some c =
     let r = c.args.well_typed.now in
     let shapes = shapes_of c.declarations-known.result.now in
     let typed = c.typed_field.ensures ∙ (λ i. typed_field_by_objects (λ k. c.declarations-known.ensures k i) (c.resolved-names.ensures.value i) c.args.field) in
-    ap Some (c.in_ok-field_hover_with_type-in-Some.ensures ∙ ap (λ (q : Resolution). field_hover_with_type q c.args.field.token (type_shape shapes c.in-Some.found.of)) c.resolved-names.ensures.value)
+    ap Some (c.in_ok-field_hover_with_type-in-Some.ensures ∙ ap (λ (q : Resolution). field_hover_with_type q c.args.field.token (type_shape shapes c.in-Some.found.type_id)) c.resolved-names.ensures.value)
     ∙ ap (option_map (λ (f : TypedField). field_hover_with_type r c.args.field.token f.shape)) (ap (option_map (typed_field_view shapes)) (sym c.in-Some.is) ∙ typed)
