@@ -40,4 +40,4 @@ reanalyse_same_tree-requires-clause-resolved c =
 
 pub reanalyse_same_tree-requires-clause-before : goal.reanalyse_same_tree-requires-clause-before
 reanalyse_same_tree-requires-clause-before c =
-    record { earlier_module = had_module c.args.changed c.args.tree c.args.bindings c.args.types c.args.places c.requires; same_kinds = c.requires.alike c.if-not-same_kinds.false }
+    record { earlier_module = had_module c.args.changed c.args.tree c.args.bindings c.args.types c.args.places c.requires; same_kinds = c.requires.same_kinds c.if-not-same_kinds.false }
