@@ -66,7 +66,7 @@ refused_at s t token occurrence value =
 
 module _ {m n : ParsedModule} (e : Same m n) (parsed : IsParsed n) (offset : ℕ) (u v : ConstantUse) (at : IsUseAt m offset u) (also : IsUseAt n offset v) where
   same_named : Some (named_with u.token u.constant) ≡ Some (named_with v.token v.constant)
-  same_named = sym at.tree_with_names ∙ (one_name e offset ∙ also.tree_with_names)
+  same_named = sym at.named ∙ (one_name e offset ∙ also.named)
 
   use_token : u.token ≡ v.token
   use_token = ap (λ (o : Option Named). elim o [ Some x ↦ x.token | None ↦ u.token ]) same_named
@@ -92,7 +92,7 @@ module _ {m n : ParsedModule} (e : Same m n) (parsed : IsParsed n) (offset : ℕ
 
 use_there : {m n : ParsedModule} → Same m n → (offset : ℕ) (u : ConstantUse) → IsUseAt m offset u → IsUseAt n offset u
 use_there e offset u at = record {
-  tree_with_names = sym (one_name e offset) ∙ at.tree_with_names;
+  named = sym (one_name e offset) ∙ at.named;
   occurs = ap (λ t. slice_get (occurrences t) u.occurrence) (sym e.tree) ∙ at.occurs;
   has_value = ap (λ t. value_of_constant t u.constant) (sym (one_named_tree e)) ∙ at.has_value;
 }
@@ -126,7 +126,7 @@ refused_everywhere s t ordinal value first last =
 
 module _ {m n : ParsedModule} (e : Same m n) (offset : ℕ) (c d : NamedConstant) (at : IsConstantAt m offset c) (also : IsConstantAt n offset d) where
   same_constant : Some (named_with at.token c.ordinal) ≡ Some (named_with also.token d.ordinal)
-  same_constant = sym at.tree_with_names ∙ (one_name e offset ∙ also.tree_with_names)
+  same_constant = sym at.named ∙ (one_name e offset ∙ also.named)
 
   constant_ordinal : c.ordinal ≡ d.ordinal
   constant_ordinal = ap (λ (o : Option Named). elim o [ Some x ↦ x.ordinal | None ↦ c.ordinal ]) same_constant
@@ -162,7 +162,7 @@ module _ {m n : ParsedModule} (e : Same m n) (unit : Unit) (text : List ℕ) (of
       let both : None ≡ Some refusal = sym free ∙ (same_refusal_everywhere e offset c d at also ∙ refused) in cc
   everywhere_or_refused refusal why (inl (c, at, (free, h))) (inl (d, also, inr memory)) = why memory
   everywhere_or_refused refusal why (inl (c, at, (free, h))) (inr (is, none)) =
-      let nothing : value_of_constant (named_tree_of n) c.ordinal ≡ None = none (record { token = at.token; ordinal = c.ordinal }) (sym (one_name e offset) ∙ at.tree_with_names) in
+      let nothing : value_of_constant (named_tree_of n) c.ordinal ≡ None = none (record { token = at.token; ordinal = c.ordinal }) (sym (one_name e offset) ∙ at.named) in
       let some : None ≡ Some (scalar_value c.value) = sym nothing ∙ (ap (λ t. value_of_constant t c.ordinal) (sym (one_named_tree e)) ∙ at.is_constant.has_value) in
       cc
   everywhere_or_refused refusal why (inr (bad, none)) k = absurd (cc)
