@@ -13,14 +13,14 @@ pub record IsModuleIn (text : List ℕ) (names : Resolution) : Type 0 where
   pub scan : IsScanOf text names.module_read.source
   pub well_typed : IsWellTyped names
 
--- holds if the text is a well-typed module, and `m` has the tokens and the tree of this module
+-- holds if the text is a well-typed module, and `m` has its tokens and its tree
 pub record IsReadAs (text : List ℕ) (m : Parsed) : Type 0 where
   pub scan : IsScanOf text m.source
   pub parsed : IsParsed m
   pub well_typed : WellTyped (named_tree_of m)
 
--- Holds if the option is Some of a value that `answers` relates to the text's module, or None and
--- the text isn't a well-typed module.
+-- Holds for Some if the text is a well-typed module and `answers` holds for this module and the
+-- value. Holds for None if the text isn't a well-typed module.
 abbrev pub Finds : {A : Type 0} → List ℕ → (Resolution → A → Type 0) → Option A → Type 0
 Finds text answers (Some answer) =
     (names : Resolution) × IsModuleIn text names × answers names answer

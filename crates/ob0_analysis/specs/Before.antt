@@ -1,4 +1,4 @@
--- The results for the text before a change, which an analysis reuses.
+-- States when an analysis of the changed text may reuse the analysis of the previous text.
 -- Rule: none; for private contracts: what an analysis takes over.
 use Rattle.std.specs.Prelude.{◌≡◌, ◌==◌, ℕ, true, IfSome, List, Option, map}
 use Rattle.ob0_scan.specs.Refused.{AreFaults}
@@ -25,9 +25,10 @@ use Rattle.ob0_analysis.specs.LastModule.{WasLast}
 use Rattle.ob0_analysis.specs.declared.last_module.LastModule.{LastModule}
 use Rattle.ob0_analysis.specs.declared.fault_places.FaultPlaces.{FaultPlaces}
 
--- Holds if the scan of the changed text reports correctly which tokens it shares with some old text `old`. The
--- procedures are kept from `old`, and the last module came before `old`. If the scan reports that all kinds are the
--- same, the procedures also belong to the new tokens.
+-- Holds if three things are true for a previous text `old`. The scan `c` of the changed text
+-- reports correctly which tokens both texts share. The procedures were parsed from the tokens of
+-- `old`, and also belong to the new tokens if the scan reports that all kinds are the same. If
+-- `last` is Some, it has the names and types of the last module before `old`.
 pub record AreKeptBefore (c : RescanInPlace) (procedures : Kept) (last : Option LastModule) : Type 0 where
   pub old : Scanned
   pub new_scan : IsScan c.rescan.tokens
@@ -37,15 +38,15 @@ pub record AreKeptBefore (c : RescanInPlace) (procedures : Kept) (last : Option 
   pub alike : c.alike ≡ true → AreKept c.rescan.tokens.tokens procedures
   pub was : IfSome last (WasLast old)
 
--- Holds if the places are the tokens at which this module has faults. `front` must be true exactly
--- if the first token starts at byte 0 or the text has no tokens.
+-- Holds if the places are the tokens at which a module has faults of names and types. `front` must
+-- be true exactly if the first token starts at byte 0 or the text has no tokens.
 pub record ArePlacesOf
     (source : Scanned) (b : Bindings) (types : ModuleTypes) (places : FaultPlaces) : Type 0 where
   pub names : places.names.items ≡ map (tokens_of source.tokens) b.faults.items
   pub of_types : places.types.items ≡ map (tokens_of source.tokens) types.faults.items
   pub front : places.front ≡ (first_start source == 0)
 
--- holds if `c` has the bindings of `b`, and faults at these tokens of the text
+-- holds if `c` has the same bindings as `b`, and the faults of `c` are at these tokens of the text
 pub record HasFaultsAt
     (source : Scanned) (b : Bindings) (places : List FaultAt) (c : Bindings) : Type 0 where
   pub ordinals : c.ordinals.items ≡ b.ordinals.items
@@ -53,7 +54,8 @@ pub record HasFaultsAt
   pub occurrences : c.occurrences.items ≡ b.occurrences.items
   pub faults : c.faults.items ≡ map (fault_at source) places
 
--- holds if `moved` has the results of `types`, and faults at these tokens of the text
+-- holds if `moved` equals `types`, except that the faults of `moved` are at these tokens of the
+-- text
 pub record HasTypesAt
     (source : Scanned) (types : ModuleTypes) (places : List FaultAt) (moved : ModuleTypes)
     : Type 0 where
@@ -62,8 +64,8 @@ pub record HasTypesAt
   pub faulty : moved.faulty ≡ types.faulty
   pub faults : moved.faults.items ≡ map (fault_at source) places
 
--- holds if this tree, these bindings and these results for types belong to the text, and the places belong to its
--- faults
+-- holds if this tree, these bindings and this result of checking types belong to the text, and
+-- `places` has the tokens of the text's faults
 pub record IsModuleOver
     (source : Scanned) (tree : ModuleTree) (b : Bindings) (types : ModuleTypes)
     (places : FaultPlaces) : Type 0 where
@@ -72,9 +74,9 @@ pub record IsModuleOver
   pub types_are : AreTypesOf (resolution_by (parsed_by source tree) b) types
   pub places_are : ArePlacesOf source b types places
 
--- Holds if the previous text was the module with this tree, these bindings and these results for
--- types, with faults at these places. The scan of the changed text reports correctly which tokens,
--- kinds, names and spellings both texts share.
+-- Holds if a previous text was a module with this tree, these bindings, this result of checking its
+-- types, and faults at these places. The scan `c` of the changed text must report correctly which
+-- tokens both texts share, and whether all kinds, all names or all spellings are the same.
 pub record IsModuleBefore
     (c : RescanInPlace) (tree : ModuleTree) (b : Bindings) (types : ModuleTypes)
     (places : FaultPlaces) : Type 0 where
@@ -90,8 +92,9 @@ pub record IsModuleBefore
   pub same_words : c.same_words ≡ true
       → words_in c.rescan.tokens.text c.rescan.tokens.tokens ≡ words_in old.text old.tokens
 
--- Holds if the previous text was the module with these parts and faults. Its tokens have the same
--- spelling as the tokens of the text `new`.
+-- Holds if a previous text was a module with this tree, these bindings, this result of checking its
+-- types, and faults at these places. The tokens of that text must have the same spelling as the
+-- tokens of `new`.
 pub record IsWrittenAsBefore
     (new : Scanned) (tree : ModuleTree) (b : Bindings) (types : ModuleTypes) (places : FaultPlaces)
     : Type 0 where
@@ -100,9 +103,9 @@ pub record IsWrittenAsBefore
   pub alike : AreWrittenAlike old new
   pub parsed : IsParsed (parsed_by new tree)
 
--- Holds for lexical faults if they are the faults of the changed text. The returned old tokens must
--- still have this refusal, these kept procedures and this last module. Always holds for lack of
--- memory.
+-- Holds for a scan that failed because of lexical faults if these are the faults of the changed
+-- text. The failed scan also returns the old tokens. This refusal, these procedures and this last
+-- module must belong to them. Always holds if the scan failed for lack of memory.
 abbrev pub IsUnreadRefusal : List ℕ
     → ParseRefusal
     → Kept
@@ -117,8 +120,9 @@ IsUnreadRefusal text refusal procedures last (rescanned.Faults faults tokens) =
     × IfSome last (WasLast tokens)
 IsUnreadRefusal text refusal procedures last rescanned.Memory = Unit {0}
 
--- Holds for lexical faults if they are the faults of the changed text. The returned old tokens must
--- still have this tree, these bindings and these types. Always holds for lack of memory.
+-- Holds for a scan that failed because of lexical faults if these are the faults of the changed
+-- text. The failed scan also returns the old tokens. This tree, these bindings and these types must
+-- belong to them. Always holds if the scan failed for lack of memory.
 abbrev pub IsUnreadModule : List ℕ
     → ModuleTree
     → Bindings

@@ -33,7 +33,7 @@ pub record Complaint : Type 0 where
 abbrev pub complaint_in : Diagnosis → Complaint
 complaint_in d = record { code = d.code.now; said = string_bytes d.message; span = d.span }
 
--- holds if the text has lexemes and the tree spells its tokens
+-- holds if the text can be scanned and the tree spells its tokens
 pub record IsTextOf (tree : Tree Name module_text) (text : List ℕ) : Type 0 where
   pub scanned : Scanned
   pub scan : IsScanOf text scanned
@@ -61,7 +61,7 @@ pub record ReportsLexemes (text : List ℕ) (reported : List Complaint) : Type 0
 
 -- ---- a text with lexemes and without a tree
 
--- returns the span of a token; without a token, an empty span at the end of the text
+-- returns the span of a token; for None, an empty span at the end of the text
 abbrev pub place_in : List ℕ → Option Token → Span
 place_in text (Some token) = token.span
 place_in text None = record { start = length text; end = length text }
@@ -70,23 +70,24 @@ place_in text None = record { start = length text; end = length text }
 abbrev pub place_of : Scanned → ℕ → Span
 place_of s token = place_in s.text (slice_get s.tokens token)
 
--- returns the complaint that the parser expects this word at this place
+-- returns the complaint of a syntax error: `expected` followed by this word, at this place
 abbrev pub expects : List ℕ → Span → Complaint
 expects word place =
     record { code = codes "Syntax"; said = codes "expected " ++ word; span = place }
 
--- returns the complaint that nesting is too deep at this place
+-- returns the complaint that a construct at this place is nested too deep
 abbrev pub too_deep : Span → Complaint
 too_deep place = record { code = codes "TooDeep"; said = codes "nested too deep"; span = place }
 
--- Holds if the complaint reports this refusal by the parser, at the refused token. Lack of memory
--- is never reported.
+-- Holds if the complaint reports this refusal of the parser, at the refused token. Never holds for
+-- lack of memory.
 abbrev pub IsRefusalAt : Scanned → ParseRefusal → Complaint → Type 0
 IsRefusalAt s (Syntax token expected) c = c ≡ expects (expected_text expected) (place_of s token)
 IsRefusalAt s (TooDeep token) c = c ≡ too_deep (place_of s token)
 IsRefusalAt s Memory c = ⊥
 
--- holds if the parser refuses the text and the only complaint is at the refused token
+-- holds if the parser refuses the text and the list has only one complaint, which reports this
+-- refusal
 pub record ReportsParser (text : List ℕ) (reported : List Complaint) : Type 0 where
   pub scanned : Scanned
   pub scan : IsScanOf text scanned
@@ -98,8 +99,8 @@ pub record ReportsParser (text : List ℕ) (reported : List Complaint) : Type 0 
 
 -- ---- a text with a tree that isn't well-typed
 
--- Holds if the text has a tree that isn't well-typed, and the list reports the first faults of its declarations, names
--- and types. There is at least one, and at most a hundred are reported.
+-- Holds if the text has a tree that isn't well-typed, and the list reports the first faults of its
+-- names and types: at least one, and at most a hundred.
 pub record ReportsTypes (text : List ℕ) (reported : List Complaint) : Type 0 where
   pub names : Resolution
   pub resolved : IsResolution names
@@ -113,14 +114,14 @@ pub record ReportsTypes (text : List ℕ) (reported : List Complaint) : Type 0 w
 
 -- ---- every text
 
--- Holds if the list reports the text's lexical faults. If there are none, it reports the parser's refusal. If there is
--- no refusal either, it reports the faults of names and types.
+-- Holds if the list reports the errors of a text that isn't a well-typed module. These are its
+-- lexical faults, or the parser's refusal, or the faults of names and types.
 abbrev pub ReportsFaults : List ℕ → List Complaint → Type 0
 ReportsFaults text reported =
     ReportsLexemes text reported ⊎ (ReportsParser text reported ⊎ ReportsTypes text reported)
 
--- holds if the text is a well-typed module and nothing is reported, or it isn't one and its errors
--- are reported
+-- holds if the text is a well-typed module and the list is empty, or if it isn't one and the list
+-- reports its errors
 abbrev pub Reports : List ℕ → List Complaint → Type 0
 Reports text reported =
     (IsWellTypedModule text × (reported ≡ []))

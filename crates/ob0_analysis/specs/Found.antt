@@ -1,4 +1,4 @@
--- The invariants of a text's analysis.
+-- The invariants of the analysis of a text.
 -- Rule: none; for private contracts: what an analysis keeps.
 use Rattle.std.specs.Prelude.{ℕ, IfSome, List, string_bytes}
 use Rattle.ob0_scan.specs.Refused.{AreFaults}
@@ -21,18 +21,18 @@ IsDecided (Syntax token expected) = Unit {0}
 IsDecided (TooDeep token) = Unit {0}
 IsDecided Memory = ⊥
 
--- holds if the parser refuses these tokens for this reason
+-- holds if the parser refuses these tokens with this refusal, which isn't lack of memory
 abbrev pub IsRefusedByParser : Scanned → ParseRefusal → Type 0
 IsRefusedByParser tokens refusal = RefusedBy tokens refusal × IsDecided refusal
 
--- returns the text that a reading was made from
+-- returns the text whose parsing had this outcome
 abbrev pub text_read : Reading → List ℕ
 text_read (NoTree ill) = ill.tokens.text
 text_read (Module m) = m.module_read.source.text
 
--- Holds for every module. For a text without a tree three things must hold: the parser refuses its
--- tokens with this refusal, the kept procedures belong to its tokens, and the last module came
--- before it.
+-- Holds for a text without a tree if three conditions hold. The parser refuses the text's tokens
+-- with this refusal. The kept procedures belong to these tokens. `last` is None, or it has the
+-- names and types of the last module before this text. Always holds for a module.
 abbrev pub IsRead : Reading → Type 0
 IsRead (NoTree ill) =
     IsRefusedByParser ill.tokens ill.refusal
@@ -40,19 +40,19 @@ IsRead (NoTree ill) =
     × IfSome ill.last (WasLast ill.tokens)
 IsRead (Module m) = Unit {0}
 
--- Holds for an error with lexical faults if the text has no lexemes and these are its faults. It
--- always holds for lack of memory.
+-- Holds for lexical faults if the text can't be scanned and these are its faults. Always holds for
+-- lack of memory.
 abbrev pub IsUnread : List ℕ → NotRead → Type 0
 IsUnread text (not_read.Faults faults last) = (IsScannable text → ⊥) × AreFaults text faults.items
 IsUnread text not_read.Memory = Unit {0}
 
--- returns the text of an analysis
+-- returns the text that was analysed
 abbrev pub text_of : Findings → List ℕ
 text_of (NoLexemes ill) = string_bytes ill.text
 text_of (Read read) = read
 
--- Holds for every text that has lexemes. Holds for another text if it can't be scanned and has
--- these faults.
+-- Holds for lexical faults if the text can't be scanned and these are its faults. Always holds for
+-- a text that has lexemes.
 abbrev pub IsFound : Findings → Type 0
 IsFound (NoLexemes ill) =
     (IsScannable (string_bytes ill.text) → ⊥) × AreFaults (string_bytes ill.text) ill.faults.items

@@ -4,9 +4,9 @@ use Rattle.std.specs.Prelude.{◌≡◌, ◌<◌, ◌+◌, Option, Some}
 use Rattle.ob0_scan.specs.declared.tokens.SameTokens.{SameTokens}
 use Rattle.ob0_scope_table.specs.declared.one_body.BodyPlace.{BodyPlace}
 
--- Holds if the current module has the body that the earlier module has at `was`, and the tokens
--- that differ lie in this body. Both bodies begin at the same token before these tokens, and both
--- end at the same distance after them.
+-- Holds if the body of the earlier module at `was` and the body of the current module at `now` are
+-- at the same place, and the tokens that may differ lie in them. Both bodies begin at the same
+-- token before these tokens, and both end at the same distance after them.
 pub record IsSameBody (was : BodyPlace) (now : Option BodyPlace) (s : SameTokens) : Type 0 where
   pub place : BodyPlace
   pub is : now ≡ Some place

@@ -1,4 +1,4 @@
--- A text with the same tree as the previous one.
+-- A text with the same tree as the previous text.
 -- Rule: none; for private contracts: what an analysis takes over.
 use Rattle.std.specs.Prelude.{◌≡◌}
 use Rattle.ob0_scan.specs.Reused.{kinds}
@@ -9,8 +9,8 @@ use Rattle.ob0_scope_table.specs.declared.resolved.Bindings.{Bindings}
 use Rattle.ob0_types.specs.declared.checked.ModuleTypes.{ModuleTypes}
 use Rattle.ob0_analysis.specs.LastModule.{HadModule}
 
--- holds if the previous text was a module with these results, and the tokens of both texts have the
--- same kinds
+-- holds if an earlier text was a module with this tree, these bindings and this result of checking
+-- its types, and the tokens of that text have the same kinds as the tokens of `new`
 pub record HadTree
     (new : Scanned) (tree : ModuleTree) (b : Bindings) (types : ModuleTypes) (s : SameTokens)
     : Type 0 where

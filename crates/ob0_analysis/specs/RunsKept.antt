@@ -1,4 +1,4 @@
--- An edit of a text that keeps the runs of its module.
+-- Two texts whose modules have the same runs.
 -- Rule: docs/PROTOCOL.md, Requests on documents 10.
 use Rattle.std.specs.Prelude.{ℕ, List}
 use Rattle.ob0_language_runs.specs.EditLaws.{SameRuns}

@@ -6,43 +6,42 @@
 //! - For a text with lexical faults, an `IllLexed`: the text, its faults, and the last `ReadText`
 //!   before it.
 //!
-//! The value of an `Analysis` is only the text; its invariant says that everything in it belongs to
-//! that text (`IsFound`, `IsRead`). So `of` and `after` have the same clause, and contracts can't
-//! see what is reused. An analysis can keep more without a change in the crates above.
+//! The value of an `Analysis` is only the text. Its invariant says that everything in it belongs to
+//! that text (`IsFound`, `IsRead`). So `of` and `after` have the same clause, and contracts don't
+//! mention what is reused. If an analysis reuses more, the crates above don't change.
 //!
-//! `after` finds the common beginning and end of both texts (`Difference::between`) and scans the
-//! rest in place of the old tokens (`rescan_in_place`). What happens next depends on the tokens:
-//! - All tokens have the same kinds as before: the tree is kept. It consists of token indexes, so
-//!   it also spells the new tokens (`tree_stays` of `ob0_parse`). Bindings are kept if the
-//!   identifiers have the same spelling and no name has a fault. If the tokens that may differ in
-//!   spelling lie in one body, only that body's names are bound again. The types are then checked
-//!   with the help of the old results (`one_body.rt`). Otherwise all names are bound and all types
+//! `after` finds the common beginning and end of the old and the new text (`Difference::between`).
+//! It scans only the rest, and replaces the old tokens there (`rescan_in_place`). The next step
+//! depends on the tokens:
+//! - All tokens have the same kinds as before, and the old text has a tree: the tree is kept. It
+//!   consists of token indexes, so it also spells the new tokens (`tree_stays` of `ob0_parse`).
+//!   Bindings are kept if the identifiers have the same spelling and no name has a fault. If the
+//!   tokens that may differ in spelling lie in one body, only the names there are bound again, and
+//!   the types outside it are reused (`one_body.rt`). Otherwise all names are bound and all types
 //!   are checked again.
-//! - All tokens have the same kinds as in a text that the parser refused: the refusal is kept
-//!   (`refusal_stays`). A module beginning with the new tokens up to that token would, with the old
-//!   names and numbers, also begin with the old ones. So half of the keystrokes in an unfinished
-//!   statement need no parsing.
+//! - All tokens have the same kinds as before, and the parser refused the old text: the refusal is
+//!   kept (`refusal_stays`). The parser looks only at kinds, so it would stop at the same token.
+//!   This saves the parsing for half of the keystrokes in an unfinished statement.
 //! - A kind has changed: procedures of the module's own block and its body are reused
-//!   (`tree_after`). If the tokens that differ lie in one body of both modules, after its first
-//!   identifier, all other results are moved (`new_body.rt`). Without that body both modules have
-//!   the same spelling, because a body begins at the last BEGIN before its first identifier. Only
-//!   one tree spells given tokens (`body_replaced` in `proofs/NewBody.antt`). Texts that the parser
-//!   refuses may lie between these two modules: the results for the earlier module are kept
-//!   meanwhile (`last_module.rt`).
+//!   (`tree_after`). If the tokens that differ lie in one body of both modules, after the body's
+//!   first identifier, all results outside the body are kept, with their tokens moved
+//!   (`new_body.rt`). The two modules are equal outside this body (`body_replaced` in
+//!   `proofs/NewBody.antt`). Between them there may be texts that the parser refuses: meanwhile the
+//!   results for the earlier module are kept (`last_module.rt`).
 //!
 //! If all tokens have the same spelling (`words_in`), for example after a change of blanks, line
 //! endings or comments, everything is kept (`of_same_words`). The tree has the same names and
 //! numbers, and each fault is at the same tokens (`bindings_keep_tokens` of `ob0_scope`,
-//! `types_keep_tokens` of `ob0_types`). Faults have spans, so binary search finds their tokens
-//! before the scan, and their spans are made again after it (`FaultPlaces`). A fault without tokens
-//! is at the text's start. So this is done only if both texts begin with a token, or neither does
-//! (`AreWrittenAlike`).
+//! `types_keep_tokens` of `ob0_types`). Faults are stored with spans. So the tokens of each fault
+//! are found by binary search before the scan, and the spans are computed again after it
+//! (`FaultPlaces`). A fault without tokens is at the text's start. So this is done only if both
+//! texts begin with a token, or neither does (`AreWrittenAlike`).
 //!
-//! A text with lexical faults keeps all results for the last text that had lexemes, because a
-//! failing scan returns the old tokens (`IsRightRefusalOver`). After any number of such texts, the
-//! next successful scan starts from them; so a bad character that comes and goes loses nothing.
-//! Nothing is kept from a much longer text (`SPARED`), whether it was the previous text or an
-//! earlier one (`room`).
+//! If a new text has lexical faults, all results for the last text that had lexemes are kept,
+//! because a failing scan returns the old tokens (`IsRightRefusalOver`). The next successful scan
+//! starts from these tokens, after any number of texts with lexical faults. So if a bad character
+//! is typed and removed, nothing is lost. If the previous text or an earlier one was much longer
+//! than the new one (`SPARED`, `room`), nothing is kept.
 
 ghost use Rattle.std.specs.Prelude.{◌≡◌, ◌≤◌, IfErr, IfOk, MatchOption, length, map};
 ghost use Rattle.std.specs.Str.{IsUtf8};
@@ -58,8 +57,8 @@ use ob0_scan::{Fault, ScanRefusal, scan};
 use std::alloc::{AllocError, Global};
 use std::marker::Model;
 
-/// A previous analysis is dropped if half of the room of its lists exceeds the new text's length by more than this
-/// number of bytes.
+/// An old analysis is dropped if half of the room in its lists exceeds the new text's length by
+/// more than this number of bytes.
 const SPARED: usize = 4096;
 
 /// The analysis of a text with lexical faults: the text, its faults, and the analysis of the last text that had
@@ -78,8 +77,8 @@ pub(crate) enum Findings {
     Read(ReadText),
 }
 
-/// The analysis of a text. Contracts see only the text: everything else equals an analysis of that
-/// text from scratch. So an analysis can keep more without changing any contract.
+/// The analysis of a text. In contracts its value is only the text. All results in it belong to
+/// this text, so it answers like an analysis from scratch.
 pub struct Analysis {
     found: Findings,
     /// The length of the longest text since the last analysis from scratch. Lists keep their
@@ -129,8 +128,9 @@ impl Analysis {
         }
     }
 
-    /// Analyses another text, reusing what it has in common with the previous text (`ReadText::after`). If the new text
-    /// has lexical faults, the results for the last text that had lexemes are kept.
+    /// Analyses another text, and reuses results for the parts that both texts have in common
+    /// (`ReadText::after`). If the new text has lexical faults, the results for the last text that
+    /// had lexemes are kept.
     pub fn after(self, alloc: Global, text: &str) -> Result<Analysis, AllocError>
         ensures { IfOk result (λ a. a ≡ text.now) }
     {
@@ -144,8 +144,8 @@ impl Analysis {
         }
     }
 
-    /// Analyses a text after a text with lexical faults, starting from the last text that had lexemes, if it is kept.
-    /// `room` is the number of bytes for which its lists have room.
+    /// Analyses a text after a text with lexical faults. If the analysis of the last text that had
+    /// lexemes is kept, it is reused; its lists have room for a text of `room` bytes.
     fn after_faults(
         alloc: Global,
         ill: IllLexed,
@@ -165,9 +165,9 @@ impl Analysis {
         }
     }
 
-    /// Analyses a text, starting from the analysis of a text that has lexemes. The lists of that analysis have room for
-    /// a text of `room` bytes. If that is much more than the new text needs, nothing is reused, because lists keep
-    /// their capacity.
+    /// Analyses a text, and reuses the analysis `read` of a text that has lexemes. The lists of
+    /// `read` have room for a text of `room` bytes. If this is much more than the new text needs,
+    /// `read` is dropped, because reused lists keep their capacity.
     fn after_read(
         alloc: Global,
         read: ReadText,
@@ -193,8 +193,8 @@ impl Analysis {
         }
     }
 
-    /// Returns the analysis of a text with lexical faults. `last` is the kept analysis of the last text that had
-    /// lexemes, and `room` the number of bytes for which its lists have room.
+    /// Returns the analysis of a text with these lexical faults. `last` is the kept analysis of the
+    /// last text that had lexemes, and `room` is the number of bytes for which its lists have room.
     fn ill_lexed(
         alloc: Global,
         text: &str,
@@ -223,8 +223,9 @@ impl Analysis {
         }
     }
 
-    /// Returns the number of bytes of text for which the analysis has room: the length of its text, or of a longer
-    /// earlier one. A text with lexical faults counts in addition to the last text that had lexemes.
+    /// Returns the size of the analysis in bytes of text, as a measure of its memory. This is the
+    /// length of its text or, if that is longer, of the earlier text for which its lists have room.
+    /// If the text has lexical faults, both lengths are added.
     pub fn bytes(&self) -> usize
         ensures { length self.now ≤ result }
     {
@@ -235,7 +236,8 @@ impl Analysis {
         }
     }
 
-    /// Returns the module of the text with its tokens, tree, bindings and types. Returns None if the text has no tree.
+    /// Returns the module of the text with its tokens, tree, bindings and types. Returns None if
+    /// the text has no tree.
     pub(crate) fn module_parts(&self) -> Option<&ModuleParts>
         ensures { MatchOption result (¬ IsWellTypedModule self.now)
             (λ m. IsScanOf self.now m.now.module_read.source) }
@@ -247,9 +249,10 @@ impl Analysis {
     }
 
     /// Returns the errors of the text. There are none exactly if the text is a well-typed module.
-    /// If the text has lexical faults, the errors are these, in text order. If it has lexemes but no tree, the only
-    /// error is the parser's refusal, at the token where parsing stops. If it has a tree, the errors are the faults of
-    /// names and types. In the first and the last case at most a hundred are returned.
+    /// - If the text has lexical faults, the errors are the first hundred of these, in text order.
+    /// - If the text has lexemes but no tree, the only error is the parser's refusal, at the token
+    ///   where parsing stops.
+    /// - If the text has a tree, the errors are the first hundred faults of names and types.
     pub fn diagnoses(&self, alloc: Global) -> Result<Vec<Diagnosis>, AllocError>
         ensures reported { IfOk result (λ list. Reports self.now (map complaint_in list.items)) }
         ensures utf8 { IsUtf8 self.now }

@@ -1,14 +1,15 @@
 //! Questions to the module of a text.
 //!
-//! `ask` joins the kept tree, bindings and types to the tokens. If the module is well-typed, `ask`
-//! passes it to the question. No other function holds the whole chain of views. If the text isn't
-//! well-typed, `ask` returns None, and `diagnoses` of the same analysis gives the reason.
+//! `ask` builds views of the module from the kept tokens, tree, bindings and types. If the module
+//! is well-typed, `ask` passes the view of the well-typed module to the question. If the text isn't
+//! a well-typed module, `ask` returns None, and `diagnoses` of the same analysis gives the reason.
 //!
-//! A question is a struct with `impl Question`: `type Answer`, `ghost answers = { λ question names
-//! answer. .. }`, and `answer`, whose contract is `answers`. A statement about the text's
-//! characters is an implication from `IsModuleIn (utf8 content) names` and `content ≡ chars
-//! names.module_read.source.text`. A question that has to know the text says so in the ghost member
-//! `is_about`, which `ask` requires. Every other question omits it.
+//! A question is a struct with `impl Question`. The impl has the type `Answer` of the answers, the
+//! function `answer`, and a ghost member `answers = { λ question names answer. .. }`, which is the
+//! contract of `answer`. If `answers` is about the characters of the text, it is an implication
+//! from `IsModuleIn (utf8 content) names` and `content ≡ chars names.module_read.source.text`. If a
+//! question is only for one text, it states this in the ghost member `is_about`, which `ask`
+//! requires.
 
 ghost use Rattle.std.specs.Prelude.{⊤, ℕ, List, IfOk};
 ghost use Rattle.std.specs.Str.{IsUtf8};
@@ -25,7 +26,8 @@ use std::alloc::{AllocError, Global};
 pub trait Question {
     type Answer;
 
-    /// The requirement on the question and the text's bytes that callers of `ask` must prove. By default there is none.
+    /// The condition on the question and the text's bytes that callers of `ask` must prove. By
+    /// default, there is none.
     ghost is_about: { Self → List ℕ → Type 0 } = { λ _ _. ⊤ };
 
     /// The relation between the question, the module and its answer.
@@ -37,7 +39,8 @@ pub trait Question {
         ensures { IfOk result (λ answer. answers self.now module.now answer) };
 }
 
-/// Returns the answer of a question about the text's module. Returns None if the text isn't a well-typed module.
+/// Returns the answer to a question about the text's module. Returns None if the text isn't a
+/// well-typed module.
 pub fn ask<Q: Question>(
     alloc: Global,
     analysis: &Analysis,

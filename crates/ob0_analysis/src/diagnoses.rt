@@ -56,7 +56,7 @@ pub fn of_refusal(
     }
 }
 
-/// Returns the diagnosis `expected ..` with this word, at this span.
+/// Returns the diagnosis of a syntax error: `expected` followed by this word, at this span.
 fn expects(alloc: Global, word: &str, span: Span) -> Result<Diagnosis, AllocError>
     ensures { IfOk result (λ d. complaint_in d ≡ expected_at word.now span) }
 {

@@ -4,8 +4,8 @@ ghost use Rattle.std.specs.Prelude.{◌≡◌, ◌+◌, ◌-◌, ◌<◌, ◌≤
 ghost use Rattle.ob0_scan.specs.Reused.{IsReplaced};
 ghost use Rattle.ob0_analysis.specs.Pieces.{IsCommonPiece};
 
-/// A difference between two texts. The first text has `removed` bytes starting at byte `from`. The second text has
-/// `added` bytes in their place.
+/// A difference between two texts: the `removed` bytes of the first text that start at byte `from`
+/// are replaced by `added` bytes in the second text.
 #[derive(Clone, Copy, Debug, Drop, PartialEq, Eq)]
 pub(crate) struct Difference {
     pub(crate) from: usize,
@@ -14,8 +14,8 @@ pub(crate) struct Difference {
 }
 
 impl Difference {
-    /// Returns the difference between two texts without their common prefix, and without the common suffix of the
-    /// remaining bytes.
+    /// Returns the difference between two texts. It contains neither their common prefix nor the
+    /// common suffix of the remaining bytes.
     pub(crate) fn between(old: &str, new: &str) -> Difference
         ensures { IsReplaced old.now new.now result.from result.removed result.added }
     {
@@ -30,7 +30,8 @@ impl Difference {
     }
 }
 
-/// The number of bytes that are compared at once while the texts are equal.
+/// The number of bytes that are compared at once. Only the last of these pieces, in which the texts
+/// differ, is compared byte by byte.
 const PIECE: usize = 256;
 
 /// Returns the length of the common prefix of two texts, in bytes.
@@ -61,7 +62,8 @@ fn longer_prefix(a: &[u8], b: &[u8], known: usize, size: usize) -> usize
     count
 }
 
-/// Returns the length of the common suffix of two texts, in bytes. The first `from` bytes of each text don't count.
+/// Returns the length of the common suffix of two texts, in bytes. The first `from` bytes of each
+/// text aren't part of the suffix.
 fn common_back(a: &[u8], b: &[u8], from: usize) -> usize
     requires in_a { from ≤ length a.now }
     requires in_b { from ≤ length b.now }
@@ -94,7 +96,8 @@ fn longer_suffix(a: &[u8], b: &[u8], most: usize, known: usize, size: usize) -> 
     count
 }
 
-/// Returns true if both texts have `size` bytes at these places and the bytes are equal.
+/// Returns true only if both texts have `size` bytes at the byte offsets `in_a` and `in_b`, and
+/// these bytes are equal.
 fn is_same_piece(a: &[u8], b: &[u8], in_a: usize, in_b: usize, size: usize) -> bool
     ensures yes { result ≡ true → IsCommonPiece a.now b.now in_a in_b size }
 {

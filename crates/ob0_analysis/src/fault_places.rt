@@ -1,5 +1,5 @@
-//! The tokens at which a module has faults. After a change that keeps the spelling of all tokens, they give the faults
-//! their spans in the new text.
+//! The tokens at which a module has faults. After a change that keeps the spelling of all tokens,
+//! the spans of the faults in the new text are computed from these tokens.
 
 ghost use Rattle.std.specs.Prelude.{◌≡◌, ◌==◌, true, IfOk, map};
 ghost use Rattle.ob0_scope_table.specs.FaultTokens.{fault_at, first_start};
@@ -38,8 +38,8 @@ impl FaultPlaces {
         })
     }
 
-    /// Returns true if a text and the text of these places both begin with a token, or neither does. A text without
-    /// tokens counts as one that begins with a token.
+    /// Returns true if a text and the module's text both begin with a token, or neither does. A
+    /// text without tokens counts as one that begins with a token.
     pub(crate) fn keep_front(&self, tokens: &Tokens) -> bool
         ensures { result ≡ true → (first_start tokens.now == 0) ≡ self.now.front }
     {
@@ -54,8 +54,8 @@ fn begins_at_front(tokens: &Tokens) -> bool
     token_span(tokens, 0).start == 0
 }
 
-/// Returns the bindings for a text whose tokens have the same spelling as the module's. The faults are moved to the
-/// same tokens in that text.
+/// Adapts a module's bindings to a text whose tokens have the same spelling as the module's tokens.
+/// The spans of the faults are computed again, from the same tokens in that text.
 pub(crate) fn move_bindings(
     alloc: Global,
     tokens: &Tokens,
@@ -79,8 +79,8 @@ pub(crate) fn move_bindings(
     })
 }
 
-/// Returns the results of checking types for a text whose tokens have the same spelling as the module's. The faults are
-/// moved to the same tokens in that text.
+/// Adapts the result of checking a module to a text whose tokens have the same spelling as the
+/// module's tokens. The spans of the faults are computed again, from the same tokens in that text.
 pub(crate) fn move_types(
     alloc: Global,
     tokens: &Tokens,

@@ -1,12 +1,14 @@
-//! The results for the last text that was a module, while the parser refuses the texts after it.
+//! Keeps the names and types of the last text that was a module, while the parser refuses the texts
+//! after it.
 //!
-//! Most keystrokes in an unfinished statement leave a text without a tree. Meanwhile the names and types of the earlier
-//! module are kept, as long as the difference from it lies in one body. The difference must lie after the body's first
-//! identifier and before the END of its block. When the text has a tree again, only that body is bound and checked
-//! (`module_after`).
+//! After most keystrokes in an unfinished statement the text has no tree. Meanwhile the names and
+//! types of the earlier module are kept, as long as all differences from it lie in one body, after
+//! the body's first identifier and before the END of its block. When the text has a tree again,
+//! only that body is bound and checked (`module_after`).
 //!
-//! After the first text that the parser refuses, the whole body counts as different (`around`). The tree is dropped
-//! then, so the body's place couldn't be found later. Any further change must lie in the same body (`after`).
+//! The tree is dropped after the first text that the parser refuses, so the body can't be found
+//! again later. So for all later texts the whole body counts as different (`around`), and
+//! any further change must lie in the same body (`after`).
 
 ghost use Rattle.std.specs.Prelude.{◌≡◌, ◌≤◌, IfSome, Some};
 ghost use Rattle.ob0_analysis.specs.LastModule.{HadModule, IsStillSame, StaysLast, WasLast};
@@ -17,7 +19,8 @@ use ob0_tree::ModuleTree;
 use ob0_types::ModuleTypes;
 
 /// The names and types of the last text that was a module. `same` has the tokens that the current
-/// text shares with it, and `place` is the old place of the body that contains all differences.
+/// text shares with this module, and `place` is the place in this module of the body that contains
+/// all differences.
 #[derive(Drop)]
 pub(crate) struct LastModule {
     pub(crate) bindings: Bindings,
@@ -27,8 +30,8 @@ pub(crate) struct LastModule {
 }
 
 impl LastModule {
-    /// Returns the results for the previous module, if the tokens that differ lie in one of its bodies. Otherwise
-    /// returns None.
+    /// Keeps the names and types of the previous module if all tokens that differ lie in one of its
+    /// bodies. Otherwise returns None.
     pub(crate) fn of(
         tokens: &Tokens,
         tree: &ModuleTree,
@@ -50,8 +53,8 @@ impl LastModule {
         })
     }
 
-    /// Returns the results for the last module after a further change, if the differences still lie in the same body.
-    /// Otherwise returns None.
+    /// Keeps the names and types of the last module across a further change. Returns None if `last`
+    /// is None, or if the change doesn't lie in the body that contains all earlier differences.
     pub(crate) fn after(last: Option<LastModule>, change: SameTokens) -> Option<LastModule>
         ensures { StaysLast last change result }
     {
@@ -61,8 +64,8 @@ impl LastModule {
         }
     }
 
-    /// Returns the results for the last module after a further change. Returns None if the change doesn't lie in the
-    /// body that contains all differences so far.
+    /// Keeps the names and types of the last module across a further change. Returns None if the
+    /// change doesn't lie in the body that contains all earlier differences.
     fn moved(self, change: SameTokens) -> Option<LastModule>
         ensures { StaysLast (Some self) change result }
     {
@@ -86,8 +89,10 @@ impl LastModule {
     }
 }
 
-/// Returns the tokens that both texts share outside a body, if all differences lie between the body's first identifier
-/// and the END of its block. Otherwise returns None. `count` is the number of the current text's tokens.
+/// Extends the range of differences between two texts (`same`) to a whole body of the old text:
+/// from the token after the body's first identifier up to the END of its block, without the END.
+/// Returns None if a difference lies outside this range, or if the range would end after the
+/// current text's `count` tokens.
 fn around(same: SameTokens, body: BodyPlace, count: usize) -> Option<SameTokens>
     ensures { IfSome result (λ wider. IsStillSame same wider × (wider.new_suffix ≤ count)) }
 {
@@ -100,8 +105,8 @@ fn around(same: SameTokens, body: BodyPlace, count: usize) -> Option<SameTokens>
     Some(wider)
 }
 
-/// Extends the range of differences between two texts to `prefix..old_suffix`, as token indexes in the old text.
-/// Returns None if the extended range wouldn't contain the range `same`.
+/// Extends the range of differences between two texts (`same`) to `prefix..old_suffix`, as token
+/// indexes in the old text. Returns None if the new range doesn't contain the old one.
 fn widened(same: SameTokens, prefix: usize, old_suffix: usize) -> Option<SameTokens>
     ensures wider { IfSome result (IsStillSame same) }
     ensures prefix { IfSome result (λ wider. wider.prefix ≡ prefix) }

@@ -1,5 +1,6 @@
-//! The analysis of a text, as one value that is made once, kept and queried (`Analysis`, `ask`),
-//! and the errors of the text (`Analysis::diagnoses`).
+//! The analysis of a text as one value (`Analysis`), which is made once and then kept. Questions
+//! about the text's module are asked of it (`ask`). It also gives the errors of the text
+//! (`Analysis::diagnoses`).
 #![tactic(auto)]
 
 mod analysis;

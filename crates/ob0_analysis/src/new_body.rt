@@ -1,5 +1,5 @@
-//! A text in which the statements of one body were replaced. The results for the last module are reused for its names
-//! and types.
+//! Binds names and checks types of a text in which the statements of one body were replaced.
+//! Outside this body, the names and types of the last module are reused.
 
 ghost use Rattle.std.specs.Prelude.{◌≡◌, true, IfOk};
 ghost use Rattle.ob0_tree.specs.Parsed.{IsParsed, parsed_by};
@@ -20,8 +20,9 @@ use ob0_tree::{Module, ModuleTree};
 use ob0_types::{ModuleTypes, types_with_new_body};
 use std::alloc::{AllocError, Global};
 
-/// Analyses a module with the help of the names and types of the last module. If the tokens that may differ still lie
-/// in the same body, only that body is bound and checked again. Otherwise the whole module is bound and checked.
+/// Analyses a module, and reuses names and types of the last module if possible. If all tokens that
+/// may differ lie in one body of both modules, only that body is bound and checked again. Otherwise
+/// the whole module is bound and checked.
 pub(crate) fn module_after(
     alloc: Global,
     tokens: Tokens,
@@ -47,8 +48,9 @@ pub(crate) fn module_after(
     Ok(ModuleParts::from_parts(tokens, tree, names, types))
 }
 
-/// Returns true if the earlier and the current module have the same body. Both bodies begin at the same token, before
-/// the tokens that may differ, and both end at the same distance after these tokens.
+/// Returns true if the body of the earlier module (`was`) and the body of the current one (`now`)
+/// are at the same place: both begin at the same token, before the tokens that may differ, and both
+/// end at the same distance after these tokens. Returns false if `now` is None.
 fn is_same_body(was: BodyPlace, now: Option<BodyPlace>, same: SameTokens) -> bool
     ensures { result ≡ true → IsSameBody was now same }
 {

@@ -1,5 +1,5 @@
-//! A text with the same tree as the previous one. If the two differ in only one body, the previous
-//! names and types are reused.
+//! Binds names and checks types of a text that has the same tree as the previous text. If the two
+//! texts differ in only one body, the bindings and types outside this body are reused.
 
 ghost use Rattle.std.specs.Prelude.{◌≡◌, true, IfOk};
 ghost use Rattle.ob0_tree.specs.Parsed.{IsParsed, parsed_by, tree_of};
@@ -18,7 +18,7 @@ use ob0_tree::{Module, ModuleTree};
 use ob0_types::{ModuleTypes, types_again};
 use std::alloc::{AllocError, Global};
 
-/// Returns true if the tokens that may differ in spelling from the previous text lie in one body.
+/// Returns true if all tokens that may differ in spelling from the previous text lie in one body.
 pub(crate) fn is_in_one_body(tokens: &Tokens, tree: &ModuleTree, same: SameTokens) -> bool
     requires { IsParsed (parsed_by tokens.now tree.now) }
     ensures { result
@@ -28,8 +28,8 @@ pub(crate) fn is_in_one_body(tokens: &Tokens, tree: &ModuleTree, same: SameToken
     is_in_body(&read, same.prefix, same.old_suffix)
 }
 
-/// Binds the names of a text again that has the tree of the previous text. If only one body differs (`in_body`), only
-/// that body's names are bound again.
+/// Binds the names of a text that has the same tree as the previous text. If the texts differ in
+/// only one body (`in_body`), only that body's names are bound again.
 pub(crate) fn bind_again(
     alloc: Global,
     tokens: &Tokens,
@@ -52,8 +52,8 @@ pub(crate) fn bind_again(
     }
 }
 
-/// Checks the types of a text again that has the tree of the previous text. If only one body differs (`in_body`), the
-/// previous results are reused for the rest.
+/// Checks the types of a text that has the same tree as the previous text. If the texts differ in
+/// only one body (`in_body`), the previous types outside this body are reused.
 pub(crate) fn check_again(
     alloc: Global,
     tokens: &Tokens,

@@ -1,9 +1,9 @@
 //! A module with everything that its analysis found.
 //!
-//! A *view* joins each part to the layer below by a reference (`Module`, `Resolved`, `Checked`).
-//! Its invariant says that the part belongs to that layer. A view has two constructors, which
-//! require its invariant: `new` owns the part, and `from_parts` borrows it without allocating. A
-//! `ModuleParts` has the same value as its `Resolved`.
+//! A *view* (`Module`, `Resolved`, `Checked`) has one part and a reference to the view below it.
+//! Its invariant says that the part belongs to that view. A view has two constructors, which
+//! require this invariant: `new` owns the part, and `from_parts` borrows the part and doesn't
+//! allocate. In contracts, a `ModuleParts` has the same value as its `Resolved`.
 
 ghost use Rattle.std.specs.Prelude.{◌≡◌, IfOk};
 ghost use Rattle.ob0_tree.specs.Parsed.{IsParsed, parsed_by};
@@ -19,8 +19,8 @@ use ob0_types::{Checked, ModuleTypes, types_of};
 use std::alloc::{AllocError, Global};
 use std::marker::Model;
 
-/// A module as separate parts: its tokens, the tree that they spell, the bindings of its names, and the results of
-/// checking its types. No part borrows another.
+/// A module as separate parts: its tokens, their tree, the bindings of its names, and the results
+/// of checking its types. No part borrows another.
 #[derive(Drop)]
 pub(crate) struct ModuleParts {
     tokens: Tokens,
@@ -127,7 +127,7 @@ impl ModuleParts {
         &self.tokens
     }
 
-    /// Returns all parts of the module, so that each can be reused.
+    /// Takes the module apart and returns its parts, so that each can be reused.
     pub(crate) fn into_parts(self) -> (Tokens, ModuleTree, Bindings, ModuleTypes)
         ensures parsed { IsParsed (parsed_by result.0 result.1) }
         ensures resolved { IsResolution (resolution_by (parsed_by result.0 result.1) result.2) }

@@ -38,9 +38,9 @@ use ob0_types::laws::types_keep_tokens;
 use std::alloc::{AllocError, Global};
 use std::marker::Model;
 
-/// A text that has lexemes and no tree. It is kept as its tokens and the parser's refusal, with procedures that the
-/// next parse can reuse. `last` has the results for the last text that was a module, if that text differs in only one
-/// body.
+/// A text that has lexemes and no tree. It is kept as its tokens and the parser's refusal, with
+/// procedures that the next parse can reuse. `last` has the names and types of the last text that
+/// was a module. It is None unless the two texts differ in only one body.
 #[derive(Drop)]
 pub(crate) struct IllFormed {
     tokens: Tokens,
@@ -74,8 +74,8 @@ impl Model for ReadText {
     ghost invariant = { λ r. IsRead r.reading };
 }
 
-/// The reason why a changed text could not be analysed: lexical faults or lack of memory. The analysis of the previous
-/// text comes with the faults.
+/// The reason why a changed text can't be analysed: its lexical faults, or lack of memory. The
+/// analysis of the previous text is returned with the faults.
 #[derive(Drop)]
 pub(crate) enum NotRead {
     Faults(Vec<Fault>, ReadText),
@@ -91,8 +91,8 @@ impl From<AllocError> for NotRead {
 }
 
 impl ReadText {
-    /// Parses a text from its tokens. The procedures in `kept` and the results in `last` come from earlier texts and
-    /// are reused if possible.
+    /// Parses and analyses a text, given its tokens. The procedures in `kept` and the names and
+    /// types in `last` come from earlier texts and are reused if possible.
     pub(crate) fn of_tokens(
         alloc: Global,
         tokens: Tokens,
@@ -118,7 +118,8 @@ impl ReadText {
         }
     }
 
-    /// Analyses a text that has this tree, with the help of the results for the last module if there are any (`last`).
+    /// Binds the names and checks the types of a text that has this tree. If `last` is Some, the
+    /// names and types of the last module are reused.
     fn of_tree(
         alloc: Global,
         tokens: Tokens,
@@ -136,7 +137,7 @@ impl ReadText {
         Ok(ReadText::of_module(parts))
     }
 
-    /// Wraps a module as a text that has lexemes.
+    /// Returns the analysis of a text that is this module.
     fn of_module(parts: ModuleParts) -> ReadText
         ensures { result ≡ parts.module_read.source.text }
     {
@@ -145,13 +146,14 @@ impl ReadText {
         }
     }
 
-    /// Analyses a changed text, reusing what it has in common with the previous text:
-    /// - always the tokens and procedures;
+    /// Analyses a changed text. These results for the previous text are reused:
+    /// - always the tokens and procedures that both texts have in common;
     /// - if all tokens have the same kinds as before, the tree or the parser's refusal;
-    /// - if also all identifiers have the same spelling, their bindings;
+    /// - if also all identifiers have the same spelling and no name has a fault, their bindings;
     /// - if all tokens have the same spelling, everything, with the faults at the same tokens.
     ///
-    /// If the new text has lexical faults, the results for the previous text are returned.
+    /// If the new text has lexical faults, the error has these and the analysis of the previous
+    /// text.
     pub(crate) fn after(self, alloc: Global, text: &str) -> Result<ReadText, NotRead>
         ensures ok { IfOk result (λ r. r ≡ text.now) }
         ensures err { IfErr result (IsUnread text.now) }
@@ -163,7 +165,7 @@ impl ReadText {
         }
     }
 
-    /// Analyses a changed text if the parser refused the previous text.
+    /// Scans and analyses a changed text if the parser refused the previous text.
     fn after_refusal(alloc: Global, ill: IllFormed, text: &str) -> Result<ReadText, NotRead>
         requires { IsRead (NoTree ill) }
         ensures ok { IfOk result (λ r. r ≡ text.now) }
@@ -181,8 +183,9 @@ impl ReadText {
         }
     }
 
-    /// Returns the error for a changed text that has lexical faults or for which memory ran out, if the parser refused
-    /// the previous text. The kept results of that text are returned with the faults.
+    /// Returns the error for a changed text that can't be scanned, if the parser refused the
+    /// previous text. If the reason is lexical faults, the error also has the analysis of the
+    /// previous text.
     fn unread_refusal(
         _text: &str,
         unread: NotRescanned,
@@ -209,8 +212,9 @@ impl ReadText {
         }
     }
 
-    /// Analyses a changed text if the parser refused the previous one. The refusal is kept if the
-    /// tokens have the same kinds. Otherwise the kept procedures and the last module are used.
+    /// Analyses a changed and scanned text if the parser refused the previous text. If all tokens
+    /// have the same kinds as before, the refusal is kept. Otherwise the text is parsed, and the
+    /// kept procedures and the names and types of the last module are reused if possible.
     fn of_refused_scan(
         alloc: Global,
         changed: RescanInPlace,
@@ -245,7 +249,7 @@ impl ReadText {
         })
     }
 
-    /// Analyses a changed text if the previous text was a module.
+    /// Scans and analyses a changed text if the previous text was a module.
     fn after_module(alloc: Global, old: ModuleParts, text: &str) -> Result<ReadText, NotRead>
         ensures ok { IfOk result (λ r. r ≡ text.now) }
         ensures err { IfErr result (IsUnread text.now) }
@@ -260,8 +264,8 @@ impl ReadText {
         }
     }
 
-    /// Returns the error for a changed text that has lexical faults or for which memory ran out, if the previous text
-    /// was a module. The results for that module are returned with the faults.
+    /// Returns the error for a changed text that can't be scanned, if the previous text was a
+    /// module. If the reason is lexical faults, the error also has the analysis of that module.
     fn unread_module(
         _text: &str,
         unread: NotRescanned,
@@ -281,8 +285,9 @@ impl ReadText {
         }
     }
 
-    /// Analyses a changed text if the previous text was a module, with faults at the tokens in `places`. The tree is
-    /// kept if the tokens have the same kinds. The bindings and types are reused as far as possible.
+    /// Analyses a changed and scanned text if the previous text was a module, with faults at the
+    /// tokens in `places`. If all tokens have the same kinds as before, the tree is kept. The
+    /// bindings and types are reused if possible.
     fn of_scan(
         alloc: Global,
         changed: RescanInPlace,
@@ -314,8 +319,9 @@ impl ReadText {
         ReadText::of_same_tree(alloc, tokens, tree, bindings, types, same, same_names)
     }
 
-    /// Analyses a changed text in which the kinds of tokens changed. Procedures of the previous tree are reused. If the
-    /// modules differ in only one body, the previous names and types are also reused.
+    /// Parses and analyses a changed text in which a token has another kind. Procedures of the
+    /// previous tree are reused. If both modules differ in only one body, the names and types
+    /// outside it are also reused.
     fn of_other_kinds(
         alloc: Global,
         tokens: Tokens,
@@ -332,9 +338,9 @@ impl ReadText {
         ReadText::of_tokens(alloc, tokens, kept, last)
     }
 
-    /// Analyses a text with the same tree as the previous text. If the identifiers have the same spelling
-    /// (`same_names`) and no name has a fault, the bindings are kept. Otherwise names are bound again, because the
-    /// faults would be at other places.
+    /// Analyses a text with the same tree as the previous text. If the identifiers have the same
+    /// spelling (`same_names`) and no name has a fault, the bindings are kept. Otherwise names are
+    /// bound again, because the spans of the faults of names may have changed.
     fn of_same_tree(
         alloc: Global,
         tokens: Tokens,
@@ -359,8 +365,8 @@ impl ReadText {
         ReadText::of_bindings(alloc, tokens, tree, names, types, same, in_body)
     }
 
-    /// Analyses a text that has the previous tree and these bindings. If only one body differs (`in_body`), the
-    /// previous results for types are reused for the rest.
+    /// Checks the types of a text that has the previous tree and these bindings. If the texts
+    /// differ in only one body (`in_body`), the previous types outside it are reused.
     fn of_bindings(
         alloc: Global,
         tokens: Tokens,
@@ -381,8 +387,8 @@ impl ReadText {
         Ok(ReadText::of_module(parts))
     }
 
-    /// Analyses a text whose tokens have the same spelling as the previous text's. All results are kept, with the
-    /// faults at the same tokens.
+    /// Analyses a text whose tokens have the same spelling as the previous text's. The tree,
+    /// bindings and types are kept, and the faults are moved to the same tokens.
     fn of_same_words(
         alloc: Global,
         tokens: Tokens,
@@ -412,7 +418,8 @@ impl ReadText {
         }
     }
 
-    /// Returns the module of the text with its tokens, tree, bindings and types. Returns None if the text has no tree.
+    /// Returns the module of the text with its tokens, tree, bindings and types. Returns None if
+    /// the text has no tree.
     pub(crate) fn module_parts(&self) -> Option<&ModuleParts>
         ensures { MatchOption result (¬ IsWellTypedModule self.now)
             (λ m. IsScanOf self.now m.now.module_read.source) }
@@ -443,8 +450,8 @@ impl ReadText {
     }
 }
 
-/// Scans a changed text, reusing the tokens of the old text. If the text has lexical faults, the error has them and the
-/// old tokens.
+/// Scans a changed text, and reuses the tokens of the old text outside the change. If the new text
+/// has lexical faults, the error has these faults and the old tokens.
 fn scan_changed(alloc: Global, old: Tokens, text: &str) -> Result<RescanInPlace, NotRescanned>
     ensures ok { IfOk result (λ r. IsScanOf text.now r.rescan.tokens) }
     ensures same { IfOk result (λ r. HasSameTokens r.same old.tokens r.rescan.tokens.tokens) }

@@ -1,4 +1,4 @@
--- The command line that a list of words spells.
+-- Defines which command line a list of words means.
 -- Rule: docs/PROTOCOL.md, The program; clap's definition of a command line.
 use Rattle.std.specs.Prelude.{◌≡◌, ◌⊎◌, ◌≤◌, ℕ, List, [], Option, Some, codes, if◌then◌else◌, pos}
 use Rattle.std.specs.Str.{bytes_eq}
@@ -14,11 +14,12 @@ use Rattle.ob0_cli.specs.declared.line.CommandLine.TheVariants.{Serve, Check, Ru
 use Rattle.ob0_cli.specs.declared.line.CommandFault.{CommandFault}
 use Rattle.ob0_cli.specs.declared.line.CommandFault.TheVariants.{Refused, Memory}
 
--- The subcommand that was found, with the values of its arguments, or None.
+-- The subcommand that was found, with the values of its arguments, or None if no subcommand was
+-- found.
 abbrev pub FoundCommand : Type 0
 FoundCommand = Option (Text × List Row)
 
--- Holds if the number `n` is the value of this argument, given or by default.
+-- Holds if the number `n` is the value of the argument `id`, given or by default.
 abbrev pub IsNumber : Text → List Row → ℕ → Type 0
 IsNumber id rows n =
     (digits : Text)
@@ -50,21 +51,21 @@ NamesFile (Check file) path = file.now ≡ path
 NamesFile (Run file calls turns) path = file.now ≡ path
 NamesFile (Rename file position new) path = file.now ≡ path
 
--- Holds if a subcommand was found, and the command line is that subcommand's, with the values
--- found.
+-- Holds if a subcommand was found, and the command line is that subcommand with the values found
+-- for its arguments.
 abbrev pub IsReadFrom : FoundCommand → CommandLine → Type 0
 IsReadFrom found line =
     (name : Text) × (rows : List Row) × (found ≡ Some (name, rows)) × HoldsValues name rows line
 
--- Holds if the words have no fault by the definition of `ob0`, and their subcommand is this command
--- line.
+-- Holds if clap's definition of `ob0` finds no fault in the words, and this command line is the
+-- subcommand that they request, with its values.
 pub record Gives (words : List Text) (line : CommandLine) : Type 0 where
   pub fine : fault_of ob0_app words ≡ []
   pub read : IsReadFrom (subcommand_of ob0_app words) line
 
--- Holds if the words may be refused with this fault. The error's kind is among those that clap lists
--- for the words' first fault, and never 'out of memory'. For `help` and for an unknown subcommand
--- clap lists two kinds. A failed allocation is allowed for any words.
+-- Holds if the words may be refused with this fault. A clap error has a kind that clap's definition
+-- allows for the words' first fault, and never the kind `OutOfMemory`. For `help` and for an
+-- unknown subcommand two kinds are allowed. `Memory` is allowed for any words.
 abbrev pub RefusesWords : List Text → CommandFault → Type 0
 RefusesWords words (Refused error) =
     IsAmong (kind_of error) (fault_of ob0_app words) × ¬ (kind_of error ≡ OutOfMemory)
@@ -72,28 +73,29 @@ RefusesWords words Memory = Unit {0}
 
 -- ---- the values that clap's matches have
 
--- Holds if the argument has a text as its value.
+-- Holds if the argument `id` has a value, which is a text.
 abbrev pub HasText : Text → List Row → Type 0
 HasText id rows = (text : Text) × (first_of id rows ≡ Some text)
 
--- Returns the greatest number that `--calls` accepts for the name `calls`, and the one that
--- `--turns` accepts for any other name.
+-- Returns the greatest number that the option with this name accepts. Each name except `calls`
+-- counts as `turns`.
 abbrev pub most_of : Text → ℕ
 most_of id = if bytes_eq id (codes "calls") then max_calls else max_turns
 
--- Holds if the option has as its value a number from 0 to the greatest that it accepts.
+-- Holds if the value of the option is a number from 0 to the greatest that it accepts.
 abbrev pub HasBounded : Text → List Row → Type 0
 HasBounded id rows =
     (text : Text)
     × (one_of id rows ≡ Some (without_minus text))
     × IsSignedIn (pos 0) (pos (most_of id)) text
 
--- Holds if the argument has as its value an unsigned number of 64 bits.
+-- Holds if the value of the argument is an unsigned number of 64 bits, such as a line or a column.
 abbrev pub HasPlace : Text → List Row → Type 0
 HasPlace id rows =
     (text : Text) × (one_of id rows ≡ Some text) × IsUnsignedIn 0 18446744073709551615 text
 
--- Holds if each argument that the subcommand of this name needs has a value.
+-- Holds if the subcommand with this name has a value of the right kind for each argument that it
+-- needs.
 abbrev pub NeedsAt : Text → List Row → Type 0
 NeedsAt name rows = (name ≡ codes "serve") ⊎ ((name ≡ codes "check") × HasText (codes "file") rows)
     ⊎ ((name ≡ codes "run")
@@ -106,7 +108,8 @@ NeedsAt name rows = (name ≡ codes "serve") ⊎ ((name ≡ codes "check") × Ha
     × HasPlace (codes "column") rows
     × HasText (codes "name") rows)
 
--- Holds if a subcommand was found and has all the arguments that it needs.
+-- Holds if a subcommand was found, and it has a value of the right kind for each argument that it
+-- needs.
 abbrev pub HasNeeded : FoundCommand → Type 0
 HasNeeded found =
     (name : Text) × (rows : List Row) × (found ≡ Some (name, rows)) × NeedsAt name rows

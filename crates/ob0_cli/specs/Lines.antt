@@ -1,27 +1,27 @@
--- The command line of `ob0`, in the terms of clap's definition of a simple command.
+-- Defines the commands of `ob0` and their arguments, as values of clap's definition of commands.
 -- Rule: docs/PROTOCOL.md, The program; clap's definition of a command line.
 use Rattle.std.specs.Prelude.{[], ◌∷◌, ℕ, pos, true, Some, codes}
 use Rattle.clap.specs.Words.{App, Rule, Text, new_app, new_rule, with_rule, with_subcommand}
 use Rattle.clap.specs.declared.builder.ArgAction.TheVariants.{Set, SetTrue}
 use Rattle.clap.specs.declared.builder.value_parser.ValueParser.TheVariants.{Signed, Unsigned}
 
--- Returns the rule of a required word. In the help, its value has a name, as every value has.
+-- Returns clap's rule for a required argument that is a word. Its value has one name in the help.
 abbrev pub word_rule : Text → Rule
 word_rule id = record (new_rule id) { action = Some Set; value_names = 1; required = true }
 
--- Returns the rule of a required unsigned number of 64 bits.
+-- Returns clap's rule for a required argument that is an unsigned number of 64 bits.
 abbrev pub number_rule : Text → Rule
 number_rule id = record (word_rule id) { parser = Some (Unsigned 0 18446744073709551615) }
 
--- The greatest number of calls that may be open at a time in a run.
+-- The greatest number that `--calls` accepts: calls that may be open at a time in a run.
 abbrev pub max_calls : ℕ
 max_calls = 64
 
--- The greatest number of iterations of a loop in a run.
+-- The greatest number that `--turns` accepts: iterations of a loop in a run.
 abbrev pub max_turns : ℕ
 max_turns = 100000
 
--- The rule of `--calls`: a number from 0 to 64, by default 64.
+-- clap's rule for the option `--calls`: a number from 0 to 64, by default 64.
 abbrev pub calls_rule : Rule
 calls_rule = record (new_rule (codes "calls")) {
   long = Some (codes "calls");
@@ -30,7 +30,7 @@ calls_rule = record (new_rule (codes "calls")) {
   defaults = codes "64" ∷ [];
 }
 
--- The rule of `--turns`: a number from 0 to 100,000, by default 100,000.
+-- clap's rule for the option `--turns`: a number from 0 to 100,000, by default 100,000.
 abbrev pub turns_rule : Rule
 turns_rule = record (new_rule (codes "turns")) {
   long = Some (codes "turns");
@@ -39,20 +39,20 @@ turns_rule = record (new_rule (codes "turns")) {
   defaults = codes "100000" ∷ [];
 }
 
--- The rule of `--stdio`, which selects standard input and output (LSP 3.17, implementation
--- considerations). They are always used.
+-- clap's rule for the option `--stdio`, which selects standard input and output (LSP 3.17,
+-- implementation considerations). `serve` uses them even without the option.
 abbrev pub stdio_rule : Rule
 stdio_rule =
     record (new_rule (codes "stdio")) { long = Some (codes "stdio"); action = Some SetTrue }
 
--- The rule of `--clientProcessId`, the process of the client (LSP 3.17, implementation
--- considerations). Any word is accepted, and nothing depends on it.
+-- clap's rule for the option `--clientProcessId`, the client's process (LSP 3.17, implementation
+-- considerations). Any word is accepted and ignored.
 abbrev pub client_rule : Rule
 client_rule =
     record (new_rule (codes "client")) { long = Some (codes "clientProcessId"); value_names = 1 }
 
--- The subcommand `serve` without its options. Each of them may be given several times, because
--- clients add options to the user's own.
+-- The subcommand `serve` without its options. An option may be given several times, because a
+-- client may add one that the user has already given.
 abbrev pub serve_alone : App
 serve_alone =
     record (new_app (codes "serve"))

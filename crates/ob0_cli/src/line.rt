@@ -1,16 +1,20 @@
 //! Reads the command line.
 //!
 //! To add a subcommand, write:
-//! - an `App` in `specs/Lines.antt`, and a case of `HoldsValues`, `NamesFile` and `NeedsAt`;
-//! - in `proofs/Named.antt` a `.._fits` and a `.._needs`, by `refl` under `unfolding clap_on_literals nth`;
-//! - if the `App` has several arguments, a line for each in the answers of its definition. `with` adds the arguments
-//!   one after another, and needs each argument's clause `own` (`global ≡ false`).
+//! - an `App` in `specs/Lines.antt`, and a case of `HoldsValues`, `NamesFile` and
+//!   `NeedsAt`;
+//! - in `proofs/Named.antt` a `.._fits` and a `.._needs`, by `refl` under
+//!   `unfolding clap_on_literals nth`;
+//! - if the `App` has several arguments, a line for each in the answers of its definition.
+//!   `with` adds the arguments one after another, and needs each argument's clause `own`
+//!   (`global ≡ false`).
 //!
 //! Only the `App` of `serve` and `serve_definition` mention the options of `serve`.
 //!
-//! Traps: if a function takes a `&str`, no `ghost` clause can depend on it. So the bound of a number is a function of
-//! its name (`most_of`). A local named `run` is `run'` in the answers. A `where` block needs every `_` written out.
-//! Help texts are constants of at most 80 columns, one for each command: a test counts the columns.
+//! Traps: if a function takes a `&str`, no `ghost` clause can depend on it. So the bound of a
+//! number is a function of its name (`most_of`). A local named `run` is `run'` in the
+//! answers of proofs. A `where` block needs every `_` written out. Help texts are constants of at
+//! most 80 columns, one for each command: a test counts the columns.
 
 ghost use Rattle.std.specs.Prelude.{◌≡◌, ◌≢◌, ◌≤◌, Some, false, true, IfOk, IfErr, MatchOption, map};
 ghost use Rattle.clap.specs.Words.{App, Rule, app_of, first_of, found_of, new_app, rows_of, rule_of, subcommand_rows_of, with_rule, with_subcommand};
@@ -114,7 +118,7 @@ Exit status:
   4  the file can't be read or isn't UTF-8, or the output can't be written
   5  out of memory";
 
-/// The command that a command line requests, with its values.
+/// The command that a command line requests, with the values of its arguments.
 #[derive(Clone, Copy, Drop, PartialEq, Eq)]
 pub enum CommandLine<'a> {
     /// Serve one conversation over standard input and output.
@@ -160,7 +164,7 @@ impl<'a> CommandLine<'a> {
     }
 }
 
-/// Why a command line requests nothing.
+/// The reason why a command line requests no command.
 #[derive(Debug, Drop, thiserror::Error)]
 pub enum CommandFault {
     /// The words are refused, or request help or the version.
@@ -170,7 +174,8 @@ pub enum CommandFault {
     Memory,
 }
 
-/// Reads the words of a command line, of which the first is the program's name.
+/// Returns the command that the words of a command line request, or the reason why they request no
+/// command. The first word is the program's name.
 pub fn command<'a>(alloc: Global, words: &'a [&'a str]) -> Result<CommandLine<'a>, CommandFault>
     ensures gives { IfOk result (Gives (map (λ w. w.now) words.entry.now)) }
     ensures refuses { IfErr result (RefusesWords (map (λ w. w.now) words.entry.now)) }
@@ -181,7 +186,7 @@ pub fn command<'a>(alloc: Global, words: &'a [&'a str]) -> Result<CommandLine<'a
     }
 }
 
-/// Reads words according to the definition of the command line.
+/// Reads the words of a command line according to clap's definition of `ob0`.
 fn requested<'a>(
     definition: Command<'a>,
     words: &'a [&'a str],
@@ -200,7 +205,7 @@ fn requested<'a>(
     }
 }
 
-/// Returns the command line of clap's matches.
+/// Returns the command line that clap's matches describe.
 fn line_of<'a>(matches: &ArgMatches<'a>) -> CommandLine<'a>
     requires { HasNeeded (subcommand_rows_of matches.now) }
     ensures { IsReadFrom (subcommand_rows_of matches.now) result }
@@ -211,7 +216,7 @@ fn line_of<'a>(matches: &ArgMatches<'a>) -> CommandLine<'a>
     }
 }
 
-/// Returns the command line of a subcommand, with the values found for its arguments.
+/// Returns the command line of the subcommand with this name. Its values are those that clap found.
 fn subcommand_line<'a>(name: &str, given: &ArgMatches<'a>) -> CommandLine<'a>
     requires { NeedsAt name.now (rows_of (found_of given.now)) }
     ensures { HoldsValues name.now (rows_of (found_of given.now)) result }
@@ -271,7 +276,8 @@ fn place_at(given: &ArgMatches<'_>, id: &str) -> u64
     }
 }
 
-/// Makes clap's definition of the command line: four subcommands and `help`, of which one is required.
+/// Makes clap's definition of `ob0`: four subcommands, one of which must be given. clap adds
+/// `help`.
 fn definition<'a>(alloc: Global) -> Result<Command<'a>, AllocError>
     ensures { IfOk result (λ c. app_of c ≡ ob0_app) }
 {
@@ -281,8 +287,8 @@ fn definition<'a>(alloc: Global) -> Result<Command<'a>, AllocError>
     join(with_run, rename_definition(alloc))
 }
 
-/// Adds a subcommand to a command, unless making one of them ran out of memory. A command that was made in vain is
-/// dropped only here, so that only this function's proof covers the drop.
+/// Adds the subcommand `below` to the command `above`. If making one of the two ran out of memory,
+/// returns that error. The other one is dropped here, so that only this proof covers the drop.
 fn join<'a>(
     above: Result<Command<'a>, AllocError>,
     below: Result<Command<'a>, AllocError>,
@@ -297,7 +303,7 @@ fn join<'a>(
     above.subcommand(below)
 }
 
-/// Adds an argument to a command, unless making the command ran out of memory.
+/// Adds an argument to a command. If making the command ran out of memory, returns that error.
 fn with<'a>(
     command: Result<Command<'a>, AllocError>,
     argument: Arg<'a>,
@@ -310,7 +316,7 @@ fn with<'a>(
     command?.arg(argument)
 }
 
-/// Makes the command of the program, still without its subcommands.
+/// Makes clap's command for `ob0`, without its subcommands.
 fn program<'a>(alloc: Global) -> Command<'a>
     ensures { app_of result ≡ ob0_alone }
 {
@@ -319,14 +325,15 @@ fn program<'a>(alloc: Global) -> Command<'a>
         .subcommand_required(true)
 }
 
-/// Makes a command without arguments, with the texts that help prints before and after them.
+/// Makes a command without arguments. The help begins with the text `about` and ends with the text
+/// `notes`.
 fn bare<'a>(alloc: Global, name: &'a str, about: &'a str, notes: &'a str) -> Command<'a>
     ensures { app_of result ≡ new_app name.entry.now }
 {
     Command::new(alloc, name).about(about).after_help(notes)
 }
 
-/// Makes `serve`. It accepts the options that LSP 3.17 recommends, which change nothing.
+/// Makes the subcommand `serve`. It accepts the options that LSP 3.17 recommends, and ignores them.
 fn serve_definition<'a>(alloc: Global) -> Result<Command<'a>, AllocError>
     ensures { IfOk result (λ c. app_of c ≡ serve_lines) }
 {
@@ -334,7 +341,7 @@ fn serve_definition<'a>(alloc: Global) -> Result<Command<'a>, AllocError>
     with(with_stdio, client_argument(alloc))
 }
 
-/// Makes `serve` still without its options, each of which may be given several times.
+/// Makes the subcommand `serve` without its options. Each option may be given several times.
 fn serve_alone<'a>(alloc: Global) -> Command<'a>
     ensures { app_of result ≡ serve_lines_alone }
 {
@@ -423,7 +430,7 @@ fn rename_definition<'a>(alloc: Global) -> Result<Command<'a>, AllocError>
     with(with_column, word(alloc, "name", "NAME", "The new name"))
 }
 
-/// Makes a required word. `shown` is its name in the help.
+/// Makes a required argument, which is a word. `shown` is its name in the help.
 fn word<'a>(alloc: Global, id: &'a str, shown: &'a str, help: &'a str) -> Arg<'a>
     ensures rule { rule_of result ≡ word_rule id.entry.now }
     ensures own { result.global ≡ false }
@@ -435,7 +442,8 @@ fn word<'a>(alloc: Global, id: &'a str, shown: &'a str, help: &'a str) -> Arg<'a
         .help(help)
 }
 
-/// Makes a required number. `shown` is its name in the help.
+/// Makes a required argument, which is an unsigned number of 64 bits. `shown` is its name in the
+/// help.
 fn number<'a>(alloc: Global, id: &'a str, shown: &'a str, help: &'a str) -> Arg<'a>
     ensures rule { rule_of result ≡ number_rule id.entry.now }
     ensures own { result.global ≡ false }

@@ -1,10 +1,10 @@
--- Defines how a command on a file ends: its status, its output and its lines on standard error. If
--- the status is 0 or 1, the file has a text or is too long. Then neither the output nor the input
--- has failed in the call. If the status is a fault's, the fault has a reason
--- (`StopsPrintingFaults`, `StopsRunning`). Only an input that isn't a list of numbers has a weaker
--- reverse: 0 and 1 require such a list (`IsInputOf`), and 5 may come with or without one. `text_of`
--- allocates nothing, so 5 comes only for a file that isn't too long (`AllocatesFor`). Each command
--- prints after its last allocation. So a fault other than `Write` leaves the output unchanged
+-- Defines how a command on a file ends: its status, its output and its lines on standard error.
+-- If the status is 0 or 1, the file is UTF-8 or too long, and neither the output nor the input has
+-- failed in the call. Any other status is the status of a fault. `StopsPrintingFaults` and
+-- `StopsRunning` state the reason for the fault. A run is printed only if its input is a list of
+-- numbers (`IsInputOf`); status 5 may occur with any input. `text_of` allocates nothing, so 5
+-- occurs only for a file that isn't too long (`AllocatesFor`). Each command prints after
+-- its last allocation. So a fault other than `Write` leaves the output unchanged
 -- (`PrintsNothing`).
 -- Rule: docs/PROTOCOL.md, The program 5 to 8.
 use Rattle.std.specs.Prelude.{◌≡◌, ◌≤◌, ℕ, List, Option, Some, Bool}
@@ -20,9 +20,9 @@ pub record EndsWell (Good Other Both : Type 0) (status : ℕ) : Type 0 where
   pub other : status ≡ 1 → Other
   pub both : Both
 
--- Holds if a fault stops the command, for the reason `Stops`, and the status is the fault's. The
--- fault's line is printed on standard error. Nothing is printed on the output, unless the output
--- failed.
+-- Holds if a fault ends the command. `Stops` holds for the fault, the command's status is the
+-- fault's status, and the fault's line is printed on standard error (`Said`). The output is
+-- unchanged, unless the fault is `Write`.
 pub record EndsByFault {O : Type 0} (has_failed : O → Bool) (before after : O) (file : List ℕ)
     (Stops : FileFault → Type 0) (Said : Option (List ℕ) → Type 0) (status : ℕ) : Type 0 where
   pub why : FileFault

@@ -1,4 +1,4 @@
--- The wrapped reader of a `TrackedReader`, and the bytes that are read from a reader.
+-- Defines the parts of a `TrackedReader`, and a bound on the bytes that are read from a reader.
 -- Rule: none; for contracts: a reader that remembers failures.
 use Rattle.std.specs.Prelude.{◌≤◌, ℕ, List, Option, Bool, length}
 use Rattle.std.specs.Io.KnownBytes.{Consumes}

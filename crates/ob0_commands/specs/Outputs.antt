@@ -1,4 +1,5 @@
--- The wrapped writer of a `TrackedWriter`, and its notes on failures and flushes.
+-- Defines the parts of a `TrackedWriter`: the wrapped writer, and whether it has been flushed or
+-- has failed.
 -- Rule: none; for contracts: a writer that remembers failures and flushes.
 use Rattle.std.specs.Prelude.{◌≡◌, ◌⊎◌, Bool, true}
 use Rattle.ob0_commands.specs.declared.printing.TrackedWriter.{TrackedWriter}
@@ -7,7 +8,7 @@ use Rattle.ob0_commands.specs.declared.printing.TrackedWriter.{TrackedWriter}
 abbrev pub output_device : {W : Type 0} → TrackedWriter W → W
 output_device output = output.device
 
--- Returns true if a flush has succeeded since the last write of some bytes.
+-- Returns true if a flush has succeeded since the last write of at least one byte.
 abbrev pub has_flushed : {W : Type 0} → TrackedWriter W → Bool
 has_flushed output = output.has_flushed
 

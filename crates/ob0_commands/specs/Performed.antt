@@ -15,7 +15,8 @@ use Rattle.ob0_commands.specs.Statuses.{HasNoText, IsOfInput, StopsPrintingFault
 use Rattle.ob0_commands.specs.TextRuns.{PrintsRuns}
 
 -- Holds if `check` ends with this status. 0: the file has no diagnostics, and nothing is printed.
--- 1: its errors are printed and flushed. Any other status: a fault stopped the command.
+-- 1: its errors are printed and flushed. Any other status: a fault ended the command
+-- (`EndsByFault`).
 abbrev pub ChecksFile : {O : Type 0}
     → (contents : O → Option (List ℕ))
     → (is_flushed has_failed : O → Bool)
@@ -73,9 +74,10 @@ RenamesInFile contents is_flushed has_failed before after Said file position new
     status
     ⊎ EndsByFault has_failed before after file (StopsPrintingFaults file) Said status
 
--- Holds if the command of this line ends with this status, as `ChecksFile`, `RunsFile` or
--- `RenamesInFile` says. Only `run` reads from the input: at most one byte over the limit, and
--- nothing if the file isn't a well-typed module. `serve` isn't a command on a file.
+-- Holds if the command of this command line ends with this status, as `ChecksFile`, `RunsFile` or
+-- `RenamesInFile` says. Only `run` reads from the input: at most one byte over the limit
+-- `max_input`, and nothing if the file isn't a well-typed module. Never holds for `serve`, which
+-- isn't a command on a file.
 abbrev pub PerformsOnFile : {O I : Type 0}
     → (contents : O → Option (List ℕ))
     → (is_flushed has_failed : O → Bool)

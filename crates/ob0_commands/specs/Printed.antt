@@ -36,7 +36,7 @@ line_at p c =
     ++ (codes ":"
     ++ (decimal p.character ++ (codes ": " ++ (c.code ++ (codes ": " ++ (c.said ++ codes "\n"))))))
 
--- Returns a line for each diagnostic, with the position at the same index of the list of positions.
+-- Returns one line for each diagnostic. The n-th diagnostic starts at the n-th position.
 abbrev pub lines_at : List Position → List Complaint → List ℕ
 lines_at [] cs = []
 lines_at (p ∷ ps) [] = []
@@ -62,7 +62,7 @@ too_long_line = line_at (record { line = 0; character = 0 }) too_long
 
 -- Holds if the output grows by the lines of a file's errors. If the file has more bytes than a text
 -- may have, that is one line. Otherwise the text isn't a well-typed module, and each diagnostic has
--- a line. If the output's bytes aren't known, only the errors themselves are required.
+-- a line. If the output's bytes aren't known, this holds for any output, if the file has errors.
 abbrev pub PrintsFaults : List ℕ → Option (List ℕ) → Option (List ℕ) → Type 0
 PrintsFaults file before after =
     ((max_text < length file) × Appends before after too_long_line)
@@ -83,8 +83,8 @@ abbrev pub output_text : List Written → List ℕ
 output_text [] = []
 output_text (w ∷ ws) = written_text w ++ output_text ws
 
--- Holds if the known bytes of the output grow by a text without its end `left`, which is still to
--- be written.
+-- Holds if the known bytes of the output grow by the text without its last part `left`, which is
+-- written later.
 pub record IsWrittenBut (before after : Option (List ℕ)) (text left : List ℕ) : Type 0 where
   pub written : List ℕ
   pub grew : Appends before after written

@@ -27,8 +27,8 @@ pub record PrintsPatched (unit : Unit) (content : List ℕ) (edits : List Edit)
   pub made : patched (width_of unit) content edits ≡ Some (chars text)
   pub printed : Appends before after text
 
--- Holds for edits if they can be applied to the text, and the known bytes of the output grow by the
--- edited text. Never holds for a refusal.
+-- Holds if the result has edits that can be applied to the text, and the known bytes of the output
+-- grow by the edited text. Doesn't hold for a refusal.
 abbrev pub PrintsEdited : Unit
     → List ℕ
     → Result (Vec Edit Global) EditRefusal
@@ -39,15 +39,15 @@ PrintsEdited unit content (Ok edits) before after =
     PrintsPatched unit content edits.items before after
 PrintsEdited unit content (Err refusal) before after = ⊥
 
--- Holds for a refusal if it is printed on standard error. Never holds for edits.
+-- Holds if the result is a refusal whose line is printed on standard error. Doesn't hold for edits.
 abbrev pub IsRefusal : Result (Vec Edit Global) EditRefusal
     → (Option (List ℕ) → Type 0)
     → Type 0
 IsRefusal (Ok edits) Said = ⊥
 IsRefusal (Err refusal) Said = Said (Some (refused_line refusal))
 
--- Holds if the file has a text, some edits put the new name into it, and the edited text is
--- printed. Positions count UTF-16 units.
+-- Holds if the file has a text, the edits `edits` rename the declaration at the position to the new
+-- name, and the edited text is printed. Positions count UTF-16 units.
 pub record PrintsRenamed (file : List ℕ) (position : Position) (new : List ℕ)
     (before after : Option (List ℕ)) : Type 0 where
   pub has_text : IsTextFile file
@@ -65,7 +65,8 @@ pub record RefusesName (file : List ℕ) (position : Position) (new : List ℕ)
   pub nothing : after ≡ before
   pub said : Said (Some (refused_line refusal))
 
--- Holds if the file's errors are printed and nothing on standard error, or if the name is refused.
+-- Holds if the file's errors are printed on the output and nothing is printed on standard error, or
+-- if the name is refused (`RefusesName`).
 abbrev pub PrintsNoName : List ℕ
     → Position
     → List ℕ
@@ -78,8 +79,8 @@ PrintsNoName file position new before after Said =
     ⊎ RefusesName file position new before after Said
 
 -- Holds if `rename` ends with this status. 0: the text with the new name is printed and flushed,
--- and nothing on standard error. 1: the file's errors are printed or the name is refused, and any
--- output is flushed.
+-- and nothing is printed on standard error. 1: the file's errors are printed or the name is
+-- refused, and any output is flushed.
 abbrev pub Renames : {O : Type 0}
     → (contents : O → Option (List ℕ))
     → (is_flushed : O → Bool)

@@ -30,8 +30,8 @@ IsTextFile file = (length file ≤ max_text) × IsUtf8 file
 abbrev pub HasNoText : List ℕ → Type 0
 HasNoText file = (length file ≤ max_text) × ¬ (IsUtf8 file)
 
--- Holds if the fault is the reason why no diagnostics are printed: the file has no text, or
--- printing fails.
+-- Holds for the fault `Utf8` if the file isn't UTF-8 (`HasNoText`), and for `Write` and `Memory`
+-- otherwise.
 abbrev pub StopsPrintingFaults : List ℕ → FileFault → Type 0
 StopsPrintingFaults file f =
     ((f ≡ fault.Utf8) × HasNoText file) ⊎ (StopsPrinting f × ¬ (HasNoText file))
@@ -40,7 +40,7 @@ StopsPrintingFaults file f =
 abbrev pub AllocatesFor : List ℕ → FileFault → Type 0
 AllocatesFor file f = f ≡ fault.Memory → length file ≤ max_text
 
--- Holds if nothing was printed, or the fault is `Write`.
+-- Holds if the output is unchanged, or the fault is `Write`.
 abbrev pub PrintsNothing : {O : Type 0} → (before after : O) → FileFault → Type 0
 PrintsNothing before after f = f ≢ fault.Write → after ≡ before
 
@@ -58,25 +58,25 @@ status_at end.InputEnd = 1
 status_at end.CallBound = 1
 status_at end.TurnBound = 1
 
--- Holds if the output's failure matches the fault. After `Write` the output has failed. After any
--- other fault it has failed exactly if it had failed before.
+-- Holds if the output's failure matches the fault. If the fault is `Write`, the output has failed.
+-- For any other fault, the call didn't change whether the output has failed.
 abbrev pub IsOfOutput : (before after : Bool) → FileFault → Type 0
 IsOfOutput before after f =
     (f ≡ fault.Write → after ≡ true) × (f ≢ fault.Write → after ≡ before)
 
 -- ---- runs
 
--- Holds if the file is a well-typed module, but there are no numbers to run it on: the input has
--- failed or isn't a valid list.
+-- Holds if the file is a well-typed module, but there are no numbers to run it on. The input has
+-- failed, or isn't a list of numbers, or is too long.
 abbrev pub HasNoInput : List ℕ → Option (List ℕ) → (input_failed : Bool) → Type 0
 HasNoInput file given input_failed = IsWellTypedModule file × HasNoNumbers given input_failed
 
--- Holds if the input has failed exactly if it had failed before, or the fault is `Input`.
+-- Holds if the fault is `Input`, or if the call didn't change whether the input has failed.
 abbrev pub IsOfInput : (before after : Bool) → FileFault → Type 0
 IsOfInput before after f = f ≢ fault.Input → after ≡ before
 
--- Holds if the fault is the reason why no run is printed: there is no input for the module, the
--- file has no text, or printing fails.
+-- Holds if the fault is `Input` and the module has no valid input, or the fault is one that `check`
+-- may also have (`StopsPrintingFaults`).
 abbrev pub StopsRunning : List ℕ → Option (List ℕ) → (input_failed : Bool) → FileFault → Type 0
 StopsRunning file given input_failed f =
     ((f ≡ fault.Input) × HasNoInput file given input_failed) ⊎ StopsPrintingFaults file f

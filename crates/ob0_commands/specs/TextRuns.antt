@@ -31,8 +31,9 @@ pub record IsLoweredTo (text : List ℕ) (program : Program) : Type 0 where
   pub well_typed : WellTyped tree
   pub runs : lowered.RunsAs tree program
 
--- Holds if the known bytes of the output grow by the output of the run `r` of the file's module. If
--- the reader's bytes are known, the run's input consists of the numbers that they spell.
+-- Holds if `r` is a run of the file's module, and the known bytes of the output grow by the output
+-- of `r`. If the reader's bytes are known, the run's input consists of the numbers that these bytes
+-- spell.
 pub record PrintsRun (file : List ℕ) (given : Option (List ℕ)) (c t : ℕ)
     (before after : Option (List ℕ)) (r : Run) : Type 0 where
   pub input : List ℤ
@@ -40,7 +41,7 @@ pub record PrintsRun (file : List ℕ) (given : Option (List ℕ)) (c t : ℕ)
   pub runs : TextRunsAs file input c t r
   pub printed : Appends before after (output_text r.output)
 
--- Holds if the output of a run that reaches the end of the module's body is printed.
+-- Holds if the output of a run is printed, and that run reaches the end of the module's body.
 abbrev pub PrintsDone : List ℕ
     → Option (List ℕ)
     → ℕ
@@ -51,8 +52,8 @@ abbrev pub PrintsDone : List ℕ
 PrintsDone file given c t before after =
     (r : Run) × PrintsRun file given c t before after r × (r.ending ≡ end_in end.Done)
 
--- Holds if the output of a run with another end is printed, and the line of that end on standard
--- error.
+-- Holds if a run has an end other than Done, its output is printed, and the line that reports its
+-- end is printed on standard error.
 pub record PrintsEnded (file : List ℕ) (given : Option (List ℕ)) (c t : ℕ)
     (before after : Option (List ℕ)) (Said : Option (List ℕ) → Type 0) : Type 0 where
   pub r : Run
@@ -62,8 +63,8 @@ pub record PrintsEnded (file : List ℕ) (given : Option (List ℕ)) (c t : ℕ)
   pub ends : r.ending ≡ end_in last
   pub said : Said (end_line last)
 
--- Holds in two cases. The file's errors are printed, and nothing on standard error. Or the output
--- of a run with an end other than Done is printed, and the line of that end on standard error.
+-- Holds in two cases. Either the file's errors are printed, and nothing is printed on standard
+-- error. Or a run with an end other than Done is printed (`PrintsEnded`).
 abbrev pub PrintsOther : List ℕ
     → Option (List ℕ)
     → ℕ
@@ -76,9 +77,9 @@ PrintsOther file given c t before after Said =
     (PrintsFaults file before after × Said None)
     ⊎ PrintsEnded file given c t before after Said
 
--- Holds if `run` ends with this status. 0: the run to the end of the module's body is printed, and
--- nothing on standard error. 1: another run or the file's errors are printed. All output is
--- flushed.
+-- Holds if `run` ends with this status. 0: the output of a run to the end of the module's body is
+-- printed, and nothing is printed on standard error. 1: the output of a run with another end, or
+-- the file's errors, are printed. All output is flushed.
 abbrev pub PrintsRuns : {O : Type 0}
     → (contents : O → Option (List ℕ))
     → (is_flushed : O → Bool)

@@ -38,8 +38,9 @@ pub fn check_text<O: Output, E: Output>(alloc: Global, file: &[u8], out: &mut O,
     }
 }
 
-/// Returns the text of a file that has no diagnostics. Otherwise prints the diagnostics and returns None. If the file
-/// has more bytes than a text may have, that is its only diagnostic.
+/// Returns the text of a file that has no diagnostics. Otherwise prints the diagnostics, flushes
+/// and returns None. The only diagnostic of a file that has more bytes than a text may have is that
+/// it is too long.
 pub fn check<'f, O: Output>(
     alloc: Global,
     file: &'f [u8],
@@ -151,7 +152,7 @@ fn starts_of(alloc: Global, reported: &[Diagnosis]) -> Result<Vec<usize>, AllocE
         .collect(alloc)
 }
 
-/// Returns a line for each diagnostic, at the position with the same index.
+/// Returns one line for each diagnostic. The n-th diagnostic starts at the n-th position.
 fn lines_at(
     alloc: Global,
     reported: &[Diagnosis],
@@ -168,7 +169,7 @@ fn lines_at(
     Ok(lines)
 }
 
-/// Returns the line of a diagnostic at a position.
+/// Returns the line `L:C: Code: message` of a diagnostic that starts at this position.
 fn line_at(alloc: Global, diagnosis: &Diagnosis, position: Position) -> Result<String, AllocError>
     ensures { IfOk result
         (λ line. string_bytes line ≡ line_at position (complaint_in diagnosis.now)) }

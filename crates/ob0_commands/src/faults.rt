@@ -70,8 +70,8 @@ impl<T: Drop> From<AllocFailed<T>> for FileFault {
     }
 }
 
-/// Prints the line of a fault to `err`, and returns the program's exit status. If the line can't be written, the status
-/// is the same.
+/// Prints the line of a fault to `err`, and returns the fault's exit status, even if the line can't
+/// be written.
 pub fn print_fault<E: Output>(fault: FileFault, err: &mut E) -> u8
     ensures status { result ≡ status_of fault }
     ensures fails { 4 ≤ result }

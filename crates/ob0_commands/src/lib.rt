@@ -1,5 +1,5 @@
-//! Performs the program's commands on files, over the bytes of a file and any readers and writers (docs/PROTOCOL.md,
-//! The program).
+//! Performs the program's commands on files (docs/PROTOCOL.md, The program). The caller passes the
+//! bytes of the file, a reader for the input, and writers for the output and the faults.
 #![tactic(auto)]
 
 mod checking;

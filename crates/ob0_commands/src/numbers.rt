@@ -1,11 +1,13 @@
 //! Reads the numbers of an input.
 //!
-//! The whole input is read before the run. It is split into words as bytes, so only a word has to be UTF-8. A word that
-//! begins with `+` isn't a number, although Rust's `parse` accepts it.
+//! The whole input is read before the run. The bytes are split into words before they are decoded,
+//! so only each word has to be UTF-8. A word that begins with `+` isn't a number, although Rust's
+//! `parse` accepts it.
 //!
-//! The loop's invariant (`Gathered`) has two directions. If the remaining text is a list of numbers, the whole text is
-//! that list after the numbers found so far. If the whole text is a list of numbers, the remaining text is also one.
-//! Its first word ends at the first white space (`first_word` of `proofs/Words`).
+//! The loop's invariant (`Gathered`) has two directions. If the remaining text spells a list of
+//! numbers, the whole text spells the numbers found so far, followed by that list. If the whole
+//! text spells a list of numbers, the remaining text also spells one. The first word of the
+//! remaining text ends at the first white space (`first_word` of `proofs/Words`).
 
 ghost use Rattle.std.specs.Prelude.{◌≡◌, ◌≤◌, ℤ, IfOk, OnOk, IfErr, IfSome, MatchOption, length, suc};
 ghost use Rattle.std.specs.List.{position_or_len};

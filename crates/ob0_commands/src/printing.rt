@@ -1,9 +1,10 @@
 //! Prints whole texts.
 //!
-//! The commands print to an `Output`: a writer that remembers whether it has been flushed since the last write, and
-//! whether it has failed. std's contracts of `Write` say neither, but the contract of `print` needs both.
-//! `TrackedWriter` makes an `Output` of any writer, including standard error. `O.contents` is None for a writer whose
-//! bytes aren't known, as in `Write`; its clauses then say nothing about the bytes.
+//! The commands print to an `Output`: a writer that remembers whether it has been flushed since the
+//! last write, and whether it has failed. std's contracts of `Write` mention neither fact, but the
+//! contract of `print` needs both. `TrackedWriter` makes an `Output` of any writer, including
+//! standard error. `O.contents` is None for a writer whose bytes aren't known, as in `Write`. The
+//! clauses then say nothing about the bytes.
 //!
 //! After a command has printed, its output is flushed. If a name is refused, the output is unchanged, and whether it is
 //! flushed isn't known (`IsFlushedOrUnchanged`). `check` and `rename` print only once, so their contracts follow from
@@ -20,7 +21,8 @@ ghost use Rattle.ob0_commands.specs.Said.{Says};
 use crate::faults::FileFault;
 use std::io::{self, Write};
 
-/// The most bytes that one read asks for, and the most that are collected before they are written.
+/// The size in bytes of two buffers. A file or an input is read into one, and output is collected
+/// in the other before it is written.
 pub(crate) const PIECE_SIZE: usize = 8192;
 
 /// A writer that remembers whether it has been flushed since the last write, and whether it has failed.
@@ -56,7 +58,7 @@ pub struct TrackedWriter<W> {
 }
 
 impl<W> TrackedWriter<W> {
-    /// Wraps a writer. It counts as not flushed and not failed.
+    /// Wraps a writer, which counts as not flushed and not failed.
     pub fn new(device: W) -> TrackedWriter<W>
         ensures device { output_device result ≡ device }
         ensures fresh { has_flushed result ≡ false }

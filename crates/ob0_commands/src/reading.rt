@@ -1,8 +1,9 @@
 //! Reads the bytes of a file and of an input.
 //!
-//! The commands read from an `Input`: a reader that remembers whether it has failed. So the contracts can tie the
-//! faults `File` and `Input` to a failed read (`StopsFor`). `TrackedReader` makes an `Input` of any reader. If the
-//! bytes that a reader has left aren't known (`Read::remaining`), the contracts don't say which numbers it has.
+//! The commands read from an `Input`: a reader that remembers whether it has failed. So the
+//! contracts can state that the faults `File` and `Input` come from a failed read (`StopsFor`).
+//! `TrackedReader` makes an `Input` of any reader. If the remaining bytes of a reader aren't known
+//! (`Read::remaining`), the contracts don't say which numbers are read.
 
 ghost use Rattle.std.specs.Prelude.{◌≡◌, ◌≤◌, ◌<◌, ◌||◌, ◌⊎◌, Bool, true, false, is_err, IfOk, OnOk, IfErr, IfSome, length, suc};
 ghost use Rattle.std.specs.Io.{ReadsAtMost};
@@ -30,7 +31,7 @@ pub trait Input: Read {
     // Returns true if a call of `read_tracked` has failed.
     ghost has_failed: { Self → Bool };
 
-    /// Reads some bytes into the buffer. If that fails, the failure is remembered.
+    /// Reads bytes into the buffer and returns how many. A failure is remembered.
     fn read_tracked(&mut self, buf: &mut [u8]) -> io::Result<usize>
         ensures bound { ReadsAtMost result buf.new }
         ensures bytes { ReadConsumes
@@ -46,7 +47,7 @@ pub struct TrackedReader<R> {
 }
 
 impl<R> TrackedReader<R> {
-    /// Wraps a reader. It counts as not failed.
+    /// Wraps a reader, which counts as not failed.
     pub fn new(device: R) -> TrackedReader<R>
         ensures device { input_device result ≡ device }
         ensures works { input_failed result ≡ false }

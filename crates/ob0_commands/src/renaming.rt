@@ -1,9 +1,11 @@
 //! Renames a declaration in a file's text, and prints the result.
 //!
-//! `rename_text` analyses the text once. The renaming uses that analysis (`rename_in` of `ob0_edits`). If the text
-//! isn't a well-typed module, the diagnostics of the same analysis are printed, with `text_of` and `print_diagnoses` as
-//! in `check`. `rename_in_text` is the part after the test for UTF-8. It is a separate function because the proof needs
-//! a `&str`: `rename_in` is about the characters of a text, `diagnoses` about its bytes.
+//! `rename_text` analyses the text once. The renaming uses that analysis (`rename_in` of
+//! `ob0_edits`). If the text isn't a well-typed module, the diagnostics of the same analysis are
+//! printed, with `text_of` and `print_diagnoses` as in `check`. `rename_in_text` does the work
+//! after the test for UTF-8. It is a separate function because its proof needs a `&str`. The
+//! contract of `rename_in` is about the characters of a text, and the contract of `diagnoses` is
+//! about its bytes.
 
 ghost use Rattle.std.specs.Prelude.{◌≡◌, true, IfOk, IfErr, OnErr};
 ghost use Rattle.ob0_commands.specs.Endings.{EndsWell};
@@ -41,7 +43,7 @@ pub fn rename_text<O: Output, E: Output>(
     }
 }
 
-/// Does what `rename_text` does, but returns faults instead of printing them.
+/// Renames in a file like `rename_text`, but returns a fault instead of printing its line.
 fn rename_file<O: Output, E: Output>(
     alloc: Global,
     file: &[u8],
@@ -66,7 +68,9 @@ fn rename_file<O: Output, E: Output>(
     rename_in_text(alloc, text, position, new, out, err)
 }
 
-/// Does what `rename_file` does, for a file whose bytes are UTF-8 and not too long.
+/// Prints a text with the declaration at a position renamed, or the refusal. If the text isn't a
+/// well-typed module, prints its diagnostics. Returns the program's exit status, 0 or 1, or the
+/// fault.
 fn rename_in_text<O: Output, E: Output>(
     alloc: Global,
     text: &str,

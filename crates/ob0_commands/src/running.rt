@@ -1,9 +1,10 @@
 //! Runs a file's module on an input, and prints the output.
 //!
-//! `run_text` analyses and lowers the text once. `LoweringQuestion` asks the analysis for the program; if the text
-//! isn't a well-typed module, the diagnostics are printed. Then the input is read, and the program is executed. The
-//! module is dropped before the execution. `IsLoweredTo` states that the program runs like a module of this text, and
-//! `execute` makes the defined run (`RunsAs`).
+//! `run_text` analyses and lowers the text once. `LoweringQuestion` asks the analysis for the
+//! program; if the text isn't a well-typed module, the diagnostics are printed. Then the input is
+//! read, and the program is executed. The module is dropped before the execution. `IsLoweredTo`
+//! states that the program runs like the text's module, and the contract of `execute` gives the run
+//! of the program (`RunsAs`).
 //!
 //! The output is written in pieces of at most `PIECE_SIZE` bytes (`print_items`), so its whole text is never stored.
 //! `IsWrittenBut` separates the written text from the waiting piece. A piece is an `ArrayString`: it is on the stack
@@ -37,7 +38,7 @@ use ob0_analysis::{Analysis, Question, WellTyped, ask};
 use ob0_run::{End, Item, Outcome, Program, execute, lower};
 use std::alloc::{AllocError, Global};
 
-/// The question for the program that a module is lowered to.
+/// The question to an analysis: which program is the module lowered to?
 #[derive(Drop)]
 struct LoweringQuestion {}
 
@@ -78,7 +79,7 @@ pub fn run_text<R: Input, O: Output, E: Output>(
     }
 }
 
-/// Does what `run_text` does, but returns faults instead of printing them.
+/// Runs a file's module like `run_text`, but returns a fault instead of printing its line.
 fn run_file<R: Input, O: Output, E: Output>(
     alloc: Global,
     file: &[u8],
@@ -143,8 +144,8 @@ fn lower_text<O: Output>(
     }
 }
 
-/// Runs the program that a text is lowered to, with this input and these bounds on calls and turns. The text is an
-/// argument only for the contract.
+/// Runs the program that a text is lowered to, on this input. `calls` bounds the open calls, and
+/// `turns` the iterations of each loop. Only the contract uses `text`.
 fn execute_module(
     alloc: Global,
     text: &str,

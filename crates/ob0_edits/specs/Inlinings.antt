@@ -1,4 +1,4 @@
--- The edits that inline a constant, at one use or everywhere, and the text that they leave.
+-- Defines the edits that inline a constant, at one use or everywhere, and the text that they leave.
 -- Rule: docs/PROTOCOL.md, Requests on documents 7, 9, 10.
 use Rattle.std.specs.Prelude.{◌≡◌, ℕ, List, Option, Some, None, Result, Ok, Err, Vec}
 use Rattle.std.specs.declared.alloc.Global.{Global}
@@ -31,8 +31,8 @@ abbrev pub AnswersInlining : Inlining
 AnswersInlining Here unit text m offset answer = AnswersHere unit text m offset answer
 AnswersInlining Everywhere unit text m offset answer = AnswersEverywhere unit text m offset answer
 
--- Holds if these are the edits of an inlining, or None and the inlining is refused. A failed
--- allocation isn't a refusal.
+-- Holds if these are the edits of an inlining. None stands for a refusal, which is never a failed
+-- allocation.
 abbrev pub Inlines : Inlining → Unit → List ℕ → Parsed → ℕ → Option (Vec Edit Global) → Type 0
 Inlines how unit text m offset (Some edits) = AnswersInlining how unit text m offset (Ok edits)
 Inlines how unit text m offset None =
@@ -40,8 +40,8 @@ Inlines how unit text m offset None =
     × ¬ (refusal ≡ Memory)
     × AnswersInlining how unit text m offset (Err refusal)
 
--- Holds if these edits inline a constant. Made all at once, they leave a text whose module has the
--- same runs.
+-- Holds if these edits inline the constant at a byte offset of a well-typed module. Applied all at
+-- once, they give a text whose module has the same runs.
 pub record InlinesIn (how : Inlining) (unit : Unit) (text : List ℕ) (offset : ℕ)
     (edits : Vec Edit Global) : Type 0 where
   pub module_read : Parsed
@@ -59,20 +59,20 @@ pub record IsNotInlinedIn (how : Inlining) (unit : Unit) (text : List ℕ) (offs
 
 -- ---- the result for a text
 
--- holds for the edits of an inliner's answer; holds for None if the answer is a refusal other than
--- a failed allocation
+-- Holds if these are the edits in the answer to an inlining. For None it holds if the answer is a
+-- refusal other than a failed allocation.
 abbrev pub IsOffered : Result (Vec Edit Global) EditRefusal → Option (Vec Edit Global) → Type 0
 IsOffered answer (Some edits) = answer ≡ Ok edits
 IsOffered answer None = (refusal : EditRefusal) × ¬ (refusal ≡ Memory) × (answer ≡ Err refusal)
 
--- holds for edits if they inline the constant at a byte offset of the text; holds for None if that
--- is refused
+-- Holds for edits that inline the constant at a byte offset of the text. For None it holds if the
+-- text is a well-typed module and this inlining is refused.
 abbrev pub Offers : Inlining → Unit → List ℕ → ℕ → Option (Vec Edit Global) → Type 0
 Offers how unit text offset (Some edits) = InlinesIn how unit text offset edits
 Offers how unit text offset None = IsNotInlinedIn how unit text offset
 
--- Holds if these are the offered edits at a byte offset of a text. None requires that the text
--- isn't a well-typed module.
+-- Holds if these are the results of both kinds of inlining at a byte offset of a text. For None it
+-- holds if the text isn't a well-typed module.
 abbrev pub FindsInlinings : Unit → List ℕ → ℕ → Option found_inlinings.Inlinings → Type 0
 FindsInlinings unit text offset (Some found) =
     Offers Here unit text offset found.here × Offers Everywhere unit text offset found.everywhere

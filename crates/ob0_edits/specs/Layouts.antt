@@ -1,4 +1,4 @@
--- The edits that format a text, and the text that they leave.
+-- Defines the edits that format a text, and the text that they leave.
 -- Rule: docs/PROTOCOL.md, Requests on documents 8, 10.
 use Rattle.std.specs.Prelude.{◌≡◌, ◌<◌, ℕ, List, Option, Some, None, Result, Ok, Err, Vec, map, length}
 use Rattle.std.specs.declared.alloc.Global.{Global}
@@ -21,7 +21,8 @@ use Rattle.ob0_analysis.specs.RunsKept.{RunsAsBefore}
 abbrev pub layout_of : {text : List ℕ} → Indent → IsWellTypedModule text → List ℕ
 layout_of indent m = layout indent m.tree m.text_of.scan.scan.lexemes
 
--- returns the range and new text of each gap that changes, with positions in this unit
+-- Returns the edit for each gap that changes: the range of the gap, with positions in this unit,
+-- and its new text.
 abbrev pub layout_changes : {text : List ℕ}
     → Unit
     → Indent
@@ -33,9 +34,9 @@ layout_changes unit indent characters m =
     map (edit_of (width_of unit) characters) (changed_gaps source.text
     (all_gaps indent source.text (line_roles 0 m.tree) m.text_of.scan.scan.lexemes))
 
--- Holds if these edits format a text. There is one for each gap that changes, and it replaces the
--- whole gap. Made all at once, they leave the formatted text. Its module is the same, with the same
--- runs.
+-- Holds if these edits format a text. There is one edit for each gap that changes, and it replaces
+-- the whole gap. Applied all at once, the edits give the formatted text. The formatted text has the
+-- same module, with the same runs.
 pub record LaysOut (unit : Unit) (indent : Indent) (text : List ℕ)
     (edits : List Edit) : Type 0 where
   pub before : IsWellTypedModule (utf8 text)
@@ -51,14 +52,14 @@ pub record IsTooLongLaidOut (indent : Indent) (text : List ℕ) : Type 0 where
   pub before : IsWellTypedModule (utf8 text)
   pub long : max_text < length (layout_of indent before)
 
--- holds for edits if they format the module; holds for the only possible refusal, `TooLong`, if the
--- formatted text is too long
+-- Holds for edits that format the module. Holds for the refusal `TooLong` if the formatted text is
+-- too long, and for no other refusal.
 abbrev pub Formats : Unit → Indent → List ℕ → Result (Vec Edit Global) EditRefusal → Type 0
 Formats unit indent text (Ok edits) = LaysOut unit indent text edits.items
 Formats unit indent text (Err refusal) = (refusal ≡ TooLong) × IsTooLongLaidOut indent text
 
 -- Holds if this is the result of formatting a text: edits, or the only possible refusal, `TooLong`.
--- None requires that the text isn't a well-typed module.
+-- For None it holds if the text isn't a well-typed module.
 abbrev pub FindsLayout : Unit
     → Indent
     → List ℕ

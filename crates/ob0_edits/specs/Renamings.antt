@@ -1,4 +1,4 @@
--- The renaming in a text: the edits, or the refusal.
+-- Defines the result of a renaming in a text: the edits, or the refusal.
 -- Rule: docs/PROTOCOL.md, Requests on documents 2, 6.
 use Rattle.std.specs.Prelude.{◌≡◌, ℕ, List, Option, Some, None, Result, Ok, Err, Vec}
 use Rattle.std.specs.declared.alloc.Global.{Global}
@@ -16,14 +16,14 @@ use Rattle.ob0_analysis.specs.Texts.{utf8}
 use Rattle.ob0_rename.specs.Answers.{AreEdits, IsRefused}
 use Rattle.ob0_rename.specs.Renaming.{Renaming, renaming_of}
 
--- holds for edits if they rename the declaration or field at the place; holds for the refusal of
--- the renaming
+-- Holds if the result is edits that rename the declaration or field at the place, or the refusal of
+-- that renaming.
 abbrev pub Settles : Renaming → Result (Vec Edit Global) EditRefusal → Type 0
 Settles r (Ok edits) = AreEdits r edits.items
 Settles r (Err refusal) = IsRefused r refusal
 
--- Holds if these edits write the new name. Made all at once, they leave a text of the renamed
--- module, which has the same runs.
+-- Holds if these edits rename the declaration or field at a place of a well-typed module. Applied
+-- all at once, they give a text of the renamed module, which has the same runs.
 pub record RenamesIn (unit : Unit) (text : List ℕ) (place : Position) (new : List ℕ)
     (edits : List Edit) : Type 0 where
   pub names : Resolution
@@ -40,8 +40,8 @@ pub record IsRefusedIn (unit : Unit) (text : List ℕ) (place : Position) (new :
   pub read : IsModuleIn (utf8 text) names
   pub refused : IsRefused (renaming_of unit text names place new) refusal
 
--- Holds if this is the result of renaming in a text: edits, or the refusal. None requires that the
--- text isn't a well-typed module.
+-- Holds if this is the result of renaming in a text: edits, or the refusal. For None it holds if
+-- the text isn't a well-typed module.
 abbrev pub FindsNewName : Unit
     → List ℕ
     → Position

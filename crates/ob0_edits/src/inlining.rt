@@ -1,8 +1,9 @@
 //! Inlines a constant in a text, using the text's analysis.
 //!
-//! One question (`InlinedAt`) makes both lists of edits. `offered_edits` separates a failed
-//! allocation from the refusals. A new kind of inlining needs a variant of `Inlining`, a line in
-//! `AnswersInlining`, a field in `Inlinings`, and a case in `inlines_in` of `proofs/Inlined`.
+//! One question (`InlinedAt`) finds the edits of both kinds of inlining.
+//! `offered_edits` separates a failed allocation from the refusals. A new kind of inlining
+//! needs a variant of `Inlining`, a line in `AnswersInlining`, a field in `Inlinings`, and a case
+//! in `inlines_in` of `proofs/Inlined`.
 
 ghost use Rattle.std.specs.Prelude.{◌≡◌, IfOk};
 ghost use Rattle.std.specs.Str.{chars};
@@ -17,7 +18,7 @@ use ob0_inline::{inline_all, inline_here};
 use ob0_text::{Edit, EditRefusal, Position, TextStore};
 use std::alloc::{AllocError, Global};
 
-/// The extent of an inlining: one use, or all uses. If all uses are inlined, the declaration is
+/// The kind of an inlining: at one use, or at all uses. If all uses are inlined, the declaration is
 /// removed.
 #[derive(Clone, Copy, Debug, Drop, PartialEq, Eq)]
 pub enum Inlining {
@@ -32,7 +33,7 @@ pub struct Inlinings {
     pub everywhere: Option<Vec<Edit>>,
 }
 
-/// The question for the possible inlinings at a place of a store's text.
+/// Asks which edits inline the constant at a place of a store's text.
 #[derive(Drop)]
 struct InlinedAt<'a, T: TextStore> {
     store: &'a T,
@@ -59,8 +60,8 @@ impl<'a, T: TextStore> Question for InlinedAt<'a, T> {
     }
 }
 
-/// Returns the edits that an inliner has answered, or None if it has refused. A failed allocation is returned as an
-/// error.
+/// Returns the edits of an answer, or None if it is a refusal. A failed allocation is returned as
+/// an error.
 fn offered_edits(answer: Result<Vec<Edit>, EditRefusal>) -> Result<Option<Vec<Edit>>, AllocError>
     ensures { IfOk result (λ edits. IsOffered answer edits) }
 {
@@ -71,9 +72,9 @@ fn offered_edits(answer: Result<Vec<Edit>, EditRefusal>) -> Result<Option<Vec<Ed
     }
 }
 
-/// Returns the edits of each kind of inlining at a place of a store's text, or None for a kind that is refused. The
-/// whole result is None if the text isn't a well-typed module. A failed allocation is an error, and never counts as a
-/// refusal.
+/// Returns the edits that inline the constant at a place, for each kind of inlining, or None for a
+/// kind that is refused. Returns None altogether if the store's text isn't a well-typed module. A
+/// failed allocation is an error, never a refusal.
 pub fn inline_in<T: TextStore>(
     alloc: Global,
     store: &T,

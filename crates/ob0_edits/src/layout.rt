@@ -13,7 +13,7 @@ use ob0_layout::laws::{gaps_make_the_layout, lexemes_stay, module_stays};
 use ob0_text::{Edit, EditRefusal, Indent, TextStore};
 use std::alloc::{AllocError, Global};
 
-/// The question for the edits that format a store's text.
+/// Asks which edits format a store's text.
 #[derive(Drop)]
 struct Formatting<'a, T: TextStore> {
     store: &'a T,
@@ -40,8 +40,8 @@ impl<'a, T: TextStore> Question for Formatting<'a, T> {
     }
 }
 
-/// Returns the edits that format a store's text, or the refusal. Returns None if the text isn't a well-typed module. A
-/// failed allocation is an error, and never counts as a refusal.
+/// Returns the edits that format a store's text, or the refusal. Returns None if the text isn't a
+/// well-typed module. A failed allocation is an error, never a refusal.
 pub fn layout_in<T: TextStore>(
     alloc: Global,
     store: &T,

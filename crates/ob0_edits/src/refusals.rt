@@ -5,7 +5,8 @@ ghost use Rattle.ob0_text.specs.declared.refusals.EditRefusal.TheVariants.{Memor
 use ob0_text::{Edit, EditRefusal};
 use std::alloc::AllocError;
 
-/// Returns the given edits or refusal unchanged. A failed allocation is returned as an error instead of a refusal.
+/// Returns these edits or this refusal unchanged. The refusal `Memory` is returned as an error
+/// instead.
 pub(crate) fn without_memory(
     outcome: Result<Vec<Edit>, EditRefusal>,
 ) -> Result<Result<Vec<Edit>, EditRefusal>, AllocError>

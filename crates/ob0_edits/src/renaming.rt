@@ -1,10 +1,11 @@
-//! Renames in a text, using its analysis.
+//! Answers requests for renames in an analysed text.
 //!
-//! Declarations and fields are two cases of `AreEdits` and `IsRefused` of `ob0_rename`. Both cases
-//! contain `WritesName`, so one lemma, `renames_in` of `proofs/Renamings`, covers both. `RenamesIn`
-//! and `IsRefusedIn` are about the module with its names bound (`IsModuleIn`), because fields are
-//! found through the bindings of names. The contract of `ask` is about bytes, and `RenamesIn` about
-//! characters. `new_name_found` derives the second from the first.
+//! Declarations and fields are two cases of `AreEdits` and `IsRefused` of `ob0_rename`.
+//! Both cases of `AreEdits` contain `WritesName`, so one lemma, `renames_in` of
+//! `proofs/Renamings`, covers both. `RenamesIn` and `IsRefusedIn` are about the module with its
+//! names bound (`IsModuleIn`), because fields are found through the bindings of names. The contract
+//! of `ask` is about the bytes of the text. The lemma `new_name_found` derives `RenamesIn` from it,
+//! which is about characters.
 
 ghost use Rattle.std.specs.Prelude.{◌≡◌, IfOk};
 ghost use Rattle.std.specs.Str.{chars};
@@ -17,7 +18,7 @@ use ob0_rename::rename;
 use ob0_text::{Edit, EditRefusal, Position, TextStore};
 use std::alloc::{AllocError, Global};
 
-/// The question for the edits that rename the declaration or field at a place of a store's text.
+/// Asks which edits rename the declaration or field at a place of a store's text.
 #[derive(Drop)]
 struct NewName<'a, T: TextStore> {
     store: &'a T,
@@ -42,8 +43,9 @@ impl<'a, T: TextStore> Question for NewName<'a, T> {
     }
 }
 
-/// Returns the edits that rename the declaration or field at a place of a store's text to `new`, or the refusal.
-/// Returns None if the text isn't a well-typed module. A failed allocation is an error, and never counts as a refusal.
+/// Returns the edits that rename the declaration or field at a place of a store's text to `new`, or
+/// the refusal. Returns None if the text isn't a well-typed module. A failed allocation is an
+/// error, never a refusal.
 pub fn rename_in<T: TextStore>(
     alloc: Global,
     store: &T,

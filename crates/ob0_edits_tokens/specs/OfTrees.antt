@@ -1,4 +1,4 @@
--- The relation between the words of a text and a tree over their indexes.
+-- Relates the words of a text to a tree whose names and integers are the indexes of these words.
 -- Rule: none; for contracts of edit makers.
 use Rattle.std.specs.Prelude.{◌≡◌, ℕ, suc, if◌then◌else◌, List, [], ◌∷◌, map, slice_index_or}
 use Rattle.ob0_scan.specs.Scanned.{Word, Scanned}
@@ -10,13 +10,13 @@ use Rattle.ob0_edits_tokens.specs.Changed.{words_of, changed_words, at_each, is_
 use Rattle.ob0_edits_tokens.specs.Replaced.{AreNames}
 use Rattle.ob0_edits_tokens.specs.Written.{name_word}
 
--- Returns the tokens of the words as a tree over indexes spells them. The first word has the index
--- `k`.
+-- Returns the words as the tokens that a tree over word indexes spells. In place of each name or
+-- integer, the token has the index of its word. `k` is the index of the first word of the list.
 abbrev pub numbered_tokens : ℕ → List Word → List (Terminal ℕ)
 numbered_tokens k [] = []
 numbered_tokens k (w ∷ ws) = lexeme_of k w.kind ∷ numbered_tokens (suc k) ws
 
--- returns the word with this index; if there is none, a name without text
+-- returns the word with this index, or a name without text if there is no such word
 abbrev pub word_at : List Word → ℕ → Word
 word_at ws k = slice_index_or ws k (name_word [])
 
@@ -33,8 +33,8 @@ number_at ws k = value_of (word_at ws k).kind
 abbrev pub renamed_at : List Word → List ℕ → List ℕ → ℕ → List ℕ
 renamed_at ws places new k = if is_among k places then new else text_of_word ws k
 
--- A tree still spells the words if both get a new name at the same places. The tree must have the
--- words' indexes as its names and integers.
+-- Holds if renaming keeps the spelling of trees. Let a tree over word indexes spell the words of a
+-- text. After both get a new name at the same places, the tree still spells the words.
 abbrev pub RenamedWordsSpell : Type 0
 RenamedWordsSpell =
     (s : Scanned) (sort : Sort) (t : Tree ℕ sort) (places new : List ℕ)

@@ -1,4 +1,4 @@
--- Spans of a text as ranges of positions.
+-- Defines the spans of a text as ranges of positions.
 -- Rule: docs/PROTOCOL.md, Positions; LSP 3.17, Range.
 use Rattle.std.specs.Prelude.{ℕ, List, [], ◌∷◌}
 use Rattle.ob0_scan.specs.declared.lexeme.Span.{Span}

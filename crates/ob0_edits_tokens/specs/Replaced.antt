@@ -1,4 +1,5 @@
--- A text in which some identifiers are replaced by another text, and the edits that do this.
+-- Defines the text after several identifiers are replaced by another text, and the edits that do
+-- this.
 -- Rule: docs/PROTOCOL.md, Requests on documents 10.
 use Rattle.std.specs.Prelude.{◌≡◌, ℕ, suc, ◌<◌, ◌≤◌, false, List, [], ◌∷◌, ◌++◌, length, map, IsTrue, Some, slice_index, slice_index_or, string_bytes}
 use Rattle.std.specs.Char.{is_ascii_alphabetic, is_ascii_alphanumeric}
@@ -39,30 +40,32 @@ AreNames tokens least (p ∷ ps) =
     × ((token_or_empty tokens p).kind ≡ token.Identifier)
     × AreNames tokens (suc p) ps
 
--- returns the cut that replaces a token by the new text, with places counted in bytes
+-- returns the cut, in byte offsets, that replaces the token with the index `p` by `new`
 abbrev pub cut_of : List Token → List ℕ → ℕ → Cut
 cut_of tokens new p =
     record { from = (span_at tokens p).start; to = (span_at tokens p).end; new = new }
 
--- returns the text with `new` in place of the token at each place
+-- Returns the text after the token at each of the places is replaced by `new`.
 abbrev pub with_text_at : Scanned → List ℕ → List ℕ → List ℕ
 with_text_at s places new = pieced s.text 0 (map (cut_of s.tokens new) places)
 
--- holds if each cut begins at or after the end of the cut before it, and removes at least one byte;
--- the first one begins at or after `at`
+-- Holds if each cut begins at or after the end of the previous cut, and removes at least one byte.
+-- The first cut begins at or after `at`.
 abbrev pub AreInOrder : ℕ → List Cut → Type 0
 AreInOrder at [] = Unit {0}
 AreInOrder at (c ∷ cs) = (at ≤ c.from) × (c.from < c.to) × AreInOrder c.to cs
 
--- holds if each lexeme ends before the next one, and the last one ends before the byte `byte`
+-- Holds if the text of each lexeme belongs to its kind, and no lexeme can continue with the byte
+-- after it. The byte `byte` follows the last lexeme.
 abbrev pub AreApartBefore : List Lexeme → ℕ → Type 0
 AreApartBefore [] byte = Unit {0}
 AreApartBefore (l ∷ lexemes) byte =
     EndsBefore l (slice_index (joined lexemes ++ (byte ∷ [])) 0) × AreApartBefore lexemes byte
 
--- Holds if the text `new`, which is read as the words `ws`, may replace any identifier. A lexeme
--- that ends before a letter must end before the text's first byte. The text's own lexemes must end
--- before one another, and the last one before every byte that ends an identifier.
+-- Holds if the text `new`, whose words are `ws`, may replace any identifier. If the lexeme before
+-- it can't continue with a letter, that lexeme can't continue with the first byte of `new` either.
+-- The lexemes of `new` stay separate from one another, and from a following byte that is no letter
+-- or digit.
 pub record ReplacesName (new : List ℕ) (ws : List Word) : Type 0 where
   pub lexemes : List Lexeme
   pub whole : joined lexemes ≡ new
@@ -74,11 +77,11 @@ pub record ReplacesName (new : List ℕ) (ws : List Word) : Type 0 where
       → continues kind (slice_index new 0) ≡ false
   pub apart : (byte : ℕ) → is_ascii_alphanumeric byte ≡ false → AreApartBefore lexemes byte
 
--- returns an edit as its range and the bytes of its text
+-- Returns the range of an edit, and its text in bytes.
 abbrev pub parts : Edit → Range × List ℕ
 parts edit = (edit.range, string_bytes edit.text)
 
--- returns the edit at a place, as the token's range and the new text
+-- Returns the range and text of the edit that replaces the token with the index `p` by `new`.
 abbrev pub edit_at : counting.Unit → List ℕ → List Token → List ℕ → ℕ → Range × List ℕ
 edit_at unit text tokens new p = (range_of (width_of unit) text (span_at tokens p), new)
 

@@ -1,4 +1,4 @@
-//! States laws about words and trees.
+//! States the laws of replacing identifiers by another identifier.
 
 ghost use Rattle.std.specs.Prelude.{ℕ, List, [], ◌∷◌};
 ghost use Rattle.ob0_scan.specs.Classes.{IsIdentifier};
@@ -11,7 +11,8 @@ pub fn names_replace_names()
     ensures { (new : List ℕ) → IsIdentifier new → ReplacesName new (name_word new ∷ []) }
 {}
 
-/// Proves that a tree still spells the words if both get a new name at the same places.
+/// Proves that renaming keeps the spelling of trees. Let a tree spell the words of a text. After
+/// both get a new name at the same places, the tree still spells the words.
 pub fn renamed_words_spell()
     ensures { RenamedWordsSpell }
 {}

@@ -9,11 +9,11 @@ use ob0_scan::{Span, Token};
 use ob0_text::{Range, TextStore};
 use std::alloc::{AllocError, Global};
 
-/// The number of spans that are converted at once, so that the buffers stay small.
+/// The greatest number of spans that are converted at once. It keeps the buffers small.
 const PART: usize = 16_384;
 
 /// Returns the ranges of spans, in the same order. If the spans are in text order, one pass over
-/// the text finds them.
+/// the text finds the ranges of up to `PART` spans.
 pub fn ranges<T: TextStore>(
     alloc: Global,
     store: &T,
@@ -31,7 +31,7 @@ pub fn ranges<T: TextStore>(
     Ok(ranges)
 }
 
-/// Appends the ranges of spans.
+/// Appends the ranges of spans, in the same order.
 fn add_ranges<T: TextStore>(
     alloc: Global,
     store: &T,
@@ -52,7 +52,7 @@ fn add_ranges<T: TextStore>(
     Ok(())
 }
 
-/// Returns the start and the end of each span, one span after another.
+/// Returns the byte offsets of the start and the end of each span, one span after another.
 fn bounds(alloc: Global, spans: &[Span]) -> Result<Vec<usize>, AllocError>
     ensures { IfOk result (λ offsets. offsets.items ≡ bounds spans.now) }
 {
@@ -78,8 +78,8 @@ pub(crate) fn spans_of(
         .collect(alloc)
 }
 
-/// Returns the span of a token, in bytes. If there is no such token, it is an empty span at the
-/// text's start.
+/// Returns the span of the token with the index `place`, in bytes. If there is no such token,
+/// returns an empty span at the text's start.
 fn span_at(tokens: &[Token], place: usize) -> Span
     ensures { result ≡ span_at tokens.now place }
 {

@@ -1,4 +1,5 @@
-//! Makes the edits that replace several identifiers by one text.
+//! Makes the edits that replace several identifiers by one text, and the edit that removes a
+//! declaration.
 
 ghost use Rattle.std.specs.Prelude.{◌≡◌, ◌⊎◌, ◌+◌, ◌++◌, ◌∷◌, [], suc, OnOk, ◌≤◌, ◌<◌, nat_lt, List, length, map, IfOk, IfErr, IsErrOf};
 ghost use Rattle.std.specs.Str.{chars};
@@ -16,9 +17,9 @@ use ob0_scan::{MAX_TEXT, Span, Tokens};
 use ob0_text::{Edit, EditRefusal, Range, TextStore};
 use std::alloc::Global;
 
-/// Returns one edit for each of the places, which writes `new` there. The places are indexes of identifiers among the
-/// tokens, in text order. Fails with `TooLong` if the resulting text is longer than a text may be, and with `Memory` if
-/// an allocation fails.
+/// Returns one edit for each place, in text order, which replaces the token there by `new`.
+/// `places` are indexes of identifiers among the tokens, in text order. Fails with `TooLong` if the
+/// resulting text is longer than a text may be. Fails with `Memory` if an allocation fails.
 pub fn edits_for<T: TextStore>(
     alloc: Global,
     store: &T,
@@ -50,8 +51,9 @@ pub fn edits_for<T: TextStore>(
     Ok(edits)
 }
 
-/// Returns an edit that removes a declaration, from its first token to its last. After it come edits that replace the
-/// tokens at some later places by `new`. Fails with `TooLong` if the resulting text is longer than a text may be, and
+/// Returns an edit that removes a declaration, from the start of the token `first` to the end of
+/// the token `last`. After it come edits that replace the tokens at `places` by `new`, which are
+/// all after `last`. Fails with `TooLong` if the resulting text is longer than a text may be. Fails
 /// with `Memory` if an allocation fails.
 pub fn edits_without<T: TextStore>(
     alloc: Global,
@@ -99,8 +101,8 @@ pub fn edits_without<T: TextStore>(
     Ok(edits)
 }
 
-/// Appends one edit for each of the places. One pass over the text finds their ranges. Fails only
-/// with `Memory`.
+/// Appends one edit for each place, which replaces the token there by `new`. Fails only with
+/// `Memory`.
 fn add_edits<T: TextStore>(
     alloc: Global,
     store: &T,
@@ -128,7 +130,7 @@ fn add_edits<T: TextStore>(
     Ok(())
 }
 
-/// Returns the range of a span, in the unit of the store.
+/// Returns the range of a span of bytes, with positions in the unit of the store.
 pub fn range_of<T: TextStore>(store: &T, span: Span) -> Range
     ensures { result ≡ range_of (width_of (T.unit_of store.now)) (T.content store.now) span }
 {
@@ -138,8 +140,9 @@ pub fn range_of<T: TextStore>(store: &T, span: Span) -> Range
     }
 }
 
-/// Returns true if an edited text is longer than a text may be. It consists of `counted` bytes, and then of the old
-/// text after `end` with `new` at all places.
+/// Returns true if an edited text is longer than a text may be. The edited text consists of
+/// `counted` bytes, then of the old text from the offset `end`. In the latter part, `new` replaces
+/// the token at each place.
 fn is_too_long(tokens: &Tokens, counted: usize, end: usize, places: &[usize], new: &str) -> bool
     requires names { AreNames tokens.now.tokens 0 places.now }
     requires order { AreInOrder end (map (cut_of tokens.now.tokens new.now) places.now) }

@@ -1,4 +1,5 @@
--- The constant at a place, the module after the constant is inlined everywhere, and the refusals.
+-- Defines the constant at a place, the module after the constant is inlined everywhere, and the
+-- refusals.
 -- Rule: docs/PROTOCOL.md, Requests on documents 9, Refusals of edits.
 use Rattle.std.specs.Prelude.{◌≡◌, ◌≢◌, ◌⊎◌, ℕ, Bool, not, ◌&&◌, if◌then◌else◌, List, [], ◌∷◌, Option, Some, None, Result, Ok, Err, Vec, drop, length, map}
 use Rattle.std.specs.List.{All, filter, list_any, position_from, range_with_len, zip}
@@ -32,8 +33,8 @@ use Rattle.ob0_inline.specs.Inlined.{LeavesModule, first_refusal}
 use Rattle.ob0_inline.specs.Uses.{is_predeclared_truth}
 use Rattle.ob0_inline.specs.Values.{value_factor, value_text}
 
--- Holds if `c` is a constant of a CONST section, with its ordinal, its value and its declaring
--- token. `last` is the first `;` after that token.
+-- Holds if `c` is a constant of a CONST section, with its ordinal and value. `first` is the token
+-- that declares it, and `last` is the first `;` after that token.
 pub record IsConstant (m : Parsed) (c : NamedConstant) : Type 0 where
   pub has_value : value_of_constant (named_tree_of m) c.ordinal ≡ Some (scalar_value c.value)
   pub begins : token_declaring (declaring_only (identifiers role.Declaring (tree_of m))) c.ordinal
@@ -41,7 +42,7 @@ pub record IsConstant (m : Parsed) (c : NamedConstant) : Type 0 where
   pub ends : position_from (λ t. is_semicolon t.kind) c.first (drop c.first m.source.tokens)
       ≡ Some c.last
 
--- holds if the byte offset is on a name of this constant: its declaring name, or a use
+-- Holds if the byte offset is on a name of this constant: in its declaration, or at a use.
 pub record IsConstantAt (m : Parsed) (offset : ℕ) (c : NamedConstant) : Type 0 where
   pub token : ℕ
   pub named : name_on m offset ≡ Some (record { token = token; ordinal = c.ordinal })
@@ -54,13 +55,15 @@ NoConstantAt m offset =
     → name_on m offset ≡ Some n
     → value_of_constant (named_tree_of m) n.ordinal ≡ None
 
--- returns the tokens of the occurrences that are bound to `d`, in text order
+-- returns the tokens of the occurrences that are bound to the declaration with the ordinal `d`, in
+-- text order
 abbrev pub uses_of : Parsed → ℕ → List ℕ
 uses_of m d =
     map (λ u. u.0) (filter (λ u. same_label u.1 (declared d))
     (zip (occurrences (tree_of m)) (bindings (named_tree_of m))))
 
--- holds if each use of the declaration `d` is a whole factor
+-- holds if each use of the declaration with the ordinal `d` is a whole factor: a name without
+-- selectors in an expression
 abbrev pub IsAlone : Parsed → ℕ → Type 0
 IsAlone m d = All (λ l. l ≢ declared d) (names_elsewhere (numbered (named_tree_of m)))
 
@@ -73,12 +76,13 @@ inlined_all m c = inlined_everywhere (named_tree_of m) c.ordinal (value_factor c
 abbrev pub text_without : Parsed → NamedConstant → List ℕ
 text_without m c = without_text m.source c.first c.last (uses_of m c.ordinal) (value_text c.value)
 
--- returns true if the occurrence `k` is a use of the constant, and TRUE or FALSE in its place
--- wouldn't be the predeclared name
+-- Returns true if the occurrence `k` is a use of the constant at which TRUE or FALSE, written for
+-- its value, wouldn't mean the predeclared name.
 abbrev pub is_hidden : Tree Name module_text → NamedConstant → ℕ → Bool
 is_hidden m c k = same_ordinal (binds m k) c.ordinal && not (is_predeclared_truth m k c.value)
 
--- returns true if at some use of the constant TRUE or FALSE wouldn't be the predeclared name
+-- Returns true if the constant has a use at which TRUE or FALSE, written for its value, wouldn't
+-- mean the predeclared name.
 abbrev pub any_hidden : Tree Name module_text → NamedConstant → Bool
 any_hidden m c = list_any (is_hidden m c) (range_with_len 0 (length (bindings m)))
 
@@ -106,8 +110,8 @@ pub record InlinesEverywhere (unit : counting.Unit) (text : List ℕ) (m : Parse
   pub well_typed : WellTyped (inlined_all m c)
   pub same_runs : SameRuns (inlined_all m c) (named_tree_of m)
 
--- Holds for edits if no refusal applies and they inline the constant everywhere. Holds for the
--- first refusal that applies, and for `Memory`.
+-- Holds if the answer is edits that inline the constant everywhere, and no refusal applies. Also
+-- holds if it is the first refusal that applies, or `Memory`.
 abbrev pub AnswersConstant : counting.Unit
     → List ℕ
     → Parsed
@@ -119,8 +123,8 @@ AnswersConstant unit text m c (Ok edits) =
 AnswersConstant unit text m c (Err refusal) =
     (refusal_everywhere m c ≡ Some refusal) ⊎ (refusal ≡ Memory)
 
--- Holds for the answer about the constant whose name is at the byte offset. If there is no such
--- constant, holds for `NoName`.
+-- Holds if the answer fits the constant whose name is at the byte offset. If no constant's name is
+-- at the offset, holds if the answer is the refusal `NoName`.
 abbrev pub AnswersEverywhere : counting.Unit
     → List ℕ
     → Parsed

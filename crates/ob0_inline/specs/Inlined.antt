@@ -1,4 +1,4 @@
--- Edits that leave the text of a module, and the cases in which they are refused.
+-- Defines edits that leave the text of a module, and the cases in which they are refused.
 -- Rule: docs/PROTOCOL.md, Requests on documents 9, 10, Refusals of edits.
 use Rattle.std.specs.Prelude.{◌≡◌, ℕ, nat_lt, if◌then◌else◌, length, List, Option, Some}
 use Rattle.std.specs.Str.{chars}
@@ -12,7 +12,8 @@ use Rattle.ob0_text.specs.Units.{width_of}
 use Rattle.ob0_tree.specs.Module.{ModuleOf, max_nesting}
 use Rattle.ob0_tree.specs.Tree.{Tree, module_text, nesting}
 
--- Holds if the text after the edits is a text of the module with this tree.
+-- Holds if applying the edits to the text gives a text that can be scanned and spells the module
+-- with this tree.
 pub record LeavesModule (unit : counting.Unit) (text : List ℕ) (edits : List Edit)
     (t : Tree (List ℕ) module_text) : Type 0 where
   pub after : Scanned
@@ -20,8 +21,8 @@ pub record LeavesModule (unit : counting.Unit) (text : List ℕ) (edits : List E
   pub made : patched (width_of unit) text edits ≡ Some (chars after.text)
   pub module_of : ModuleOf after t
 
--- Returns the first refusal of edits that leave this text and the module with this tree. `TooLong`
--- and `TooDeep` are tested first; `other` is the result if neither applies.
+-- Returns the first refusal that applies to edits, from the text and the module that they would
+-- leave. `TooLong` and `TooDeep` are tested first. If neither applies, the result is `other`.
 abbrev pub first_refusal : List ℕ → Tree (List ℕ) module_text → Option EditRefusal → Option EditRefusal
 first_refusal text t other =
     if nat_lt max_text (length text) then Some TooLong

@@ -1,4 +1,4 @@
--- The use of a constant at a place, the module after the constant is inlined there, and the
+-- Defines the use of a constant at a place, the module after the constant is inlined there, and the
 -- refusals.
 -- Rule: docs/PROTOCOL.md, Requests on documents 9, Refusals of edits.
 use Rattle.std.specs.Prelude.{◌≡◌, ◌⊎◌, ℕ, Bool, true, false, if◌then◌else◌, List, [], ◌∷◌, Option, Some, None, Result, Ok, Err, Vec, map, slice_get}
@@ -27,15 +27,15 @@ use Rattle.ob0_inline.specs.declared.uses.Use.{Use}
 use Rattle.ob0_inline.specs.Inlined.{LeavesModule, first_refusal}
 use Rattle.ob0_inline.specs.Values.{value_factor, value_text}
 
--- Holds if the byte offset is on the use `u`: an occurrence with this token, which is bound to a
--- constant of a CONST section.
+-- Holds if the byte offset is on a use of a constant of a CONST section, and `u` is this use. `u`
+-- then has the use's token and occurrence, and the constant's ordinal and value.
 pub record IsUseAt (m : Parsed) (offset : ℕ) (u : Use) : Type 0 where
   pub named : name_on m offset ≡ Some (record { token = u.token; ordinal = u.constant })
   pub occurs : slice_get (occurrences (tree_of m)) u.occurrence ≡ Some u.token
   pub has_value : value_of_constant (named_tree_of m) u.constant ≡ Some (scalar_value u.value)
 
--- Holds if the occurrence with this number has this token, and is bound to this constant of a CONST
--- section with this value.
+-- Holds if `u` is a use of a constant of a CONST section. The occurrence of `u` is at its token,
+-- and is bound to the constant with this ordinal and value.
 pub record IsUse (m : Parsed) (u : Use) : Type 0 where
   pub occurs : slice_get (occurrences (tree_of m)) u.occurrence ≡ Some u.token
   pub bound : binds (named_tree_of m) u.occurrence ≡ Some u.constant
@@ -46,8 +46,8 @@ abbrev pub truth_ordinal : Bool → ℕ
 truth_ordinal true = 2
 truth_ordinal false = 3
 
--- Returns true if TRUE or FALSE in place of an occurrence would be the predeclared name. For a
--- number the result is true.
+-- Returns true if TRUE or FALSE, written for a truth value in place of the occurrence, would mean
+-- the predeclared name. Returns true for every number.
 abbrev pub is_predeclared_truth : Tree Name module_text → ℕ → Scalar → Bool
 is_predeclared_truth m occurrence (scalar.Number n) = true
 is_predeclared_truth m occurrence (scalar.Truth b) =
@@ -72,8 +72,8 @@ pub record InlinesHere (unit : counting.Unit) (text : List ℕ) (m : Parsed) (u 
   pub well_typed : WellTyped (inlined_here m u)
   pub same_runs : SameRuns (inlined_here m u) (named_tree_of m)
 
--- Holds for edits if no refusal applies and they inline the constant at the use. Holds for the
--- first refusal that applies, and for `Memory`.
+-- Holds if the answer is edits that inline the constant at the use, and no refusal applies. Also
+-- holds if it is the first refusal that applies, or `Memory`.
 abbrev pub AnswersUse : counting.Unit
     → List ℕ
     → Parsed
@@ -84,7 +84,8 @@ AnswersUse unit text m u (Ok edits) =
     (refusal_here m u ≡ None) × InlinesHere unit text m u edits.items
 AnswersUse unit text m u (Err refusal) = (refusal_here m u ≡ Some refusal) ⊎ (refusal ≡ Memory)
 
--- Holds for the answer about the use at the byte offset. If there is no use, holds for `NoName`.
+-- Holds if the answer fits the use at the byte offset. If no use is at the offset, holds if the
+-- answer is the refusal `NoName`.
 abbrev pub AnswersHere : counting.Unit
     → List ℕ
     → Parsed

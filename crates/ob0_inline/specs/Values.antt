@@ -1,4 +1,5 @@
--- The written form of a value: its text, the words of that text, and the factor that they spell.
+-- Defines the written form of a value: its text, the words of that text, and the factor that they
+-- spell.
 -- Rule: docs/PROTOCOL.md, Requests on documents 9.
 use Rattle.std.specs.Prelude.{ℕ, List}
 use Rattle.ob0_scan.specs.Scanned.{Word}

@@ -14,8 +14,8 @@ use ob0_scope::name_at;
 use ob0_scope_table::Resolved;
 use ob0_types::WellTyped;
 
-/// A constant of a CONST section: its ordinal and value, the token of its declaration's name, and
-/// the token of that declaration's `;`.
+/// A constant of a CONST section. `ordinal` is the number of its declaration in text order. `first`
+/// is the index of the token that declares its name, and `last` the index of the declaration's `;`.
 #[derive(Clone, Copy)]
 pub struct NamedConstant {
     pub ordinal: usize,
@@ -24,7 +24,8 @@ pub struct NamedConstant {
     pub last: usize,
 }
 
-/// Returns the constant whose name is at a byte offset, at its declaration or at a use. Returns None if there is none.
+/// Returns the constant whose name is at a byte offset, in its declaration or at a use. Returns
+/// None if the offset isn't on the name of a constant.
 pub(crate) fn constant_at(module: &WellTyped, offset: usize) -> Option<NamedConstant>
     ensures { MatchOption result (NoConstantAt «module».now.module_read offset)
         (λ c. IsConstantAt «module».now.module_read offset c) }
@@ -39,8 +40,8 @@ pub(crate) fn constant_at(module: &WellTyped, offset: usize) -> Option<NamedCons
     }
 }
 
-/// Returns the constant with this ordinal and value, with the tokens of its declaration. Returns None only if the
-/// declaration isn't found, which the contract excludes.
+/// Returns the constant with this ordinal and value, and finds the first and last token of its
+/// declaration. The contract says that the result isn't None.
 fn named_constant(names: &Resolved, ordinal: usize, value: Scalar) -> Option<NamedConstant>
     requires has_value { value_of_constant (named_tree_of names.now.module_read) ordinal
         ≡ Some (scalar_value value) }
@@ -62,7 +63,8 @@ fn named_constant(names: &Resolved, ordinal: usize, value: Scalar) -> Option<Nam
     }
 }
 
-/// Returns the index of the first `;` at or after a token. Returns None if there is none.
+/// Returns the index of the first `;` at or after the token with the index `first`. Returns None if
+/// no `;` follows.
 fn end_of_declaration(tokens: &[Token], first: usize) -> Option<usize>
     ensures { result ≡ position_from (λ t. is_semicolon t.kind) first (drop first tokens.now) }
 {

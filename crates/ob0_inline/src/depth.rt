@@ -16,8 +16,9 @@ use ob0_text::{Edit, EditRefusal, PatchFault, TextStore, patch};
 use ob0_tree::{MAX_NESTING, Module};
 use std::alloc::Global;
 
-/// Returns true if the edited text is nested deeper than a module may be. The edits may make the module at most one
-/// level deeper. The text is parsed only if the module is already nested as deep as it may be.
+/// Returns true if the edited text is nested deeper than a module may be. The contract assumes that
+/// the edits make the module at most one level deeper. So the text is parsed only if the module
+/// already has the greatest depth.
 pub(crate) fn is_too_deep<T: TextStore>(
     alloc: Global,
     store: &T,
@@ -61,8 +62,8 @@ fn is_parsed_too_deep<T: TextStore>(
     }
 }
 
-/// Returns true if a text is a module. Its tokens must be those that some tree spells. Then it is a module exactly if
-/// that tree isn't nested deeper than a module may be.
+/// Returns true if a text can be scanned and parsed as a module. If the text spells a tree, the
+/// result is true exactly if the tree is nested at most as deep as a module may be.
 fn is_module(alloc: Global, text: &str) -> Result<bool, EditRefusal>
     ensures shallow { (s : Scanned) (t : Tree (List ℕ) module_text) → IsScan s → s.text ≡ text.now
         → text_lexemes s ≡ spell t
@@ -78,8 +79,8 @@ fn is_module(alloc: Global, text: &str) -> Result<bool, EditRefusal>
     }
 }
 
-/// Returns true if the tokens of a text are a module. Some tree must spell them. Then they are a module exactly if that
-/// tree isn't nested deeper than a module may be.
+/// Returns true if these tokens can be parsed as a module. If they spell a tree, the result is true
+/// exactly if the tree is nested at most as deep as a module may be.
 fn is_parsed(alloc: Global, tokens: &Tokens) -> Result<bool, EditRefusal>
     ensures shallow { (t : Tree (List ℕ) module_text)
         → text_lexemes tokens.now ≡ spell t

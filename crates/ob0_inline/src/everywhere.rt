@@ -1,4 +1,4 @@
-//! Inlines a constant everywhere by edits.
+//! Makes the edits that inline a constant at all its uses and remove its declaration, or refuses.
 
 ghost use Rattle.std.specs.Prelude.{◌≡◌, ◌⊎◌, ◌<◌, ◌≤◌, ◌∷◌, [], IfOk, IfErr, IsErrOf, length, map};
 ghost use Rattle.std.specs.List.{list_any};
@@ -81,8 +81,9 @@ fn inline_constant<T: TextStore>(
     }
 }
 
-/// Returns one edit that removes the constant's declaration, then one for each use, which writes the value in its
-/// place. If the text becomes too long or too deep, the refusal is `TooLong` or `TooDeep`.
+/// Returns an edit that removes the constant's declaration. After it comes one edit for each use,
+/// in text order, which writes the value there. If the resulting text is too long or nested too
+/// deep, the refusal is `TooLong` or `TooDeep`.
 fn edits_everywhere<T: TextStore>(
     alloc: Global,
     store: &T,
@@ -126,7 +127,7 @@ fn edits_everywhere<T: TextStore>(
     Ok(edits)
 }
 
-/// Returns the tokens of a constant's uses, in text order.
+/// Returns the indexes of the tokens at which a constant is used, in text order.
 fn uses_of(alloc: Global, names: &Resolved, constant: usize) -> Result<Vec<usize>, AllocError>
     ensures { IfOk result (λ uses. uses.items ≡ uses_of names.now.module_read constant) }
 {

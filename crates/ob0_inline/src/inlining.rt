@@ -1,4 +1,4 @@
-//! Inlines a constant at one use by an edit.
+//! Makes the edit that inlines a constant at one use, or refuses it.
 
 ghost use Rattle.std.specs.Prelude.{◌≡◌};
 ghost use Rattle.std.specs.Str.{chars};

@@ -1,4 +1,4 @@
-//! Tests whether TRUE and FALSE are the predeclared names at a place.
+//! Tests whether TRUE and FALSE, written at a place, would be the predeclared names.
 
 ghost use Rattle.std.specs.Prelude.{◌≡◌, IfOk, ◌==◌, ◌&&◌, not, length, option_and_then, slice_get};
 ghost use Rattle.std.specs.List.{list_any, range_with_len};
@@ -15,8 +15,8 @@ use ob0_scope::ordinals_seen;
 use ob0_scope_table::{FALSE, Resolved, TRUE, same_ordinal};
 use std::alloc::{AllocError, Global};
 
-/// Returns true if TRUE or FALSE, written for a truth value in place of an occurrence, is the predeclared name there.
-/// For a number the result is true.
+/// Returns true if TRUE or FALSE, written for a truth value in place of this occurrence, would mean
+/// the predeclared name. Returns true for every number.
 pub(crate) fn is_predeclared_truth(
     alloc: Global,
     names: &Resolved,
@@ -33,7 +33,8 @@ pub(crate) fn is_predeclared_truth(
     }
 }
 
-/// Returns true if a name, written in place of an occurrence, would be bound to the declaration with this ordinal.
+/// Returns true if `name`, written in place of this occurrence, would be bound to the declaration
+/// with this ordinal.
 fn is_seen(
     alloc: Global,
     names: &Resolved,
@@ -48,7 +49,8 @@ fn is_seen(
     Ok(is_bound(&bound, occurrence, ordinal))
 }
 
-/// Returns true if the entry of an occurrence in the list `bound` is this ordinal.
+/// Returns true if the item of `bound` for this occurrence is this ordinal. Returns false if the
+/// item is None, or if `bound` has no such item.
 fn is_bound(bound: &[Option<usize>], occurrence: usize, ordinal: usize) -> bool
     ensures { result
         ≡ same_ordinal (option_and_then (λ found. found) (slice_get bound.now occurrence)) ordinal }
@@ -59,8 +61,8 @@ fn is_bound(bound: &[Option<usize>], occurrence: usize, ordinal: usize) -> bool
     }
 }
 
-/// Returns true if TRUE or FALSE, written for the constant in place of some use, isn't the predeclared name there. For
-/// a number the result is false.
+/// Returns true if the constant has a use at which TRUE or FALSE, written for its value, wouldn't
+/// mean the predeclared name. Returns false for every number.
 pub(crate) fn any_hidden(
     alloc: Global,
     names: &Resolved,
@@ -77,8 +79,8 @@ pub(crate) fn any_hidden(
     }
 }
 
-/// Returns true if a name, written in place of some use of a constant, wouldn't be bound to the declaration with this
-/// ordinal.
+/// Returns true if the constant has a use at which `name`, if written there, wouldn't be bound to
+/// the declaration with this ordinal.
 fn is_hidden(
     alloc: Global,
     names: &Resolved,
@@ -98,7 +100,8 @@ fn is_hidden(
     Ok(any_elsewhere(names, &bound, constant, ordinal))
 }
 
-/// Returns true if some occurrence is a use of the constant, and its entry in the list `bound` isn't this ordinal.
+/// Returns true if the constant has a use whose item in `bound` isn't this ordinal. `bound` has an
+/// item for each occurrence.
 fn any_elsewhere(names: &Resolved, bound: &[Option<usize>], constant: usize, ordinal: usize) -> bool
     ensures { result
         ≡ list_any (λ k. same_ordinal (binds (named_tree_of names.now.module_read) k) constant
@@ -113,7 +116,8 @@ fn any_elsewhere(names: &Resolved, bound: &[Option<usize>], constant: usize, ord
     false
 }
 
-/// Returns true if this occurrence is a use of the constant, and its entry in the list `bound` isn't this ordinal.
+/// Returns true if this occurrence is a use of the constant, and its item in `bound` isn't this
+/// ordinal. `bound` has an item for each occurrence.
 fn is_elsewhere(
     names: &Resolved,
     bound: &[Option<usize>],

@@ -9,8 +9,8 @@ use ob0_scope::name_at;
 use ob0_scope_table::Resolved;
 use ob0_types::WellTyped;
 
-/// A use of a constant: its token, its number among the occurrences of the text (counted from 0),
-/// and the constant's ordinal and value.
+/// A use of a constant. `token` is the index of its token, and `occurrence` is its number among the
+/// occurrences of the text, from 0. `constant` is the ordinal of the constant.
 #[derive(Clone, Copy)]
 pub struct Use {
     pub token: usize,
@@ -19,7 +19,8 @@ pub struct Use {
     pub value: Scalar,
 }
 
-/// Returns the use of a constant at a byte offset. Returns None if there is none.
+/// Returns the use of a constant at a byte offset, or None if the offset isn't on a use of a
+/// constant.
 pub(crate) fn use_at(module: &WellTyped, offset: usize) -> Option<Use>
     ensures at { MatchOption result ((u : Use) → IsUseAt «module».now.module_read offset u → ⊥)
         (λ u. IsUseAt «module».now.module_read offset u) }
@@ -43,8 +44,8 @@ pub(crate) fn use_at(module: &WellTyped, offset: usize) -> Option<Use>
     }
 }
 
-/// Returns the number of the occurrence at a token, or None if there is none. It is found by binary search, because the
-/// tokens of occurrences ascend.
+/// Returns the number of the occurrence at this token, counted from 0, or None if the token isn't
+/// an occurrence. A binary search finds it, because the tokens of occurrences ascend.
 fn occurrence_at(names: &Resolved, token: usize) -> Option<usize>
     ensures { result ≡ position_from (λ other. other == token) 0 names.now.uses }
 {

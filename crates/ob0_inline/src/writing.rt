@@ -1,4 +1,4 @@
-//! Writes a value in place of a use by an edit.
+//! Makes the edit that writes a constant's value in place of one use.
 
 ghost use Rattle.std.specs.Prelude.{◌≡◌, ◌⊎◌, ◌<◌, ◌≤◌, ◌∷◌, [], IfOk, IfErr, IsErrOf, length, map};
 ghost use Rattle.std.specs.Str.{chars};
@@ -20,8 +20,8 @@ use ob0_scope_table::Resolved;
 use ob0_text::{Edit, EditRefusal, TextStore};
 use std::alloc::Global;
 
-/// Returns the edit that writes a constant's value in place of a use. If the text becomes too long or too deep, the
-/// refusal is `TooLong` or `TooDeep`.
+/// Returns the edit that writes a constant's value in place of a use. If the resulting text is too
+/// long or nested too deep, the refusal is `TooLong` or `TooDeep`.
 pub(crate) fn edits_at<T: TextStore>(
     alloc: Global,
     store: &T,

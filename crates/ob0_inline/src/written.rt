@@ -12,7 +12,7 @@ use ob0_language_values::Scalar;
 use std::alloc::{AllocError, Global};
 
 /// Returns the text of a value. A negative number is in parentheses. The least number is written as
-/// a difference, because 2147483648 is too large for an integer.
+/// a difference, because 2147483648 is too large for an integer literal.
 pub(crate) fn value_text(alloc: Global, value: Scalar) -> Result<String, AllocError>
     ensures text { IfOk result (λ text. string_bytes text ≡ value_text value) }
     ensures can_replace { ReplacesName (value_text value) (value_words value) }
@@ -27,8 +27,8 @@ pub(crate) fn value_text(alloc: Global, value: Scalar) -> Result<String, AllocEr
     }
 }
 
-/// Returns the text of a number, in parentheses if it is negative. The least number is written as a difference, because
-/// 2147483648 is too large for an integer.
+/// Returns the text of a number, in parentheses if it is negative. The least number is written as a
+/// difference, because 2147483648 is too large for an integer literal.
 fn number_text(alloc: Global, number: i32) -> Result<String, AllocError>
     ensures { IfOk result (λ text. string_bytes text ≡ number_text number) }
 {

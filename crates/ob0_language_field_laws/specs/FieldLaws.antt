@@ -1,4 +1,4 @@
--- Laws of fields under other names: a module with renamed fields has the same types and runs, if
+-- Laws of renamed fields: a well-typed module remains well-typed and has the same runs, if
 -- different fields of a record get different names.
 -- Rule: none; laws of fields under other names.
 use Rattle.std.specs.Prelude.{◌≡◌, ℕ, Some}

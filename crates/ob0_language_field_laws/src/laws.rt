@@ -1,4 +1,4 @@
-//! The laws of fields under other names. Each function does nothing; its contract is the law.
+//! The laws of renamed fields. Each function does nothing; its contract is the law.
 
 ghost use Rattle.ob0_language_field_laws.specs.FieldLaws.{FreeFieldKeepsModules, RefieldingKeepsFitting, RefieldingKeepsModules};
 

@@ -1,5 +1,5 @@
-//! Laws of fields under other names: a well-typed module remains well-typed and has the same runs after the fields of
-//! its records are renamed.
+//! Laws of renamed fields: a well-typed module remains well-typed and has the same runs after the
+//! fields of its records are renamed.
 #![tactic(auto)]
 
 pub mod laws;

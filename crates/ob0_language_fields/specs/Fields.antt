@@ -1,4 +1,5 @@
--- Modules whose fields have other names, both where records declare them and where selectors select them.
+-- Modules with renamed fields. A field is renamed at its declaration in a record and in each
+-- selector that selects it.
 -- Rule: docs/LANGUAGE.md, Scopes 7.
 use Rattle.std.specs.Prelude.{ℕ, suc, ◌+◌, List, [], Some, None, Option, option_and_then, unwrap_or}
 use Rattle.ob0_tree.specs.Tree.{Item, Sort, Tree, adds, array_type, assigns, begins, block, branches, calls, compares, declares, declares_procedure, declares_type, declares_types, declares_variable, declares_variables, designator, else_branch, elsif_branch, end, field, fields, formals, further_fields, further_section, has_body, index, is_module, item, items, maybe, module_text, more, multiplies, named_type, negation, no_fields, no_formals, none, one, parenthesised, procedure, product, record_type, relates, repeat_loop, runs, section, some_arguments, some_fields, some_formals, sum, then_argument, then_fields, then_section, then_statement, type_name, type_names, value_section, variable, variable_section, variables, while_loop, written_type}
@@ -11,12 +12,13 @@ use Rattle.ob0_language_types.specs.Typing.{constructors, element_type, field_ty
 use Rattle.ob0_language_types.specs.WellTyped.{TypeEnvironment, Typed, TypedParameter, bind_typed, declare_typed, heading, typed_parameters}
 use Rattle.ob0_language_values.specs.Values.{Shape, array_shape, boolean_shape, integer_shape, record_shape}
 
--- A function that returns the new name of a field. Its arguments are the ordinal of the field's record (None if the
--- record is unknown) and its present name.
+-- A function that returns the new name of a field. Its arguments are the ordinal of the field's
+-- record and the field's present name. The ordinal is the number of words ARRAY and RECORD before
+-- the record, or None if the record is unknown.
 abbrev pub FieldNames : Type 0
 FieldNames = Option ℕ → Name → Name
 
--- returns the ordinal of a record type; None for any other type, or without a type
+-- returns the ordinal of a record type; None for any other type and for None
 abbrev pub selected_record : Option Shape → Option ℕ
 selected_record None = None
 selected_record (Some integer_shape) = None
@@ -24,16 +26,15 @@ selected_record (Some boolean_shape) = None
 selected_record (Some (array_shape k n s)) = None
 selected_record (Some (record_shape k fs)) = Some k
 
--- returns the type of a designator after one more selector, given the type `s` before it; None if
--- it has no type
+-- returns the type of a designator with one more selector; `s` is its type without this selector;
+-- None if `s` has no such field or element
 abbrev pub type_after : {i : Item} → Option Shape → Tree Name (item i) → Option Shape
 type_after s (field x) = option_and_then (λ t. field_type t x) s
 type_after s (index e) = option_and_then (λ t. element_type t integer_shape) s
 type_after s _ = s
 
--- Returns a part of a statement with its fields under other names. A selected field belongs to the
--- record type before its selector. If the part is a list of selectors, `s` is the type before the
--- first one.
+-- Renames the selected fields in a part of a statement. A field belongs to the record from which it
+-- is selected. If the part is a list of selectors, `s` is the type of the designator without them.
 abbrev pub refield : {s : Sort} → FieldNames → Typed Name → Option Shape → Tree Name s → Tree Name s
 refield l meaning s (more t ts) =
     more (refield l meaning s t) (refield l meaning (type_after s t) ts)
@@ -76,12 +77,12 @@ refield l meaning s (else_branch a) = else_branch (refield l meaning None a)
 refield l meaning s (begins a) = begins (refield l meaning None a)
 refield l meaning s t = t
 
--- Returns the text of a type with its declared fields under other names. `k` is the ordinal of the first ARRAY or
--- RECORD of the part, and `r` the ordinal of the group's record. The length of an array is a constant expression and
--- has no selectors.
+-- Renames the fields that a written type declares. `k` is the number of words ARRAY and RECORD
+-- before the part. `r` is the ordinal of the record to which a group of fields belongs. The length
+-- of an array is unchanged, because a constant expression has no selectors.
 abbrev mutual
-  -- returns a written type with its fields under other names; `k` is the ordinal of its first ARRAY
-  -- or RECORD
+  -- returns a written type with its fields renamed; `k` is the number of words ARRAY and RECORD
+  -- before it
   pub refield_type : FieldNames → ℕ → Tree Name written_type → Tree Name written_type
   refield_type l k (named_type x) = named_type x
   refield_type l k (array_type e t) = array_type e (refield_type l (suc k) t)
@@ -89,15 +90,15 @@ abbrev mutual
       record_type (refield_group l k (suc k) g)
       (refield_groups l k (suc k + group_constructors g) rest)
 
-  -- returns a group of fields of the record `r`, with these fields and those in their type under
-  -- other names; `k` is the ordinal of the first ARRAY or RECORD in that type
+  -- renames the fields of a group that belongs to the record `r`, and the fields in their type; `k`
+  -- is the number of words ARRAY and RECORD before that type
   pub refield_group : FieldNames → ℕ → ℕ → Tree Name fields → Tree Name fields
   refield_group l r k no_fields = no_fields
   refield_group l r k (some_fields ns t) =
       some_fields (with_names (λ x. x) (l (Some r)) ns) (refield_type l k t)
 
-  -- returns further groups of fields of the record `r`, with all fields under other names; `k` is
-  -- the ordinal of their first ARRAY or RECORD
+  -- renames all fields of further groups that belong to the record `r`; `k` is the number of words
+  -- ARRAY and RECORD before these groups
   pub refield_groups : FieldNames
       → ℕ
       → ℕ
@@ -108,8 +109,8 @@ abbrev mutual
       more (then_fields (refield_group l r k g))
       (refield_groups l r (k + group_constructors g) rest)
 
--- returns declarations of types with their fields under other names; `k` is the ordinal of their
--- first ARRAY or RECORD
+-- returns declarations of types with their fields renamed; `k` is the number of words ARRAY and
+-- RECORD before them
 abbrev pub refield_types : FieldNames
     → ℕ
     → Tree Name (items type_name)
@@ -118,8 +119,8 @@ refield_types l k end = end
 refield_types l k (more (declares_type x u) ds) =
     more (declares_type x (refield_type l k u)) (refield_types l (k + constructors u) ds)
 
--- returns a TYPE section with its fields under other names; `k` is the ordinal of its first ARRAY
--- or RECORD
+-- returns a TYPE section with its fields renamed; `k` is the number of words ARRAY and RECORD
+-- before it
 abbrev pub refield_type_section : FieldNames
     → ℕ
     → Tree Name (maybe type_names)
@@ -127,8 +128,8 @@ abbrev pub refield_type_section : FieldNames
 refield_type_section l k none = none
 refield_type_section l k (one (declares_types ts)) = one (declares_types (refield_types l k ts))
 
--- returns declarations of variables with their fields under other names; `k` is the ordinal of
--- their first ARRAY or RECORD
+-- returns declarations of variables with their fields renamed; `k` is the number of words ARRAY and
+-- RECORD before them
 abbrev pub refield_variables : FieldNames
     → ℕ
     → Tree Name (items variable)
@@ -137,8 +138,8 @@ refield_variables l k end = end
 refield_variables l k (more (declares_variable ns u) gs) =
     more (declares_variable ns (refield_type l k u)) (refield_variables l (k + constructors u) gs)
 
--- returns a VAR section with its fields under other names; `k` is the ordinal of its first ARRAY or
--- RECORD
+-- returns a VAR section with its fields renamed; `k` is the number of words ARRAY and RECORD before
+-- it
 abbrev pub refield_variable_section : FieldNames
     → ℕ
     → Tree Name (maybe variables)
@@ -147,14 +148,14 @@ refield_variable_section l k none = none
 refield_variable_section l k (one (declares_variables vs)) =
     one (declares_variables (refield_variables l k vs))
 
--- returns a section of parameters with its fields under other names; `k` is the ordinal of its
--- first ARRAY or RECORD
+-- returns a section of parameters with its fields renamed; `k` is the number of words ARRAY and
+-- RECORD before it
 abbrev pub refield_section : FieldNames → ℕ → Tree Name section → Tree Name section
 refield_section l k (value_section ns u) = value_section ns (refield_type l k u)
 refield_section l k (variable_section ns u) = variable_section ns (refield_type l k u)
 
--- returns further sections of parameters with their fields under other names; `k` is the ordinal of
--- their first ARRAY or RECORD
+-- returns further sections of parameters with their fields renamed; `k` is the number of words
+-- ARRAY and RECORD before them
 abbrev pub refield_sections : FieldNames
     → ℕ
     → Tree Name (items further_section)
@@ -164,8 +165,8 @@ refield_sections l k (more (then_section f) fs) =
     more (then_section (refield_section l k f))
     (refield_sections l (k + constructors (section_type f)) fs)
 
--- returns formal parameters with their fields under other names; `k` is the ordinal of their first
--- ARRAY or RECORD
+-- returns formal parameters with their fields renamed; `k` is the number of words ARRAY and RECORD
+-- before them
 abbrev pub refield_formals : FieldNames → ℕ → Tree Name (maybe formals) → Tree Name (maybe formals)
 refield_formals l k none = none
 refield_formals l k (one no_formals) = one no_formals
@@ -173,31 +174,31 @@ refield_formals l k (one (some_formals f fs)) =
     one (some_formals (refield_section l k f)
     (refield_sections l (k + constructors (section_type f)) fs))
 
--- Returns the environment after a block's constants, types and variables, or `env` unchanged if one
--- of these has an error. `k` is the ordinal of the block's first ARRAY or RECORD.
+-- Returns the environment with a block's constants, types and variables added, or `env` unchanged
+-- if one of these has an error. `k` is the number of words ARRAY and RECORD before the block.
 abbrev pub types_after_variables : TypeEnvironment Name → ℕ → Tree Name block → TypeEnvironment Name
 types_after_variables env k b =
     unwrap_or (option_and_then (declare_typed as_names (after_types k b) (block_variables b))
     (declare_first as_names env k b)) env
 
--- returns the parameters of a procedure, or an empty list if one has an error; `k` is the ordinal
--- of its first ARRAY or RECORD
+-- returns the parameters of a procedure, or an empty list if one has an error; `k` is the number of
+-- words ARRAY and RECORD before the procedure
 abbrev pub parameters_of : TypeEnvironment Name
     → ℕ
     → Tree Name (item procedure)
     → List (TypedParameter Name)
 parameters_of env k p = unwrap_or (typed_parameters as_names env k (procedure_formals p)) []
 
--- returns the environment with the procedure added, as after its heading; `k` is the ordinal of its
--- first ARRAY or RECORD
+-- returns the environment with a procedure's name added; `k` is the number of words ARRAY and
+-- RECORD before the procedure
 abbrev pub types_after_heading : TypeEnvironment Name
     → ℕ
     → Tree Name (item procedure)
     → TypeEnvironment Name
 types_after_heading env k p = heading (procedure_name p) (parameters_of env k p) env
 
--- returns the environment with these procedures added; `k` is the ordinal of their first ARRAY or
--- RECORD
+-- returns the environment with these procedures added; `k` is the number of words ARRAY and RECORD
+-- before them
 abbrev pub types_after_procedures : TypeEnvironment Name
     → ℕ
     → Tree Name (items procedure)
@@ -206,10 +207,10 @@ types_after_procedures env k end = env
 types_after_procedures env k (more p rest) =
     types_after_procedures (types_after_heading env k p) (k + procedure_constructors p) rest
 
--- Returns a block with its fields under other names. `k` is the ordinal of the first ARRAY or RECORD of the part.
--- Constants have no fields.
+-- Returns a block with its fields renamed. `k` is the number of words ARRAY and RECORD before the
+-- part. Constants have no fields.
 abbrev mutual
-  -- returns a block with the fields of its types, variables, procedures and statements under other names
+  -- returns a block with the fields of its types, variables, procedures and statements renamed
   pub refield_block : FieldNames → TypeEnvironment Name → ℕ → Tree Name block → Tree Name block
   refield_block l env k (has_body (declares cs ts vs ps) statements) =
       has_body
@@ -222,7 +223,7 @@ abbrev mutual
       (types_after_variables env k (has_body (declares cs ts vs ps) statements))
       (after_variables k (has_body (declares cs ts vs ps) statements)) ps)) None statements)
 
-  -- returns procedures with their fields under other names; each procedure is visible to the later ones
+  -- returns procedures with their fields renamed; each procedure is visible to the later ones
   pub refield_procedures : FieldNames
       → TypeEnvironment Name
       → ℕ
@@ -234,7 +235,7 @@ abbrev mutual
       p)
       (refield_procedures l (types_after_heading env k p) (k + procedure_constructors p) rest)
 
-  -- returns a procedure with its fields under other names; `env` is the environment of its block,
+  -- returns a procedure with its fields renamed; `env` is the environment of its block,
   -- which has the procedure and its parameters
   pub refield_procedure : FieldNames
       → TypeEnvironment Name
@@ -245,6 +246,6 @@ abbrev mutual
       declares_procedure x (refield_formals l k fs)
       (refield_block l env (after_formals k (declares_procedure x fs b closing)) b) closing
 
--- returns a module with its fields under other names
+-- returns a module with its fields renamed
 abbrev pub refielded : FieldNames → Tree Name module_text → Tree Name module_text
 refielded l (is_module x b closing) = is_module x (refield_block l (outermost as_names) 0 b) closing

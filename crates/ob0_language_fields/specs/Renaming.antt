@@ -1,4 +1,5 @@
--- The renaming of a record's field.
+-- The renaming of a record's field. A record is given by its ordinal: the number of words ARRAY and
+-- RECORD before it in the text.
 -- Rule: docs/PROTOCOL.md, Requests on documents 6.
 use Rattle.std.specs.Prelude.{◌≡◌, ℕ, suc, ◌+◌, Bool, false, not, ◌&&◌, List, [], ◌∷◌, ◌++◌, if◌then◌else◌, ◌==◌}
 use Rattle.std.specs.List.{list_any}
@@ -11,7 +12,7 @@ use Rattle.ob0_language_types.specs.Declarations.{after_formals, after_types, af
 use Rattle.ob0_language_types.specs.Typing.{constructors, group_constructors}
 use Rattle.ob0_language_fields.specs.Fields.{FieldNames, refielded}
 
--- returns the names that fields have after the field `f` of the record `r` is renamed to `new`
+-- returns the renaming that changes only the field `f` of the record `r`, to the name `new`
 abbrev pub one_renamed : ℕ → Name → Name → FieldNames
 one_renamed r f new owner x = if same_ordinal owner r && same_name x f then new else x
 
@@ -20,12 +21,13 @@ one_renamed r f new owner x = if same_ordinal owner r && same_name x f then new 
 abbrev pub field_renamed : Tree Name module_text → ℕ → Name → Name → Tree Name module_text
 field_renamed m r f new = refielded (one_renamed r f new) m
 
--- a RECORD of the text: its ordinal among all words ARRAY and RECORD of the text, and the names of its fields
+-- a RECORD of the text: the number of words ARRAY and RECORD before it, and the names of its fields
 pub record RecordFields : Type 0 where
   pub ordinal : ℕ
   pub declared : List Name
 
--- Returns the records in the text of a type. `k` is the ordinal of the first ARRAY or RECORD of the part.
+-- Returns the records in a written type. `k` is the number of words ARRAY and RECORD before the
+-- part.
 abbrev mutual
   -- returns the records in a written type; an outer record comes before the records within it
   pub records_in_type : ℕ → Tree Name written_type → List RecordFields
@@ -46,28 +48,29 @@ abbrev mutual
   records_in_groups k (more (then_fields g) rest) =
       records_in_group k g ++ records_in_groups (k + group_constructors g) rest
 
--- returns the records in declarations of types, in text order; `k` is the ordinal of their first
--- ARRAY or RECORD
+-- returns the records in declarations of types, in text order; `k` is the number of words ARRAY and
+-- RECORD before these declarations
 abbrev pub records_in_types : ℕ → Tree Name (items type_name) → List RecordFields
 records_in_types k end = []
 records_in_types k (more (declares_type x u) ds) =
     records_in_type k u ++ records_in_types (k + constructors u) ds
 
--- returns the records in the types of variables, in text order; `k` is the ordinal of their first
--- ARRAY or RECORD
+-- returns the records in the types of variables, in text order; `k` is the number of words ARRAY
+-- and RECORD before these variables
 abbrev pub records_in_variables : ℕ → Tree Name (items variable) → List RecordFields
 records_in_variables k end = []
 records_in_variables k (more (declares_variable ns u) gs) =
     records_in_type k u ++ records_in_variables (k + constructors u) gs
 
--- returns the records in the types of parameters, in text order; `k` is the ordinal of their first
--- ARRAY or RECORD
+-- returns the records in the types of parameters, in text order; `k` is the number of words ARRAY
+-- and RECORD before these parameters
 abbrev pub records_in_sections : ℕ → Tree Name (items further_section) → List RecordFields
 records_in_sections k end = []
 records_in_sections k (more (then_section f) fs) =
     records_in_type k (section_type f) ++ records_in_sections (k + constructors (section_type f)) fs
 
--- Returns the records of a block or of its procedures. `k` is the ordinal of the first ARRAY or RECORD of the part.
+-- Returns the records of a block or of its procedures. `k` is the number of words ARRAY and RECORD
+-- before the part.
 abbrev mutual
   -- returns the records in the types, the variables and the procedures of a block
   pub records_in_block : ℕ → Tree Name block → List RecordFields
@@ -93,7 +96,7 @@ abbrev mutual
 abbrev pub records : Tree Name module_text → List RecordFields
 records m = records_in_block 0 (module_block m)
 
--- returns true if a name in the list other than `f` is the name `new`
+-- returns true if the name `new` is in the list of a record's fields, as a field other than `f`
 abbrev pub names_another_field : List Name → Name → Name → Bool
 names_another_field xs f new = list_any (λ x. same_name x new && not (same_name x f)) xs
 

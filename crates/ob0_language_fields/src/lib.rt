@@ -1,3 +1,2 @@
-//! Definitions of the fields of a module's records, with the record that each field identifier belongs to, and of
-//! modules whose fields have other names. Lemmas about them.
+//! Defines the fields of a module's records and modules with renamed fields. Has lemmas about both.
 #![tactic(auto)]

@@ -1,4 +1,5 @@
--- Names that are declared once: no name is declared twice in a block or record, and every closing name is right.
+-- Modules that declare no name twice in a block or record, and whose closing names equal their
+-- opening names.
 -- Rule: docs/LANGUAGE.md, Scopes 5 to 7.
 use Rattle.std.specs.Prelude.{Bool, true, false, not, ◌&&◌, ◌||◌, List, [], ◌∷◌, ◌++◌}
 use Rattle.ob0_tree.specs.Tree.{Tree, array_type, block, declares, declares_procedure, declares_type, declares_variable, end, fields, further_fields, further_section, has_body, is_module, item, items, module_text, more, named_type, no_fields, procedure, record_type, some_fields, then_fields, then_section, type_name, variable, written_type}
@@ -95,6 +96,7 @@ abbrev mutual
       same_name x closing
       && (formals_once (formal_sections fs) && block_once (formal_names (formal_sections fs)) b)
 
--- returns true if a module declares no name twice in a block or record, and every closing name is right
+-- returns true if a module declares no name twice in a block or record, and every closing name
+-- equals its opening name
 abbrev pub declared_once : Tree Name module_text → Bool
 declared_once (is_module x b closing) = same_name x closing && block_once [] b

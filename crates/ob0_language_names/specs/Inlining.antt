@@ -7,13 +7,13 @@ use Rattle.ob0_language_names.specs.Occurrences.{binds}
 use Rattle.ob0_language_names.specs.Parts.{formal_names, formal_sections}
 use Rattle.ob0_language_names.specs.Scopes.{after_names, after_procedure, first_procedure, predeclared_count, same_ordinal}
 
--- a test for the occurrences of a tree that a factor replaces; an occurrence is given by its number
--- in text order
+-- a set of occurrences, which a factor replaces: a function that returns true for the number of
+-- each of them; occurrences are counted from 0 in text order
 abbrev pub Uses : Type 0
 Uses = ℕ → Bool
 
--- Returns the tree in which the factor `v` replaces each use that is a whole factor. `k` is the
--- number of the tree's first occurrence.
+-- Returns the tree in which the factor `v` replaces each occurrence in the set `uses` that is a
+-- whole factor. `k` is the number of the tree's first occurrence.
 abbrev pub inline_in : {s : Sort} → Uses → Tree Name factor → ℕ → Tree Name s → Tree Name s
 inline_in uses v k none = none
 inline_in uses v k (one t) = one (inline_in uses v k t)
@@ -102,7 +102,8 @@ inline_in uses v k (has_body ds b) =
     has_body (inline_in uses v k ds) (inline_in uses v (k + length (occurrences ds)) b)
 inline_in uses v k (is_module name b closing) = is_module name (inline_in uses v k b) closing
 
--- returns the module in which the factor `v` replaces each use that is a whole factor
+-- returns the module in which the factor `v` replaces each occurrence in the set `uses` that is a
+-- whole factor
 abbrev pub inlined : Tree Name module_text → Uses → Tree Name factor → Tree Name module_text
 inlined m uses v = inline_in uses v 0 m
 
@@ -130,7 +131,8 @@ abbrev mutual
   procedures_without d k (more p rest) =
       more (procedure_without d (suc k) p) (procedures_without d (after_procedure (suc k) p) rest)
 
-  -- returns a procedure without the constant with ordinal `d`; the procedure has ordinal `k - 1`
+  -- returns a procedure without the constant with ordinal `d`; the procedure itself has ordinal
+  -- `k - 1`, and its first parameter `k`
   pub procedure_without : ℕ → ℕ → Tree Name (item procedure) → Tree Name (item procedure)
   procedure_without d k (declares_procedure x fs b closing) =
       declares_procedure x fs
@@ -140,11 +142,11 @@ abbrev mutual
 abbrev pub module_without : ℕ → Tree Name module_text → Tree Name module_text
 module_without d (is_module x b closing) = is_module x (block_without d predeclared_count b) closing
 
--- returns true for the occurrence with this number only
+-- returns the set that contains only the occurrence with this number
 abbrev pub only : ℕ → Uses
 only occurrence k = k == occurrence
 
--- returns true for the occurrences that are bound to the declaration `d`
+-- returns the set of the occurrences that are bound to the declaration `d`
 abbrev pub all_bound_to : Tree Name module_text → ℕ → Uses
 all_bound_to m d k = same_ordinal (binds m k) d
 

@@ -7,7 +7,8 @@ use Rattle.ob0_language_names.specs.Parts.{formal_names, formal_sections, module
 use Rattle.ob0_language_names.specs.Scopes.{Scope, after_names, after_procedure, body_scope, declare_names, first_procedure, numbered, predeclared_count, renamed}
 use Rattle.std.specs.List.{list_any}
 
--- returns the label of each occurrence of a name, in text order
+-- returns the label of each occurrence, in text order: the ordinal of its declaration, or the name
+-- if nothing binds it
 abbrev pub bindings : Tree Name module_text → List Label
 bindings m = occurrences (numbered m)
 
@@ -16,7 +17,8 @@ abbrev pub label_ordinal : Label → Option ℕ
 label_ordinal (declared k) = Some k
 label_ordinal (as_written x) = None
 
--- returns the ordinal of the declaration that an occurrence is bound to; None if nothing binds it
+-- Returns the ordinal of the declaration that an occurrence is bound to. Occurrences are counted
+-- from 0 in text order. Returns None if nothing binds it or there is no such occurrence.
 abbrev pub binds : Tree Name module_text → ℕ → Option ℕ
 binds m occurrence = option_and_then label_ordinal (slice_get (bindings m) occurrence)
 
@@ -36,13 +38,14 @@ abbrev mutual
   blocks_in_procedures k (more p rest) =
       blocks_in_procedure (suc k) p ++ blocks_in_procedures (after_procedure (suc k) p) rest
 
-  -- returns the declarations of each block in a procedure with ordinal `k - 1`
+  -- returns the declarations of each block in a procedure; the procedure has ordinal `k - 1`, so
+  -- `k` is the first ordinal after its name
   pub blocks_in_procedure : {N : Type 0} → ℕ → Tree N (item procedure) → List (Scope N)
   blocks_in_procedure k (declares_procedure x fs b closing) =
       blocks_in (after_names k (formal_names (formal_sections fs)))
       (declare_names k (formal_names (formal_sections fs)) []) b
 
--- returns true if a block declares this ordinal
+-- returns true if a declaration of the block has the ordinal `d`
 abbrev pub declares_ordinal : Scope Name → ℕ → Bool
 declares_ordinal own d = list_any (λ b. b.1 == d) own
 
@@ -56,8 +59,8 @@ is_duplicate m d new =
     list_any (λ own. declares_ordinal own d && names_another own d new)
     (blocks_in predeclared_count [] (module_block m))
 
--- Holds if the name `new` is free for the declaration `d`. No other declaration of its block has
--- this name, and after the renaming each occurrence has the same binding as before.
+-- Holds if the name `new` is free for the declaration with ordinal `d`. No other declaration of its
+-- block has this name, and after the renaming each occurrence has the same binding as before.
 abbrev pub Free : Tree Name module_text → ℕ → Name → Type 0
 Free m d new = (is_duplicate m d new ≡ false) × (bindings (renamed m d new) ≡ bindings m)
 
@@ -66,14 +69,15 @@ abbrev pub same_binding : Label → Label → Bool
 same_binding (as_written x) (as_written y) = same_name x y
 same_binding a b = same_label a b
 
--- returns the first position at which two lists of labels differ; None if there is none before the
--- end of one list
+-- returns the first position at which two lists of labels differ; None if they agree up to the end
+-- of the shorter list
 abbrev pub first_difference : List Label → List Label → Option ℕ
 first_difference (a ∷ as₁) (b ∷ bs) =
     if same_binding a b then option_map suc (first_difference as₁ bs) else Some 0
 first_difference _ _ = None
 
--- a conflict of a new name: with another declaration of the block, or at an occurrence
+-- a conflict of a new name: with another declaration of the block, or at the occurrence with this
+-- number, whose binding would change
 pub data Capture : Type 0 where
   at_declaration : Capture
   at_occurrence : ℕ → Capture

@@ -52,7 +52,8 @@ abbrev mutual
   after_procedures k end = k
   after_procedures k (more p rest) = after_procedures (after_procedure (suc k) p) rest
 
-  -- returns the first ordinal after the parameters and the block of a procedure with ordinal `k - 1`
+  -- returns the first ordinal after the parameters and the block of a procedure; the procedure has
+  -- ordinal `k - 1`, so `k` is the first ordinal after its name
   pub after_procedure : {N : Type 0} → ℕ → Tree N (item procedure) → ℕ
   after_procedure k (declares_procedure x fs b closing) =
       after_block (after_names k (formal_names (formal_sections fs))) b
@@ -66,8 +67,8 @@ Labels N M = Option ℕ → N → M
 abbrev pub label_of : {N M : Type 0} → Naming N → Labels N M → Scope N → N → M
 label_of naming label scope x = label (ordinal_of naming scope x) x
 
--- Returns a tree without declarations, with labels instead of names. Names are looked up in
--- `scope`, and the names of fields get the labels of unbound names.
+-- Replaces the names by labels in a tree that has no declarations. Names are looked up in `scope`,
+-- except the names of fields, which get the labels of unbound names.
 abbrev pub relabel_uses : {N M : Type 0} {s : Sort}
     → Naming N
     → Labels N M
@@ -81,8 +82,8 @@ abbrev pub label_names : {N M : Type 0} → Labels N M → ℕ → List N → Li
 label_names label k [] = []
 label_names label k (x ∷ xs) = label (Some k) x ∷ label_names label (suc k) xs
 
--- returns the names of a list after the first one with their labels; they are declared with
--- ordinals from `k` upwards
+-- replaces the names of a list after the first one by their labels; their ordinals count up from
+-- `k`
 abbrev pub relabel_further : {N M : Type 0}
     → Labels N M
     → ℕ
@@ -92,7 +93,7 @@ relabel_further label k end = end
 relabel_further label k (more (then_name x) rest) =
     more (then_name (label (Some k) x)) (relabel_further label (suc k) rest)
 
--- returns a list of declared names with their labels; their ordinals count up from `k`
+-- replaces the names of a list of declared names by their labels; their ordinals count up from `k`
 abbrev pub relabel_names : {N M : Type 0} → Labels N M → ℕ → Tree N names → Tree M names
 relabel_names label k (listed x rest) =
     listed (label (Some k) x) (relabel_further label (suc k) rest)
@@ -345,7 +346,7 @@ abbrev pub same_ordinal : Option ℕ → ℕ → Bool
 same_ordinal None k = false
 same_ordinal (Some j) k = j == k
 
--- Returns the module in which the declaration `d` is renamed to `new`, including each name that is bound to `d` and the
--- closing name of a procedure `d`.
+-- Returns the module in which the declaration with ordinal `d` is renamed to `new`. Each name that
+-- is bound to it is also renamed, as is the closing name of a procedure.
 abbrev pub renamed : Tree Name module_text → ℕ → Name → Tree Name module_text
 renamed m d new = relabelled as_names (λ ordinal x. if same_ordinal ordinal d then new else x) m

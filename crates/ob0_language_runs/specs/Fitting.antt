@@ -64,9 +64,9 @@ PlaceFits typing p s = option_and_then (shape_at_path p.path) (slice_get typing 
 abbrev pub modes_in : Signature → List Mode
 modes_in = map (λ f. f.mode)
 
--- Holds if a name's object in the checked module and its object in a run agree, or it has none in
--- both. They have the same type or the same constant, or the place of a variable has the variable's
--- type.
+-- Holds if a name's object in a run agrees with its object in the checked module, or the name has
+-- no object in either. Types, constants and standard procedures must be equal. The place of a
+-- variable must have the variable's type, and a procedure the parameter modes of its signature.
 abbrev pub ObjectFits : StoreTyping
     → Option (Object Shape Signature)
     → Option (Object Place (List Mode))
@@ -101,9 +101,9 @@ ArgumentsFit typing (f ∷ fs) (value_argument v ∷ args) =
     (f.mode ≡ by_value) × HasShape v f.shape × ArgumentsFit typing fs args
 ArgumentsFit typing _ _ = ⊥
 
--- Holds if the object that a name is bound to in an activation agrees with its object in the
--- checked environment. The environment in front has the earlier bindings of the checked
--- environment.
+-- Holds if a name's object in an activation agrees with its object in the checked environment.
+-- `checked` has the older bindings of that environment. A procedure must also be well-typed, given
+-- these older bindings.
 abbrev pub BindingFits : {N : Type 0}
     → Naming N
     → StoreTyping

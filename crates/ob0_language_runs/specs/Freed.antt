@@ -13,8 +13,9 @@ abbrev pub drop_variables : ℕ → Progress → Progress
 drop_variables n (running s) = running record s { store = take n s.store }
 drop_variables n (stopped e out) = stopped e out
 
--- Performs a call if `c`, the number of calls that may still be open, isn't 0. After the call
--- returns, the store has the same number of variables as before it.
+-- Performs the call of the name `x`. `c` is how many calls may still be opened within each other;
+-- if it is 0, the run ends with CallBound. After the call returns, the store has as many variables
+-- as before the call.
 unfoldable pub call_freeing : {N : Type 0} → Naming N → ℕ → ℕ → Activation N → Calls N
 unfolding activate
 call_freeing naming zero t env x args s = stopped CallBound s.output

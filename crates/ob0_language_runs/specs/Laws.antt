@@ -35,8 +35,8 @@ FreeKeepsRuns =
     → (input : List ℤ) (c t : ℕ)
     → run (renamed m d new) input c t ≡ run m input c t
 
--- If each call drops its variables when it returns, every tree has the same run as without this,
--- whether its names are spellings or labels.
+-- The run in which each call drops its variables when it returns equals the run that keeps them.
+-- The names of the tree may be spellings or labels.
 abbrev pub FreeingKeepsRuns : Type 0
 FreeingKeepsRuns =
     ((naming : Naming Name) (m : Tree Name module_text) (input : List ℤ) (c t : ℕ)

@@ -34,18 +34,19 @@ pub data Argument : Type 0 where
   place_argument : Place → Argument
   value_argument : Value → Argument
 
--- continues with the result of an evaluation, or ends the run as the evaluation did, with the
--- output of the state `s`
+-- passes the result of an evaluation to `next`; if the evaluation ended the run, returns this end
+-- with the output of the state `s`
 abbrev pub use_in : {A : Type 0} → State → Outcome A → (A → Progress) → Progress
 use_in s (gives a) next = next a
 use_in s (ends e) next = stopped e s.output
 
--- continues a run with a function if it hasn't ended
+-- continues a run with the function `next`; an ended run is unchanged
 abbrev pub continue_with : Progress → (State → Progress) → Progress
 continue_with (running s) next = next s
 continue_with (stopped e out) next = stopped e out
 
--- continues in one of two ways, according to a truth value; any other value is stuck
+-- continues with one of two functions, according to a truth value; any other value ends the run
+-- with Stuck
 abbrev pub choose : State → Value → (State → Progress) → (State → Progress) → Progress
 choose s (truth true) when_true when_false = when_true s
 choose s (truth false) when_true when_false = when_false s
@@ -55,7 +56,7 @@ choose s _ when_true when_false = stopped Stuck s.output
 abbrev pub append_output : State → Written → State
 append_output s i = record s { output = s.output ++ i ∷ [] }
 
--- stores a value at a place; without such a place the run is stuck
+-- stores a value at a place; ends the run with Stuck if there is no such place
 abbrev pub store_at : State → Place → Value → Progress
 store_at s p v =
     use_in s (or_stuck (write_place s.store p v)) (λ store. running record s { store = store })
@@ -65,7 +66,8 @@ abbrev pub read_number : State → Place → List ℤ → Progress
 read_number s p [] = stopped InputEnd s.output
 read_number s p (n ∷ rest) = store_at record s { input = rest } p (number n)
 
--- returns the modes in which the arguments of a call are passed; a name that isn't a procedure's is stuck
+-- returns the modes in which the arguments of a call are passed; Stuck for a name that isn't a
+-- procedure's
 abbrev pub modes_of : Option (Object Place (List Mode)) → Outcome (List Mode)
 modes_of (Some (a_procedure modes)) = gives modes
 modes_of (Some (a_standard reads)) = gives (by_place ∷ [])
@@ -127,7 +129,7 @@ turns (suc t) condition statements s =
     use_in s (condition s) (λ v. choose s v
     (λ s'. continue_with (statements s') (turns t condition statements)) running)
 
--- functions that perform the call of a name with arguments in a state
+-- a function that performs the call of a name with arguments in a state
 abbrev pub Calls : Type 0 → Type 0
 Calls N = N → List Argument → State → Progress
 
@@ -222,7 +224,7 @@ unfoldable mutual
   execute_else meaning enter t (one (else_branch statements)) s =
       execute_all meaning enter t statements s
 
--- a procedure in a run: its text, and the ordinal of the first ARRAY or RECORD in it
+-- a procedure in a run: its text, and the number of words ARRAY and RECORD before it
 pub record ProcedureText (N : Type 0) : Type 0 where
   pub first_constructor : ℕ
   pub text : Tree N (item procedure)
@@ -247,8 +249,8 @@ allocate (x ∷ xs) v f =
       store = f.store ++ v ∷ [];
     }
 
--- Adds new variables, with 0 or FALSE in each of their parts (rule 1). `k` is the ordinal of the
--- first ARRAY or RECORD. Returns None if a type has an error.
+-- Adds new variables, with 0 or FALSE in each of their parts (rule 1). `k` is the number of words
+-- ARRAY and RECORD before them. Returns None if a type has an error.
 unfoldable pub declare_variables : {N : Type 0}
     → Naming N
     → ℕ
@@ -262,8 +264,8 @@ declare_variables naming k (more (declares_variable ns u) gs) f =
     (allocate (names_listed ns) (initial s) f))
     (denoted (meanings naming f.env) k u)
 
--- returns the environment with procedures added, each with the ordinal of its first ARRAY or
--- RECORD; `k` is the ordinal of the first one of all
+-- returns the environment with procedures added, each with the number of words ARRAY and RECORD
+-- before it; `k` of them are before the first procedure
 abbrev pub declare_procedures : {N : Type 0}
     → ℕ
     → Tree N (items procedure)
@@ -274,13 +276,13 @@ declare_procedures k (more p rest) env =
     declare_procedures (k + procedure_constructors p) rest
     ((procedure_name p, a_procedure record { first_constructor = k; text = p }) ∷ env)
 
--- adds the procedures of a block to the environment of a frame; `k` is the ordinal of their first
--- ARRAY or RECORD
+-- adds the procedures of a block to the environment of a frame; `k` is the number of words ARRAY
+-- and RECORD before the procedures
 abbrev pub with_procedures : {N : Type 0} → ℕ → Tree N (items procedure) → Frame N → Frame N
 with_procedures k ps f = record { env = declare_procedures k ps f.env; store = f.store }
 
 -- Adds a block's constants and types, then its variables, then its procedures to a frame. `k` is
--- the ordinal of the block's first ARRAY or RECORD. Returns None if one of them has an error.
+-- the number of words ARRAY and RECORD before the block. Returns None if one of them has an error.
 unfoldable pub declare_block : {N : Type 0}
     → Naming N
     → ℕ
@@ -313,7 +315,8 @@ parameters end = []
 parameters (more (then_section f) fs) =
     map (λ x. record { mode = section_mode f; name = x }) (section_names f) ++ parameters fs
 
--- binds all parameters of a call to its arguments; None if their numbers or forms differ
+-- binds all parameters of a call to its arguments; None if there are more or fewer arguments than
+-- parameters, or an argument has the wrong form
 abbrev pub bind_parameters : {N : Type 0}
     → List (Parameter N)
     → List Argument
@@ -330,8 +333,8 @@ formal_modes end = []
 formal_modes (more (then_section f) fs) =
     map (λ x. section_mode f) (section_names f) ++ formal_modes fs
 
--- returns the object of a name as statements see it: of a procedure they need to know only the
--- modes of its parameters
+-- returns a name's object as statements see it: a procedure is reduced to the modes of its
+-- parameters; anything else is unchanged
 abbrev pub passing : {N : Type 0}
     → Option (Object Place (ProcedureText N))
     → Option (Object Place (List Mode))
@@ -365,7 +368,7 @@ execute_body naming env enter t none s = running s
 execute_body naming env enter t (one (begins statements)) s =
     execute_all (statement_meanings naming env) enter t statements s
 
--- continues a run with a frame and with the frame's store; without a frame the run is stuck
+-- continues a run with a frame and the frame's store; ends the run with Stuck if there is no frame
 abbrev pub in_frame : {N : Type 0}
     → State
     → Option (Frame N)
@@ -374,9 +377,9 @@ abbrev pub in_frame : {N : Type 0}
 in_frame s None next = stopped Stuck s.output
 in_frame s (Some f) next = next f record s { store = f.store }
 
--- Runs the body of the procedure that the first binding of an environment names. The call has its
--- own variables. It sees the bindings that were visible at the procedure's declaration, in the
--- activation that declared it.
+-- Executes the procedure in the first binding of an environment. Binds its parameters, adds its own
+-- declarations and executes its body, which also sees this environment. Ends the run with Stuck if
+-- the binding isn't a procedure, the arguments don't match or a declaration has an error.
 unfoldable pub activate : {N : Type 0}
     → Naming N
     → (Activation N → Calls N)
@@ -395,8 +398,9 @@ activate naming enter t ((x, a_procedure code) ∷ rest) args s =
     (λ f. execute_body naming f.env (enter f.env) t (block_statements (procedure_block code.text)))
 activate naming enter t _ args s = stopped Stuck s.output
 
--- Performs a call if `c`, the number of calls that may still be open, isn't 0. The store keeps the
--- call's variables after it returns.
+-- Performs the call of the name `x`. `c` is how many calls may still be opened within each other;
+-- if it is 0, the run ends with CallBound. The store keeps the call's variables after the call
+-- returns.
 unfoldable pub call : {N : Type 0} → Naming N → ℕ → ℕ → Activation N → Calls N
 unfolding activate
 call naming zero t env x args s = stopped CallBound s.output
@@ -414,8 +418,8 @@ abbrev pub finished : Progress → Run
 finished (running s) = record { output = s.output; ending = Done }
 finished (stopped e out) = record { output = out; ending = e }
 
--- returns the result of running a tree; `enter` performs calls, and the number bounds the
--- iterations of each loop
+-- returns the result of running a tree; `enter` performs calls, and `t` bounds the iterations of
+-- each loop
 unfoldable pub run_by : {N : Type 0}
     → Naming N
     → (Activation N → Calls N)

@@ -1,9 +1,10 @@
 //! The laws of runs and edits. Each function does nothing; its contract is the law.
 //!
-//! The run of the definitions keeps every variable. Code that drops a call's variables when the call returns is
-//! specified by `run_freeing` (`specs/Freed`). `freeing_keeps_runs` states that both runs are equal. `specs/Fitting`
-//! defines when a value, a store, a place or an environment fits the types of a checked module. These facts hold
-//! throughout a run, so no run gets stuck.
+//! In the definition `run`, the store keeps every variable until the run ends. `run_freeing`
+//! (`specs/Freed`) drops a call's variables when the call returns; `freeing_keeps_runs` states that
+//! both have the same result. `specs/Fitting` defines when a value, a store, a place or an
+//! environment fits the types of a checked module. These facts hold throughout a run, so no run
+//! gets stuck.
 
 ghost use Rattle.ob0_language_runs.specs.Laws.{RunsByOrdinal, RunsByShape, FreeKeepsRuns, FreeingKeepsRuns, NeverStuck, InliningKeepsExecution};
 ghost use Rattle.ob0_language_runs.specs.EditLaws.{FreeKeepsModules, InliningKeepsModules, LeavingOutKeepsModules, InliningEverywhereKeepsModules};

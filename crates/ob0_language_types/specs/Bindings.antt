@@ -13,8 +13,8 @@ use Rattle.ob0_language_types.specs.Expressions.{Object, a_variable}
 use Rattle.ob0_language_types.specs.WellTyped.{Signature, TypeEnvironment, bind_typed, heading, typed_parameters}
 use Rattle.ob0_language_values.specs.Values.{Shape}
 
--- Returns the bindings that the environment `now` has in addition to the earlier environment
--- `before`. These are its first ones, because the newest come first.
+-- Returns the bindings of `now` that were added after `before`. They are the first ones in `now`,
+-- because the newest binding comes first.
 abbrev pub since : {A : Type 0} → List A → List A → List A
 since before now = take (length now - length before) now
 
@@ -27,7 +27,8 @@ for_some (Some a) list = list a
 unfoldable mutual
   unfolding declare_procedure typed_parameters
 
-  -- returns the bindings of a block, newest first; `k` is the ordinal of its first ARRAY or RECORD
+  -- returns the bindings of a block, newest first; empty if a constant, type or variable has an
+  -- error; `k` is the number of words ARRAY and RECORD before the block
   pub block_bindings : {N : Type 0}
       → Naming N
       → TypeEnvironment N
@@ -40,8 +41,8 @@ unfoldable mutual
       (after_variables k (has_body (declares cs ts vs ps) statements)) ps
       ++ since env inner)
 
-  -- returns the bindings of procedures, beginning with the bindings of the last procedure; `k` is
-  -- the ordinal of their first ARRAY or RECORD
+  -- returns the bindings of procedures, from the last procedure to the first; `k` is the number of
+  -- words ARRAY and RECORD before the procedures
   pub procedures_bindings : {N : Type 0}
       → Naming N
       → TypeEnvironment N
@@ -54,8 +55,9 @@ unfoldable mutual
       (k + procedure_constructors p) rest
       ++ procedure_bindings naming env k p)
 
-  -- returns the bindings of a procedure: its block's bindings, its parameters and its name; `k` is
-  -- the ordinal of its first ARRAY or RECORD
+  -- Returns the bindings of a procedure: first its block's bindings, then its parameters, then its
+  -- name. Returns an empty list if a parameter's type has an error. `k` is the number of words
+  -- ARRAY and RECORD before the procedure.
   pub procedure_bindings : {N : Type 0}
       → Naming N
       → TypeEnvironment N
@@ -68,17 +70,17 @@ unfoldable mutual
       (k + formals_constructors (formal_sections fs)) b
       ++ bind_typed ps (heading x ps []))
 
--- returns the bindings of the predeclared names and of a whole module
+-- returns the bindings of a whole module, newest first, and after them the predeclared names
 abbrev pub module_bindings : {N : Type 0} → Naming N → Tree N module_text → TypeEnvironment N
 module_bindings naming m =
     block_bindings naming (outermost naming) 0 (module_block m) ++ outermost naming
 
--- returns the object in the newest binding of an ordinal; None if the ordinal isn't bound
+-- returns the object in the newest binding of the label with ordinal `k`; None if nothing binds it
 abbrev pub object_bound : TypeEnvironment Label → ℕ → Option (Object Shape Signature)
 object_bound bindings k = newest (from_binding as_labels bindings (declared k))
 
--- Returns the object that the declaration with ordinal `k` makes. It is found in the bindings of the numbered tree, in
--- which each name is its ordinal.
+-- Returns the object of the declaration with ordinal `k`. Looks for it in the bindings of the
+-- numbered tree, in which ordinals replace names. Returns None if nothing binds `k`.
 abbrev pub declared_object : Tree Name module_text → ℕ → Option (Object Shape Signature)
 declared_object m k = object_bound (module_bindings as_labels (numbered m)) k
 

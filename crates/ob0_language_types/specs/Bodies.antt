@@ -22,8 +22,9 @@ pub record BodyAt (N : Type 0) : Type 0 where
 unfoldable mutual
   unfolding typed_parameters
 
-  -- returns the bodies of a block's procedures, then its own body; empty if a declaration has an
-  -- error; `k` is the ordinal of its first ARRAY or RECORD
+  -- Returns the bodies of a block's procedures, then the block's own body. Returns an empty list if
+  -- a constant, type or variable of the block has an error. `k` is the number of words ARRAY and
+  -- RECORD before the block.
   pub block_bodies : {N : Type 0}
       → Naming N
       → TypeEnvironment N
@@ -35,8 +36,8 @@ unfoldable mutual
       (λ inner. procedures_bodies naming inner
       (after_variables k (has_body (declares cs ts vs ps) statements)) statements ps)
 
-  -- returns the bodies of procedures in text order, and then the body of their block, whose
-  -- statements are given; `k` is the ordinal of their first ARRAY or RECORD
+  -- returns the bodies of procedures in text order, then the body `statements` of their block; `k`
+  -- is the number of words ARRAY and RECORD before the procedures
   pub procedures_bodies : {N : Type 0}
       → Naming N
       → TypeEnvironment N
@@ -52,8 +53,8 @@ unfoldable mutual
       ++ procedures_bodies naming (heading (procedure_name p) ps env)
       (k + procedure_constructors p) statements rest)
 
-  -- returns the bodies of a procedure's block, in an environment with the procedure's name and
-  -- parameters; `k` is the ordinal of its first ARRAY or RECORD
+  -- returns the bodies of a procedure's block; `env` has the procedure's name and parameters; `k`
+  -- is the number of words ARRAY and RECORD before the procedure
   pub procedure_bodies : {N : Type 0}
       → Naming N
       → TypeEnvironment N
@@ -67,11 +68,12 @@ unfoldable mutual
 abbrev pub module_bodies : {N : Type 0} → Naming N → Tree N module_text → List (BodyAt N)
 module_bodies naming m = block_bodies naming (outermost naming) 0 (module_block m)
 
--- Holds if `Q` holds for each environment in which procedures or statements of a block, or of a block within it, are
--- checked.
+-- Holds if `Q` holds for these environments of a block: after its variables, at the start of each
+-- procedure's block, and after its procedures. The same must hold within each procedure.
 abbrev mutual
-  -- holds for a block if `Q` holds after its constants, types and variables, and in its procedures;
-  -- `k` is the ordinal of its first ARRAY or RECORD
+  -- Holds for a block if `Q` holds for the environment after its constants, types and variables,
+  -- and `ProceduresHave` holds in it. Also holds if a constant, type or variable has an error. `k`
+  -- is the number of words ARRAY and RECORD before the block.
   pub BlockHas : (TypeEnvironment Label → Type 0)
       → TypeEnvironment Label
       → ℕ
@@ -83,8 +85,9 @@ abbrev mutual
       → Q inner
       × ProceduresHave Q inner (after_variables k (has_body (declares cs ts vs ps) statements)) ps
 
-  -- holds for procedures if `Q` holds within each one, after the earlier ones, and after all of
-  -- them; `k` is the ordinal of their first ARRAY or RECORD
+  -- Holds for procedures if `Q` holds for the environment of each procedure's block, for the
+  -- environments within it, and for the environment after all procedures. `k` is the number of
+  -- words ARRAY and RECORD before the procedures.
   pub ProceduresHave : (TypeEnvironment Label → Type 0)
       → TypeEnvironment Label
       → ℕ
@@ -98,8 +101,8 @@ abbrev mutual
       × ProcedureHas Q (bind_typed ps (heading (procedure_name p) ps env)) k p
       × ProceduresHave Q (heading (procedure_name p) ps env) (k + procedure_constructors p) rest
 
-  -- holds for a procedure if `Q` holds in its block; `k` is the ordinal of its first ARRAY or
-  -- RECORD
+  -- holds for a procedure if `BlockHas` holds for its block; `k` is the number of words ARRAY and
+  -- RECORD before the procedure
   pub ProcedureHas : (TypeEnvironment Label → Type 0)
       → TypeEnvironment Label
       → ℕ
@@ -108,7 +111,8 @@ abbrev mutual
   ProcedureHas Q env k (declares_procedure x fs b closing) =
       BlockHas Q env (k + formals_constructors (formal_sections fs)) b
 
--- If the statements of a well-typed module bind a name, they bind it to the object of its declaration.
+-- In a well-typed module, if a body's environment binds an ordinal to an object, the declaration
+-- with this ordinal makes this object.
 abbrev pub NamesAreDeclared : Type 0
 NamesAreDeclared =
     (m : Tree Name module_text) → WellTyped m

@@ -21,7 +21,7 @@ Known = Environment Name (Unit {0}) (Unit {0})
 abbrev pub no_constant : Object (Unit {0}) (Unit {0})
 no_constant = a_variable tt
 
--- reduces an object to the value of a constant; any other object becomes `no_constant`
+-- keeps a constant with its value; any other object becomes `no_constant`
 abbrev pub known_object : {V P : Type 0} → Object V P → Object (Unit {0}) (Unit {0})
 known_object (a_constant v) = a_constant v
 known_object (a_type s) = no_constant
@@ -34,7 +34,9 @@ abbrev pub predeclared_known : Known
 predeclared_known =
     map (λ b. (b.0, known_object b.1)) (outermost {V = Unit {0}} {P = Unit {0}} as_names)
 
--- returns the value of the constant with ordinal `d` in a list of constants; the first one has ordinal `k`
+-- Returns the value of the constant with ordinal `d` in a list of constants; the first one has
+-- ordinal `k`. Returns None if `d` isn't in the list, or if this constant or one before it has no
+-- value.
 unfoldable pub value_among : Known → ℕ → ℕ → Tree Name (items constant) → Option Value
 unfolding constant_value
 value_among known d k end = None
@@ -42,11 +44,14 @@ value_among known d k (more (declares_constant x e) cs) = do
   v ← constant_value (meanings as_names known) e
   if k == d then Some v else value_among ((x, a_constant v) ∷ known) d (suc k) cs
 
--- Returns the value of the constant with ordinal `d`, or None if no CONST section declares `d`.
+-- Returns the value of the constant with ordinal `d`. Returns None if no CONST section declares
+-- `d`. Also returns None if this constant, an earlier one of its section or one of an enclosing
+-- block has no value.
 unfoldable mutual
   unfolding value_among declare_constants
 
-  -- returns the value of the constant with ordinal `d` in a block whose first declaration has ordinal `k`
+  -- returns the value of the constant with ordinal `d` in a block whose first declaration has
+  -- ordinal `k`; None if it isn't declared there or can't be computed
   pub value_in_block : Known → ℕ → ℕ → Tree Name block → Option Value
   value_in_block known d k (has_body (declares cs ts vs ps) statements) =
       if nat_lt d (first_type k (has_body (declares cs ts vs ps) statements))
@@ -57,8 +62,8 @@ unfoldable mutual
       inner) d (first_procedure k (has_body (declares cs ts vs ps) statements)) ps)
       (declare_constants as_names known (section_constants cs))
 
-  -- returns the value of the constant with ordinal `d` in the procedure that declares it; the first procedure has
-  -- ordinal `k`
+  -- returns the value of the constant with ordinal `d` in one of these procedures, the first of
+  -- which has ordinal `k`; None if it isn't declared there or can't be computed
   pub value_in_procedures : Known → ℕ → ℕ → Tree Name (items procedure) → Option Value
   value_in_procedures known d k end = None
   value_in_procedures known d k (more p rest) =
@@ -67,15 +72,18 @@ unfoldable mutual
       else value_in_procedures ((procedure_name p, no_constant) ∷ known) d
       (after_procedure (suc k) p) rest
 
-  -- returns the value of the constant with ordinal `d` in a procedure's block; the parameters, which aren't constants,
-  -- have ordinals starting at `k`
+  -- Returns the value of the constant with ordinal `d` in a procedure's block, or None if it isn't
+  -- declared there or can't be computed. The first parameter has ordinal `k`; parameters aren't
+  -- constants.
   pub value_in_procedure : Known → ℕ → ℕ → Tree Name (item procedure) → Option Value
   value_in_procedure known d k (declares_procedure x fs b closing) =
       if nat_lt d (after_names k (formal_names (formal_sections fs))) then None
       else value_in_block (bind_names (formal_names (formal_sections fs)) no_constant known) d
       (after_names k (formal_names (formal_sections fs))) b
 
--- returns the value of the constant with ordinal `d`, or None if no CONST section declares `d`
+-- Returns the value of the constant with ordinal `d`. Returns None if no CONST section declares
+-- `d`. Also returns None if this constant, an earlier one of its section or one of an enclosing
+-- block has no value.
 unfoldable pub value_of_constant : Tree Name module_text → ℕ → Option Value
 unfolding value_in_block
 value_of_constant m d =

@@ -1,5 +1,5 @@
--- The bindings that declarations of constants and types make, in the checker and in a run alike, and the ordinals of
--- types.
+-- The bindings that declarations of constants and types make, both in the checker and in a run.
+-- Also counts the words ARRAY and RECORD in declarations.
 -- Rule: docs/LANGUAGE.md, Scopes 2, Types 1.
 use Rattle.std.specs.Prelude.{ℕ, ◌+◌, ◌∷◌, Some, Option}
 use Rattle.ob0_tree.specs.Tree.{Tree, block, constant, declares, declares_constant, declares_procedure, declares_type, declares_variable, end, further_section, has_body, item, items, more, procedure, then_section, type_name, variable}
@@ -9,8 +9,8 @@ use Rattle.ob0_language_types.specs.Environments.{Environment, meanings}
 use Rattle.ob0_language_types.specs.Expressions.{a_constant, a_type}
 use Rattle.ob0_language_types.specs.Typing.{constant_value, constructors, denoted, ◌>>=◌}
 
--- Returns the environment with constants added, each after its right side. Returns None if a right
--- side isn't a constant expression with a value.
+-- Returns the environment with constants added, each visible after its right side. Returns None if
+-- a right side isn't a constant expression with a value.
 unfoldable pub declare_constants : {N V P : Type 0}
     → Naming N
     → Environment N V P
@@ -22,8 +22,8 @@ declare_constants naming env (more (declares_constant x e) cs) = do
   v ← constant_value (meanings naming env) e
   declare_constants naming ((x, a_constant v) ∷ env) cs
 
--- Returns the environment with types added, each after its right side. `k` is the ordinal of the
--- first ARRAY or RECORD. Returns None if a right side denotes no type.
+-- Returns the environment with types added, each visible after its right side. `k` is the number of
+-- words ARRAY and RECORD before them. Returns None if a right side denotes no type.
 unfoldable pub declare_types : {N V P : Type 0}
     → Naming N
     → Environment N V P
@@ -36,8 +36,8 @@ declare_types naming env k (more (declares_type x u) ds) = do
   s ← denoted (meanings naming env) k u
   declare_types naming ((x, a_type s) ∷ env) (k + constructors u) ds
 
--- Returns the environment with a block's constants and then its types added. `k` is the ordinal of
--- the block's first ARRAY or RECORD. Returns None if one of them has an error.
+-- Returns the environment with a block's constants and then its types added. `k` is the number of
+-- words ARRAY and RECORD before the block. Returns None if one of them has an error.
 unfoldable pub declare_first : {N V P : Type 0}
     → Naming N
     → Environment N V P
@@ -84,16 +84,17 @@ abbrev mutual
   procedure_constructors (declares_procedure x fs b closing) =
       formals_constructors (formal_sections fs) + block_constructors b
 
--- returns the ordinal of the first ARRAY or RECORD after a block's types; `k` is the ordinal of the first in the block
+-- returns the number of words ARRAY and RECORD before a block's variables; `k` of them are before
+-- the block
 abbrev pub after_types : {N : Type 0} → ℕ → Tree N block → ℕ
 after_types k b = k + types_constructors (block_types b)
 
--- returns the ordinal of the first ARRAY or RECORD after a block's variables; `k` is the ordinal of the first in the
--- block
+-- returns the number of words ARRAY and RECORD before a block's procedures; `k` of them are before
+-- the block
 abbrev pub after_variables : {N : Type 0} → ℕ → Tree N block → ℕ
 after_variables k b = after_types k b + variables_constructors (block_variables b)
 
--- returns the ordinal of the first ARRAY or RECORD after a procedure's formal parameters; `k` is the ordinal of the
--- first in the procedure
+-- returns the number of words ARRAY and RECORD before a procedure's block; `k` of them are before
+-- the procedure
 abbrev pub after_formals : {N : Type 0} → ℕ → Tree N (item procedure) → ℕ
 after_formals k p = k + formals_constructors (procedure_formals p)

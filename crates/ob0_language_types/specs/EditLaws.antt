@@ -28,8 +28,8 @@ IsScalar (truth b) = Unit {0}
 IsScalar (elements vs) = ⊥
 IsScalar (members k ms) = ⊥
 
--- Holds if the word TRUE or FALSE, written in place of an occurrence, means the predeclared
--- constant there. It always holds for a value that isn't a truth value.
+-- Holds if the word for a truth value, TRUE or FALSE, would be bound to the predeclared constant if
+-- it replaced this occurrence. Holds for every other value.
 abbrev pub IsPredeclaredTruth : Tree Name module_text → ℕ → Value → Type 0
 IsPredeclaredTruth m occurrence (truth true) = sees m occurrence (codes "TRUE") ≡ Some 2
 IsPredeclaredTruth m occurrence (truth false) = sees m occurrence (codes "FALSE") ≡ Some 3
@@ -43,14 +43,14 @@ pub record IsConstantWritten
   pub scalar : IsScalar w
   pub literal : written_value w ≡ Some v
 
--- Holds if each use is bound to the constant `d`. If `w` is a truth value, its word must also mean
--- the predeclared constant in place of each use.
+-- Holds if each occurrence in `uses` is bound to the constant `d`. If `w` is a truth value, the
+-- word TRUE or FALSE must mean the predeclared constant in place of each of these occurrences.
 pub record AreUsesOf (m : Tree Name module_text) (d : ℕ) (w : Value) (uses : Uses) : Type 0 where
   pub bound : (k : ℕ) → uses k ≡ true → binds m k ≡ Some d
   pub seen : (k : ℕ) → uses k ≡ true → IsPredeclaredTruth m k w
 
--- A well-typed module remains well-typed if uses of a constant are replaced by its literal. The literal must have the
--- constant's value at each of these uses.
+-- A well-typed module remains well-typed if uses of a constant are replaced by its literal. If the
+-- literal is TRUE or FALSE, this word must mean the predeclared constant at each of these uses.
 abbrev pub InliningKeepsWellTyped : Type 0
 InliningKeepsWellTyped =
     (m : Tree Name module_text) (d : ℕ) (w : Value) (v : Tree Name factor) (uses : Uses)

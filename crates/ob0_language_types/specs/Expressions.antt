@@ -24,20 +24,19 @@ pub record Meanings (N V P : Type 0) : Type 0 where
   pub written : N → Name
 
 -- Returns the step to the element of an array at an index. An index below 0 or not below the length
--- ends the run with Index. Any other operands are stuck.
+-- ends the run with Index. Returns Stuck if the operands aren't an array and a number.
 abbrev pub element_step : Value → Value → Outcome Step
 element_step (elements vs) (number (pos i)) =
     if nat_lt i (count_values vs) then gives (at_index i) else ends Index
 element_step (elements vs) (number (negsuc i)) = ends Index
 element_step _ _ = ends Stuck
 
--- returns the place of the variable that a name means; for any other object the run is stuck
+-- returns the place of a variable; Stuck for any other object
 abbrev pub object_place : {P : Type 0} → Option (Object Place P) → Outcome Place
 object_place (Some (a_variable p)) = gives p
 object_place _ = ends Stuck
 
--- returns the value of a constant, or the value at a variable's place; for any other object the run
--- is stuck
+-- returns the value of a constant, or the value at a variable's place; Stuck for any other object
 abbrev pub object_value : {P : Type 0} → Store → Option (Object Place P) → Outcome Value
 object_value store (Some (a_constant v)) = gives v
 object_value store (Some (a_variable p)) = or_stuck (read_place store p)
@@ -104,7 +103,7 @@ unfoldable mutual
   evaluate_factor meaning store (parenthesised e) = evaluate meaning store e
   evaluate_factor meaning store (negation f) = evaluate_factor meaning store f >>= negate
 
-  -- returns the path that selectors select in the value `v`; an index is evaluated and checked
+  -- returns the path of these selectors in the value `v`; each index is evaluated and checked
   -- against the length of its array
   pub follow : {N P : Type 0}
       → Meanings N Place P

@@ -37,8 +37,8 @@ ConstantsEvaluate =
     → constant_of (active.object_for x) ≡ Some w)
     → constant_value checked e ≡ Some v → evaluate active store e ≡ gives v
 
--- holds if `P` holds for each name in the list whose number is among the uses; the first name has
--- number `k`
+-- holds if `P` holds for each name in the list whose occurrence number is in `uses`; the first name
+-- has number `k`
 abbrev pub UsesAre : Uses → (Name → Type 0) → ℕ → List Name → Type 0
 UsesAre uses P k [] = Unit {0}
 UsesAre uses P k (x ∷ xs) = (uses k ≡ true → P x) × UsesAre uses P (suc k) xs

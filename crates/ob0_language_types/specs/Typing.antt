@@ -1,4 +1,5 @@
--- The types that texts of types denote, the types of expressions, and the values of constant expressions.
+-- The types that written types denote, the types of expressions, and the values of constant
+-- expressions.
 -- Rule: docs/LANGUAGE.md, Types 1 to 7, Nesting and limits 2.
 use Rattle.std.specs.Prelude.{ℕ, suc, ◌+◌, ◌*◌, max, ◌&&◌, List, [], ◌∷◌, map, pos, if◌then◌else◌, nat_lt, nat_le, Some, None, Option, option_map, option_and_then}
 use Rattle.ob0_tree.specs.declared.tree.Relation.{Relation}
@@ -92,7 +93,8 @@ field_type _ x = None
 
 -- Returns the type of an expression, or None if it has an error.
 unfoldable mutual
-  -- returns the type of an expression: of one simple expression, or of a relation between two
+  -- returns the type of an expression: of one simple expression, or of a relation between two; None
+  -- if it has an error
   pub type_of : {N P : Type 0} → Meanings N Shape P → Tree N expression → Option Shape
   type_of meaning (compares a none) = type_of_simple meaning a
   type_of meaning (compares a (one (relates r b))) = do
@@ -100,14 +102,16 @@ unfoldable mutual
     y ← type_of_simple meaning b
     relation_type r x y
 
-  -- returns the type of a simple expression: its first term with its sign, then the further terms
+  -- returns the type of a simple expression: its first term with its sign, then the further terms;
+  -- None if it has an error
   pub type_of_simple : {N P : Type 0} → Meanings N Shape P → Tree N simple → Option Shape
   type_of_simple meaning (sum s t rest) = do
     x ← type_of_term meaning t
     y ← sign_type s x
     type_of_addends meaning y rest
 
-  -- returns the type of an operand of type `x` with further terms after it
+  -- returns the type of a simple expression, given the type `x` of its first operand and its
+  -- further terms; None if an operand has an error or the wrong type
   pub type_of_addends : {N P : Type 0}
       → Meanings N Shape P
       → Shape
@@ -119,13 +123,14 @@ unfoldable mutual
     z ← add_type o x y
     type_of_addends meaning z rest
 
-  -- returns the type of a term: its first factor, then the further factors
+  -- returns the type of a term: its first factor, then the further factors; None if it has an error
   pub type_of_term : {N P : Type 0} → Meanings N Shape P → Tree N term → Option Shape
   type_of_term meaning (product f rest) = do
     x ← type_of_factor meaning f
     type_of_multipliers meaning x rest
 
-  -- returns the type of an operand of type `x` with further factors after it
+  -- returns the type of a term, given the type `x` of its first factor and its further factors;
+  -- None if a factor has an error or the wrong type
   pub type_of_multipliers : {N P : Type 0}
       → Meanings N Shape P
       → Shape
@@ -137,7 +142,8 @@ unfoldable mutual
     z ← multiply_type o x y
     type_of_multipliers meaning z rest
 
-  -- returns the type of a factor: a designator, an integer, an expression in parentheses or a negation
+  -- returns the type of a factor: a designator, an integer, an expression in parentheses or a
+  -- negation; None if it has an error
   pub type_of_factor : {N P : Type 0} → Meanings N Shape P → Tree N factor → Option Shape
   type_of_factor meaning (designator x path) = do
     s ← object_type (meaning.object_for x)
@@ -146,7 +152,8 @@ unfoldable mutual
   type_of_factor meaning (parenthesised e) = type_of meaning e
   type_of_factor meaning (negation f) = type_of_factor meaning f >>= complement_type
 
-  -- returns the type of the part that selectors select from a value of type `s`
+  -- returns the type of the part that selectors select from a value of type `s`; None if there is
+  -- no such part or an index isn't INTEGER
   pub type_at : {N P : Type 0} → Meanings N Shape P → Shape → Tree N (items selector) → Option Shape
   type_at meaning s end = Some s
   type_at meaning s (more (field x) rest) = do
@@ -157,13 +164,13 @@ unfoldable mutual
     t ← element_type s i
     type_at meaning t rest
 
--- returns the value of a name that means a constant; None for any other name
+-- returns the value of a constant; None for any other object
 abbrev pub constant_of : {V P : Type 0} → Option (Object V P) → Option Value
 constant_of (Some (a_constant v)) = Some v
 constant_of _ = None
 
--- returns the meanings of names in constant expressions, where only constants have a meaning (rule
--- 6)
+-- returns the meanings of names in constant expressions, in which only constants have a meaning
+-- (rule 6)
 abbrev pub constants_only : {N V P W Q : Type 0} → Meanings N V P → Meanings N W Q
 constants_only meaning =
     record {
@@ -253,24 +260,23 @@ abbrev mutual
   groups_constructors end = 0
   groups_constructors (more (then_fields g) rest) = group_constructors g + groups_constructors rest
 
--- returns the type that the name of a type means; None for any other object
+-- returns the type that a type's name means; None for any other object
 abbrev pub type_of_name : {V P : Type 0} → Option (Object V P) → Option Shape
 type_of_name (Some (a_type s)) = Some s
 type_of_name _ = None
 
--- returns the fields `rest` with fields of one type `s` put before them, one for each of these
--- names
+-- returns these names as fields of type `s`, followed by the fields `rest`
 abbrev pub with_fields : List Name → Shape → FieldShapes → FieldShapes
 with_fields [] s rest = rest
 with_fields (x ∷ xs) s rest = next_field_shape x s (with_fields xs s rest)
 
--- Returns the type that a type's text denotes. Each word ARRAY and RECORD makes a new type, and `k` is the ordinal of
--- the first one.
+-- Returns the type that a written type denotes, or None if it has an error. Each word ARRAY and
+-- RECORD in a module makes a new type. These types are numbered from 0 in text order.
 unfoldable mutual
   unfolding constant_value
 
-  -- returns the type that a written type denotes: a name's type, or an array or a record within the
-  -- limits; `k` is the ordinal of its first ARRAY or RECORD
+  -- Returns the type that a written type denotes: a name's type, or an array or a record within the
+  -- limits. Returns None if it has an error. `k` is the number of words ARRAY and RECORD before it.
   pub denoted : {N V P : Type 0} → Meanings N V P → ℕ → Tree N written_type → Option Shape
   denoted meaning k (named_type x) = type_of_name (meaning.object_for x)
   denoted meaning k (array_type e t) = do
@@ -283,8 +289,8 @@ unfoldable mutual
     fs ← denoted_group meaning (suc k) later g
     within_limits (record_shape k fs)
 
-  -- returns the fields of a group, followed by the fields `later`; `k` is the ordinal of the first
-  -- ARRAY or RECORD in the group
+  -- Returns the fields of a group, followed by the fields `later`. Returns None if the group's type
+  -- has an error. `k` is the number of words ARRAY and RECORD before the group.
   pub denoted_group : {N V P : Type 0}
       → Meanings N V P
       → ℕ
@@ -296,8 +302,8 @@ unfoldable mutual
     s ← denoted meaning k t
     Some (with_fields (map meaning.written (names_listed ns)) s later)
 
-  -- returns the fields of further groups, in text order; `k` is the ordinal of their first ARRAY or
-  -- RECORD
+  -- Returns the fields of further groups, in text order. Returns None if a group's type has an
+  -- error. `k` is the number of words ARRAY and RECORD before these groups.
   pub denoted_groups : {N V P : Type 0}
       → Meanings N V P
       → ℕ
@@ -313,7 +319,8 @@ abbrev pub lone_designator : {N : Type 0} → Tree N expression → Option (N ×
 lone_designator (compares (sum None (product (designator x path) end) end) none) = Some (x, path)
 lone_designator _ = None
 
--- returns the type of a type's name, a variable, a parameter or a constant; None for a procedure
+-- returns the type that a type's name means, or the type of a variable, parameter or constant; None
+-- for any other object
 abbrev pub type_declared : {P : Type 0} → Option (Object Shape P) → Option Shape
 type_declared (Some (a_type s)) = Some s
 type_declared (Some (a_variable s)) = Some s

@@ -52,7 +52,8 @@ Signature = List Formal
 abbrev pub Typed : Type 0 → Type 0
 Typed N = Meanings N Shape Signature
 
--- the environments of the checker
+-- the environments of the checker, which bind variables to their types and procedures to their
+-- signatures
 abbrev pub TypeEnvironment : Type 0 → Type 0
 TypeEnvironment N = Environment N Shape Signature
 
@@ -61,8 +62,8 @@ abbrev pub agree : Option Shape → Option Shape → Bool
 agree (Some s) (Some t) = same_shape s t
 agree _ _ = false
 
--- Returns the type of a variable or parameter with its selectors, which may be assigned to or passed as VAR. Returns
--- None for any other expression.
+-- Returns the type of a designator that may be assigned to or passed as VAR: a variable or
+-- parameter with its selectors. Returns None for anything else.
 unfoldable pub variable_type : {N P : Type 0}
     → Meanings N Shape P
     → Option (N × Tree N (items selector))
@@ -72,7 +73,7 @@ variable_type meaning None = None
 variable_type meaning (Some (x, path)) =
     elim (meaning.object_for x) [ Some (a_variable s) ↦ type_at meaning s path | _ ↦ None ]
 
--- returns the signature of the procedure that a name means; None if it means something else
+-- returns the signature of a procedure or a standard procedure; None for any other object
 abbrev pub signature_of : Option (Object Shape Signature) → Option Signature
 signature_of (Some (a_procedure signature)) = Some signature
 signature_of (Some (a_standard reads)) =
@@ -172,8 +173,8 @@ abbrev pub bind_names : {N V P : Type 0}
 bind_names [] o env = env
 bind_names (x ∷ xs) o env = bind_names xs o ((x, o) ∷ env)
 
--- Returns the environment with variables added, each group after its type. `k` is the ordinal of
--- the first ARRAY or RECORD. Returns None if a type has an error.
+-- Returns the environment with variables added, each group visible after its type. `k` is the
+-- number of words ARRAY and RECORD before them. Returns None if a type has an error.
 unfoldable pub declare_typed : {N : Type 0}
     → Naming N
     → ℕ
@@ -192,8 +193,8 @@ pub record TypedParameter (N : Type 0) : Type 0 where
   pub formal : Formal
 
 -- Returns the parameters of a heading. The names of a section are visible in the later sections,
--- and the procedure isn't visible yet. `k` is the ordinal of the first ARRAY or RECORD. Returns
--- None if a type has an error.
+-- and the procedure isn't visible yet. `k` is the number of words ARRAY and RECORD before the
+-- parameters. Returns None if a type has an error.
 unfoldable pub typed_parameters : {N : Type 0}
     → Naming N
     → TypeEnvironment N
@@ -242,7 +243,7 @@ some_and (Some a) test = test a
 unfoldable mutual
   unfolding declare_first declare_typed typed_parameters body_fits
 
-  -- returns true if a block is well-typed; `k` is the ordinal of its first ARRAY or RECORD
+  -- returns true if a block is well-typed; `k` is the number of words ARRAY and RECORD before it
   pub block_fits : {N : Type 0} → Naming N → TypeEnvironment N → ℕ → Tree N block → Bool
   block_fits naming env k (has_body (declares cs ts vs ps) statements) =
       some_and (do
@@ -253,7 +254,8 @@ unfoldable mutual
       (after_variables k (has_body (declares cs ts vs ps) statements)) statements ps)
 
   -- returns true if each procedure is well-typed in the environment of the earlier ones, and then
-  -- the statements of their block are; `k` is the ordinal of their first ARRAY or RECORD
+  -- the statements of their block are; `k` is the number of words ARRAY and RECORD before the
+  -- procedures
   pub procedures_fit : {N : Type 0}
       → Naming N
       → TypeEnvironment N
@@ -268,8 +270,8 @@ unfoldable mutual
       && procedures_fit naming (heading (procedure_name p) ps env) (k + procedure_constructors p)
       statements rest)
 
-  -- returns true if a procedure's block is well-typed, in an environment with the procedure's name
-  -- and parameters; `k` is the ordinal of the procedure's first ARRAY or RECORD
+  -- returns true if a procedure's block is well-typed; `env` has the procedure's name and
+  -- parameters; `k` is the number of words ARRAY and RECORD before the procedure
   pub procedure_fits : {N : Type 0}
       → Naming N
       → TypeEnvironment N

@@ -2,7 +2,8 @@
 
 ghost use Rattle.ob0_language_types.specs.Bodies.{NamesAreDeclared};
 
-/// Proves that if the statements of a well-typed module bind a name, they bind it to the object of its declaration.
+/// Proves that if a body's environment in a well-typed module binds an ordinal to an object, the
+/// declaration with this ordinal makes this object.
 pub fn names_are_declared()
     ensures { NamesAreDeclared }
 {}

@@ -1,5 +1,5 @@
-//! Definitions and laws of the types of Oberon-0 and its well-typed modules (docs/LANGUAGE.md, Types), and of the
-//! bindings that a block's declarations make.
+//! Defines the types of Oberon-0, well-typed modules (docs/LANGUAGE.md, Types) and the bindings
+//! that a block's declarations make. States laws about them.
 #![tactic(auto)]
 
 pub mod binding_laws;

@@ -2,12 +2,12 @@
 -- Rule: docs/LANGUAGE.md, Runs 3.
 use Rattle.std.specs.Prelude.{ℕ, zero, suc, ◌-◌, ◌/◌, ◌%◌, ℤ, pos, negsuc, Option, Some, None}
 
--- returns the result of DIV with the divisor `b`, which is rounded down; `b` must be above 0
+-- returns a number DIV `b`, rounded down; `b` must be above 0
 abbrev pub quotient : ℤ → ℕ → ℤ
 quotient (pos a) b = pos (a / b)
 quotient (negsuc a) b = negsuc (a / b)
 
--- returns the result of MOD with the divisor `b`, which is never negative; `b` must be above 0
+-- returns a number MOD `b`, which is never negative; `b` must be above 0
 abbrev pub remainder : ℤ → ℕ → ℤ
 remainder (pos a) b = pos (a % b)
 remainder (negsuc a) b = pos (b - suc (a % b))

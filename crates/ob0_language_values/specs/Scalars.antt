@@ -1,5 +1,4 @@
--- The views of the code's scalars, and of the results of its operations, as values of the
--- definitions.
+-- The values of the definitions that the code's scalars and results of operators stand for.
 -- Rule: none; for contracts: what values of the code mean.
 use Rattle.std.specs.Prelude.{ℤ, Some, None, Ok, Err, Option, Result}
 use Rattle.ob0_language_values.specs.declared.scalar.OperatorFault.{OperatorFault}

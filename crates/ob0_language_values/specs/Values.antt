@@ -13,10 +13,10 @@ use Rattle.ob0_language_names.specs.Names.{Name, same_name}
 pub use Rattle.ob0_language_values.specs.Division.{divided, quotient, remainder}
 
 infixl 20 ◌>>=◌
--- The type of a variable or value. `k` is the ordinal, in the text, of the word ARRAY or RECORD that made the type. So
--- two types are the same exactly if their shapes are equal.
+-- The type of a variable or value. `k` is the number of words ARRAY and RECORD before the word that
+-- made the type. So two types are the same exactly if their shapes are equal.
 mutual
-  -- a type: INTEGER, BOOLEAN, an array of some length, or a record
+  -- a type: INTEGER, BOOLEAN, an array with its length, or a record
   pub data Shape : Type 0 where
     integer_shape : Shape
     boolean_shape : Shape
@@ -28,8 +28,8 @@ mutual
     no_field_shape : FieldShapes
     next_field_shape : Name → Shape → FieldShapes → FieldShapes
 
--- A value: a number, a truth value, an array's elements, or a record's members. `k` is the ordinal of the RECORD that
--- made the record's type.
+-- A value: a number, a truth value, an array's elements, or a record's members. `k` is the number
+-- of words ARRAY and RECORD before the RECORD that made the record's type.
 mutual
   -- a value, which is a scalar, an array or a record
   pub data Value : Type 0 where
@@ -63,33 +63,35 @@ abbrev pub ◌>>=◌ : {A B : Type 0} → Outcome A → (A → Outcome B) → Ou
 ◌>>=◌ (gives a) next = next a
 ◌>>=◌ (ends e) next = ends e
 
--- gives an optional value; if there is none, the run is stuck
+-- returns the value as an outcome, or the end Stuck for None
 abbrev pub or_stuck : {A : Type 0} → Option A → Outcome A
 or_stuck None = ends Stuck
 or_stuck (Some a) = gives a
 
--- returns true if a number fits in 32 bits with a sign
+-- returns true if a number fits in 32 bits as a signed integer
 abbrev pub fits : ℤ → Bool
 fits (pos n) = nat_lt n (2 ^ 31)
 fits (negsuc n) = nat_lt n (2 ^ 31)
 
--- gives a result that fits in 32 bits, otherwise Overflow (rule 3)
+-- returns the number if it fits in 32 bits, otherwise the end Overflow (rule 3)
 abbrev pub in_range : ℤ → Outcome Value
 in_range n = if fits n then gives (number n) else ends Overflow
 
--- gives the quotient or remainder, or Overflow if it doesn't fit in 32 bits; Divisor for None
+-- returns the outcome of a division: its number, Overflow if that doesn't fit in 32 bits, or
+-- Divisor for None
 abbrev pub divided_by : Option ℤ → Outcome Value
 divided_by None = ends Divisor
 divided_by (Some n) = in_range n
 
--- returns the result of `+`, `-` or OR; stuck for operands of other types
+-- returns the result of `+`, `-` or OR; Stuck for operands for which the operator isn't defined
 abbrev pub add : AddOperator → Value → Value → Outcome Value
 add add_operator.Add (number a) (number b) = in_range (a +ℤ b)
 add add_operator.Subtract (number a) (number b) = in_range (a -ℤ b)
 add add_operator.Or (truth a) (truth b) = gives (truth (a || b))
 add _ _ _ = ends Stuck
 
--- returns the result of `*`, DIV, MOD or `&`; stuck for operands of other types
+-- returns the result of `*`, DIV, MOD or `&`; Stuck for operands for which the operator isn't
+-- defined
 abbrev pub multiply : MultiplyOperator → Value → Value → Outcome Value
 multiply multiply_operator.Multiply (number a) (number b) = in_range (a *ℤ b)
 multiply multiply_operator.Divide (number a) (number b) = divided_by (divided quotient a b)
@@ -123,23 +125,22 @@ compare_numbers relation.LessEqual a b = int_le a b
 compare_numbers relation.Greater a b = int_lt b a
 compare_numbers relation.GreaterEqual a b = int_le b a
 
--- returns the truth value of a relation between two numbers, or with `=` or `#` between two truth
--- values; stuck for other operands
+-- returns the truth value of a relation between two numbers, or of `=` or `#` between two truth
+-- values; Stuck for other operands
 abbrev pub relate : Relation → Value → Value → Outcome Value
 relate r (number a) (number b) = gives (truth (compare_numbers r a b))
 relate relation.Equal (truth a) (truth b) = gives (truth (same_truth a b))
 relate relation.NotEqual (truth a) (truth b) = gives (truth (not (same_truth a b)))
 relate _ _ _ = ends Stuck
 
--- returns the result of an optional sign before a value; a sign before anything but a number is
--- stuck
+-- returns the value with an optional sign applied; Stuck for a sign before anything but a number
 abbrev pub apply_sign : Option Sign → Value → Outcome Value
 apply_sign None v = gives v
 apply_sign (Some sign.Plus) (number a) = in_range a
 apply_sign (Some sign.Minus) (number a) = in_range (neg_ℤ a)
 apply_sign _ _ = ends Stuck
 
--- returns the result of `~`; stuck for any value that isn't a truth value
+-- returns the result of `~`; Stuck for any value that isn't a truth value
 abbrev pub negate : Value → Outcome Value
 negate (truth b) = gives (truth (not b))
 negate _ = ends Stuck
@@ -176,7 +177,7 @@ abbrev pub named_member : Members → Name → Option Value
 named_member no_member x = None
 named_member (next_member y v rest) x = if same_name x y then Some v else named_member rest x
 
--- returns the members with the value of the first one with this name replaced by `new`; unchanged
+-- returns the members with the value of the first member of this name replaced by `new`; unchanged
 -- if there is no such member
 abbrev pub with_named_member : Members → Name → Value → Members
 with_named_member no_member x new = no_member

@@ -182,7 +182,8 @@ pub fn multiply_is_settled(operator: MultiplyOperator, left: Scalar) -> bool
     }
 }
 
-/// Returns the truth value of a relation between two numbers, or with `=` or `#` between two truth values.
+/// Returns the truth value of a relation between two numbers, or of `=` or `#` between two truth
+/// values.
 ///
 /// # Errors
 ///

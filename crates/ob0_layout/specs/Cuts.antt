@@ -1,4 +1,4 @@
--- The values that the code computes while it visits the gaps of a text.
+-- Defines the values that the code computes while it visits the gaps of a text.
 -- Rule: none; for private contracts: gaps as cuts of bytes, and runs of a byte.
 use Rattle.std.specs.Prelude.{◌≤◌, ℕ, Bool, true, ◌&&◌, ◌==◌, if◌then◌else◌, nat_lt, Option, Some, None, List, [], ◌∷◌, filter}
 use Rattle.ob0_scan.specs.declared.lexeme.LexemeKind.{LexemeKind}
@@ -16,7 +16,7 @@ use Rattle.ob0_layout.specs.declared.sites.Solid.{Solid}
 use Rattle.ob0_layout.specs.Gaps.{is_changed}
 use Rattle.ob0_layout.specs.Layout.{gap_between, gap_text}
 
--- returns the first of the remaining tokens and comments; None if none remains
+-- Returns the first of the remaining tokens and comments, or None if none remains.
 abbrev pub next_of : List Token → List Span → Option NextLexeme
 next_of [] [] = None
 next_of [] (c ∷ cs) = Some (next.Comment c)
@@ -24,23 +24,23 @@ next_of (t ∷ ts) [] = Some (next.Token t)
 next_of (t ∷ ts) (c ∷ cs) =
     if nat_lt c.start t.span.start then Some (next.Comment c) else Some (next.Token t)
 
--- returns the gap between a token or comment and the next one, with this kind and role; it is empty
--- at the start of the text (None)
+-- Returns the gap between a token or comment and the next one, which has this kind and role. At the
+-- start of the text (None) the gap is empty.
 abbrev pub gap_before : Option Solid → LexemeKind → LineRole → Gap
 gap_before None kind role = Nothing
 gap_before (Some b) kind role = gap_between b.kind b.role kind role
 
--- returns the gap after the last token or comment: a line feed, or nothing if the text has neither
--- (None)
+-- Returns the gap after the last token or comment: a line feed, or nothing if the text has no token
+-- or comment (None).
 abbrev pub last_gap : Option Solid → Gap
 last_gap None = Nothing
 last_gap (Some b) = Line 0
 
--- returns a gap as a cut, which replaces it by its text after formatting
+-- Returns the cut that replaces a gap by its text after formatting.
 abbrev pub gap_cut : Indent → GapSite → Cut
 gap_cut indent g = record { from = g.start; to = g.end; new = gap_text indent g.gap }
 
--- returns the gaps of a list that formatting changes
+-- Returns those gaps of the list that formatting changes.
 abbrev pub changed_sites : Indent → List ℕ → List GapSite → List GapSite
 changed_sites indent text gs = filter (λ (g : GapSite). is_changed text (gap_cut indent g)) gs
 

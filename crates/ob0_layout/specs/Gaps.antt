@@ -1,4 +1,4 @@
--- The gaps of a text: before, between and after its tokens and comments.
+-- Defines the gaps of a text: before, between and after its tokens and comments.
 -- Rule: docs/PROTOCOL.md, Requests on documents 8.
 use Rattle.std.specs.Prelude.{ℕ, ◌+◌, ◌-◌, Bool, true, not, bytes_eq, List, [], ◌∷◌, length, filter, slice_range, string_bytes}
 use Rattle.std.specs.List.{AllPass}
@@ -12,23 +12,25 @@ use Rattle.ob0_text.specs.Texts.{position_of}
 use Rattle.ob0_layout.specs.declared.line_role.LineRole.{LineRole}
 use Rattle.ob0_layout.specs.Layout.{PlacedLexeme, placed, gap}
 
--- Returns the gaps after a token or comment, as cuts with their texts after formatting. The list
--- has the tokens and comments that follow, and `len` is the length of the text in bytes. The text
--- ends with a line feed.
+-- Returns the gaps after the token or comment `a`, each as the cut that replaces it by its
+-- formatted text. The list has the tokens and comments after `a`. `len` is the length of the text
+-- in bytes. The formatted text ends with a line feed.
 abbrev pub gaps_after : Indent → ℕ → PlacedLexeme → List PlacedLexeme → List Cut
 gaps_after indent len a [] = record { from = a.span.end; to = len; new = 10 ∷ [] } ∷ []
 gaps_after indent len a (b ∷ bs) =
     record { from = a.span.end; to = b.span.start; new = gap indent a b }
     ∷ gaps_after indent len b bs
 
--- returns all gaps of a text of length `len`, as cuts with their texts after formatting; the gap at
--- the start of the text becomes empty
+-- Returns all gaps of a text of `len` bytes, each as the cut that replaces it by its formatted
+-- text. The list has the tokens and comments of the text. The gap at the start of the text becomes
+-- empty.
 abbrev pub gaps : Indent → ℕ → List PlacedLexeme → List Cut
 gaps indent len [] = record { from = 0; to = len; new = [] } ∷ []
 gaps indent len (a ∷ bs) =
     record { from = 0; to = a.span.start; new = [] } ∷ gaps_after indent len a bs
 
--- returns the gaps of a text that is cut into these lexemes; `ss` are the roles of its tokens
+-- Returns all gaps of a text as cuts. `lexemes` are all lexemes of the text, and `ss` has the roles
+-- of its tokens.
 abbrev pub all_gaps : Indent → List ℕ → List LineRole → List Lexeme → List Cut
 all_gaps indent text ss lexemes = gaps indent (length text) (placed 0 0 true ss lexemes)
 
@@ -40,12 +42,13 @@ is_changed text c = not (bytes_eq (slice_range text c.from c.to) c.new)
 abbrev pub changed_gaps : List ℕ → List Cut → List Cut
 changed_gaps text cs = filter (is_changed text) cs
 
--- the content of an edit: its range, and its new text in bytes
+-- An edit as contracts see it: the range that it replaces, and its new text in bytes.
 pub record EditText : Type 0 where
   pub range : Range
   pub text : List ℕ
 
--- returns the edit that replaces a whole gap; `width` gives the units of a character
+-- Returns the edit that makes the cut `c` in the text `content`. `width` returns how many units a
+-- character has in a position.
 abbrev pub edit_of : (ℕ → ℕ) → List ℕ → Cut → EditText
 edit_of width content c = record {
   range =
@@ -53,12 +56,12 @@ edit_of width content c = record {
   text = c.new;
 }
 
--- returns an edit of the code as its range and the bytes of its text
+-- returns the range of an edit, and its new text in bytes
 abbrev pub edit_text : Edit → EditText
 edit_text e = record { range = e.range; text = string_bytes e.text }
 
--- returns the length in bytes of the part of a text from offset `at` to its end, after these gaps
--- are formatted; `len` is the length of the text before
+-- Returns the length in bytes of the text from the offset `at` to its end, after these cuts are
+-- made in it. `len` is the length of the whole text before the cuts.
 abbrev pub laid_len : ℕ → ℕ → List Cut → ℕ
 laid_len len at [] = len - at
 laid_len len at (c ∷ cs) = (c.from - at) + (length c.new + laid_len len c.to cs)

@@ -1,4 +1,4 @@
--- The roles of a tree's tokens in their lines.
+-- Defines the role of each token of a tree in its line.
 -- Rule: docs/LANGUAGE.md, Layout 2 to 4.
 use Rattle.std.specs.Prelude.{ℕ, ◌+◌, min, Bool, true, false, Option, Some, None, List, [], ◌∷◌, ◌++◌}
 use Rattle.ob0_tree.specs.declared.tree.Sign.{Sign}
@@ -6,32 +6,31 @@ use Rattle.ob0_tree.specs.Tree.{Sort, Tree, none, one, end, more, compares, rela
 use Rattle.ob0_layout.specs.declared.line_role.LineRole.{LineRole}
 use Rattle.ob0_layout.specs.declared.line_role.LineRole.TheVariants.{Begins, Opening, Joining, Plain}
 
--- Returns the next level, which is at most 2^32 - 1. A module's levels are far below that.
+-- Returns the level that is one deeper, but at most 2^32 - 1. A module's levels are far below that.
 abbrev pub deeper : ℕ → ℕ
 deeper k = min (k + 1) 4294967295
 
--- returns the roles of some tokens with the first role replaced, so that the first token begins a
--- line of this level
+-- Returns the roles with the first one replaced by `Begins level`. Returns an empty list unchanged.
 abbrev pub in_line : ℕ → List LineRole → List LineRole
 in_line level [] = []
 in_line level (s ∷ ss) = Begins level ∷ ss
 
--- returns the role of an optional sign, after which no space comes
+-- Returns a list with the role of the sign, or an empty list if there is no sign.
 abbrev pub sign_role : Option Sign → List LineRole
 sign_role None = []
 sign_role (Some s) = Joining ∷ []
 
--- returns the role of the separator before an item of a list; if the Bool is true, the item is the
--- first one, and there is none
+-- Returns a list with the role of the separator before an item. For the first item of a list (true)
+-- the result is empty, because no separator comes before it.
 abbrev pub separated : Bool → List LineRole
 separated true = []
 separated false = Plain ∷ []
 
--- Returns the role of each token of a tree, in text order. The level is the block's, or in a
--- sequence the level of its statements. The module has level 0, and a procedure one level more than
--- the block that declares it. The statements of a body have one level more than its block, and
--- statements inside a statement one more than that statement. Constructs within a line have no
--- level: 0 is passed for them.
+-- Returns the roles of a tree's tokens, in text order. `k` is the level of a statement, or for
+-- declarations and bodies the level of their block. The module has level 0, and a procedure is one
+-- level deeper than the block that declares it. The statements of a body are one level deeper than
+-- its block. Statements inside a statement are one level deeper than that statement. A construct
+-- within a line has no level, and its `k` is 0.
 abbrev pub line_roles : {N : Type 0} {s : Sort} → ℕ → Tree N s → List LineRole
 line_roles k none = []
 line_roles k (one t) = line_roles k t

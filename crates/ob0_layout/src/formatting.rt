@@ -1,4 +1,4 @@
-//! Formats a module's text by edits.
+//! Makes the edits that format a module's text.
 
 ghost use Rattle.std.specs.Prelude.{◌≡◌, ◌≤◌, ◌<◌, ◌⊎◌, ◌↔◌, IsTrue, Some, IfOk, IfErr, IsErrOf, map, length};
 ghost use Rattle.std.specs.List.{All};
@@ -21,9 +21,9 @@ use ob0_tree::Module;
 use std::alloc::{AllocError, Global};
 
 /// Returns one edit for each gap that formatting changes, in text order. Each edit replaces a whole
-/// gap. `store` must hold the text of the module. Applied together to that text, the edits give the
-/// formatted text. Fails with `TooLong` if the formatted text would exceed the limit of a text, and
-/// with `Memory` if an allocation fails.
+/// gap. If `store` holds the text of the module, applying all the edits to it gives the formatted
+/// text. Fails with `TooLong` if the formatted text would be longer than a text may be, and with
+/// `Memory` if an allocation fails.
 pub fn format<T: TextStore>(
     alloc: Global,
     store: &T,
@@ -56,7 +56,8 @@ pub fn format<T: TextStore>(
     Ok(edits(alloc, store, &sites, indent)?)
 }
 
-/// Returns true if a text of `len` bytes doesn't exceed the limit after these gaps are formatted.
+/// Returns true if a text of `len` bytes has at most `MAX_TEXT` bytes after these gaps are
+/// formatted.
 fn fits(sites: &[GapSite], len: usize, indent: Indent) -> bool
     requires length { len ≤ max_text }
     requires within { All (LiesIn len) sites.now }

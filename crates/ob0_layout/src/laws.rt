@@ -14,8 +14,8 @@ ghost use Rattle.ob0_layout.specs.Layout.{solid, laid_out, layout};
 ghost use Rattle.ob0_layout.specs.Gaps.{IsWhite, all_gaps, changed_gaps, laid_len};
 ghost use Rattle.ob0_layout.specs.LineRoles.{line_roles};
 
-/// Proves that a formatted text is cut into the formatted lexemes. It has the same tokens and comments as the original
-/// text.
+/// Proves two facts: scanning a formatted text gives `laid_out`, and formatting changes no
+/// token and no comment.
 pub fn lexemes_stay()
     ensures lexed { (indent : Indent) (s : Scanned) (scan : IsScan s)
         (tree : Tree (List ℕ) module_text)
@@ -27,7 +27,7 @@ pub fn lexemes_stay()
         → solid (laid_out indent tree scan.lexemes) ≡ solid scan.lexemes }
 {}
 
-/// Proves that a formatted text is a text of the same module as the original text.
+/// Proves that a formatted text has the same module as the original text.
 pub fn module_stays()
     ensures { (indent : Indent) (s : Scanned) (scan : IsScan s) (tree : Tree (List ℕ) module_text)
         → ModuleOf s tree
@@ -42,8 +42,8 @@ pub fn laid_out_once()
         → layout indent tree again.lexemes ≡ layout indent tree scan.lexemes }
 {}
 
-/// Proves that replacing the gaps that change gives the formatted text, that this text is UTF-8,
-/// and that the counted length is its length.
+/// Proves three facts: replacing the gaps that change gives the formatted text, this text is UTF-8,
+/// and `laid_len` is its length.
 pub fn gaps_make_the_layout()
     ensures utf8 { (indent : Indent) (s : Scanned) (scan : IsScan s)
         (tree : Tree (List ℕ) module_text)
@@ -60,8 +60,8 @@ pub fn gaps_make_the_layout()
         ≡ length (layout indent tree scan.lexemes) }
 {}
 
-/// Proves that formatting changes only white space: the gaps of a text and their new texts contain
-/// nothing else.
+/// Proves that formatting changes only white space: each gap contains nothing else, before and
+/// after formatting.
 pub fn gaps_are_white_space()
     ensures before { (indent : Indent) (s : Scanned) (scan : IsScan s)
         (tree : Tree (List ℕ) module_text)

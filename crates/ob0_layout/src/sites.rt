@@ -15,7 +15,7 @@ use ob0_scan::{LexemeKind, Span, Token, Tokens};
 use ob0_text::Indent;
 use std::alloc::{AllocError, Global};
 
-/// A gap of a text: its start and end in bytes, and its form after formatting.
+/// A gap of a text: its start and end as byte offsets, and its form after formatting.
 #[derive(Clone, Copy)]
 pub struct GapSite {
     pub start: usize,
@@ -23,22 +23,22 @@ pub struct GapSite {
     pub gap: Gap,
 }
 
-/// A token or comment, and its role in its line.
+/// The kind of a token or comment, and its role in its line.
 #[derive(Clone, Copy)]
 pub struct Solid {
     pub kind: LexemeKind,
     pub role: LineRole,
 }
 
-/// The next lexeme of a text that isn't white space.
+/// The next token or comment of a text.
 #[derive(Clone, Copy)]
 pub enum NextLexeme {
     Token(Token),
     Comment(Span),
 }
 
-/// Returns the gaps of a text that formatting changes, in text order. `roles` are the roles of its
-/// tokens.
+/// Returns the gaps that formatting changes, in text order. `roles` has the role of each token of
+/// the text.
 pub fn changed_sites(
     alloc: Global,
     tokens: &Tokens,
@@ -115,7 +115,7 @@ fn is_changed(text: &[u8], site: GapSite, indent: Indent) -> bool
     !site.gap.is_text(&text[site.start..site.end], indent)
 }
 
-/// Returns the first of the remaining tokens and comments. None if none remains.
+/// Returns the first of the remaining tokens and comments, or None if none remains.
 fn next_of(left: &[Token], comments: &[Span]) -> Option<NextLexeme>
     ensures { result ≡ next_of left.now comments.now }
 {
@@ -135,8 +135,8 @@ fn next_of(left: &[Token], comments: &[Span]) -> Option<NextLexeme>
     }
 }
 
-/// Returns the gap between `before` and a token or comment of this kind and role. It is empty if `before` is None, at
-/// the start of the text.
+/// Returns the gap between `before` and the next token or comment, which has this kind and role. At
+/// the start of the text (`before` is None) the gap is empty.
 fn gap_before(before: Option<Solid>, kind: LexemeKind, role: LineRole) -> Gap
     ensures { result ≡ gap_before before kind role }
 {
@@ -146,8 +146,8 @@ fn gap_before(before: Option<Solid>, kind: LexemeKind, role: LineRole) -> Gap
     }
 }
 
-/// Returns the gap after `before`, the last token or comment: a line feed, or nothing if `before` is None because the
-/// text has neither.
+/// Returns the gap after `before`, the last token or comment: a line feed. If the text has no token
+/// or comment, `before` is None and the gap is empty.
 fn last_gap(before: Option<Solid>) -> Gap
     ensures { result ≡ last_gap before }
 {
@@ -157,8 +157,8 @@ fn last_gap(before: Option<Solid>) -> Gap
     }
 }
 
-/// Returns the level of the line that the next token is in, or 0 if no token follows. `level` is the level of the
-/// current line.
+/// Returns the level of the next token's line, or 0 if no token follows. `level` is the level of
+/// the current line, and `roles` has the roles of the remaining tokens.
 fn next_line(level: u32, roles: &[LineRole]) -> u32
     ensures { result ≡ next_line level roles.now }
 {
@@ -173,7 +173,8 @@ fn next_line(level: u32, roles: &[LineRole]) -> u32
     }
 }
 
-/// Returns the role of the next token, or Plain if no token follows.
+/// Returns the role of the next token, or `Plain` if no token follows. `roles` has the roles of the
+/// remaining tokens.
 fn next_role(roles: &[LineRole]) -> LineRole
     ensures { result ≡ next_role roles.now }
 {
@@ -183,7 +184,7 @@ fn next_role(roles: &[LineRole]) -> LineRole
     roles[0]
 }
 
-/// Returns a list without its first item.
+/// Returns a list without its first item. Returns an empty list unchanged.
 fn after_first<T>(items: &[T]) -> &[T]
     ensures { result.now ≡ drop 1 items.now }
 {
@@ -193,7 +194,8 @@ fn after_first<T>(items: &[T]) -> &[T]
     &items[1..]
 }
 
-/// Returns the role of a comment. If a line break comes before it, it begins a line of this level.
+/// Returns the role of a comment. If a line break comes before the comment (`broken`), the comment
+/// begins a line of this level. Otherwise its role is `Plain`.
 fn comment_role(broken: bool, level: u32) -> LineRole
     ensures { result ≡ comment_role broken level }
 {
@@ -204,14 +206,15 @@ fn comment_role(broken: bool, level: u32) -> LineRole
     }
 }
 
-/// Returns true if a gap has a line break, or is at the start of the text (`before` is None).
+/// Returns true if the token or comment after a gap begins a line: the gap has a line break, or is
+/// at the start of the text (`before` is None).
 fn begins_line(before: Option<Solid>, gap: &[u8]) -> bool
     ensures { result ≡ (is_none before || has_break gap.now) }
 {
     before.is_none() || has_break(gap)
 }
 
-/// Returns true if white space contains a line feed or a carriage return.
+/// Returns true if the gap contains a line feed or a carriage return.
 fn has_break(gap: &[u8]) -> bool
     ensures { result ≡ has_break gap.now }
 {

@@ -1,4 +1,4 @@
-//! Visits a module and gives each of its tokens its role in its line.
+//! Gives each token of a module its role in its line, by a walk over the module.
 
 ghost use Rattle.std.specs.Prelude.{◌≡◌, ◌++◌, ◌∷◌, [], IfOk};
 ghost use Rattle.ob0_layout.specs.declared.line_role.LineRole.TheVariants.{Begins, Plain};
@@ -15,7 +15,7 @@ use ob0_tree::{
 };
 use std::alloc::{AllocError, Global};
 
-/// Returns the roles of a module's tokens in their lines, in text order.
+/// Returns the role of each token of a module in its line, in text order.
 pub(crate) fn line_roles(alloc: Global, module: &Module) -> Result<Vec<LineRole>, AllocError>
     ensures { IfOk result (λ out. out.items ≡ line_roles 0 (tree_of module.now)) }
 {
@@ -30,14 +30,14 @@ pub(crate) fn line_roles(alloc: Global, module: &Module) -> Result<Vec<LineRole>
     Ok(out)
 }
 
-/// Returns the next level.
+/// Returns the level that is one deeper, but at most 2^32 - 1.
 fn deeper(level: u32) -> u32
     ensures { result ≡ deeper level }
 {
     level.saturating_add(1)
 }
 
-/// Appends the role of a token whose gaps depend only on its kind.
+/// Appends the role `Plain` of one token.
 fn plain(out: &mut Vec<LineRole>) -> Result<(), AllocError>
     ensures { IfOk result (λ _. out.new.items ≡ out.old.items ++ (Plain ∷ [])) }
 {
@@ -57,7 +57,7 @@ fn expression(out: &mut Vec<LineRole>, e: &Expression) -> Result<(), AllocError>
     }
 }
 
-/// Appends the roles of the tokens of an expression that isn't a single factor.
+/// Appends the roles of the tokens in an expression that isn't a single factor.
 #[cycle(expressions)]
 fn compound(out: &mut Vec<LineRole>, c: &Compound) -> Result<(), AllocError>
     ensures { IfOk result (λ _. out.new.items ≡ out.old.items ++ line_roles 0 (compound_of c.now)) }
@@ -127,7 +127,7 @@ fn factor(out: &mut Vec<LineRole>, f: &Factor) -> Result<(), AllocError>
     }
 }
 
-/// Appends the roles of the tokens of a name with its selectors.
+/// Appends the roles of a designator's tokens: its name and its selectors.
 #[cycle(expressions)]
 fn designator(out: &mut Vec<LineRole>, d: &Designator) -> Result<(), AllocError>
     ensures { IfOk result
@@ -168,7 +168,8 @@ fn separator(out: &mut Vec<LineRole>, first: bool) -> Result<(), AllocError>
     Ok(())
 }
 
-/// Appends the roles of statements of this level, with a `;` between any two of them.
+/// Appends the roles of the tokens in a statement sequence of this level, with the `;` between
+/// statements.
 #[cycle(statements)]
 fn sequence(
     out: &mut Vec<LineRole>,
@@ -187,7 +188,7 @@ fn sequence(
     Ok(())
 }
 
-/// Appends the roles of a statement of this level, whose first token begins a line.
+/// Appends the roles of a statement, whose first token begins a line of this level.
 #[cycle(statements)]
 fn statement(out: &mut Vec<LineRole>, level: u32, s: &Statement) -> Result<(), AllocError>
     ensures { IfOk result
@@ -222,7 +223,7 @@ fn begin(out: &mut Vec<LineRole>, level: u32) -> Result<(), AllocError>
     Ok(())
 }
 
-/// Appends the roles of an assignment of this level.
+/// Appends the roles of an assignment, whose first token begins a line of this level.
 fn assignment(out: &mut Vec<LineRole>, level: u32, a: &Assignment) -> Result<(), AllocError>
     ensures { IfOk result
         (λ _. out.new.items ≡ out.old.items ++ line_roles level (assignment_of a.now)) }
@@ -235,7 +236,7 @@ fn assignment(out: &mut Vec<LineRole>, level: u32, a: &Assignment) -> Result<(),
     expression(out, &a.value)
 }
 
-/// Appends the roles of a call of this level.
+/// Appends the roles of a call, whose first token begins a line of this level.
 fn call(out: &mut Vec<LineRole>, level: u32, c: &Call) -> Result<(), AllocError>
     ensures { IfOk result (λ _. out.new.items ≡ out.old.items ++ line_roles level (call_of c.now)) }
 {
@@ -281,7 +282,8 @@ fn branches(out: &mut Vec<LineRole>, level: u32, i: &If) -> Result<(), AllocErro
     }
 }
 
-/// Appends the roles of the ELSIF parts of an IF statement of this level.
+/// Appends the roles of the tokens in the ELSIF parts of an IF statement. `level` is the level of
+/// the IF statement.
 #[cycle(statements)]
 fn elsifs(out: &mut Vec<LineRole>, level: u32, parts: &Vec<Elsif>) -> Result<(), AllocError>
     ensures { IfOk result
@@ -296,7 +298,8 @@ fn elsifs(out: &mut Vec<LineRole>, level: u32, parts: &Vec<Elsif>) -> Result<(),
     Ok(())
 }
 
-/// Appends the roles of a list of names; `first` is the role of the first name.
+/// Appends the roles of the tokens in a list of names, with the commas between the names. `first`
+/// is the role of the first name.
 fn names(out: &mut Vec<LineRole>, first: LineRole, ns: &Names) -> Result<(), AllocError>
     ensures { IfOk result (λ _. out.new.items
         ≡ out.old.items ++ (first ∷ line_roles 0 (items_of then_name ns.now.more.items))) }
@@ -341,7 +344,7 @@ fn record(out: &mut Vec<LineRole>, r: &RecordType) -> Result<(), AllocError>
     plain(out)
 }
 
-/// Appends the roles of the tokens of a group of fields, which may be empty.
+/// Appends the roles of the tokens in a group of fields. An empty group has no tokens.
 #[cycle(types)]
 fn fields(out: &mut Vec<LineRole>, f: &Fields) -> Result<(), AllocError>
     ensures { IfOk result (λ _. out.new.items ≡ out.old.items ++ line_roles 0 (fields_of f.now)) }
@@ -356,7 +359,8 @@ fn fields(out: &mut Vec<LineRole>, f: &Fields) -> Result<(), AllocError>
     }
 }
 
-/// Appends the roles of formal parameters with their parentheses, if there are any.
+/// Appends the roles of the tokens in formal parameters, with the parentheses. If `sections` is
+/// None, appends nothing.
 fn formals(out: &mut Vec<LineRole>, sections: &Option<Vec<Section>>) -> Result<(), AllocError>
     ensures { IfOk result
         (λ _. out.new.items ≡ out.old.items ++ line_roles 0 (formals_of sections.now)) }
@@ -374,7 +378,7 @@ fn formals(out: &mut Vec<LineRole>, sections: &Option<Vec<Section>>) -> Result<(
     plain(out)
 }
 
-/// Appends the roles of a section of parameters.
+/// Appends the roles of the tokens in a section of parameters.
 fn section(out: &mut Vec<LineRole>, s: &Section) -> Result<(), AllocError>
     ensures { IfOk result (λ _. out.new.items ≡ out.old.items ++ line_roles 0 (section_of s.now)) }
 {
@@ -386,7 +390,8 @@ fn section(out: &mut Vec<LineRole>, s: &Section) -> Result<(), AllocError>
     written_type(out, &s.written)
 }
 
-/// Appends the roles of the CONST section of a block of this level, if there is one.
+/// Appends the roles of the tokens in a block's CONST section, if there is one. `level` is the
+/// level of the block.
 fn constants(
     out: &mut Vec<LineRole>,
     level: u32,
@@ -408,7 +413,8 @@ fn constants(
     Ok(())
 }
 
-/// Appends the roles of the TYPE section of a block of this level, if there is one.
+/// Appends the roles of the tokens in a block's TYPE section, if there is one. `level` is the level
+/// of the block.
 fn types(
     out: &mut Vec<LineRole>,
     level: u32,
@@ -430,7 +436,8 @@ fn types(
     Ok(())
 }
 
-/// Appends the roles of the VAR section of a block of this level, if there is one.
+/// Appends the roles of the tokens in a block's VAR section, if there is one. `level` is the level
+/// of the block.
 fn variables(
     out: &mut Vec<LineRole>,
     level: u32,
@@ -452,7 +459,8 @@ fn variables(
     Ok(())
 }
 
-/// Appends the roles of the body of a block of this level, if there is one. Its statements are one level deeper.
+/// Appends the roles of the tokens in a block's body, if there is one. `level` is the level of the
+/// block, and the statements are one level deeper.
 fn body(
     out: &mut Vec<LineRole>,
     level: u32,
@@ -470,7 +478,7 @@ fn body(
     }
 }
 
-/// Appends the roles of a block of this level.
+/// Appends the roles of a block's tokens. `level` is the level of the block.
 #[cycle(blocks)]
 fn block(out: &mut Vec<LineRole>, level: u32, b: &Block) -> Result<(), AllocError>
     ensures { IfOk result
@@ -485,7 +493,8 @@ fn block(out: &mut Vec<LineRole>, level: u32, b: &Block) -> Result<(), AllocErro
     body(out, level, &b.body)
 }
 
-/// Appends the roles of a procedure that a block of this level declares. The procedure is one level deeper.
+/// Appends the roles of a procedure's tokens. `level` is the level of the block that declares it,
+/// and the procedure is one level deeper.
 #[cycle(blocks)]
 fn procedure(out: &mut Vec<LineRole>, level: u32, p: &Procedure) -> Result<(), AllocError>
     ensures { IfOk result

@@ -1,4 +1,5 @@
--- Texts, given by the kinds of their tokens, with the places at which the descent stops in them.
+-- States at which token the descent stops in example texts. Each text is given by the kinds of its
+-- tokens.
 -- Rule: docs/LANGUAGE.md, Syntax faults (its examples).
 use Rattle.std.specs.Prelude.{ℕ, zero, suc, ◌+◌, List, [], ◌∷◌, ◌++◌}
 use Rattle.ob0_scan.specs.declared.lexeme.TokenKind.{TokenKind}
@@ -38,11 +39,11 @@ ident = kind.Identifier
 abbrev pub one : TokenKind
 one = kind.Integer 1
 
--- MODULE M ;
+-- The kinds of the tokens `MODULE M ;`.
 abbrev pub module_begins : List TokenKind
 module_begins = w reserved.Module ∷ ident ∷ s symbol.Semicolon ∷ []
 
--- END M .
+-- The kinds of the tokens `END M .`.
 abbrev pub module_ends : List TokenKind
 module_ends = w reserved.End ∷ ident ∷ s symbol.Dot ∷ []
 

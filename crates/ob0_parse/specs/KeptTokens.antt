@@ -1,5 +1,5 @@
--- Defines the procedures and the body that are kept from an earlier parse, and the tokens that they
--- spell.
+-- Says which tokens the procedures and the body kept from earlier parses have, before and after a
+-- change of the text.
 -- Rule: none; for contracts of `Kept` and of `tree_after`.
 use Rattle.std.specs.declared.vec.Vec.{Vec}
 use Rattle.std.specs.declared.alloc.Global.{Global}
@@ -20,8 +20,8 @@ use Rattle.ob0_parse.specs.declared.kept.Kept.{Kept}
 use Rattle.ob0_parse.specs.declared.kept.KeptBody.{KeptBody}
 use Rattle.ob0_parse.specs.declared.kept.KeptProcedure.{KeptProcedure}
 
--- Returns tokens of these kinds, as a tree over indexes spells them. The first token has the index
--- `i`.
+-- Returns tokens of these kinds with their indexes, as a tree whose leaves are token indexes spells
+-- them. The first token has the index `i`.
 abbrev pub lexemes_by : ℕ → List TokenKind → List (Terminal ℕ)
 lexemes_by i [] = []
 lexemes_by i (k ∷ ks) = lexeme_of i k ∷ lexemes_by (i + 1) ks
@@ -34,36 +34,37 @@ first_of (declares_procedure name fs b closing) = name - 1
 abbrev pub end_of : Tree ℕ (item procedure) → ℕ
 end_of (declares_procedure name fs b closing) = closing + 2
 
--- Holds if the tokens `at..next` have the kinds that the tree spells, and its nesting is within the
--- limit. The leaves of the tree are the indexes in a text in which its first token has the index
--- `from`.
+-- Holds if the tokens `at..next` have the kinds that the tree spells, and the tree isn't nested too
+-- deeply. Its leaves are token indexes that count from its first token, which has the index `from`.
 pub record IsThere {s : Sort} (ts : List Token) (from at next : ℕ) (t : Tree ℕ s) : Type 0 where
   pub spelled : spell t ≡ lexemes_by from (slice_range (kinds ts) at next)
   pub shallow : nesting t ≤ max_nesting
   pub forward : at < next
   pub within : next ≤ length ts
 
--- Holds if the tokens `at..next` have the kinds that the tree spells, and its nesting is within the
--- limit. Its leaves must be the indexes of these tokens.
+-- Holds if the tokens `at..next` have the kinds that the tree spells, and the tree isn't nested too
+-- deeply. Its leaves are the indexes of these tokens.
 abbrev pub IsInPlace : {s : Sort} → List Token → ℕ → ℕ → Tree ℕ s → Type 0
 IsInPlace ts at next t = IsThere ts at at next t
 
--- Holds if a procedure's leaves are the indexes of its tokens, which are at the place that these
--- leaves give.
+-- Holds if the procedure's tokens are at the place that its leaves give, and its leaves are the
+-- indexes of these tokens.
 abbrev pub IsMade : List Token → Procedure → Type 0
 IsMade ts p = IsInPlace ts (first_of (procedure_of p)) (end_of (procedure_of p)) (procedure_of p)
 
--- Holds if the tokens of the waiting procedure are at `at..next`. Its leaves may have to be moved.
+-- Holds if the tokens of the kept procedure are at `k.at..k.next`. Its leaves may still be the
+-- indexes of these tokens in an earlier text.
 abbrev pub IsWaiting : List Token → KeptProcedure → Type 0
 IsWaiting ts k =
     IsThere ts (first_of (procedure_of k.procedure)) k.at k.next (procedure_of k.procedure)
 
--- Holds if BEGIN and the statements of the kept body are at `at..next`. Its leaves may have to be
--- moved.
+-- Holds if BEGIN and the statements of the kept body are at `k.at..k.next`. Its leaves may still be
+-- the indexes of these tokens in an earlier text.
 abbrev pub IsBodyThere : List Token → KeptBody → Type 0
 IsBodyThere ts k = IsThere ts k.from k.at k.next (body_of (Some k.statements))
 
--- Holds if no body is kept, or BEGIN and the statements of the kept body are at their place.
+-- Holds if no body is kept, or BEGIN and the statements of the kept body are at the place kept with
+-- it.
 abbrev pub IsBodyKept : List Token → Option KeptBody → Type 0
 IsBodyKept ts body = IfSome body (IsBodyThere ts)
 
@@ -72,14 +73,16 @@ abbrev pub Each : {A : Type 0} → (A → Type 0) → List A → Type 0
 Each P [] = Unit {0}
 Each P (x ∷ xs) = P x × Each P xs
 
--- Holds if the tokens of every kept tree are at the place that is kept with it.
+-- Holds if the tokens of every kept tree are in their place: at the place that its leaves give
+-- (`made`), or at the place kept with it (`waiting`, `body`).
 pub record AreKept (ts : List Token) (k : Kept) : Type 0 where
   pub made : Each (IsMade ts) k.made.items
   pub waiting : Each (IsWaiting ts) k.waiting.items
   pub body : IsBodyKept ts k.body
 
--- Holds if `k` is the body of a module with these procedures, whose closing name has the index
--- `closing`. BEGIN follows the last procedure, and END follows the statements.
+-- Holds if `k` has these statements and their place in a module with these procedures. The module's
+-- closing name is the token with the index `closing`. BEGIN follows the last procedure, and END
+-- follows the statements.
 pub record IsMadeBody
     (ps : List Procedure) (statements : Option (Vec Statement Global)) (closing : ℕ) (k : KeptBody)
     : Type 0 where
@@ -91,8 +94,9 @@ pub record IsMadeBody
 
 -- ---- another text
 
--- Holds if a tree at `at..next` in the old text is always at the range `place` in the new text. The
--- two texts may be any that share the tokens which `same` describes.
+-- Holds if each tree that has the tokens `at..next` in the old text has the tokens
+-- `place.0..place.1` in the new text. The two texts may be any that share the tokens which `same`
+-- describes.
 abbrev pub CarriesTokens : SameTokens → ℕ → ℕ → ℕ × ℕ → Type 0
 CarriesTokens same at next place =
     (s : Sort) (old new : List Token) (from : ℕ) (t : Tree ℕ s)
@@ -100,14 +104,15 @@ CarriesTokens same at next place =
     → IsThere old from at next t
     → IsThere new from place.0 place.1 t
 
--- Holds if `b` waits in the new text whenever `a` waits in the old text. The two texts may be any
--- that share the tokens which `same` describes.
+-- Holds if the kept procedure `b` is at its place in the new text whenever `a` is at its place in
+-- the old text. The two texts may be any that share the tokens which `same` describes.
 abbrev pub CarriesTo : SameTokens → KeptProcedure → KeptProcedure → Type 0
 CarriesTo same a b =
     (old new : List Token) → HasSameTokens same old new → IsWaiting old a → IsWaiting new b
 
--- Holds if the procedures `after` wait in the new text whenever `a` waits in the old text and
--- `before` wait in the new text.
+-- Holds if the kept procedures `after` are at their places in the new text under two conditions:
+-- `a` is at its place in the old text, and the procedures `before` are at their places in the new
+-- text. The two texts may be any that share the tokens which `same` describes.
 abbrev pub CarriesOne : SameTokens
     → KeptProcedure
     → List KeptProcedure
@@ -120,8 +125,8 @@ CarriesOne same a before after =
     → Each (IsWaiting new) before
     → Each (IsWaiting new) after
 
--- Holds if the procedures `ys` wait in the new text whenever the procedures `xs` wait in the old
--- text.
+-- Holds if the kept procedures `ys` are at their places in the new text whenever `xs` are at theirs
+-- in the old text. The two texts may be any that share the tokens which `same` describes.
 abbrev pub CarriesAll : SameTokens → List KeptProcedure → List KeptProcedure → Type 0
 CarriesAll same xs ys =
     (old new : List Token)
@@ -129,8 +134,9 @@ CarriesAll same xs ys =
     → Each (IsWaiting old) xs
     → Each (IsWaiting new) ys
 
--- Holds if `after` wait in the new text whenever `p` is in place in the old text and `before` wait
--- in the new text.
+-- Holds if the kept procedures `after` are at their places in the new text under two conditions:
+-- the leaves of `p` give its place in the old text, and the procedures `before` are at their places
+-- in the new text. The two texts may be any that share the tokens which `same` describes.
 abbrev pub CarriesMade : SameTokens
     → Procedure
     → List KeptProcedure
@@ -143,8 +149,10 @@ CarriesMade same p before after =
     → Each (IsWaiting new) before
     → Each (IsWaiting new) after
 
--- Holds if `after` wait in the new text whenever `ps` are in place in the old text and `before`
--- wait in the new text.
+-- Holds if the kept procedures `after` are at their places in the new text under two conditions:
+-- the leaves of the procedures `ps` give their places in the old text, and the procedures `before`
+-- are at their places in the new text. The two texts may be any that share the tokens which `same`
+-- describes.
 abbrev pub CarriesAllMade : SameTokens
     → List Procedure
     → List KeptProcedure
@@ -158,7 +166,7 @@ CarriesAllMade same ps before after =
     → Each (IsWaiting new) after
 
 -- Holds if the body `b` is at its place in the new text whenever the body `a` is at its place in
--- the old text.
+-- the old text. The two texts may be any that share the tokens which `same` describes.
 abbrev pub CarriesBody : SameTokens → KeptBody → KeptBody → Type 0
 CarriesBody same a b =
     (old new : List Token)
@@ -166,8 +174,9 @@ CarriesBody same a b =
     → IsBodyThere old a
     → IsBodyThere new b
 
--- Holds if in any two texts with these same tokens, `b` is in place in the new text whenever `a` is
--- in place in the old text. An absent body counts as in place.
+-- Holds if the body `b` is at its place in the new text whenever the body `a` is at its place in
+-- the old text. An absent body counts as being at its place. The two texts may be any that share
+-- the tokens which `same` describes.
 abbrev pub CarriesAnyBody : SameTokens → Option KeptBody → Option KeptBody → Type 0
 CarriesAnyBody same a b =
     (old new : List Token) → HasSameTokens same old new → IsBodyKept old a → IsBodyKept new b
@@ -181,22 +190,23 @@ IsMadeAt p k =
 
 -- ---- reusing
 
--- Holds if `x` is a procedure that begins at the index `at` with its leaves in place, and the index
--- of the token after it.
+-- Holds if `x` is a pair: a procedure, and the index of the token after it. The procedure's first
+-- token has the index `at`, and its leaves are the indexes of its tokens in this text.
 abbrev pub IsTakenAt : List Token → ℕ → Procedure × ℕ → Type 0
 IsTakenAt ts at x = IsInPlace ts at x.1 (procedure_of x.0)
 
--- Holds if `x` is a procedure that begins at the index `at` with its leaves in place. This is for
--- any text that has all the waiting procedures at their places.
+-- Holds if `IsTakenAt` holds for `x` in every text that has all the kept procedures
+-- `waiting` at their places.
 abbrev pub IsTakenFrom : List KeptProcedure → ℕ → Procedure × ℕ → Type 0
 IsTakenFrom waiting at x = (ts : List Token) → Each (IsWaiting ts) waiting → IsTakenAt ts at x
 
--- Holds if the procedures `after` wait at their places whenever the procedures `before` do.
+-- Holds if every text that has the kept procedures `before` at their places also has the procedures
+-- `after` at theirs.
 abbrev pub StayWaiting : List KeptProcedure → List KeptProcedure → Type 0
 StayWaiting before after =
     (ts : List Token) → Each (IsWaiting ts) before → Each (IsWaiting ts) after
 
--- Holds if `x` has the statements of a body and the index of the token after it. The body begins at
--- the index `at` with its leaves in place.
+-- Holds if `x` is a pair: the statements of a body, and the index of the token after the last one.
+-- The body's BEGIN has the index `at`, and its leaves are the indexes of its tokens in this text.
 abbrev pub IsTakenBody : List Token → ℕ → Vec Statement Global × ℕ → Type 0
 IsTakenBody ts at x = IsInPlace ts at x.1 (body_of (Some x.0))

@@ -1,5 +1,5 @@
--- Defines the results of parsing a module and its own block, whose procedures the parser stores
--- with the kept trees.
+-- Says what the parser returns for a module and for the procedures of the module's own block. It
+-- stores these procedures with the kept trees.
 -- Rule: none; for private contracts of the parser.
 use Rattle.std.specs.Prelude.{ℕ, List, [], ◌∷◌, Result, Ok, Err, length}
 use Rattle.ob0_scan.specs.declared.lexeme.Token.{Token}
@@ -20,14 +20,14 @@ own_block_of ps parts =
     (items_of procedure_of ps))
     (body_of parts.body)
 
--- Holds for a returned index if the procedures `ps` begin at `at` and end there. Holds for a
--- refusal if it is right for the procedures at `at`.
+-- Holds for a returned index if the procedures `ps` begin at `at` and end before that index. Holds
+-- for a refusal if the procedures that begin at `at` can't be read, as the refusal says.
 abbrev pub ReadsOwn : List Procedure → List Token → ℕ → Result ℕ ParseRefusal → Type 0
 ReadsOwn ps ts at (Ok next) = Taken (items_of procedure_of ps) max_nesting ts at next
 ReadsOwn ps ts at (Err e) = FailsToRead (node (items procedure) max_nesting ∷ []) ts at e
 
 -- Holds for a parsed module if its tree spells the tokens, from the first to the last. Holds for a
--- refusal if it is right for a module.
+-- refusal if the tokens can't be read as a module, as the refusal says.
 abbrev pub ReadsModule : List Token → Result (ℕ × Block × ℕ) ParseRefusal → Type 0
 ReadsModule ts (Ok x) = Taken (is_module x.0 (block_of x.1) x.2) max_nesting ts 0 (length ts)
 ReadsModule ts (Err e) = FailsToRead (node module_text max_nesting ∷ finish ∷ []) ts 0 e

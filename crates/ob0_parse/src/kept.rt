@@ -1,16 +1,16 @@
 //! Keeps procedures and bodies from earlier parses, and the places of their tokens in another text.
 //!
 //! `Kept` holds trees with the places of their tokens: the procedures of the last parse, the
-//! procedures that it didn't reach, and the body of the module. `IsThere` says that a tree's tokens
-//! have the kinds that the tree spells, counted from its own first token. So only the kinds of
-//! these tokens decide whether a tree can be used in another text (`Kept::after`), whatever else
-//! either text contains. A text with a syntax fault keeps the trees that its parser made up to the
-//! fault, and the ones that wait after the fault.
+//! procedures that it didn't reach, and the body of the module. `IsThere` says that a tree's
+//! tokens have the kinds that the tree spells, and that its leaves count from its first token. So
+//! only the kinds of these tokens decide whether a tree can be used in another text
+//! (`Kept::relocate`). If a text has a syntax fault, the trees that its parser made up to the
+//! fault are kept. The older trees after the fault are also kept.
 //!
-//! Reusing such a tree requires nothing about the parse that made it, except that the next token
-//! ends it. Nothing continues a procedure, which ends in a semicolon (`stops_zero`), and END
-//! continues no body. So no other tree has these tokens (`same`). The descent reads every tree that
-//! is spelled (`finishes`), so `Taken` follows from the spelling (`taken_there`).
+//! Such a tree can be reused whatever parse made it, if the token after it doesn't continue it. No
+//! token continues a procedure, which ends in a semicolon (`stops_zero`), and END continues no
+//! body. So no other tree has these tokens (`same`). The descent reads every tree that is spelled
+//! (`finishes`), so `Taken` follows from the spelling (`taken_there`).
 //!
 //! The leaves of a procedure give its place: its name is its second token, and its closing name is
 //! the last but one. The leaves of a body don't give its place, so a body is kept with the index of
@@ -19,8 +19,8 @@
 //!
 //! A kept tree waits with unchanged leaves while the parser hasn't reached it. When the parser
 //! reaches it, a walk in place adds the distance that its tokens have moved to its leaves
-//! (`put_in_place`, `moving.rt`). So each procedure and the body, before or after the change, are
-//! reused. The moved tree is `mapped` from the old one, so it spells the current tokens
+//! (`put_in_place`, `moving.rt`). So each procedure and the body, before or after the change,
+//! are reused. The moved tree is `mapped` from the old one, so it spells the current tokens
 //! (`moved_there`). No index exceeds the largest one, because `next` is itself an index.
 
 ghost use Rattle.std.specs.Prelude.{◌≡◌, ◌+◌, ◌≤◌, ◌++◌, [], List, IfOk, OnOk, IfSome};
@@ -36,8 +36,8 @@ use ob0_scan::SameTokens;
 use ob0_tree::{ModuleTree, Procedure, Statement};
 use std::alloc::{AllocError, Global};
 
-/// A procedure from an earlier parse. Its tokens are now at `at..next`. Its leaves are still the old indexes: they must
-/// be moved by the distance that its first token has moved.
+/// A procedure from an earlier parse. Its tokens are now at `at..next`. Its leaves are still the
+/// old indexes: they must be moved by the distance that its first token has moved.
 #[derive(Drop)]
 pub struct KeptProcedure {
     pub procedure: Procedure,
@@ -45,8 +45,9 @@ pub struct KeptProcedure {
     pub next: usize,
 }
 
-/// The statements of a module's own body from an earlier parse. Their tokens, with BEGIN before them, are now at
-/// `at..next`. Their leaves are the indexes in a text in which BEGIN has the index `from`.
+/// The statements of a module's own body from an earlier parse. Their tokens, with BEGIN before
+/// them, are now at `at..next`. Their leaves are the indexes in a text in which BEGIN has the index
+/// `from`.
 #[derive(Drop)]
 pub struct KeptBody {
     pub statements: Vec<Statement>,
@@ -55,20 +56,22 @@ pub struct KeptBody {
     pub next: usize,
 }
 
-/// The procedures of a module's own block, and its body. A later parse reuses them when it reaches
-/// their tokens.
+/// The trees of earlier parses that can be reused: procedures of a module's own block, and the
+/// module's body. A later parse reuses them when it reaches their tokens.
 #[derive(Drop)]
 pub struct Kept {
-    /// The procedures that the last parse made or reused, in text order. Their leaves are in place.
+    /// The procedures that the last parse made or reused, in text order. Their leaves are the
+    /// present indexes of their tokens.
     pub made: Vec<Procedure>,
     /// The procedures that the last parse didn't reach, in reverse text order.
     pub waiting: Vec<KeptProcedure>,
-    /// The body from an earlier parse, unless the last parse reused it.
+    /// The module's body from an earlier parse. It is None if no body can be reused, or if the last
+    /// parse has reused it.
     pub body: Option<KeptBody>,
 }
 
 impl Kept {
-    /// Returns a `Kept` without any tree.
+    /// Returns a value that keeps no tree.
     pub fn none(alloc: Global) -> Kept
         ensures { (ts : List Token) → AreKept ts result }
     {
@@ -79,7 +82,8 @@ impl Kept {
         }
     }
 
-    /// Keeps the procedures of a tree. Also keeps its body if the tree has procedures.
+    /// Returns a value that keeps the procedures of a tree. If the tree has procedures, its body is
+    /// also kept.
     pub fn of(alloc: Global, tree: ModuleTree) -> Kept
         ensures { (s : Scanned) → IsParsed (parsed_by s tree) → AreKept s.tokens result }
     {
@@ -95,8 +99,8 @@ impl Kept {
         }
     }
 
-    /// Keeps the trees whose tokens are also in the changed text, with their places there. The
-    /// other trees are dropped.
+    /// Returns the kept trees whose tokens are also in the changed text, with their places in that
+    /// text. The other trees are dropped.
     pub fn after(self, alloc: Global, same: SameTokens) -> Result<Kept, AllocError>
         ensures { IfOk result (λ kept. (old new : List Token)
             → HasSameTokens same old new
@@ -156,8 +160,9 @@ fn keep_waiting(
     Ok(kept)
 }
 
-/// Appends the procedures whose tokens are also in the changed text, from the last to the first, with their places
-/// there. The leaves of the given procedures are in place, and `made` is empty afterwards.
+/// Moves procedures of the last parse from `made` to `kept`, from the last to the first, with their
+/// places in the changed text. Drops those whose tokens the changed text doesn't have. Afterwards
+/// `made` is empty.
 fn keep_made(
     kept: &mut Vec<KeptProcedure>,
     made: &mut Vec<Procedure>,
@@ -187,7 +192,8 @@ fn keep(
     Ok(())
 }
 
-/// Appends a procedure of the last parse with its place in the changed text, if that text has its tokens.
+/// Appends a procedure of the last parse with its place in the changed text, if that text has its
+/// tokens.
 fn keep_one_made(
     kept: &mut Vec<KeptProcedure>,
     procedure: Procedure,
@@ -212,8 +218,9 @@ fn keep_body(body: Option<KeptBody>, same: SameTokens) -> Option<KeptBody>
     }
 }
 
-/// Returns a procedure whose leaves are in place, with the place that its leaves give. Returns None if the index after
-/// its last token is too large.
+/// Returns the procedure with the place of its tokens. Its leaves must be the present indexes of
+/// its tokens, because they give that place. Returns None if the index after its last token is too
+/// large.
 fn made_at(procedure: Procedure) -> Option<KeptProcedure>
     ensures { IfSome result (IsMadeAt procedure) }
 {
@@ -256,7 +263,8 @@ impl KeptBody {
         })
     }
 
-    /// Returns the statements with their leaves in place, and the index of the token after them.
+    /// Moves the leaves of the statements to the present indexes of their tokens. Returns the
+    /// statements and the index of the token after them.
     pub(crate) fn put_in_place(self) -> (Vec<Statement>, usize)
         ensures placed { (ts : List Token)
             → IsBodyThere ts self
@@ -290,8 +298,8 @@ fn place_after(at: usize, next: usize, same: SameTokens) -> Option<(usize, usize
     Some((at, next))
 }
 
-/// Returns the new index of a token that lies after the change, given its old index. Returns None if the token isn't
-/// after the change.
+/// Returns the new index of a token that lies after the change, given its old index. Returns None
+/// if the token isn't after the change.
 fn place_after_change(index: usize, same: SameTokens) -> Option<usize>
     ensures { IfSome result (λ place. (same.old_suffix ≤ index)
         × (place + same.old_suffix ≡ index + same.new_suffix)) }
@@ -314,8 +322,8 @@ pub(crate) fn kept_at(waiting: &mut Vec<KeptProcedure>, at: usize) -> Option<(Pr
     None
 }
 
-/// Removes and returns the next waiting procedure if it begins at or before this token, otherwise
-/// returns None.
+/// Removes and returns the waiting procedure that comes first in the text, if it begins at or
+/// before this token. Otherwise returns None.
 fn pop_by(waiting: &mut Vec<KeptProcedure>, at: usize) -> Option<KeptProcedure>
     ensures rest { waiting.old.items ≡ waiting.new.items ++ option_to_list result }
 {
@@ -330,7 +338,8 @@ fn pop_by(waiting: &mut Vec<KeptProcedure>, at: usize) -> Option<KeptProcedure>
     waiting.pop()
 }
 
-/// Returns the procedure with its leaves in place, and the index of the token after it.
+/// Moves the procedure's leaves to the present indexes of its tokens. Returns the procedure and the
+/// index of the token after it.
 fn put_in_place(kept: KeptProcedure) -> (Procedure, usize)
     ensures { (ts : List Token) → IsWaiting ts kept → IsTakenAt ts kept.at result }
 {

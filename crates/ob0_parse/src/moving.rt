@@ -1,4 +1,5 @@
-//! Moves the leaves of a procedure or body to the places of its tokens in another text.
+//! Moves the leaves of a procedure or body, which are token indexes, to the places of its tokens in
+//! another text.
 
 ghost use Rattle.std.specs.Prelude.{◌≡◌};
 ghost use Rattle.ob0_tree.specs.Tree.{then_name};
@@ -21,7 +22,7 @@ pub(crate) struct Move {
 }
 
 impl Move {
-    /// Returns the moved leaf, at most 2^64 - 1.
+    /// Returns the token index after the move, at most 2^64 - 1.
     fn of(self, leaf: usize) -> usize
         ensures { result ≡ moved_to self leaf }
     {
@@ -29,7 +30,7 @@ impl Move {
     }
 }
 
-/// Moves all leaves of an expression.
+/// Applies the move `by` to each token index in an expression.
 #[cycle(expressions)]
 fn expression(e: &mut Expression, by: Move)
     ensures { expression_of e.new ≡ moved by (expression_of e.old) }
@@ -40,7 +41,7 @@ fn expression(e: &mut Expression, by: Move)
     }
 }
 
-/// Moves all leaves of an expression that isn't a single factor.
+/// Applies the move `by` to each token index in an expression that isn't a single factor.
 #[cycle(expressions)]
 fn compound(c: &mut Compound, by: Move)
     ensures { compound_of c.new ≡ moved by (compound_of c.old) }
@@ -49,7 +50,7 @@ fn compound(c: &mut Compound, by: Move)
     comparison_if_any(&mut c.compared, by);
 }
 
-/// Moves all leaves of a comparison, if there is one.
+/// Applies the move `by` to each token index in a comparison, if there is one.
 #[cycle(expressions)]
 fn comparison_if_any(c: &mut Option<Box<Comparison>>, by: Move)
     ensures { compared_of (back-Compound-compared c.new)
@@ -60,7 +61,7 @@ fn comparison_if_any(c: &mut Option<Box<Comparison>>, by: Move)
     }
 }
 
-/// Moves all leaves of a relation's right side.
+/// Applies the move `by` to each token index in the right side of a comparison.
 #[cycle(expressions)]
 fn comparison(c: &mut Comparison, by: Move)
     ensures { comparison_of c.new ≡ moved by (comparison_of c.old) }
@@ -68,7 +69,7 @@ fn comparison(c: &mut Comparison, by: Move)
     simple(&mut c.right, by);
 }
 
-/// Moves all leaves of a simple expression.
+/// Applies the move `by` to each token index in a simple expression.
 #[cycle(expressions)]
 fn simple(s: &mut Simple, by: Move)
     ensures { simple_of s.new ≡ moved by (simple_of s.old) }
@@ -77,7 +78,7 @@ fn simple(s: &mut Simple, by: Move)
     addends(&mut s.more, by);
 }
 
-/// Moves all leaves of further terms.
+/// Applies the move `by` to each token index in the terms after the first.
 #[cycle(expressions)]
 fn addends(parts: &mut Vec<Addend>, by: Move)
     ensures { items_of addend_of parts.new.items
@@ -88,7 +89,7 @@ fn addends(parts: &mut Vec<Addend>, by: Move)
     }
 }
 
-/// Moves all leaves of a further term.
+/// Applies the move `by` to each token index in a term after the first.
 #[cycle(expressions)]
 fn addend(a: &mut Addend, by: Move)
     ensures { addend_of a.new ≡ moved by (addend_of a.old) }
@@ -96,7 +97,7 @@ fn addend(a: &mut Addend, by: Move)
     term(&mut a.term, by);
 }
 
-/// Moves all leaves of a term.
+/// Applies the move `by` to each token index in a term.
 #[cycle(expressions)]
 fn term(t: &mut Term, by: Move)
     ensures { term_of t.new ≡ moved by (term_of t.old) }
@@ -105,7 +106,7 @@ fn term(t: &mut Term, by: Move)
     multipliers(&mut t.more, by);
 }
 
-/// Moves all leaves of further factors.
+/// Applies the move `by` to each token index in the factors after the first.
 #[cycle(expressions)]
 fn multipliers(parts: &mut Vec<Multiplier>, by: Move)
     ensures { items_of multiplier_of parts.new.items
@@ -116,7 +117,7 @@ fn multipliers(parts: &mut Vec<Multiplier>, by: Move)
     }
 }
 
-/// Moves all leaves of a further factor.
+/// Applies the move `by` to each token index in a factor after the first.
 #[cycle(expressions)]
 fn multiplier(m: &mut Multiplier, by: Move)
     ensures { multiplier_of m.new ≡ moved by (multiplier_of m.old) }
@@ -124,7 +125,7 @@ fn multiplier(m: &mut Multiplier, by: Move)
     factor(&mut m.factor, by);
 }
 
-/// Moves all leaves of a factor.
+/// Applies the move `by` to each token index in a factor.
 #[cycle(expressions)]
 fn factor(f: &mut Factor, by: Move)
     ensures { factor_of f.new ≡ moved by (factor_of f.old) }
@@ -137,7 +138,7 @@ fn factor(f: &mut Factor, by: Move)
     }
 }
 
-/// Moves all leaves of a name with its selectors.
+/// Applies the move `by` to each token index in a name with its selectors.
 #[cycle(expressions)]
 fn designator(d: &mut Designator, by: Move)
     ensures { designator_of d.new ≡ moved by (designator_of d.old) }
@@ -146,7 +147,7 @@ fn designator(d: &mut Designator, by: Move)
     selectors(&mut d.selectors, by);
 }
 
-/// Moves all leaves of selectors.
+/// Applies the move `by` to each token index in selectors.
 #[cycle(expressions)]
 fn selectors(parts: &mut Vec<Selector>, by: Move)
     ensures { items_of selector_of parts.new.items
@@ -157,7 +158,7 @@ fn selectors(parts: &mut Vec<Selector>, by: Move)
     }
 }
 
-/// Moves all leaves of a selector.
+/// Applies the move `by` to each token index in a selector.
 #[cycle(expressions)]
 fn selector(s: &mut Selector, by: Move)
     ensures { selector_of s.new ≡ moved by (selector_of s.old) }
@@ -168,7 +169,7 @@ fn selector(s: &mut Selector, by: Move)
     }
 }
 
-/// Moves all leaves of an assignment.
+/// Applies the move `by` to each token index in an assignment.
 fn assignment(a: &mut Assignment, by: Move)
     ensures { assignment_of a.new ≡ moved by (assignment_of a.old) }
 {
@@ -176,7 +177,7 @@ fn assignment(a: &mut Assignment, by: Move)
     expression(&mut a.value, by);
 }
 
-/// Moves all leaves of a call.
+/// Applies the move `by` to each token index in a call.
 fn call(c: &mut Call, by: Move)
     ensures { call_of c.new ≡ moved by (call_of c.old) }
 {
@@ -186,7 +187,7 @@ fn call(c: &mut Call, by: Move)
     }
 }
 
-/// Moves all leaves of the arguments of a call.
+/// Applies the move `by` to each token index in the arguments of a call.
 fn arguments(given: &mut Vec<Expression>, by: Move)
     ensures { arguments_in given.new ≡ moved by (arguments_in given.old) }
 {
@@ -195,7 +196,7 @@ fn arguments(given: &mut Vec<Expression>, by: Move)
     }
 }
 
-/// Moves all leaves of a list of statements.
+/// Applies the move `by` to each token index in a list of statements.
 #[cycle(statements)]
 pub(crate) fn sequence(statements: &mut Vec<Statement>, by: Move)
     ensures { sequence_in statements.new ≡ moved by (sequence_in statements.old) }
@@ -205,7 +206,7 @@ pub(crate) fn sequence(statements: &mut Vec<Statement>, by: Move)
     }
 }
 
-/// Moves all leaves of a statement.
+/// Applies the move `by` to each token index in a statement.
 #[cycle(statements)]
 fn statement(s: &mut Statement, by: Move)
     ensures { statement_of s.new ≡ moved by (statement_of s.old) }
@@ -220,7 +221,7 @@ fn statement(s: &mut Statement, by: Move)
     }
 }
 
-/// Moves all leaves of a WHILE statement.
+/// Applies the move `by` to each token index in a WHILE statement.
 #[cycle(statements)]
 fn while_loop(w: &mut While, by: Move)
     ensures condition { expression_of w.new.condition ≡ moved by (expression_of w.old.condition) }
@@ -230,7 +231,7 @@ fn while_loop(w: &mut While, by: Move)
     sequence(&mut w.body, by);
 }
 
-/// Moves all leaves of a REPEAT statement.
+/// Applies the move `by` to each token index in a REPEAT statement.
 #[cycle(statements)]
 fn repeat_loop(r: &mut Repeat, by: Move)
     ensures body { sequence_in r.new.body ≡ moved by (sequence_in r.old.body) }
@@ -240,7 +241,7 @@ fn repeat_loop(r: &mut Repeat, by: Move)
     expression(&mut r.condition, by);
 }
 
-/// Moves all leaves of an IF statement.
+/// Applies the move `by` to each token index in an IF statement.
 #[cycle(statements)]
 fn branches(i: &mut If, by: Move)
     ensures { if_of i.new ≡ moved by (if_of i.old) }
@@ -254,7 +255,7 @@ fn branches(i: &mut If, by: Move)
     }
 }
 
-/// Moves all leaves of ELSIF parts.
+/// Applies the move `by` to each token index in ELSIF parts.
 #[cycle(statements)]
 fn elsifs(parts: &mut Vec<Elsif>, by: Move)
     ensures { elsifs_in parts.new ≡ moved by (elsifs_in parts.old) }
@@ -264,7 +265,7 @@ fn elsifs(parts: &mut Vec<Elsif>, by: Move)
     }
 }
 
-/// Moves all leaves of an ELSIF part.
+/// Applies the move `by` to each token index in an ELSIF part.
 #[cycle(statements)]
 fn elsif(e: &mut Elsif, by: Move)
     ensures { elsif_of e.new ≡ moved by (elsif_of e.old) }
@@ -273,7 +274,7 @@ fn elsif(e: &mut Elsif, by: Move)
     sequence(&mut e.then, by);
 }
 
-/// Moves all leaves of a list of names.
+/// Applies the move `by` to each token index in a list of names.
 fn names(ns: &mut Names, by: Move)
     ensures { names_of ns.new ≡ moved by (names_of ns.old) }
 {
@@ -281,7 +282,7 @@ fn names(ns: &mut Names, by: Move)
     further_names(&mut ns.more, by);
 }
 
-/// Moves all leaves of a list of names after the first.
+/// Applies the move `by` to the token index of each name after the first in a list.
 fn further_names(leaves: &mut Vec<usize>, by: Move)
     ensures { items_of then_name leaves.new.items ≡ moved by (items_of then_name leaves.old.items) }
 {
@@ -291,7 +292,7 @@ fn further_names(leaves: &mut Vec<usize>, by: Move)
     }
 }
 
-/// Moves all leaves of a written type.
+/// Applies the move `by` to each token index in a written type.
 #[cycle(types)]
 fn written_type(t: &mut WrittenType, by: Move)
     ensures { type_of t.new ≡ moved by (type_of t.old) }
@@ -306,7 +307,7 @@ fn written_type(t: &mut WrittenType, by: Move)
     }
 }
 
-/// Moves all leaves of the groups of fields of a record.
+/// Applies the move `by` to each token index in the groups of fields of a record.
 #[cycle(types)]
 fn groups(parts: &mut Vec<Fields>, by: Move)
     ensures { record_listed parts.new.items ≡ moved by (record_listed parts.old.items) }
@@ -316,7 +317,7 @@ fn groups(parts: &mut Vec<Fields>, by: Move)
     }
 }
 
-/// Moves all leaves of a group of fields, which may be empty.
+/// Applies the move `by` to each token index in a group of fields, which may be empty.
 #[cycle(types)]
 fn fields(f: &mut Fields, by: Move)
     ensures { fields_of f.new ≡ moved by (fields_of f.old) }
@@ -327,7 +328,7 @@ fn fields(f: &mut Fields, by: Move)
     }
 }
 
-/// Moves all leaves of a group of fields.
+/// Applies the move `by` to each token index in a group of fields that isn't empty.
 #[cycle(types)]
 fn group(g: &mut FieldGroup, by: Move)
     ensures names { names_of g.new.names ≡ moved by (names_of g.old.names) }
@@ -337,7 +338,7 @@ fn group(g: &mut FieldGroup, by: Move)
     written_type(&mut g.written, by);
 }
 
-/// Moves all leaves of a section of parameters.
+/// Applies the move `by` to each token index in a section of parameters.
 fn section(s: &mut Section, by: Move)
     ensures { section_of s.new ≡ moved by (section_of s.old) }
 {
@@ -345,7 +346,7 @@ fn section(s: &mut Section, by: Move)
     written_type(&mut s.written, by);
 }
 
-/// Moves all leaves of formal parameters.
+/// Applies the move `by` to each token index in formal parameters, if there are any.
 fn formals(sections: &mut Option<Vec<Section>>, by: Move)
     ensures { formals_of sections.new ≡ moved by (formals_of sections.old) }
 {
@@ -354,7 +355,7 @@ fn formals(sections: &mut Option<Vec<Section>>, by: Move)
     }
 }
 
-/// Moves all leaves of sections of parameters.
+/// Applies the move `by` to each token index in sections of parameters.
 fn section_list(listed: &mut Vec<Section>, by: Move)
     ensures { formals_listed listed.new.items ≡ moved by (formals_listed listed.old.items) }
 {
@@ -363,7 +364,7 @@ fn section_list(listed: &mut Vec<Section>, by: Move)
     }
 }
 
-/// Moves all leaves of a CONST section, if there is one.
+/// Applies the move `by` to each token index in a CONST section, if there is one.
 fn constants(declared: &mut Option<Vec<Constant>>, by: Move)
     ensures { constants_of declared.new ≡ moved by (constants_of declared.old) }
 {
@@ -372,7 +373,7 @@ fn constants(declared: &mut Option<Vec<Constant>>, by: Move)
     }
 }
 
-/// Moves all leaves of declarations of constants.
+/// Applies the move `by` to each token index in declarations of constants.
 fn constant_list(listed: &mut Vec<Constant>, by: Move)
     ensures { constants_in listed.new ≡ moved by (constants_in listed.old) }
 {
@@ -381,7 +382,7 @@ fn constant_list(listed: &mut Vec<Constant>, by: Move)
     }
 }
 
-/// Moves all leaves of a declaration of a constant.
+/// Applies the move `by` to each token index in a declaration of a constant.
 fn constant(c: &mut Constant, by: Move)
     ensures { constant_of c.new ≡ moved by (constant_of c.old) }
 {
@@ -389,7 +390,7 @@ fn constant(c: &mut Constant, by: Move)
     expression(&mut c.value, by);
 }
 
-/// Moves all leaves of a TYPE section, if there is one.
+/// Applies the move `by` to each token index in a TYPE section, if there is one.
 fn types(declared: &mut Option<Vec<TypeDeclaration>>, by: Move)
     ensures { types_of declared.new ≡ moved by (types_of declared.old) }
 {
@@ -398,7 +399,7 @@ fn types(declared: &mut Option<Vec<TypeDeclaration>>, by: Move)
     }
 }
 
-/// Moves all leaves of declarations of types.
+/// Applies the move `by` to each token index in declarations of types.
 fn type_list(listed: &mut Vec<TypeDeclaration>, by: Move)
     ensures { types_in listed.new ≡ moved by (types_in listed.old) }
 {
@@ -407,7 +408,7 @@ fn type_list(listed: &mut Vec<TypeDeclaration>, by: Move)
     }
 }
 
-/// Moves all leaves of a declaration of a type.
+/// Applies the move `by` to each token index in a declaration of a type.
 fn type_declaration(d: &mut TypeDeclaration, by: Move)
     ensures { type_declaration_of d.new ≡ moved by (type_declaration_of d.old) }
 {
@@ -415,7 +416,7 @@ fn type_declaration(d: &mut TypeDeclaration, by: Move)
     written_type(&mut d.written, by);
 }
 
-/// Moves all leaves of a VAR section, if there is one.
+/// Applies the move `by` to each token index in a VAR section, if there is one.
 fn variables(declared: &mut Option<Vec<Variables>>, by: Move)
     ensures { variables_of declared.new ≡ moved by (variables_of declared.old) }
 {
@@ -424,7 +425,7 @@ fn variables(declared: &mut Option<Vec<Variables>>, by: Move)
     }
 }
 
-/// Moves all leaves of declarations of variables.
+/// Applies the move `by` to each token index in declarations of variables.
 fn variable_list(listed: &mut Vec<Variables>, by: Move)
     ensures { variables_in listed.new ≡ moved by (variables_in listed.old) }
 {
@@ -433,7 +434,7 @@ fn variable_list(listed: &mut Vec<Variables>, by: Move)
     }
 }
 
-/// Moves all leaves of a declaration of variables.
+/// Applies the move `by` to each token index in a declaration of variables.
 fn variable(v: &mut Variables, by: Move)
     ensures { variable_of v.new ≡ moved by (variable_of v.old) }
 {
@@ -441,7 +442,7 @@ fn variable(v: &mut Variables, by: Move)
     written_type(&mut v.written, by);
 }
 
-/// Moves all leaves of a block's statements.
+/// Applies the move `by` to each token index in a block's statements, if it has a body.
 fn body(statements: &mut Option<Vec<Statement>>, by: Move)
     ensures { body_of statements.new ≡ moved by (body_of statements.old) }
 {
@@ -450,7 +451,7 @@ fn body(statements: &mut Option<Vec<Statement>>, by: Move)
     }
 }
 
-/// Moves all leaves of a block.
+/// Applies the move `by` to each token index in a block.
 #[cycle(blocks)]
 fn block(b: &mut Block, by: Move)
     ensures { block_of b.new ≡ moved by (block_of b.old) }
@@ -462,7 +463,7 @@ fn block(b: &mut Block, by: Move)
     body(&mut b.body, by);
 }
 
-/// Moves all leaves of procedures.
+/// Applies the move `by` to each token index in procedures.
 #[cycle(blocks)]
 fn procedures(ps: &mut Vec<Procedure>, by: Move)
     ensures { procedures_in ps.new ≡ moved by (procedures_in ps.old) }
@@ -472,7 +473,7 @@ fn procedures(ps: &mut Vec<Procedure>, by: Move)
     }
 }
 
-/// Moves all leaves of a procedure.
+/// Applies the move `by` to each token index in a procedure.
 #[cycle(blocks)]
 pub(crate) fn procedure(p: &mut Procedure, by: Move)
     ensures { procedure_of p.new ≡ moved by (procedure_of p.old) }

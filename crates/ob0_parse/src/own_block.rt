@@ -18,8 +18,8 @@ use ob0_scan::{Reserved, Symbol};
 use ob0_tree::{Block, Constant, MAX_NESTING, Procedure, Statement, TypeDeclaration, Variables};
 use std::mem;
 
-/// Parses the declarations and the body of a module. The procedures are stored in `kept`. If the
-/// kept body is reused, it is removed from `kept`.
+/// Parses the declarations and the body of a module, and returns the parts other than procedures.
+/// The procedures are stored in `kept`. If the kept body is reused, it is removed from `kept`.
 fn own_block(parser: &Parser<'_>, at: usize, kept: &mut Kept) -> Parsed<OwnParts>
     requires at { at ≤ length parser.now.tokens.now }
     requires kept { AreKept parser.now.tokens.now kept.old }
@@ -78,8 +78,8 @@ fn own_procedure(
     }
 }
 
-/// Returns the body of a module, or None if no BEGIN is at this token. It is the kept body if this begins here,
-/// otherwise a parsed one.
+/// Returns the body of a module that begins at this token: the kept body if it begins here,
+/// otherwise a parsed one. Returns None as the body if this token isn't BEGIN.
 fn own_body(
     parser: &Parser<'_>,
     at: usize,
@@ -161,7 +161,7 @@ struct OwnParts {
 }
 
 impl OwnParts {
-    /// Returns the block of these parts and the procedures.
+    /// Returns the block with these parts and the given procedures.
     fn with(self, procedures: Vec<Procedure>) -> Block
         ensures { block_of result ≡ own_block_of procedures.items self }
     {

@@ -1,6 +1,7 @@
--- Defines the predictive descent, which reads a text from left to right by the productions of the grammar (LANGUAGE.md,
--- Grammar and Syntax faults). The next token, or the next two, determine the production of each construct. So the token
--- at which the descent stops, and the construct or token expected there, depend only on the tokens.
+-- Defines the predictive descent, which reads a text from left to right by the productions of the
+-- grammar (LANGUAGE.md, Grammar and Syntax faults). The next token, or the next two, determine the
+-- production of each construct. So the token at which the descent stops, and the construct or token
+-- expected there, depend only on the tokens.
 -- Rule: docs/LANGUAGE.md, Grammar 1, Nesting and limits 1, Syntax faults.
 use Rattle.std.specs.Prelude.{◌≡◌, ◌==◌, ℕ, zero, suc, ◌+◌, List, [], ◌∷◌, ◌++◌, Option, Some, None, Bool, true, false, drop, if◌then◌else◌}
 use Rattle.ob0_scan.specs.declared.lexeme.TokenKind.{TokenKind}
@@ -16,8 +17,8 @@ use Rattle.ob0_parse_descent.specs.Follow.{rank, item_rank, opens_expression}
 use Rattle.ob0_parse_descent.specs.declared.refusal.Expected.{Expected}
 use Rattle.ob0_parse_descent.specs.declared.refusal.Expected.TheVariants as expected
 
--- A part of a production: a reserved word or symbol, an identifier, an integer, a construct with at most this many
--- levels of nesting, or the end of the text.
+-- A part of a production: a reserved word or symbol, an identifier, an integer, a construct with at
+-- most `room` levels of nesting, or the end of the text.
 pub data Part : Type 0 where
   token : TokenKind → Part
   name : Part
@@ -27,8 +28,8 @@ pub data Part : Type 0 where
 
 -- ---- the choice of a production
 
--- The choice that the next tokens determine for a construct: the parts of a production (none if the construct is
--- omitted), or an error.
+-- The choice that the next tokens determine for a construct: the parts of a production (none if the
+-- construct is omitted), or an error.
 pub data Choice : Type 0 where
   parts : List Part → Choice
   missing : Expected → Choice
@@ -42,8 +43,8 @@ word w = token (kind.Reserved w)
 abbrev pub sign : Symbol → Part
 sign s = token (kind.Symbol s)
 
--- Returns the choice for a construct that counts for nesting, whose inside has one level less
--- (LANGUAGE.md, Nesting and limits). If no level is left, the construct is too deep.
+-- Returns the choice for a construct that opens a level of nesting: its parts, with one level less
+-- left for them (LANGUAGE.md, Nesting and limits). If no level is left, the construct is too deep.
 abbrev pub nested : ℕ → (ℕ → List Part) → Choice
 nested zero inside = too_deep
 nested (suc room) inside = parts (inside room)
@@ -66,13 +67,14 @@ is_section_next (Name n ∷ tokens) = true
 is_section_next (Mark (kind.Reserved reserved.Var) ∷ tokens) = true
 is_section_next tokens = false
 
--- Returns true if a statement is an assignment: `:=` or a selector follows its identifier, which precedes these tokens.
+-- Returns true if a statement whose identifier precedes these tokens is an assignment: the next
+-- token is `:=` or begins a selector.
 abbrev pub is_assigned : List (Terminal ℕ) → Bool
 is_assigned (Mark (kind.Symbol symbol.Becomes) ∷ tokens) = true
 is_assigned tokens = is_next selector tokens
 
--- Returns the parts of one item that consists of an operator and its right side, a construct of the
--- sort `s`.
+-- Returns the parts of an item that consists of an operator and a construct of the sort `s` after
+-- it. The operator is the next token.
 abbrev pub operation : Sort → ℕ → List (Terminal ℕ) → Choice
 operation s room (Mark k ∷ tokens) = parts (token k ∷ node s room ∷ [])
 operation s room tokens = missing expected.Expression
@@ -155,7 +157,7 @@ chosen_item procedure room tokens =
 -- the item of [BEGIN sequence]
 chosen_item body room tokens = parts (word reserved.Begin ∷ node sequence room ∷ [])
 
--- Returns the production of a construct that the next tokens determine, with `room` levels of
+-- Returns the production that the next tokens determine for a construct, with `room` levels of
 -- nesting left. No part of a list of names counts for nesting, so such a list needs no level.
 abbrev pub chosen : Sort → (room : ℕ) → List (Terminal ℕ) → Choice
 chosen (item i) room tokens = chosen_item i room tokens
@@ -183,7 +185,8 @@ chosen factor room (Mark (kind.Symbol symbol.Not) ∷ tokens) =
     nested room (λ inner. sign symbol.Not ∷ node factor inner ∷ [])
 chosen factor room tokens = missing expected.Expression
 -- statement = [assignment | call | if | while | repeat]
--- assignment = ident selector ":=" expression, call = ident [arguments]: a selector that isn't empty requires `:=`
+-- assignment = ident selector ":=" expression, call = ident [arguments]: a selector that isn't
+-- empty requires `:=`
 chosen statement room (Name n ∷ tokens) =
     if is_assigned tokens
     then parts (name ∷ node (items selector) room ∷ sign symbol.Becomes ∷ node expression room ∷ [])
@@ -263,7 +266,7 @@ chosen module_text room tokens =
 
 -- ---- the stop
 
--- Holds if the token is this part.
+-- Holds if this token matches this part of a production.
 abbrev pub IsPart : Part → Terminal ℕ → Type 0
 IsPart (token k) x = x ≡ Mark k
 IsPart name x = (n : ℕ) × (x ≡ Name n)
@@ -271,15 +274,17 @@ IsPart number x = (n : ℕ) × (x ≡ Number n)
 IsPart (node s room) x = ⊥
 IsPart finish x = x ≡ EndOfText
 
--- Returns this reserved word or symbol as an expected token, or None for an identifier or an integer.
+-- Returns this reserved word or symbol as an expected token, or None for an identifier or an
+-- integer.
 abbrev pub expected_token : TokenKind → Option Expected
 expected_token (kind.Reserved word) = Some (expected.Word word)
 expected_token (kind.Symbol symbol) = Some (expected.Symbol symbol)
 expected_token kind.Identifier = None
 expected_token (kind.Integer value) = None
 
--- Returns the token or construct that is expected if this part is missing. It is None for an integer, which is a part
--- only if the next token is one. It is also None for a construct, whose own parts are read instead.
+-- Returns the token or construct that is expected if this part is missing. It is None for an
+-- integer, which is a part only if the next token is one. It is also None for a construct, whose
+-- own parts are read instead.
 abbrev pub expected_part : Part → Option Expected
 expected_part (token k) = expected_token k
 expected_part name = Some expected.Identifier
@@ -287,8 +292,8 @@ expected_part number = None
 expected_part (node s room) = None
 expected_part finish = Some expected.EndOfText
 
--- The end of the descent: everything was read, or something else is expected at the token with this index, or that
--- token opens a construct that is nested too deep.
+-- The end of the descent: everything was read, or something else is expected at the token with this
+-- index, or that token opens a construct that is nested too deep.
 pub data Stop : Type 0 where
   Done : Stop
   Expects : ℕ → Expected → Stop
@@ -329,7 +334,7 @@ OneStop =
     → Descends ps i tokens b
     → a ≡ b
 
--- Holds if the descent through a whole text, whose end counts as a token, ends with this stop. At most 100 levels of
--- nesting are allowed.
+-- Holds if the descent through a whole text, whose end counts as a token, ends with this stop. At
+-- most 100 levels of nesting are allowed.
 abbrev pub DescendsText : List (Terminal ℕ) → Stop → Type 0
 DescendsText tokens o = Descends (node module_text max_nesting ∷ finish ∷ []) 0 tokens o

@@ -1,4 +1,4 @@
--- Defines the contracts of the parser's functions: which tokens a function has read, or why no tree
+-- Defines what the parser's functions promise: which tokens a function has read, or why no tree
 -- begins with them.
 -- Rule: none; for contracts of the parser.
 use Rattle.std.specs.declared.vec.Vec.{Vec}
@@ -24,13 +24,14 @@ use Rattle.ob0_parse_descent.specs.declared.refusal.Expected.TheVariants as expe
 use Rattle.ob0_parse_descent.specs.declared.refusal.ParseRefusal.{ParseRefusal}
 use Rattle.ob0_parse_descent.specs.declared.refusal.ParseRefusal.TheVariants.{Syntax, TooDeep, Memory}
 
--- Returns the token at the index `i` as a tree over indexes spells it. None stands for the end of
--- the text.
+-- Returns a token of this kind at the index `i`, as a tree whose leaves are token indexes spells
+-- it. Returns the end of the text for None.
 abbrev pub lexeme_at : ℕ → Option TokenKind → Terminal ℕ
 lexeme_at i None = EndOfText
 lexeme_at i (Some k) = lexeme_of i k
 
--- Returns the tokens from the index `i` to the end of the text, which counts as a token.
+-- Returns the tokens from the index `i` to the end of the text. The end of the text counts as a
+-- token.
 unfoldable pub rest : List Token → ℕ → List (Terminal ℕ)
 rest ts i = drop i (lexemes ts)
 
@@ -50,8 +51,8 @@ Begins (node s room ∷ ps) w =
     × Begins ps z
 Begins (finish ∷ ps) w = (z : List (Terminal ℕ)) × (w ≡ EndOfText ∷ z) × Begins ps z
 
--- Holds if the tokens before `after` can't be the beginning of these parts, whatever follows those
--- tokens.
+-- Holds if `tokens` ends in `after`, and the tokens before `after` can't be the beginning of these
+-- parts, whatever follows them.
 pub record Refused (parts : List Part) (tokens after : List (Terminal ℕ)) : Type 0 where
   pub passed : List (Terminal ℕ)
   pub fault : Terminal ℕ
@@ -66,15 +67,16 @@ pub record SameHead (xs w : List (Terminal ℕ)) : Type 0 where
   pub is : xs ≡ head ∷ following
   pub alike : w ≡ head ∷ other
 
--- Holds if the descent reads the parts `ps` from index `at` whenever it reads the parts `following`
--- from index `next`. The stop is the same, whatever parts come after them.
+-- Holds if the descent over `ps` from the index `at` ends with the same stop as the descent over
+-- `following` from the index `next`. This is so whatever parts `more` follow both lists.
 pub record ReadAs (ps following : List Part) (ts : List Token) (at next : ℕ) : Type 0 where
   pub on : (o : Stop) (more : List Part)
       → Descends (following ++ more) next (rest ts next) o
       → Descends (ps ++ more) at (rest ts at) o
 
--- Holds if the tokens from index `at` to index `next` are the tokens of this tree, whose nesting is
--- at most `room`. Together with the next token they allow no other tree of the same sort at `at`.
+-- Holds if this tree spells the tokens `at..next`, the descent reads it there, and it has at most
+-- `room` levels of nesting. These tokens and the one at `next` allow no other tree of the same sort
+-- at `at`.
 pub record Taken {s : Sort} (t : Tree ℕ s) (room : ℕ) (ts : List Token) (at next : ℕ) : Type 0 where
   pub spelled : rest ts at ≡ spell t ++ rest ts next
   pub shallow : nesting t ≤ room
@@ -87,33 +89,35 @@ pub record Taken {s : Sort} (t : Tree ℕ s) (room : ℕ) (ts : List Token) (at 
   pub within : next ≤ length ts
   pub forward : at ≤ next
 
--- Holds for a syntax error or too deep nesting if the tokens up to its index can't be the beginning
--- of these parts. Always holds for a failed allocation.
+-- Holds for a syntax error or too deep nesting at the token `i` if these parts can't begin with the
+-- tokens `at..=i`. The end of the text counts as a token. Always holds for a failed allocation.
 abbrev pub Why : List Part → List Token → ℕ → ParseRefusal → Type 0
 Why parts ts at (Syntax i expected) = (i ≤ length ts) × Refused parts (rest ts at) (rest ts (i + 1))
 Why parts ts at (TooDeep i) = (i ≤ length ts) × Refused parts (rest ts at) (rest ts (i + 1))
 Why parts ts at Memory = Unit {0}
 
--- Holds if the descent over the parts ends with this stop, whatever follows the parts.
+-- Holds if the descent over the parts from the index `at` ends with this stop, whatever parts
+-- follow.
 abbrev pub StopsIn : List Part → List Token → ℕ → Stop → Type 0
 StopsIn parts ts at o = (more : List Part) → Descends (parts ++ more) at (rest ts at) o
 
--- Holds for a syntax error or too deep nesting if the descent over the parts ends with the stop
--- that the refusal describes. Always holds for a failed allocation.
+-- Holds for a syntax error or too deep nesting if the descent over the parts from the index `at`
+-- stops as the refusal says. Always holds for a failed allocation.
 abbrev pub StopsBy : List Part → List Token → ℕ → ParseRefusal → Type 0
 StopsBy parts ts at (Syntax i expected) = StopsIn parts ts at (Expects i expected)
 StopsBy parts ts at (TooDeep i) = StopsIn parts ts at (Deep i)
 StopsBy parts ts at Memory = Unit {0}
 
--- Holds if no tree of these parts begins at this index, and the descent over the parts stops as the
--- refusal says.
+-- Holds if the refusal `e` is right: these parts can't be read from the index `at`, and the descent
+-- over them stops as `e` says. Always holds for a failed allocation.
 pub record FailsToRead
     (parts : List Part) (ts : List Token) (at : ℕ) (e : ParseRefusal) : Type 0 where
   pub why : Why parts ts at e
   pub reads : StopsBy parts ts at e
 
--- Holds for a parsed construct if it is the tree that begins at the index `at`. Holds for a refusal
--- if no such construct can be read there. `view` gives the tree of a value of the code.
+-- Holds for a parsed construct if its tree begins at the index `at` and ends before the returned
+-- index. Holds for a refusal if no construct of this sort can be read at `at`, as the refusal says.
+-- `view` returns the tree of a value of the code.
 abbrev pub Reads : {A : Type 0} {s : Sort}
     → (A → Tree ℕ s)
     → ℕ
@@ -148,41 +152,45 @@ abbrev pub NameIs : List Token → ℕ → Bool → Type 0
 NameIs ts at true = (rest ts at ≡ Name at ∷ rest ts (at + 1)) × (at < length ts)
 NameIs ts at false = NoName ts at
 
--- Holds for a returned index if this reserved word or symbol is at `at`, and the index is the next
--- one. Holds for a refusal if another token is at `at`, and this one is reported as expected.
+-- Holds for a returned index if this reserved word or symbol is at `at`, and the index is `at + 1`.
+-- Holds for a refusal if another token is at `at`, and the refusal says that this word or symbol is
+-- expected there.
 abbrev pub ReadsToken : TokenKind → List Token → ℕ → Result ℕ ParseRefusal → Type 0
 ReadsToken k ts at (Ok next) =
     (rest ts at ≡ Mark k ∷ rest ts next) × (at < length ts) × (next ≡ at + 1)
 ReadsToken k ts at (Err e) =
     Other (Mark k) ts at × (Some e ≡ option_map (Syntax at) (expected_token k))
 
--- Holds for a returned identifier if it is at the index `at`, and is returned with the next index.
--- Holds for a refusal if another token is at `at`, and an identifier is reported as expected.
+-- Holds for a returned pair if an identifier is at the index `at`, and the pair is `at` and `at +
+-- 1`. Holds for a refusal if another token is at `at`, and the refusal says that an identifier is
+-- expected there.
 abbrev pub ReadsName : List Token → ℕ → Result (ℕ × ℕ) ParseRefusal → Type 0
 ReadsName ts at (Ok x) =
     (rest ts at ≡ Name at ∷ rest ts x.1) × (at < length ts) × (x.0 ≡ at) × (x.1 ≡ at + 1)
 ReadsName ts at (Err e) = NoName ts at × (e ≡ Syntax at expected.Identifier)
 
--- Holds for a returned number if it is one less than `room`. Holds for a refusal if `room` is 0 and
--- the refusal is `TooDeep`.
+-- Holds for a returned number if it is one less than `room`, the number of nesting levels that are
+-- left. Holds for a refusal if `room` is 0 and the refusal is `TooDeep` at the token `at`.
 abbrev pub Opens : ℕ → ℕ → Result ℕ ParseRefusal → Type 0
 Opens at room (Ok inner) = room ≡ inner + 1
 Opens at room (Err e) = (room ≡ 0) × (e ≡ TooDeep at)
 
--- Holds if the factor `f` of one token is at this index, and the token after it doesn't continue a
--- construct of this level.
+-- Holds if the token at this index is the whole factor `f`. The token after it doesn't continue a
+-- construct of this level (see `Stops`).
 pub record IsLone (level : ℕ) (f : Tree ℕ factor) (ts : List Token) (at : ℕ) : Type 0 where
   pub taken : (room : ℕ) → Taken f room ts at (at + 1)
   pub stops : Stops level (rest ts (at + 1))
 
--- Holds if an item begins at this index and can't be read, as the refusal says.
+-- Holds if the token at this index begins the item `i`, but the item can't be read, as the refusal
+-- says.
 pub record ItemFails
     (i : Item) (room : ℕ) (ts : List Token) (at : ℕ) (e : ParseRefusal) : Type 0 where
   pub is_here : Starts (item_rank i) (rest ts at)
   pub fails : FailsToRead (node (item i) room ∷ []) ts at e
 
--- Holds for a parsed item if it is the tree that begins at the index `at`. Holds for None if no
--- such item begins there, and for a refusal if one begins there and can't be read.
+-- Holds for a parsed item if its tree begins at the index `at` and ends before the returned index.
+-- Holds for None if no such item begins at `at`. Holds for a refusal if one begins there but can't
+-- be read, as the refusal says.
 abbrev pub ReadsItem : {A : Type 0} {i : Item}
     → (A → Tree ℕ (item i))
     → ℕ
@@ -199,8 +207,8 @@ pub record Unsigned (w : List (Terminal ℕ)) : Type 0 where
   pub plus : (z : List (Terminal ℕ)) → w ≡ Mark (kind.Symbol symbol.Plus) ∷ z → ⊥
   pub minus : (z : List (Terminal ℕ)) → w ≡ Mark (kind.Symbol symbol.Minus) ∷ z → ⊥
 
--- Holds if `sign` is the sign at this index, or None if there is none, and `next` is the index
--- after it.
+-- Holds if `sign` is the sign at the index `at`, and `next` is the index after the sign. If there
+-- is no sign, `sign` is None and `next` is `at`.
 pub record SignTaken (ts : List Token) (at : ℕ) (sign : Option Sign) (next : ℕ) : Type 0 where
   pub spelled : rest ts at ≡ sign_marks sign ++ rest ts next
   pub forward : at ≤ next
@@ -208,21 +216,21 @@ pub record SignTaken (ts : List Token) (at : ℕ) (sign : Option Sign) (next : �
   pub unsigned : IfNone sign (Unsigned (rest ts at))
   pub counted : next ≡ at + length (sign_marks {N = ℕ} sign)
 
--- Holds for a name with its selectors if they are the factor that begins at this index, and no
--- further selector follows. Holds for a refusal if no such name and selectors can be read.
+-- Holds for a name with its selectors if they begin at this index, and no further selector follows.
+-- Holds for a refusal if no name with selectors can be read at this index.
 abbrev pub ReadsDesignator : ℕ → List Token → ℕ → Result (Designator × ℕ) ParseRefusal → Type 0
 ReadsDesignator room ts at (Ok x) =
     Taken (designator x.0.name (items_of selector_of x.0.selectors.items)) room ts at x.1
     × ¬ Starts 1 (rest ts x.1)
 ReadsDesignator room ts at (Err e) = FailsToRead (name ∷ node (items selector) room ∷ []) ts at e
 
--- Holds if the option is the operator that the token `k` spells. None requires that the token's
--- rank isn't `r`, the rank of these operators.
+-- Holds for an operator if the token `k` spells it. Holds for None if `k` doesn't have the rank
+-- `r`, which the tokens of these operators have.
 abbrev pub IsMarkOf : {A : Type 0} → (A → TokenKind) → ℕ → TokenKind → Option A → Type 0
 IsMarkOf mark r k (Some a) = k ≡ mark a
 IsMarkOf mark r k None = kind_rank k ≢ r
 
--- Holds if the tokens from `at` to `next` are a list: its first element, then the further elements
+-- Holds if the tokens `at..next` are the list `xs`: its first element, then the further elements
 -- with the separators before them.
 pub record ListRead
     {A : Type 0} {s : Sort} {i : Item} (view : A → Tree ℕ s) (further : A → Tree ℕ (item i))
@@ -235,7 +243,7 @@ pub record ListRead
   pub tail : Taken (items_of further others) room ts middle next
 
 -- Holds for a list of one or more elements if it begins at this index. Holds for a refusal if no
--- such list can be read.
+-- list of such elements can be read at this index.
 abbrev pub ReadsList : {A : Type 0} {s : Sort} {i : Item}
     → (A → Tree ℕ s)
     → (A → Tree ℕ (item i))

@@ -90,7 +90,7 @@ impl<'t> Parser<'t> {
         Ok((sections, next))
     }
 
-    /// Parses `"(" [section {";" section}] ")"`.
+    /// Parses `["(" [section {";" section}] ")"]`. The sections are None if no `(` comes next.
     fn formals(&self, at: usize, room: u32) -> Parsed<Option<Vec<Section>>>
         requires { at ≤ length self.now.tokens.now }
         ensures { Reads formals_of room self.now.tokens.now at result }
@@ -107,7 +107,7 @@ impl<'t> Parser<'t> {
         Ok((Some(sections), end))
     }
 
-    /// Parses `[CONST {constant}]`.
+    /// Parses `[CONST {constant}]`. The list is None if CONST doesn't come next.
     pub fn constants(&self, at: usize, room: u32) -> Parsed<Option<Vec<Constant>>>
         requires { at ≤ length self.now.tokens.now }
         ensures { Reads constants_of room self.now.tokens.now at result }
@@ -119,7 +119,7 @@ impl<'t> Parser<'t> {
         Ok((Some(constants), next))
     }
 
-    /// Parses `{identifier "=" expression ";"}`.
+    /// Parses `{ident "=" expression ";"}`.
     fn constant_list(&self, at: usize, room: u32) -> Parsed<Vec<Constant>>
         requires { at ≤ length self.now.tokens.now }
         ensures { Reads constants_in room self.now.tokens.now at result }
@@ -133,8 +133,7 @@ impl<'t> Parser<'t> {
         Ok((constants, next))
     }
 
-    /// Parses an optional `identifier "=" expression ";"`. Returns None if no identifier comes
-    /// next.
+    /// Parses an optional `ident "=" expression ";"`. Returns None if no identifier comes next.
     fn constant(&self, at: usize, room: u32) -> ParsedItem<Constant>
         requires { at ≤ length self.now.tokens.now }
         ensures { ReadsItem constant_of room self.now.tokens.now at result }
@@ -148,7 +147,7 @@ impl<'t> Parser<'t> {
         Ok(Some((Constant { name: at, value }, end)))
     }
 
-    /// Parses `[TYPE {type declaration}]`.
+    /// Parses `[TYPE {type declaration}]`. The list is None if TYPE doesn't come next.
     pub fn types(&self, at: usize, room: u32) -> Parsed<Option<Vec<TypeDeclaration>>>
         requires { at ≤ length self.now.tokens.now }
         ensures { Reads types_of room self.now.tokens.now at result }
@@ -160,7 +159,7 @@ impl<'t> Parser<'t> {
         Ok((Some(types), next))
     }
 
-    /// Parses `{identifier "=" type ";"}`.
+    /// Parses `{ident "=" type ";"}`.
     fn type_list(&self, at: usize, room: u32) -> Parsed<Vec<TypeDeclaration>>
         requires { at ≤ length self.now.tokens.now }
         ensures { Reads types_in room self.now.tokens.now at result }
@@ -174,7 +173,7 @@ impl<'t> Parser<'t> {
         Ok((types, next))
     }
 
-    /// Parses an optional `identifier "=" type ";"`. Returns None if no identifier comes next.
+    /// Parses an optional `ident "=" type ";"`. Returns None if no identifier comes next.
     fn type_declaration(&self, at: usize, room: u32) -> ParsedItem<TypeDeclaration>
         requires { at ≤ length self.now.tokens.now }
         ensures { ReadsItem type_declaration_of room self.now.tokens.now at result }
@@ -188,7 +187,7 @@ impl<'t> Parser<'t> {
         Ok(Some((TypeDeclaration { name: at, written }, end)))
     }
 
-    /// Parses `[VAR {variables}]`.
+    /// Parses `[VAR {variables}]`. The list is None if VAR doesn't come next.
     pub fn variables(&self, at: usize, room: u32) -> Parsed<Option<Vec<Variables>>>
         requires { at ≤ length self.now.tokens.now }
         ensures { Reads variables_of room self.now.tokens.now at result }
@@ -227,7 +226,7 @@ impl<'t> Parser<'t> {
         Ok(Some((Variables { names, written }, end)))
     }
 
-    /// Parses `[BEGIN sequence]`.
+    /// Parses `[BEGIN sequence]`. The statements are None if BEGIN doesn't come next.
     pub fn body(&self, at: usize, room: u32) -> Parsed<Option<Vec<Statement>>>
         requires { at ≤ length self.now.tokens.now }
         ensures { Reads body_of room self.now.tokens.now at result }
@@ -277,8 +276,8 @@ impl<'t> Parser<'t> {
         Ok((procedures, next))
     }
 
-    /// Parses an optional `PROCEDURE identifier [formals] ";" block END identifier ";"`. Returns
-    /// None if PROCEDURE doesn't come next.
+    /// Parses an optional `PROCEDURE ident [formals] ";" block END ident ";"`. Returns None if
+    /// PROCEDURE doesn't come next.
     #[cycle(blocks)]
     pub fn procedure(&self, at: usize, room: u32) -> ParsedItem<Procedure>
         requires { at ≤ length self.now.tokens.now }

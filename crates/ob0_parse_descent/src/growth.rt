@@ -1,4 +1,4 @@
-//! Adds items to lists whose capacity grows by doubling, from room for one item.
+//! Adds items to lists whose capacity doubles when it grows, beginning with room for one item.
 
 ghost use Rattle.std.specs.Prelude.{◌≡◌, ◌≤◌, ◌++◌, ◌∷◌, [], ◌<◌, OnErr, OnOk, vec_capacity, vec_len};
 
@@ -17,8 +17,8 @@ pub fn add<T: Drop>(list: &mut Vec<T>, item: T) -> Result<(), AllocError>
     Ok(())
 }
 
-/// Returns the number of items to reserve room for before adding one: 1 if there is room or the
-/// list is empty, otherwise its length, so that the capacity doubles.
+/// Returns how many items to reserve room for before one is added. Returns 1 if the list has room
+/// or is empty, otherwise its length, so that the capacity doubles.
 fn room_to_add(len: usize, capacity: usize) -> usize
     ensures { (1 ≤ result) × (len < capacity → result ≡ 1) }
 {

@@ -22,20 +22,20 @@ use ob0_tree::{
 };
 use std::alloc::{AllocError, Global};
 
-/// The strength of a selector, which binds the operand before it most strongly (see `binding`). A smaller number binds
-/// more strongly.
+/// The strength with which a selector binds the operand before it (see `binding`). A
+/// smaller number binds more strongly.
 const BY_SELECTOR: u8 = 1;
 
-/// The strength of `*`, DIV, MOD and `&`.
+/// The strength with which `*`, DIV, MOD and `&` bind the operand before them.
 const BY_MULTIPLICATION: u8 = 2;
 
-/// The strength of `+`, `-` and OR.
+/// The strength with which `+`, `-` and OR bind the operand before them.
 const BY_ADDITION: u8 = 3;
 
-/// The strength of a relation.
+/// The strength with which a relation binds the operand before it.
 const BY_COMPARISON: u8 = 4;
 
-/// The strength of any other token.
+/// The strength of all other tokens, which bind no operand before them.
 const NOT_AT_ALL: u8 = 5;
 
 /// A parsed construct with the index of the token after it, or the refusal.
@@ -130,7 +130,7 @@ impl<'t> Parser<'t> {
         self.kind(at) == Some(TokenKind::Identifier)
     }
 
-    /// Parses an optional `"," identifier`. Returns None if no comma comes next.
+    /// Parses an optional `"," ident`. Returns None if no comma comes next.
     fn further_name(&self, at: usize) -> ParsedItem<usize>
         requires { at ≤ length self.now.tokens.now }
         ensures read { ReadsItem then_name 0 self.now.tokens.now at result }
@@ -144,7 +144,7 @@ impl<'t> Parser<'t> {
         }
     }
 
-    /// Parses `identifier {"," identifier}`.
+    /// Parses `ident {"," ident}`.
     pub(crate) fn names(&self, at: usize) -> Parsed<Names>
         requires { at ≤ length self.now.tokens.now }
         ensures { Reads names_of 0 self.now.tokens.now at result }
@@ -158,7 +158,7 @@ impl<'t> Parser<'t> {
         Ok((Names { first, more }, next))
     }
 
-    /// Parses an expression, `simple [relation simple]`. An operand of a single token is made
+    /// Parses an expression, `simple [relation simple]`. If it is a single token, its tree is made
     /// directly.
     #[cycle(expressions)]
     #[inline(always)]
@@ -190,8 +190,8 @@ impl<'t> Parser<'t> {
         Ok((Expression::Compound(compound), end))
     }
 
-    /// Returns the expression that consists of this simple expression without a relation. It has the compact form if it
-    /// is a single factor.
+    /// Returns the expression that consists only of this simple expression, without a relation. If
+    /// it is a single factor, the factor isn't boxed.
     #[inline(always)]
     fn lone_side(&self, side: Simple) -> Result<Expression, AllocError>
         ensures { IfOk result (λ e. expression_of e ≡ compares (simple_of side) none) }
@@ -225,8 +225,9 @@ impl<'t> Parser<'t> {
         Ok(Some((Comparison { relation, right }, next)))
     }
 
-    /// Returns the factor that consists of the token at `at`. Returns None if that token is neither an identifier nor
-    /// an integer. Also returns None if the next token binds it with the strength `level` or more strongly.
+    /// Returns the factor that consists of the token at `at`. Returns None if that token is neither
+    /// an identifier nor an integer. Also returns None if the token after it binds it with the
+    /// strength `level` or more strongly (a number of at most `level`).
     #[inline(always)]
     fn lone(&self, at: usize, level: u8) -> Option<Factor>
         requires within { at ≤ length self.now.tokens.now }
@@ -255,7 +256,7 @@ impl<'t> Parser<'t> {
         }
     }
 
-    /// Parses a simple expression. A single token is made directly.
+    /// Parses a simple expression. If it is a single token, its tree is made directly.
     #[cycle(expressions)]
     #[inline(always)]
     fn side(&self, at: usize, room: u32) -> Parsed<Simple>
@@ -281,7 +282,7 @@ impl<'t> Parser<'t> {
         ))
     }
 
-    /// Parses a term. A single token is made directly.
+    /// Parses a term. If it is a single token, its tree is made directly.
     #[cycle(expressions)]
     #[inline(always)]
     fn summand(&self, at: usize, room: u32) -> Parsed<Term>
@@ -295,7 +296,7 @@ impl<'t> Parser<'t> {
         Ok((Term { first, more }, at + 1))
     }
 
-    /// Parses a factor. A single token is made directly.
+    /// Parses a factor. If it is a single token, its tree is made directly.
     #[cycle(expressions)]
     #[inline(always)]
     fn operand(&self, at: usize, room: u32) -> Parsed<Factor>
@@ -325,7 +326,8 @@ impl<'t> Parser<'t> {
         Ok((Simple { sign, first, more }, next))
     }
 
-    /// Returns the sign at this token, or None, and the index after it.
+    /// Returns the sign at the index `at` and the index after it. If there is no sign, returns None
+    /// and `at`.
     fn sign(&self, at: usize) -> (Option<Sign>, usize)
         requires { at ≤ length self.now.tokens.now }
         ensures { SignTaken self.now.tokens.now at result.0 result.1 }
@@ -369,7 +371,8 @@ impl<'t> Parser<'t> {
         Ok((Term { first, more }, next))
     }
 
-    /// Parses an optional `("*" | DIV | MOD | "&") factor`. Returns None if no such operator comes next.
+    /// Parses an optional `("*" | DIV | MOD | "&") factor`. Returns None if no such operator comes
+    /// next.
     #[cycle(expressions)]
     fn multiplier(&self, at: usize, room: u32) -> ParsedItem<Multiplier>
         requires { at ≤ length self.now.tokens.now }
@@ -385,7 +388,7 @@ impl<'t> Parser<'t> {
         Ok(Some((Multiplier { operator, factor }, next)))
     }
 
-    /// Parses `identifier selector | integer | "(" expression ")" | "~" factor`.
+    /// Parses `ident selector | integer | "(" expression ")" | "~" factor`.
     #[cycle(expressions)]
     #[inline(never)]
     fn factor(&self, at: usize, room: u32) -> Parsed<Factor>
@@ -436,7 +439,7 @@ impl<'t> Parser<'t> {
         Ok((Factor::Not(boxed), next))
     }
 
-    /// Parses a name and its selectors.
+    /// Parses a name and its selectors, `ident {"." ident | "[" expression "]"}`.
     #[cycle(expressions)]
     pub(crate) fn designator(&self, at: usize, room: u32) -> Parsed<Designator>
         requires { at ≤ length self.now.tokens.now }
@@ -451,8 +454,8 @@ impl<'t> Parser<'t> {
         Ok((Designator { name, selectors }, next))
     }
 
-    /// Parses an optional `"." identifier | "[" expression "]"`. Returns None if neither `.` nor
-    /// `[` comes next.
+    /// Parses an optional `"." ident | "[" expression "]"`. Returns None if neither `.` nor `[`
+    /// comes next.
     #[cycle(expressions)]
     fn selector(&self, at: usize, room: u32) -> ParsedItem<Selector>
         requires { at ≤ length self.now.tokens.now }
@@ -498,7 +501,7 @@ fn binding(next: Option<TokenKind>) -> u8
     }
 }
 
-/// Returns the relation that this token is, or None if it is none.
+/// Returns the relation that a token of this kind spells, or None if it spells no relation.
 fn relation_of(kind: TokenKind) -> Option<Relation>
     ensures { IsMarkOf relation_mark BY_COMPARISON kind result }
 {
@@ -513,7 +516,7 @@ fn relation_of(kind: TokenKind) -> Option<Relation>
     }
 }
 
-/// Returns the operator `+`, `-` or OR that this token is, or None if it is none.
+/// Returns the operator if a token of this kind is `+`, `-` or OR, otherwise None.
 fn add_operator_of(kind: TokenKind) -> Option<AddOperator>
     ensures { IsMarkOf add_mark BY_ADDITION kind result }
 {
@@ -525,7 +528,7 @@ fn add_operator_of(kind: TokenKind) -> Option<AddOperator>
     }
 }
 
-/// Returns the operator `*`, DIV, MOD or `&` that this token is, or None if it is none.
+/// Returns the operator if a token of this kind is `*`, DIV, MOD or `&`, otherwise None.
 fn multiply_operator_of(kind: TokenKind) -> Option<MultiplyOperator>
     ensures { IsMarkOf multiply_mark BY_MULTIPLICATION kind result }
 {
@@ -538,7 +541,7 @@ fn multiply_operator_of(kind: TokenKind) -> Option<MultiplyOperator>
     }
 }
 
-/// Returns the refusal for a syntax error at this token, where `expected` should be.
+/// Returns a syntax error: `expected` is expected at the token with this index.
 pub fn missing<T>(token: usize, expected: Expected) -> Result<T, ParseRefusal>
     ensures { result ≡ Err (Syntax token expected) }
 {

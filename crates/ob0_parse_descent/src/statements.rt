@@ -185,7 +185,8 @@ impl<'t> Parser<'t> {
         Ok((elsifs, next))
     }
 
-    /// Parses an optional `ELSIF expression THEN sequence`. Returns None if ELSIF doesn't come next.
+    /// Parses an optional `ELSIF expression THEN sequence`. Returns None if ELSIF doesn't come
+    /// next.
     #[cycle(statements)]
     fn elsif(&self, at: usize, room: u32) -> ParsedItem<Elsif>
         requires { at ≤ length self.now.tokens.now }
@@ -200,7 +201,7 @@ impl<'t> Parser<'t> {
         Ok(Some((Elsif { condition, then }, end)))
     }
 
-    /// Parses `[ELSE sequence]`.
+    /// Parses `[ELSE sequence]`. The statements are None if ELSE doesn't come next.
     #[cycle(statements)]
     fn otherwise(&self, at: usize, room: u32) -> Parsed<Option<Vec<Statement>>>
         requires { at ≤ length self.now.tokens.now }

@@ -1,4 +1,4 @@
--- The declarations and parameters of the code as values of the definitions.
+-- Defines which values of the definitions the code's declarations and parameters stand for.
 -- Rule: none; for contracts: what values of the code mean.
 use Rattle.std.specs.Prelude.{List, map, Option}
 use Rattle.ob0_types_table.specs.declared.known.Formal as formal

@@ -1,4 +1,5 @@
--- The hover text of a name, according to the object that its declaration binds it to.
+-- Defines the hover text of a name from its object: the constant, type, variable or procedure that
+-- it is declared as.
 -- Rule: docs/PROTOCOL.md, JSON shapes 3.
 use Rattle.std.specs.Prelude.{ℕ, ◌+◌, ◌-◌, Bool, true, false, List, [], ◌∷◌, drop, map, nat_lt, if◌then◌else◌, Option, Some, None, option_and_then}
 use Rattle.ob0_tree.specs.declared.tree.Role.TheVariants as role
@@ -32,13 +33,16 @@ abbrev pub parameter_hover : Name → Formal → HoverParameter
 parameter_hover name f =
     record { by_place = is_by_place f.mode; name = name; of = type_text f.shape }
 
--- returns the parameters of a procedure, given the names that are declared after it and its signature
+-- returns the parameters of a procedure in the form for hover texts, given the procedure's
+-- signature and the names declared after the procedure's name; the first of these names belong to
+-- the parameters
 abbrev pub parameters_hover : List Name → Signature → List HoverParameter
 parameters_hover (x ∷ xs) (f ∷ fs) = parameter_hover x f ∷ parameters_hover xs fs
 parameters_hover [] fs = []
 parameters_hover (x ∷ xs) [] = []
 
--- returns the hover text of a declaration, given its name, the names declared after it, and its object
+-- returns the hover text of a declaration, given its name, the names declared after this name, and
+-- its object; None for a constant whose value is neither a number nor a truth value
 abbrev pub object_hover : Name → List Name → Object Shape Signature → Option (List ℕ)
 object_hover name following (a_constant v) = constant_hover name v
 object_hover name following (a_type s) = Some (named_type_text name (type_text s))
@@ -47,13 +51,14 @@ object_hover name following (a_procedure fs) =
     Some (procedure_text name (parameters_hover following fs))
 object_hover name following (a_standard s) = Some (predeclared_text name)
 
--- returns the names that are declared after the declaration with this ordinal, in text order
+-- returns the names that the text declares after the declaration with this ordinal, in text order
 abbrev pub names_after : Parsed → ℕ → List Name
 names_after m ordinal =
     map (text_at m.source)
     (drop (ordinal + 1 - predeclared_count) (declaring_only (identifiers role.Declaring (tree_of m))))
 
--- returns the hover text of a name that the text declares, given its object; None without an object
+-- returns the hover text of a name that the text declares, given the name's object; None if it has
+-- no object
 abbrev pub declaration_hover : Parsed
     → named.Named
     → Option (Object Shape Signature)
@@ -61,7 +66,8 @@ abbrev pub declaration_hover : Parsed
 declaration_hover m n object =
     option_and_then (object_hover (text_at m.source n.token) (names_after m n.ordinal)) object
 
--- returns the hover text of a name; the ordinals 0 to 6 are predeclared
+-- returns the hover text of a name, given the name's object; names with the ordinals 0 to 6 are
+-- predeclared and need no object; None if another name has no object
 abbrev pub name_hover : Parsed → named.Named → Option (Object Shape Signature) → Option (List ℕ)
 name_hover m n object =
     if nat_lt n.ordinal predeclared_count

@@ -1,5 +1,5 @@
--- The hover texts of names: a declaration, or the note that a name is predeclared. Names and types are given by their
--- texts.
+-- Defines the hover texts of names: a declaration, or the note that a name is predeclared. Names
+-- and types are given by their texts.
 -- Rule: docs/PROTOCOL.md, JSON shapes 3.
 use Rattle.std.specs.Prelude.{ℕ, ◌+◌, Bool, true, false, List, [], ◌∷◌, ◌++◌, codes, decimal}
 use Rattle.std.specs.Fmt.{signed_decimal}

@@ -1,4 +1,4 @@
--- The code's parameters as values of the definitions.
+-- Defines which values of the definitions the code's parameters stand for.
 -- Rule: none; for contracts: what values of the code mean.
 use Rattle.std.specs.Prelude.{string_bytes}
 use Rattle.ob0_refs.specs.Hovers as hovers

@@ -1,4 +1,5 @@
--- The answers to questions about the name or field that the identifier at a place refers to.
+-- Defines the answers to questions about the name or field that the identifier at a place refers
+-- to.
 -- Rule: docs/PROTOCOL.md, Requests on documents 3 to 5.
 use Rattle.std.specs.Prelude.{◌≡◌, ◌==◌, ℕ, Bool, true, false, not, nat_lt, List, [], map, if◌then◌else◌, Option, Some, None, option_map, option_and_then, unwrap_or}
 use Rattle.std.specs.List.{filter}
@@ -24,36 +25,39 @@ use Rattle.ob0_refs.specs.declared.answers.Of.TheVariants as answer_of
 
 -- ---- the name or field at a place
 
--- returns the index of a field in its record, found by its name; 0 if it isn't found
+-- returns the index of a field among the fields of its record, found by its name; 0 if it isn't
+-- found
 abbrev pub index_of : Parsed → FieldName → ℕ
 index_of m x = unwrap_or (field_place m x.owner (text_at m.source x.token)) 0
 
--- returns the answer about a field: its span, its record and its index in the record
+-- returns the answer about a field identifier: its span, the field's record and the field's index
+-- in the record
 abbrev pub at_field : Parsed → FieldName → answer.At
 at_field m x =
     record { span = span_at m.source x.token; of = answer_of.Field x.owner (index_of m x) }
 
--- returns the answer about the identifier at a token with this meaning: its span and the thing it
--- refers to
+-- returns the answer about the identifier that is this token and has this meaning: its span and the
+-- thing that it refers to
 abbrev pub at_meant : Parsed → ℕ → Meant → answer.At
 at_meant m token (Name ordinal) = at_name m (record { token = token; ordinal = ordinal })
 at_meant m token (Field k) = at_field m (record { token = token; owner = k })
 
--- returns the answer about the name or field at a byte offset; None if there is none
+-- returns the answer about the name or field at a byte offset; None if there is neither
 abbrev pub identified_at : Resolution → ℕ → Option answer.At
 identified_at r offset =
     option_map (λ (x : Identified). at_meant r.module_read x.token x.means) (meant_at r offset)
 
 -- ---- the name or field that can be renamed
 
--- returns the span of the identifier at a token with this meaning; None if its name is predeclared
+-- returns the span of the identifier that is this token and has this meaning; None if it is a
+-- predeclared name
 abbrev pub renamable_meant : Parsed → ℕ → Meant → Option Span
 renamable_meant m token (Name ordinal) =
     if nat_lt ordinal predeclared_count then None else Some (span_at m.source token)
 renamable_meant m token (Field k) = Some (span_at m.source token)
 
--- returns the span of the name or field at a byte offset; None if it can't be renamed or there is
--- none
+-- returns the span of the name or field at a byte offset; None if there is neither, or the name is
+-- predeclared
 abbrev pub renamable_at : Resolution → ℕ → Option Span
 renamable_at r offset =
     option_and_then (λ (x : Identified). renamable_meant r.module_read x.token x.means)
@@ -66,14 +70,14 @@ abbrev pub field_declared : Parsed → FieldName → Option Span
 field_declared m x =
     option_map (span_at m.source) (declaring_field m x.owner (text_at m.source x.token))
 
--- returns the span of the identifier that declares the name or field that an identifier means; None
--- for a predeclared name
+-- returns the span of the identifier that declares the name or field that an identifier refers to;
+-- None for a predeclared name
 abbrev pub declared_meant : Parsed → ℕ → Meant → Option Span
 declared_meant m token (Name ordinal) = declaring_span m ordinal
 declared_meant m token (Field k) = field_declared m (record { token = token; owner = k })
 
 -- returns the span of the identifier that declares the name or field at a byte offset; None if
--- there is none
+-- there is neither, or the name is predeclared
 abbrev pub definition_at : Resolution → ℕ → Option Span
 definition_at r offset =
     option_and_then (λ (x : Identified). declared_meant r.module_read x.token x.means)
@@ -81,43 +85,43 @@ definition_at r offset =
 
 -- ---- the references
 
--- returns the list without this token; the whole list for None
+-- returns the list of token indexes without this one; for None, the whole list
 abbrev pub other_tokens : Option ℕ → List ℕ → List ℕ
 other_tokens None tokens = tokens
 other_tokens (Some token) tokens = filter (λ other. not (other == token)) tokens
 
--- returns the tokens of a field in text order; if the Bool is false, the declaring token is left
--- out
+-- returns the token indexes of the field's identifiers, in text order; if the Bool is false,
+-- without the declaring one
 abbrev pub field_references : Resolution → FieldName → Bool → List ℕ
 field_references r x true = field_tokens r x.owner (text_at r.module_read.source x.token)
 field_references r x false =
     other_tokens (declaring_field r.module_read x.owner (text_at r.module_read.source x.token))
     (field_tokens r x.owner (text_at r.module_read.source x.token))
 
--- returns the spans of a field's identifiers, in text order; if `include` is false, the declaring
--- one is left out
+-- returns the spans of a field's identifiers, in text order; if `include` is false, without the
+-- declaring identifier
 abbrev pub field_named : Resolution → Bool → FieldName → List Span
 field_named r include x = map (span_at r.module_read.source) (field_references r x include)
 
--- returns the spans of the references to the name or field that an identifier means; if `include`
--- is false, the declaring one is left out
+-- returns the spans of the references to the name or field that an identifier refers to; if
+-- `include` is false, without the declaring identifier
 abbrev pub named_meant : Resolution → Bool → ℕ → Meant → List Span
 named_meant r include token (Name ordinal) = references_to r.module_read ordinal include
 named_meant r include token (Field k) = field_named r include (record { token = token; owner = k })
 
--- returns the spans of the references to the name or field that an optional identifier means; empty
--- for None
+-- returns the spans of the references to the name or field that an identifier refers to; the empty
+-- list if there is no identifier (None); if `include` is false, without the declaring identifier
 abbrev pub named_by : Resolution → Bool → Option Identified → List Span
 named_by r include None = []
 named_by r include (Some x) = named_meant r include x.token x.means
 
 -- returns the spans of the references to the name or field at a byte offset; if `include` is false,
--- the declaring one is left out
+-- without the declaring identifier
 abbrev pub references_at : Resolution → ℕ → Bool → List Span
 references_at r offset include = named_by r include (meant_at r offset)
 
--- holds if these spans are the references to the name or field at a byte offset; if `include` is
--- false, without the declaring one
+-- holds if these are the spans of the references to the name or field at a byte offset; if
+-- `include` is false, without the declaring identifier
 abbrev pub AreReferencesAt : Resolution → ℕ → Bool → List Span → Type 0
 AreReferencesAt r offset include spans = spans ≡ references_at r offset include
 
@@ -131,8 +135,8 @@ typed_hover r token s =
       text = field_text (text_at r.module_read.source token) (type_text s);
     }
 
--- returns the hover text of a field, which shows its type, at the declaration and at each selector;
--- None if the field isn't found
+-- returns the hover text of a field's identifier, which may declare or select the field; the text
+-- shows the field's type; None if the field isn't found
 abbrev pub field_hover : Resolution → FieldName → Option HoverText
 field_hover r x = option_map (λ f. typed_hover r x.token f.shape) (typed_field r x)
 

@@ -1,4 +1,4 @@
--- The hover text of a name, according to the object that its declaration binds it to.
+-- Defines the hover text of a name together with the span of the name.
 -- Rule: docs/PROTOCOL.md, Requests on documents 4, JSON shapes 3.
 use Rattle.std.specs.Prelude.{ℕ, List, Option, option_map}
 use Rattle.ob0_scan.specs.declared.lexeme.Span.{Span}

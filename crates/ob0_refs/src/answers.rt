@@ -1,4 +1,4 @@
-//! The answers to questions about a place in the text.
+//! Defines the answers to questions about a place in the text.
 
 use ob0_scan::Span;
 
@@ -8,7 +8,8 @@ pub enum Of {
     /// The ordinal of a declaration of the text.
     Declared(usize),
     Predeclared,
-    /// A field of a record, by the record's ordinal and the field's index in the record.
+    /// A field, given by its record's ordinal and its index among the record's fields. A record's
+    /// ordinal is the number of the words ARRAY and RECORD before its own in the text.
     Field { ordinal: usize, index: usize },
 }
 
@@ -27,7 +28,8 @@ pub struct Hover {
     pub text: String,
 }
 
-/// An identifier at which a new name for a declaration isn't free, by its span in bytes.
+/// A conflict of a new name for a declaration: the span, in bytes, of the identifier at which the
+/// new name isn't free.
 #[derive(Clone, Copy, PartialEq, Eq)]
 pub struct Capture {
     pub span: Span,

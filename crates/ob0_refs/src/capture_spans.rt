@@ -9,8 +9,9 @@ use ob0_scan::Span;
 use ob0_scope::FirstCapture;
 use ob0_scope_table::{Resolved, token_span};
 
-/// Returns the span of a conflict of a new name for a declaration: the span of the identifier that declares it, or of
-/// an occurrence. An identifier that isn't found gives an empty span at the text's start.
+/// Returns the span of a conflict of a new name for `declaration`. This is the span of the
+/// identifier that declares `declaration`, or of the occurrence that would be bound to another
+/// declaration. If this identifier isn't found, the span is empty and at the text's start.
 pub(crate) fn capture_span(names: &Resolved, declaration: usize, capture: FirstCapture) -> Span
     ensures { result ≡ capture_span names.now.module_read declaration (place_of capture) }
 {
@@ -20,7 +21,7 @@ pub(crate) fn capture_span(names: &Resolved, declaration: usize, capture: FirstC
     }
 }
 
-/// Returns the span, or an empty span at the text's start for None.
+/// Returns the span, or for None an empty span at the text's start.
 fn or_start(span: Option<Span>) -> Span
     ensures { result ≡ or_start span }
 {

@@ -12,9 +12,10 @@ use ob0_scope::captures as first_capture;
 use ob0_scope_table::Resolved;
 use std::alloc::{AllocError, Global};
 
-/// Returns the first place at which a new name for a declaration isn't free, or None if the name is free. If another
-/// declaration of the same block has the name, the place is the declaring identifier. Otherwise it is the first
-/// occurrence, in text order, that would be bound to another declaration.
+/// Returns the first conflict of the name `new` for `declaration`, or None if `new` is free. If
+/// another declaration of the same block has the name `new`, the conflict is at the identifier that
+/// declares `declaration`. Otherwise it is at the first occurrence, in text order, that would be
+/// bound to another declaration.
 pub fn captures(
     alloc: Global,
     names: &Resolved,

@@ -9,8 +9,8 @@ use ob0_scope::tokens_bound;
 use ob0_scope_table::{Resolved, token_span};
 use std::alloc::{AllocError, Global};
 
-/// Returns the span of the identifier that declares the declaration with this ordinal. Returns None for a predeclared
-/// name.
+/// Returns the span of the identifier that declares the name with this ordinal. Returns None for a
+/// predeclared name.
 pub(crate) fn declared_at(names: &Resolved, ordinal: usize) -> Option<Span>
     ensures { result ≡ declaring_span names.now.module_read ordinal }
 {

@@ -54,14 +54,14 @@ fn truth_word(b: bool) -> &'static str
     if b { "TRUE" } else { "FALSE" }
 }
 
-/// Returns the hover text of a type, given the type's text.
+/// Returns the hover text of a type declaration, given its name and the text of its type.
 pub(crate) fn named_type_text(alloc: Global, name: &str, of: &str) -> Result<String, AllocError>
     ensures { IfOk result (λ text. string_bytes text ≡ named_type_text name.now of.now) }
 {
     format!(in alloc; "TYPE {name} = {of}")
 }
 
-/// Returns the hover text of a variable or parameter, given the text of its type.
+/// Returns the hover text of a variable or parameter, given its name and the text of its type.
 pub(crate) fn variable_text(alloc: Global, name: &str, of: &str) -> Result<String, AllocError>
     ensures { IfOk result (λ text. string_bytes text ≡ variable_text name.now of.now) }
 {

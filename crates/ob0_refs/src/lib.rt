@@ -1,6 +1,6 @@
-//! Answers questions about the names and fields of a valid module, by their places. The answers are the name or field
-//! at a place, its declaration, its references and its hover text. Another answer is the first place at which a new
-//! name isn't free (docs/PROTOCOL.md, Requests on documents).
+//! Answers questions about a place in a valid module: the name or field there, its declaration, its
+//! references and its hover text. Also finds the first place at which a new name for a declaration
+//! isn't free (docs/PROTOCOL.md, Requests on documents).
 #![tactic(auto)]
 
 mod answers;

@@ -1,4 +1,4 @@
-//! Finds the hover text at a place, which shows the name or field that the identifier there refers to.
+//! Makes the hover text at a place. It shows the name or field that the identifier there refers to.
 
 ghost use Rattle.std.specs.Prelude.{◌≡◌, IfOk, option_map};
 ghost use Rattle.ob0_refs.specs.Parts.{hover_in};
@@ -17,9 +17,10 @@ use ob0_types_fields::{FieldName, typed_field};
 use ob0_types_table::{DeclarationTable, TypeId};
 use std::alloc::{AllocError, Global};
 
-/// Returns the hover text of the identifier that contains a place, as a byte offset, or ends there. For a name the text
-/// shows the declaration, for a field the type, and for the closing name of a procedure the procedure. Returns None if
-/// there is no such identifier, or if it is the module's name.
+/// Returns the hover text of the identifier that contains a byte offset or ends there. The text of
+/// a name shows its declaration, and the text of a field shows its type. A closing name has the
+/// text of its procedure. Returns None if there is no such identifier, or if it is the module's
+/// name.
 pub fn hover(
     alloc: Global,
     well_typed: &WellTyped<'_>,
@@ -33,7 +34,8 @@ pub fn hover(
     }
 }
 
-/// Returns the hover text of an identifier with this meaning. Returns None if its declaration isn't found.
+/// Returns the hover text of an identifier with this meaning. Returns None if its declaration isn't
+/// found.
 fn meant_hover(
     alloc: Global,
     well_typed: &WellTyped<'_>,
@@ -65,8 +67,8 @@ fn hover_of(
     }
 }
 
-/// Returns the hover text of a field at one of its identifiers, with the identifier's span. Returns None if the field
-/// isn't found.
+/// Returns the hover text of a field identifier, with the identifier's span. Returns None if its
+/// field isn't found.
 fn field_hover(
     alloc: Global,
     well_typed: &WellTyped<'_>,
@@ -82,7 +84,7 @@ fn field_hover(
     }
 }
 
-/// Returns the hover text of a field's identifier, given its token and the field's type.
+/// Returns the hover text of a field's identifier, given its token index and the field's type.
 fn typed_hover(
     alloc: Global,
     known: &DeclarationTable,

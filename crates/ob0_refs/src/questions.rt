@@ -1,9 +1,13 @@
 //! Answers questions about the name or the field at a place.
 //!
-//! Each question, and also the hover text (`place_hovers`), is a match on the meaning of the identifier at the place
-//! (`meant_at` of `ob0_types`). Renaming uses the same meaning, so it renames the name or field of these answers. The
-//! references to a field are the identifiers that its renaming changes. References to a name take one pass over the
-//! table of ordinals, starting at the declaring token. References to a field take one pass over the module's fields.
+//! Each public function finds the meaning of the identifier at the place (`meant_at`
+//! of `ob0_types`). It has one case for a name and one for a field. The hover text does the same
+//! (`place_hovers`). Renaming also uses this meaning, so it renames the name or field that these
+//! answers are about.
+//!
+//! The references to a field are the identifiers that its renaming changes. References to a name
+//! take one pass over the table of ordinals, starting at the declaring token. References to a field
+//! take one pass over the module's fields.
 
 ghost use Rattle.std.specs.Prelude.{◌≡◌, IfOk, Some};
 ghost use Rattle.ob0_refs.specs.Questions.{AreReferencesAt, at_field, at_meant, declared_meant, definition_at, field_declared, field_named, field_references, index_of, identified_at, named_meant, other_tokens, renamable_at, renamable_meant};
@@ -21,9 +25,10 @@ use ob0_types::{
 use ob0_types_fields::FieldName;
 use std::alloc::{AllocError, Global};
 
-/// Returns the name or field of the identifier that contains a place, as a byte offset, or ends there. For a field this
-/// may be the declaring identifier or a selector. The closing name of a procedure is the procedure's name. Returns None
-/// if there is no such identifier, or if it is the module's name.
+/// Returns the name or field that the identifier at a byte offset refers to, with the identifier's
+/// span. The identifier contains the offset or ends there. A field's identifier may declare or
+/// select it, and a closing name refers to its procedure. Returns None if there is no such
+/// identifier, or if it is the module's name.
 pub fn at(well_typed: &WellTyped<'_>, offset: usize) -> Option<At>
     ensures { result ≡ identified_at well_typed.now offset }
 {
@@ -44,7 +49,8 @@ fn at_meant(well_typed: &WellTyped<'_>, found: Identified) -> At
     }
 }
 
-/// Returns the answer about a field's identifier: its span, its record and its index in the record.
+/// Returns the answer about a field's identifier: its span, the field's record and the field's
+/// index in the record.
 fn at_field(well_typed: &WellTyped<'_>, field: FieldName) -> At
     ensures { result ≡ at_field well_typed.now.module_read field }
 {
@@ -57,7 +63,8 @@ fn at_field(well_typed: &WellTyped<'_>, field: FieldName) -> At
     }
 }
 
-/// Returns the index of a field among the fields of its record, or 0 if it isn't found.
+/// Returns the index, among the fields of its record, of the field that an identifier refers to.
+/// Returns 0 if the field isn't found.
 fn index_of(well_typed: &WellTyped<'_>, field: FieldName) -> usize
     ensures { result ≡ index_of well_typed.now.module_read field }
 {
@@ -109,8 +116,8 @@ pub fn definition(well_typed: &WellTyped<'_>, offset: usize) -> Option<Span>
     }
 }
 
-/// Returns the span of the identifier that declares the name or field that an identifier refers to. Returns None for a
-/// predeclared name.
+/// Returns the span of the identifier that declares the name or field that an identifier refers to.
+/// Returns None for a predeclared name.
 fn declared_meant(well_typed: &WellTyped<'_>, found: Identified) -> Option<Span>
     ensures { result ≡ declared_meant well_typed.now.module_read found.token found.means }
 {
@@ -121,7 +128,8 @@ fn declared_meant(well_typed: &WellTyped<'_>, found: Identified) -> Option<Span>
     }
 }
 
-/// Returns the span of the identifier that declares a field, or None if it isn't found.
+/// Returns the span of the identifier that declares the field that `field` refers to, or None if it
+/// isn't found.
 fn field_declared(well_typed: &WellTyped<'_>, field: FieldName) -> Option<Span>
     ensures { result ≡ field_declared well_typed.now.module_read field }
 {
@@ -150,8 +158,8 @@ pub fn references(
     }
 }
 
-/// Returns the spans of the references to the name or field that an identifier refers to. The declaring identifier is
-/// among them if `include` is true.
+/// Returns the spans of the references to the name or field that an identifier refers to. The
+/// declaring identifier is among them if `include` is true.
 fn named_meant(
     alloc: Global,
     well_typed: &WellTyped<'_>,
@@ -168,8 +176,8 @@ fn named_meant(
     }
 }
 
-/// Returns the spans of a field's identifiers, in text order. The declaring identifier is among them if `include` is
-/// true.
+/// Returns the spans of all identifiers that refer to the same field as `field`, in text order. The
+/// declaring identifier is among them if `include` is true.
 fn field_named(
     alloc: Global,
     well_typed: &WellTyped<'_>,
@@ -184,7 +192,8 @@ fn field_named(
     Ok(spans)
 }
 
-/// Returns the tokens of a field, in text order. The declaring token is among them if `include` is true.
+/// Returns the token indexes of all identifiers that refer to the same field as `field`, in text
+/// order. The declaring one is among them if `include` is true.
 fn field_references(
     alloc: Global,
     well_typed: &WellTyped<'_>,
@@ -204,7 +213,7 @@ fn field_references(
     Ok(uses)
 }
 
-/// Returns the list `tokens` without `token`, or all of it if `token` is None.
+/// Returns the list `tokens` without `token`, or the whole list if `token` is None.
 fn without(
     alloc: Global,
     token: Option<usize>,

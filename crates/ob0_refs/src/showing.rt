@@ -1,7 +1,8 @@
 //! Makes the hover texts of names, according to their declarations.
 //!
-//! A procedure is bound to its signature, which has no names. Its parameters are the declarations after its own in the
-//! text, as many as the signature has. Predeclared names are recognized by their ordinals (0 to 6).
+//! The signature of a procedure has no names of parameters. These are the first names declared
+//! after the procedure's name in the text, as many as the signature has parameters. Predeclared
+//! names are recognized by their ordinals (0 to 6).
 
 ghost use Rattle.std.specs.Prelude.{◌≡◌, ◌+◌, ◌-◌, [], IfOk, Some, drop, map, option_map, string_bytes};
 ghost use Rattle.ob0_tree.specs.Parsed.{tree_of};
@@ -48,7 +49,8 @@ pub(crate) fn name_text(
     }
 }
 
-/// Returns the hover text of a declaration with this object. Returns None for a constant with a fault.
+/// Returns the hover text of a declaration with this name and object. Returns None for a constant
+/// with a fault.
 fn object_text(
     alloc: Global,
     known: &DeclarationTable,
@@ -116,8 +118,8 @@ pub(crate) fn field_line(
     format!(in alloc; "FIELD {name}: {of}")
 }
 
-/// Returns the hover text of a procedure: its name and its parameters, whose names are the next ones declared in the
-/// text.
+/// Returns the hover text of a procedure: its name and its parameters. The parameters' names are
+/// the first names that the text declares after the procedure's name.
 fn procedure_line(
     alloc: Global,
     known: &DeclarationTable,
@@ -139,13 +141,14 @@ fn procedure_line(
     )
 }
 
-/// Returns the declaring tokens after the declaration with this ordinal.
+/// Returns the token indexes of the identifiers that are declared after the declaration with this
+/// ordinal, in text order.
 fn declared_after<'r>(names: &'r Resolved<'_>, ordinal: usize) -> &'r [usize]
     ensures { result.now
         ≡ drop (ordinal + 1 - predeclared_count)
         (declaring_only (identifiers role.Declaring (tree_of names.now.module_read))) }
 {
-    // The contract of this call gives the proof the invariant of the module.
+    // The contract of this call states the invariant of the module, which the proof uses.
     let _module = names.module();
     let declarations = names.declarations();
     let skipped = ordinal.saturating_sub(PREDECLARED - 1);
@@ -156,8 +159,8 @@ fn declared_after<'r>(names: &'r Resolved<'_>, ordinal: usize) -> &'r [usize]
     }
 }
 
-/// Returns the parameters of a procedure with their names. `following` are the tokens of the declarations after the
-/// procedure's.
+/// Returns the parameters of a procedure with their names, for its hover text. `following` has the
+/// token indexes of the identifiers that are declared after the procedure's name.
 fn parameters_of<'s>(
     alloc: Global,
     known: &DeclarationTable,

@@ -1,7 +1,7 @@
 //! Makes the texts of types.
 //!
-//! A text is built from the shape of the type, level by level. The text of an array of arrays is copied once for each
-//! level, which are at most 100.
+//! The text of an array is made from the text of its element type. So in nested arrays the text of
+//! the innermost type is copied once for each array around it, at most 100 times.
 
 ghost use Rattle.std.specs.Prelude.{◌≡◌, IfOk, string_bytes};
 ghost use Rattle.ob0_refs.specs.Hovers.{type_text};
@@ -13,7 +13,8 @@ use crate::hovers::{array_text, record_text};
 use ob0_types_table::{ArrayShape, DeclarationTable, Parts, TypeId};
 use std::alloc::{AllocError, Global};
 
-/// Returns the text of a type. An array shows the type of its elements, and a record the number of its fields.
+/// Returns the text of a type. An array shows the type of its elements, and a record the number of
+/// its fields.
 #[cycle(types)]
 pub(crate) fn type_text(
     alloc: Global,

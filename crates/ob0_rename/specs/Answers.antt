@@ -1,4 +1,4 @@
--- The answer to the renaming of a declaration or a field: edits, or a refusal.
+-- Defines the answer to the renaming of a declaration or a field: edits, or a refusal.
 -- Rule: docs/PROTOCOL.md, Requests on documents 6, Refusals of edits.
 use Rattle.std.specs.Prelude.{◌≡◌, ◌⊎◌, ℕ, ◌<◌, ◌≤◌, List, Some, Result, Ok, Err, IfErr, Vec, length, map, true}
 use Rattle.std.specs.Str.{chars}
@@ -21,8 +21,9 @@ use Rattle.ob0_edits_tokens.specs.Replaced.{edit_at, parts}
 use Rattle.ob0_language_fields.specs.Renaming.{FieldFree, field_renamed, is_duplicate_field}
 use Rattle.ob0_rename.specs.Renaming.{NamesDeclaration, MeansField, Renaming, field_tokens_to_rename, is_declared_as, meant, module_of, nothing, occurrence_range, other_field_range, other_range, predeclared, text_with, tokens_to_rename, named_tree}
 
--- Holds if the edits write the new name at these tokens and change nothing else. Made all at once,
--- they leave a text of this tree. The tree is well-typed and has the same runs as the module.
+-- Holds if the edits write the new name at these tokens and change nothing else. Applied all at
+-- once, they give a text with this tree that isn't too long. The tree is well-typed and has the
+-- same runs as the module before.
 pub record WritesName (r : Renaming) (tokens : List ℕ) (tree : Tree Name module_text)
     (edits : List Edit) : Type 0 where
   pub short : length (text_with r tokens) ≤ max_text
@@ -37,16 +38,16 @@ pub record WritesName (r : Renaming) (tokens : List ℕ) (tree : Tree Name modul
 
 -- ---- for a declaration
 
--- Holds if the edits write the new name at every token of the declaration `d`, and leave the
--- renamed module.
+-- Holds if the new name is an identifier and is free for the declaration `d`, and the edits write
+-- it at every token of `d`. The edits leave the renamed module.
 pub record Renames (r : Renaming) (d : ℕ) (edits : List Edit) : Type 0 where
   pub identifier : IsIdentifier r.new
   pub free : Free (named_tree r) d r.new
   pub writes : WritesName r (tokens_to_rename (module_of r) d r.new)
       (renamed (named_tree r) d r.new) edits
 
--- Holds if this is the refusal for the declaration `d`. If there are several reasons, it is the
--- first in the order of these cases.
+-- Holds if this refusal applies to the new name of the declaration `d`. If several refusals apply,
+-- it holds only for the first of them, in the order of these cases.
 abbrev pub IsRefusedTo : Renaming → ℕ → EditRefusal → Type 0
 IsRefusedTo r d refusal.NoName = ⊥
 IsRefusedTo r d refusal.Predeclared = ⊥
@@ -69,7 +70,7 @@ IsRefusedTo r d refusal.Shadowed = ⊥
 IsRefusedTo r d refusal.CommentInside = ⊥
 IsRefusedTo r d refusal.Memory = ⊥
 
--- Holds for edits if they rename the declaration `d`. Holds for the refusal that applies, and for
+-- Holds if the answer is edits that rename the declaration `d`, or the refusal that applies, or
 -- `Memory`.
 abbrev pub AnswersDeclaration : Renaming → ℕ → Result (Vec Edit Global) EditRefusal → Type 0
 AnswersDeclaration r d (Ok edits) = Renames r d edits.items
@@ -77,16 +78,17 @@ AnswersDeclaration r d (Err why) = (why ≡ refusal.Memory) ⊎ IsRefusedTo r d 
 
 -- ---- for a field
 
--- Holds if the edits write the new name at the declaration and at all selections of the field `f`
--- of the record `k`. They leave the module with that field renamed.
+-- Holds if the new name is an identifier and is free for the field `f` of the record `k`. The edits
+-- write it at the field's declaration and at all its selections. They leave the module with that
+-- field renamed.
 pub record RenamesField (r : Renaming) (k : ℕ) (f : Name) (edits : List Edit) : Type 0 where
   pub identifier : IsIdentifier r.new
   pub free : FieldFree (named_tree r) k f r.new
   pub writes : WritesName r (field_tokens_to_rename r.names k f r.new)
       (field_renamed (named_tree r) k f r.new) edits
 
--- Holds if this is the refusal for the field `f` of the record `k`. Only another field of this
--- record conflicts with the new name.
+-- Holds if this refusal applies to the new name of the field `f` of the record `k`. Only another
+-- field of this record conflicts with the new name.
 abbrev pub IsRefusedToField : Renaming → ℕ → Name → EditRefusal → Type 0
 IsRefusedToField r k f refusal.NoName = ⊥
 IsRefusedToField r k f refusal.Predeclared = ⊥
@@ -105,21 +107,22 @@ IsRefusedToField r k f refusal.Shadowed = ⊥
 IsRefusedToField r k f refusal.CommentInside = ⊥
 IsRefusedToField r k f refusal.Memory = ⊥
 
--- Holds for edits if they rename the field `f` of the record `k`. Holds for the refusal that
--- applies, and for `Memory`.
+-- Holds if the answer is edits that rename the field `f` of the record `k`, or the refusal that
+-- applies, or `Memory`.
 abbrev pub AnswersForField : Renaming → ℕ → Name → Result (Vec Edit Global) EditRefusal → Type 0
 AnswersForField r k f (Ok edits) = RenamesField r k f edits.items
 AnswersForField r k f (Err why) = (why ≡ refusal.Memory) ⊎ IsRefusedToField r k f why
 
--- ---- by the identifier at the place
+-- ---- for a declaration or a field, whichever is at the place
 
--- holds if this refusal applies to the declaration or field at the place
+-- Holds if this refusal applies to the new name of the declaration or field at the place.
 abbrev pub IsRefusedToNamed : Renaming → EditRefusal → Type 0
 IsRefusedToNamed r why =
     ((d : ℕ) × NamesDeclaration r d × IsRefusedTo r d why)
     ⊎ ((k : ℕ) × ((f : Name) × MeansField r k f × IsRefusedToField r k f why))
 
--- holds if this is the refusal of the renaming
+-- Holds if this refusal applies to the renaming. Either the place is on no name and no field, or
+-- the name there is predeclared, or the new name is refused.
 abbrev pub IsRefused : Renaming → EditRefusal → Type 0
 IsRefused r refusal.NoName = meant r ≡ nothing
 IsRefused r refusal.Predeclared = meant r ≡ predeclared
@@ -138,8 +141,8 @@ AreEdits r edits =
     ((d : ℕ) × NamesDeclaration r d × Renames r d edits)
     ⊎ ((k : ℕ) × ((f : Name) × MeansField r k f × RenamesField r k f edits))
 
--- Holds for edits if they rename the declaration or field at the place. Holds for the refusal of
--- the renaming, and for `Memory`.
+-- Holds if the answer is edits that rename the declaration or field at the place, or the refusal of
+-- the renaming, or `Memory`.
 abbrev pub RenameAnswers : Renaming → Result (Vec Edit Global) EditRefusal → Type 0
 RenameAnswers r (Ok edits) = AreEdits r edits.items
 RenameAnswers r (Err why) = (why ≡ refusal.Memory) ⊎ IsRefused r why
@@ -157,8 +160,8 @@ pub record AllocatesOnly (r : Renaming) : Type 0 where
 abbrev pub OnlyMemory : Result (Vec Edit Global) EditRefusal → Type 0
 OnlyMemory result = IfErr result (λ why. why ≡ refusal.Memory)
 
--- holds if a declaration or field that already has the new name isn't refused: the result is then
--- edits or a failed allocation
+-- Holds if a renaming to the present name isn't refused: the result is then edits or a failed
+-- allocation.
 abbrev pub TakesOwnName : Renaming → Result (Vec Edit Global) EditRefusal → Type 0
 TakesOwnName r result =
     ((d : ℕ)

@@ -1,5 +1,5 @@
--- The renaming of the declaration or the record field at a place of a text: the places of the new
--- name, and its conflicts.
+-- Defines the renaming of the declaration or record field at a place of a text: the places of the
+-- new name, and its conflicts.
 -- Rule: docs/PROTOCOL.md, Requests on documents 6, Refusals of edits.
 use Rattle.std.specs.Prelude.{◌≡◌, ℕ, Bool, true, false, nat_lt, if◌then◌else◌, List, [], Option, Some, None, option_and_then, option_map, slice_get}
 use Rattle.ob0_scan.specs.Scanned.{Scanned}
@@ -23,8 +23,9 @@ use Rattle.ob0_scope.specs.declared.naming.Named as named
 use Rattle.ob0_types_fields.specs.declared.field_name.FieldName.{FieldName}
 use Rattle.ob0_types_fields.specs.Identifiers.{declaring_field, field_at, field_tokens}
 
--- A module's text, in characters, with the unit of its positions. `place` is the place of the old
--- name, and `new` the new name.
+-- A requested renaming. `text` is the text as characters, and `unit` is the unit of its positions.
+-- `names` is the text's module with its names bound. The old name is at `place`, and `new` is the
+-- new name.
 pub record Renaming : Type 0 where
   pub unit : counting.Unit
   pub text : List ℕ
@@ -32,7 +33,8 @@ pub record Renaming : Type 0 where
   pub place : Position
   pub new : Name
 
--- returns the renaming to `new` at a place of a text, which is the text of this module
+-- Returns the renaming to `new` of the name at a place of a text. `names` is the text's module with
+-- its names bound.
 abbrev pub renaming_of : counting.Unit → List ℕ → Resolution → Position → List ℕ → Renaming
 renaming_of unit text names place new =
     record { unit = unit; text = text; names = names; place = place; new = new }
@@ -41,37 +43,41 @@ renaming_of unit text names place new =
 abbrev pub module_of : Renaming → read.Parsed
 module_of r = r.names.module_read
 
--- returns the module's tree, with texts as its names
+-- returns the module's tree, in which each name is its text
 abbrev pub named_tree : Renaming → Tree Name module_text
 named_tree r = read.named_tree_of (module_of r)
 
 -- ---- the declaration or field at a place
 
--- the target of a renaming: nothing, a predeclared name, a declaration or a field
+-- The target of a renaming: a predeclared name, a declaration, a field, or `nothing` if no name and
+-- no field is at the place.
 pub data Target : Type 0 where
   nothing : Target
   predeclared : Target
   -- the declaration with this ordinal
   declaration : ℕ → Target
-  -- the field with this name of the record with this ordinal
+  -- the field with this name, in the record with this ordinal
   field_of : ℕ → Name → Target
 
--- Returns the target of a name with an ordinal. It is predeclared if the ordinal is below
+-- Returns the target for a name with this ordinal. It is a predeclared name if the ordinal is below
 -- `predeclared_count`, otherwise a declaration.
 abbrev pub by_ordinal : ℕ → Target
 by_ordinal ordinal = if nat_lt ordinal predeclared_count then predeclared else declaration ordinal
 
--- returns the target for an identifier of a field, or `nothing` for None
+-- Returns the field that this identifier declares or selects, as a target. Returns `nothing` for
+-- None.
 abbrev pub by_token : Scanned → Option FieldName → Target
 by_token source None = nothing
 by_token source (Some x) = field_of x.owner (text_at source x.token)
 
--- returns the target for the name at a place, or for the field there if there is no name
+-- Returns the target for the name at a place. If there is no name (None), returns the target for
+-- the field at the place.
 abbrev pub meant_by : Scanned → Option named.Named → Option FieldName → Target
 meant_by source (Some n) f = by_ordinal n.ordinal
 meant_by source None f = by_token source f
 
--- returns the target of the identifier at a byte offset: a name of the module, or otherwise a field
+-- Returns the target at a byte offset: the name there, or otherwise the field there. Returns
+-- `nothing` if the offset is on neither.
 abbrev pub meant_at : Resolution → ℕ → Target
 meant_at names offset =
     meant_by names.module_read.source (name_on names.module_read offset) (field_at names offset)
@@ -90,7 +96,7 @@ MeansField r k f = meant r ≡ field_of k f
 
 -- ---- the places of the new name
 
--- returns the token that declares the object with this ordinal; None for a predeclared name
+-- Returns the token that declares the object with this ordinal, or None for a predeclared name.
 abbrev pub declaring_token : read.Parsed → ℕ → Option ℕ
 declaring_token m ordinal =
     token_declaring (declaring_only (identifiers role.Declaring (read.tree_of m))) ordinal
@@ -101,8 +107,8 @@ is_declared_as m d new =
     elim (declaring_token m d)
     [ Some token ↦ same_name (text_at m.source token) new | None ↦ false ]
 
--- Returns the tokens of the declaration's name, including the declaring one and closing names. The
--- list is empty if the declaration already has the name `new`.
+-- Returns the tokens at which the declaration's name is declared, used or repeated as a closing
+-- name. The list is empty if the declaration already has the name `new`.
 abbrev pub tokens_to_rename : read.Parsed → ℕ → Name → List ℕ
 tokens_to_rename m d new = if is_declared_as m d new then [] else tokens_bound m d true
 
@@ -111,7 +117,7 @@ tokens_to_rename m d new = if is_declared_as m d new then [] else tokens_bound m
 abbrev pub field_tokens_to_rename : Resolution → ℕ → Name → Name → List ℕ
 field_tokens_to_rename names k f new = if same_name new f then [] else field_tokens names k f
 
--- returns the text with the new name at these tokens, in bytes
+-- returns the text in bytes after the new name is written at these tokens
 abbrev pub text_with : Renaming → List ℕ → List ℕ
 text_with r tokens = with_text_at (module_of r).source tokens r.new
 
@@ -121,20 +127,20 @@ text_with r tokens = with_text_at (module_of r).source tokens r.new
 abbrev pub token_range : Renaming → ℕ → Range
 token_range r token = range_of (width_of r.unit) r.text (span_at (module_of r).source token)
 
--- returns the range of the identifier that declares another object with the new name in the block
--- of `d`; None if there is none
+-- Returns the range of the identifier that declares another object with the new name in the block
+-- of `d`. Returns None if there is no such object.
 abbrev pub other_range : Renaming → ℕ → Option Range
 other_range r d =
     option_map (token_range r)
     (option_and_then (declaring_token (module_of r)) (namesake (named_tree r) d r.new))
 
--- returns the range of the identifier that declares a field of the record k with the new name; None
--- if there is none
+-- Returns the range of the identifier that declares a field of the record `k` with the new name, or
+-- None if no field has it.
 abbrev pub other_field_range : Renaming → ℕ → Option Range
 other_field_range r k = option_map (token_range r) (declaring_field (module_of r) k r.new)
 
--- returns the range of the occurrence with this number, counted from 0 in text order; None if there
--- is none
+-- Returns the range of the occurrence with this number, counted from 0 in text order, or None if
+-- the text has fewer occurrences.
 abbrev pub occurrence_range : Renaming → ℕ → Option Range
 occurrence_range r k =
     option_map (token_range r) (slice_get (occurrences (read.tree_of (module_of r))) k)

@@ -23,8 +23,8 @@ use ob0_types::{WellTyped, declaring_field, field_tokens};
 use ob0_types_fields::laws::{duplicate_by_token, renamed_at_tokens};
 use std::alloc::{AllocError, Global};
 
-/// Returns the edits that rename the field whose name is at a token to `new`, or the refusal. It is a field of the
-/// record with the ordinal `owner`.
+/// Returns the edits that rename a field to `new`, or the refusal. The field's name is at the token
+/// `token`. `owner` is the ordinal of its record among the words ARRAY and RECORD of the text.
 pub(crate) fn rename_field<T: TextStore>(
     alloc: Global,
     store: &T,
@@ -71,8 +71,8 @@ pub(crate) fn rename_field<T: TextStore>(
     }
 }
 
-/// Returns the token that declares another field of the record with the name `new`. Returns None if there is none, or
-/// if `new` is the field's present name `old`.
+/// Returns the token that declares another field in the record `owner`, with the name `new`.
+/// Returns None if no field has that name, or if `new` is the present name `old`.
 fn other_field(well_typed: &WellTyped<'_>, owner: usize, old: &str, new: &str) -> Option<usize>
     ensures { result
         ≡ (if same_name new.now old.now
@@ -85,7 +85,8 @@ fn other_field(well_typed: &WellTyped<'_>, owner: usize, old: &str, new: &str) -
     declaring_field(well_typed, owner, new)
 }
 
-/// Returns the tokens of the field `old` of a record, in text order. The list is empty if `new` is the same name.
+/// Returns the tokens that declare or select the field `old` of the record `owner`, in text order.
+/// The list is empty if `new` is the same name.
 fn field_tokens_to_rename(
     alloc: Global,
     well_typed: &WellTyped<'_>,

@@ -19,8 +19,8 @@ use ob0_text::{Range, TextStore};
 use ob0_types::{Identified, WellTyped, meant_at};
 use std::alloc::{AllocError, Global};
 
-/// Returns the identifier at a byte offset, and its meaning. A field's name is spelled as an identifier. Returns None
-/// if there is none.
+/// Returns the identifier at a byte offset with its meaning, or None if the offset is on no name
+/// and no field. The contract adds that a field's name is an identifier by the scanner's rules.
 pub(crate) fn identified(well_typed: &WellTyped<'_>, offset: usize) -> Option<Identified>
     ensures found { result ≡ meant_at well_typed.now offset }
     ensures spelled { IfSome result (λ x. IsField x.means
@@ -31,8 +31,8 @@ pub(crate) fn identified(well_typed: &WellTyped<'_>, offset: usize) -> Option<Id
     meant_at(well_typed, offset)
 }
 
-/// Returns the tokens of a declaration's name, in text order. The list is empty if the declaration already has the new
-/// name.
+/// Returns the tokens at which a renaming of the declaration writes `new`, in text order. The list
+/// is empty if the declaration already has that name.
 pub(crate) fn tokens_to_rename(
     alloc: Global,
     names: &Resolved,
@@ -50,7 +50,8 @@ pub(crate) fn tokens_to_rename(
     renamed_tokens(alloc, names, declaration)
 }
 
-/// Returns true if a declaration has this name.
+/// Returns true if the declaration with this ordinal has this name. Returns false if no token
+/// declares it, because it is predeclared.
 fn is_declared_as(names: &Resolved, declaration: usize, name: &str) -> bool
     ensures { result ≡ is_declared_as names.now.module_read declaration name.now }
 {
@@ -62,7 +63,7 @@ fn is_declared_as(names: &Resolved, declaration: usize, name: &str) -> bool
     }
 }
 
-/// Returns the range of a token. If there is no token, it is an empty range at the text's start.
+/// Returns the range of a token, or for None an empty range at the text's start.
 pub(crate) fn token_range<T: TextStore>(store: &T, tokens: &Tokens, token: Option<usize>) -> Range
     ensures { (index : ℕ)
         → token ≡ Some index

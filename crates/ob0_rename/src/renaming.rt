@@ -28,14 +28,14 @@ use std::alloc::Global;
 
 /// Returns the edits that rename the declaration or field at a place to `new`, in text order. There
 /// is one edit for each identifier that declares, closes or is bound to the declaration, or that
-/// declares or selects the field. There are none if it already has that name. The place may be in
-/// the name or at its end.
+/// declares or selects the field. If the present name is already `new`, there are no edits. The
+/// place may be in the name or at its end.
 ///
 /// If several refusals apply, the first in this order is returned: `NoName` (no name, or the
 /// module's name), `Predeclared`, `BadName`, `Duplicate`, `Captures`, `TooLong`. `Duplicate` has
 /// the range of the other declaration, or of the other field of the record. `Captures` has the
-/// range of the first occurrence that would be bound to another declaration. It is never returned
-/// for a field.
+/// range of the first occurrence that would be bound to another declaration. A field is never
+/// refused with `Captures`.
 pub fn rename<T: TextStore>(
     alloc: Global,
     store: &T,
@@ -68,7 +68,8 @@ pub fn rename<T: TextStore>(
     }
 }
 
-/// Returns the edits that rename the declaration with this ordinal to `new`, in text order.
+/// Returns the edits that rename the declaration with this ordinal to `new`, in text order, or the
+/// refusal.
 fn rename_declaration<T: TextStore>(
     alloc: Global,
     store: &T,
@@ -101,7 +102,8 @@ fn rename_declaration<T: TextStore>(
     }
 }
 
-/// Returns the refusal for this conflict of the new name, with its range.
+/// Returns the refusal for a conflict of the new name. It is `Duplicate` with the range of the
+/// other declaration, or `Captures` with the range of the occurrence.
 fn refusal_of<T: TextStore>(store: &T, names: &Resolved, capture: FirstCapture) -> EditRefusal
     ensures duplicate { (other token : ℕ) → capture ≡ Duplicate other
         → declaring_token names.now.module_read other ≡ Some token

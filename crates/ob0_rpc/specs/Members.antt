@@ -30,7 +30,7 @@ truth_member name d = option_and_then as_bool (get name d)
 abbrev pub count_member : List ℕ → Data → Option ℕ
 count_member name d = option_and_then as_u64 (option_and_then as_number (get name d))
 
--- Returns a member of the object `textDocument` in params, or None if there is none.
+-- Returns the member with this name of the object `textDocument` in params, or None.
 abbrev pub of_document : List ℕ → Data → Option Data
 of_document name params = option_and_then (get name) (get (codes "textDocument") params)
 
@@ -48,13 +48,13 @@ document_version params =
 abbrev pub document_text : Data → Option (List ℕ)
 document_text params = option_map chars (option_and_then as_str (of_document (codes "text") params))
 
--- Returns the position with these two numbers, or None if one of them couldn't be read.
+-- Returns the position with this line and this character, or None if one of the two is None.
 abbrev pub position_by : Option ℕ → Option ℕ → Option Position
 position_by (Some line) (Some character) = Some (record { line = line; character = character })
 position_by (Some line) None = None
 position_by None character = None
 
--- Returns the position that this value is, {"character":c,"line":l}, or None if it can't be read.
+-- Reads a value {"character":c,"line":l} as a position. Returns None if it can't be read.
 abbrev pub json_position : Data → Option Position
 json_position d = position_by (count_member (codes "line") d) (count_member (codes "character") d)
 
@@ -62,13 +62,13 @@ json_position d = position_by (count_member (codes "line") d) (count_member (cod
 abbrev pub position_member : List ℕ → Data → Option Position
 position_member name d = option_and_then json_position (get name d)
 
--- Returns the range with these two positions, or None if one of them couldn't be read.
+-- Returns the range with this start and this end, or None if one of the two is None.
 abbrev pub range_by : Option Position → Option Position → Option Range
 range_by (Some start) (Some end) = Some (record { start = start; end = end })
 range_by (Some start) None = None
 range_by None end = None
 
--- Returns the range that this value is, {"end":P,"start":P}, or None if it can't be read.
+-- Reads a value {"end":P,"start":P} as a range. Returns None if it can't be read.
 abbrev pub json_range : Data → Option Range
 json_range d = range_by (position_member (codes "start") d) (position_member (codes "end") d)
 

@@ -42,11 +42,11 @@ abbrev pub within : List (List ℕ) → Data → Option Data
 within [] d = Some d
 within (name ∷ names) d = option_and_then (within names) (get name d)
 
--- Returns true if the member is true. Any other value counts as absent.
+-- Returns true if the member is the JSON value `true`, and false if it is absent or anything else.
 abbrev pub is_true : Option Data → Bool
 is_true found = unwrap_or (option_and_then as_bool found) false
 
--- Returns true if the member is this text.
+-- Returns true if there is a text and it equals `text`.
 abbrev pub is_text : List ℕ → Option (List ℕ) → Bool
 is_text text None = false
 is_text text (Some other) = bytes_eq other text
@@ -92,7 +92,7 @@ initialize_of params =
 
 -- ---- requests about a document
 
--- Returns the document and position with this uri, or None if one of the two can't be read.
+-- Returns the document with this uri and this position in it, or None if one of the two is None.
 abbrev pub at_by : Option (List ℕ) → Option Position → Option At
 at_by (Some uri) (Some position) = Some (record { uri = uri; position = position })
 at_by (Some uri) None = None
@@ -102,8 +102,8 @@ at_by None position = None
 abbrev pub at_of : Data → Option At
 at_of params = at_by (document_uri params) (position_member (codes "position") params)
 
--- Returns the request for references with this position and this value of `includeDeclaration`, or
--- None if one of the two can't be read.
+-- Returns the request for references with this position and this value of `includeDeclaration`.
+-- Returns None if one of the two is None.
 abbrev pub references_by : Option At → Option Bool → Option ClientRequest
 references_by (Some at) (Some include) = Some (references at include)
 references_by (Some at) None = None
@@ -115,8 +115,8 @@ references_of params =
     references_by (at_of params)
     (option_and_then (truth_member (codes "includeDeclaration")) (get (codes "context") params))
 
--- Returns the request for renaming with this position and this new name, or None if one of the two
--- can't be read.
+-- Returns the request for renaming with this position and this new name. Returns None if one of the
+-- two is None.
 abbrev pub rename_by : Option At → Option (List ℕ) → Option ClientRequest
 rename_by (Some at) (Some name) = Some (rename at name)
 rename_by (Some at) None = None
@@ -132,8 +132,8 @@ texts_of no_items = Some []
 texts_of (item d ds) =
     option_and_then (λ text. option_map (λ texts. text ∷ texts) (texts_of ds)) (as_str d)
 
--- Returns the texts of a list that may be absent. Some None means that it is absent, and None that
--- it can't be read.
+-- Returns the texts of a list that may be missing. Some None means that the list is absent or null,
+-- and None that the list or one of its items can't be read.
 abbrev pub only_by : Option Data → Option (Option (List (List ℕ)))
 only_by found =
     if is_absent found
@@ -145,8 +145,8 @@ only_by found =
 abbrev pub only_of : Data → Option (Option (List (List ℕ)))
 only_of context = if is_some (as_object context) then only_by (get (codes "only") context) else None
 
--- Returns the request for code actions with this uri, this range and these kinds, or None if one of
--- them can't be read.
+-- Returns the request for code actions with this uri, this range and these kinds. Returns None if
+-- one of them is None.
 abbrev pub code_action_by : Option (List ℕ)
     → Option Range
     → Option (Option (List (List ℕ)))
@@ -162,8 +162,8 @@ code_action_of params =
     code_action_by (document_uri params) (range_member (codes "range") params)
     (option_and_then only_of (get (codes "context") params))
 
--- Returns the indentation with these two options, or None if one of them can't be read. A level is
--- some spaces if the Bool is true, otherwise a tab.
+-- Returns the indentation for these values of `tabSize` and `insertSpaces`, or None if one of them
+-- is None. A level is `level_spaces size` spaces if the Bool is true, otherwise a tab.
 abbrev pub indent_by : Option ℕ → Option Bool → Option Indent
 indent_by (Some size) (Some spaces) = Some (if spaces then Spaces (level_spaces size) else Tab)
 indent_by (Some size) None = None
@@ -174,8 +174,8 @@ abbrev pub indent_of : Data → Option Indent
 indent_of options =
     indent_by (count_member (codes "tabSize") options) (truth_member (codes "insertSpaces") options)
 
--- Returns the request for formatting with this document and indentation, or None if one of the two
--- can't be read.
+-- Returns the request for formatting with this uri and this indentation. Returns None if one of the
+-- two is None.
 abbrev pub formatting_by : Option (List ℕ) → Option Indent → Option ClientRequest
 formatting_by (Some uri) (Some indent) = Some (formatting uri indent)
 formatting_by (Some uri) None = None

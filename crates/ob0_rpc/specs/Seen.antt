@@ -1,4 +1,5 @@
--- The code's values as values of the definitions.
+-- Defines which message, request or notification of the definitions each value of the code stands
+-- for.
 -- Rule: none; for contracts: what values of the code mean.
 use Rattle.std.specs.Prelude.{◌≡◌, ℕ, List, Option, Some, None, Result, Ok, Err, string_bytes, String, Vec, map, option_map}
 use Rattle.std.specs.Str.{chars}
@@ -31,15 +32,15 @@ abbrev pub id_or_null : Option Id → Data
 id_or_null (Some id) = id_data id
 id_or_null None = null
 
--- Returns the meaning of a message that the code has read: the code's value as a value of the
--- definitions.
+-- Returns the meaning of the code's message: a request, a notification or a response. Its id,
+-- method and params become values of the definitions.
 abbrev pub seen : Incoming → MessageMeaning
 seen (Request id method params) = request (id_data id) (string_bytes method) (view params)
 seen (Notice method params) = notice (string_bytes method) (view params)
 seen Ignored = response
 
--- Holds for a read message if the JSON value means it. Holds for `NotAMessage` if the value isn't a
--- message. Always holds for a failed allocation.
+-- Holds if reading the JSON value may have this result: the message that the value means, or
+-- `NotAMessage` if it isn't a message. `Memory` is always allowed, and other errors never.
 abbrev pub MeansAs : Data → Result Incoming RpcFault → Type 0
 MeansAs d (Ok incoming) = meaning_of d ≡ seen incoming
 MeansAs d (Err NotAMessage) = meaning_of d ≡ not_a_message
@@ -48,22 +49,22 @@ MeansAs d (Err NotJson) = ⊥
 MeansAs d (Err UnknownMethod) = ⊥
 MeansAs d (Err BadParams) = ⊥
 
--- Holds for `NotJson` if the content isn't JSON. Holds for any other result if it is right for the
--- content's JSON value. Always holds for a failed allocation.
+-- Holds if reading the content may have this result: `NotJson` if the content isn't JSON, otherwise
+-- a result that `MeansAs` allows for its JSON value. `Memory` is always allowed.
 abbrev pub ReadsAs : List ℕ → Result Incoming RpcFault → Type 0
 ReadsAs content (Err NotJson) = ReadsContent content None
 ReadsAs content (Err Memory) = Unit {0}
 ReadsAs content r = (d : Data) × ReadsContent content (Some d) × MeansAs d r
 
--- Returns a position in a document of the code as a value of the definitions.
+-- Returns the code's `DocumentPosition` as a value of the definitions.
 abbrev pub at_seen : DocumentPosition → At
 at_seen place = record { uri = string_bytes place.uri; position = place.position }
 
--- Returns the requested kinds of the code as texts, or None if all kinds are requested.
+-- Returns the code's list of requested kinds as texts, or None if all kinds are requested.
 abbrev pub kinds_seen : Option (Vec (String Global) Global) → Option (List (List ℕ))
 kinds_seen kinds = option_map (λ texts. map string_bytes texts.items) kinds
 
--- Returns a request of the code as a request of the definitions.
+-- Returns the code's request as a request of the definitions.
 abbrev pub seen_call : called.ClientRequest → ClientRequest
 seen_call (called.TheVariants.Initialize client) = initialize client
 seen_call called.TheVariants.Shutdown = shutdown
@@ -76,8 +77,8 @@ seen_call (called.TheVariants.CodeAction uri range only) =
     code_action (string_bytes uri) range (kinds_seen only)
 seen_call (called.TheVariants.Formatting uri indent) = formatting (string_bytes uri) indent
 
--- Holds if the code's request, or its error, is the one given by the definitions. Always holds for
--- a failed allocation.
+-- Holds if the code's result stands for `requested`, a request or an error of the definitions.
+-- `Memory` is always allowed, and `NotJson` and `NotAMessage` never.
 abbrev pub Requests : Result ClientRequest RpcFault → Result called.ClientRequest RpcFault → Type 0
 Requests requested (Ok call) = requested ≡ Ok (seen_call call)
 Requests requested (Err UnknownMethod) = requested ≡ Err UnknownMethod
@@ -86,7 +87,7 @@ Requests requested (Err Memory) = Unit {0}
 Requests requested (Err NotJson) = ⊥
 Requests requested (Err NotAMessage) = ⊥
 
--- Returns a notification of the code as a notification of the definitions.
+-- Returns the code's notification as a notification of the definitions.
 abbrev pub seen_note : noted.ClientNotification → Notification
 seen_note noted.TheVariants.Exit = exits
 seen_note (noted.TheVariants.Open uri version text) =
@@ -97,8 +98,8 @@ seen_note (noted.TheVariants.Close uri) = closes (string_bytes uri)
 seen_note (noted.TheVariants.Unreadable uri) = unreadable (option_map string_bytes uri)
 seen_note noted.TheVariants.Other = other
 
--- Holds for a notification if it is the one with this method and these params. Always holds for a
--- failed allocation, and never for another error.
+-- Holds if the code's result stands for the notification with this method and these params.
+-- `Memory` is always allowed, and other errors never.
 abbrev pub ReportsAs : List ℕ → Data → Result noted.ClientNotification RpcFault → Type 0
 ReportsAs method params (Ok note) = note_of method params ≡ seen_note note
 ReportsAs method params (Err Memory) = Unit {0}

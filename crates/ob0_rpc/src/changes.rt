@@ -1,9 +1,9 @@
 //! Reads the changes of a document from the params of a notification.
 //!
-//! A reported text isn't copied here: the params are moved out of the message, and the text out of
+//! The text of a change isn't copied: the params are moved out of the message, and the text out of
 //! the params. This happens last, after everything that is borrowed from the same map has been
 //! read. A uri and a method are copied, because they are short and the value that contains them is
-//! still needed. A range that is null counts as absent, so the change is of the whole text. If a
+//! still needed. A range that is null counts as absent: the change replaces the whole text. If a
 //! range can't be read, the whole notification can't be read.
 ghost use Rattle.std.specs.Prelude.{◌≡◌, IfOk, codes, option_and_then, option_map, map};
 ghost use Rattle.ob0_text.specs.OpenDocuments.{change_in_text};
@@ -56,7 +56,8 @@ fn into_list(value: Value) -> Option<Vec<Value>>
     }
 }
 
-/// Returns a change of a range or of the whole text, or None if it can't be read.
+/// Reads an entry of the list as a change of a range or of the whole text. Returns None if the
+/// entry can't be read.
 fn read_change_in(entry: Value) -> Option<Change>
     ensures { option_map change_in_text result ≡ change_in (view entry) }
 {

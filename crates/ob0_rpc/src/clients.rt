@@ -79,7 +79,7 @@ fn position_encodings(params: &Value) -> Option<&Value>
         .get("positionEncodings")
 }
 
-/// Returns true if the member is the truth value true. Any other value counts as absent.
+/// Returns true if the member is the JSON value `true`, and false if it is absent or anything else.
 fn is_true(member: Option<&Value>) -> bool
     ensures { result ≡ truth_of (option_map (λ v. view v.now) member.entry) }
 {

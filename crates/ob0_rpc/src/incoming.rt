@@ -1,4 +1,4 @@
-//! Reads a message's content, up to its method and params.
+//! Reads the content of a message into its id, method and params. The params stay a JSON value.
 ghost use Rattle.std.specs.Prelude.{◌≡◌, true, false, IfOk, MatchOption};
 ghost use Rattle.serde_json.specs.View.{view, number_view};
 ghost use Rattle.serde_json.specs.Data.{number};
@@ -27,7 +27,7 @@ pub enum Incoming {
     Ignored,
 }
 
-/// The reason why a content, or the method or params of a message, can't be read.
+/// The reason why a message, its method or its params can't be read.
 #[derive(Clone, Copy, Debug, Drop, PartialEq, Eq, Error)]
 pub enum RpcFault {
     #[error("not JSON")]
@@ -95,7 +95,8 @@ impl<T: Drop> From<AllocFailed<T>> for RpcFault {
     }
 }
 
-/// Returns the message that a content is: one JSON value in UTF-8, nested at most 127 deep.
+/// Reads a content as a message. The content must be one JSON value in UTF-8, nested at most 127
+/// deep.
 pub fn read(alloc: Global, content: &[u8]) -> Result<Incoming, RpcFault>
     ensures { ReadsAs content.now result }
 {
@@ -109,7 +110,7 @@ pub fn read(alloc: Global, content: &[u8]) -> Result<Incoming, RpcFault>
     }
 }
 
-// Returns the message that a JSON value is, or the fault `NotAMessage`.
+// Reads a JSON value as a message. If the value isn't a message, returns the fault `NotAMessage`.
 fn meaning(alloc: Global, message: Value) -> Result<Incoming, RpcFault>
     ensures { MeansAs (view message) result }
 {
@@ -144,7 +145,7 @@ fn params_in(message: Value) -> Value
     }
 }
 
-// Returns the id that a value is, or None if the value is neither a whole number of 64 bits nor a
+// Returns the value as an id, or None if the value is neither a whole number of 64 bits nor a
 // text.
 fn read_id(alloc: Global, value: &Value) -> Result<Option<Id>, AllocError>
     ensures { IfOk result (λ found. MatchOption found
@@ -160,7 +161,7 @@ fn read_id(alloc: Global, value: &Value) -> Result<Option<Id>, AllocError>
     }
 }
 
-/// Returns the id that a number is, or None if it isn't a whole number of 64 bits.
+/// Returns the number as an id, or None if it isn't a whole number of 64 bits.
 fn whole_number(n: &Number) -> Option<Id>
     ensures { MatchOption result
         (is_id (number (number_view n.now)) ≡ false)

@@ -17,10 +17,10 @@ use std::alloc::AllocError;
 /// The greatest capacity in bytes that is reserved at once for the items of a list.
 const MAX_CAPACITY: usize = 1 << 26;
 
-/// A type whose values are written as JSON. After an error `out` may have any contents; its owner
-/// drops it.
+/// A type whose values are written as JSON. If a writing function fails, it may leave any bytes in
+/// `out`.
 pub trait WriteJson {
-    /// Returns the JSON value that is written.
+    /// Returns the JSON value as which a value of this type is written.
     ghost value: { Self → Data };
 
     /// Appends the value's text to `out`. Fails only if an allocation fails.
@@ -114,8 +114,8 @@ fn write_each<W: WriteJson>(out: &mut Vec<u8>, values: &[W]) -> Result<(), Alloc
     Ok(())
 }
 
-/// Writes an item of a list of `count` items, after a comma if `later` is true. After the first item, capacity for the
-/// other items is reserved, as if they were about as long.
+/// Writes an item of a list of `count` items, after a comma if `later` is true. If `later` is
+/// false, reserves capacity for the other items, as if each were about as long as this one.
 fn write_one_of<W: WriteJson>(
     out: &mut Vec<u8>,
     count: usize,
@@ -132,8 +132,8 @@ fn write_one_of<W: WriteJson>(
     Ok(())
 }
 
-/// Returns the capacity in bytes to reserve for the other items of a list of `count` items, if each is about `len`
-/// bytes long. It is at most 2^26.
+/// Returns the capacity in bytes to reserve for all but one of `count` items, if each is about
+/// `len` bytes long. The result is at most 2^26.
 fn capacity_for(count: usize, len: usize) -> usize
     ensures { result ≤ 2 ^ 26 }
 {
@@ -175,7 +175,7 @@ pub(crate) fn write_piece(out: &mut Vec<u8>, piece: &[u8]) -> Result<(), AllocEr
     out.extend_from_slice(piece)
 }
 
-/// Writes a text in quotes. Characters that need it are written as escapes.
+/// Writes a text as a JSON string, in quotes. Characters that need it are written as escapes.
 fn write_text(out: &mut Vec<u8>, text: &str) -> Result<(), AllocError>
     ensures { OnOk result (Appends (string text.now) out.old.items out.new.items) }
 {
@@ -194,7 +194,7 @@ pub(crate) fn write_escaped(out: &mut Vec<u8>, text: &[u8]) -> Result<(), AllocE
     write_each_byte(out, text)
 }
 
-/// Returns true only if no byte of a text needs an escape.
+/// Returns whether the text can be written unchanged: true only if no byte needs an escape.
 fn is_plain(text: &[u8]) -> bool
     ensures plain { result ≡ true → escape text.now ≡ text.now }
 {
@@ -261,7 +261,7 @@ fn digit(value: u8) -> u8
     }
 }
 
-/// Writes a whole number that isn't negative.
+/// Writes an unsigned whole number as decimal digits.
 fn write_count(out: &mut Vec<u8>, count: u64) -> Result<(), AllocError>
     ensures { OnOk result (Appends (number (unsigned count)) out.old.items out.new.items) }
 {
@@ -269,7 +269,7 @@ fn write_count(out: &mut Vec<u8>, count: u64) -> Result<(), AllocError>
     write_piece(out, digits.format(count).as_bytes())
 }
 
-/// Writes a whole number.
+/// Writes a signed whole number as decimal digits, after a minus sign if it is negative.
 fn write_integer(out: &mut Vec<u8>, whole: i64) -> Result<(), AllocError>
     ensures { OnOk result (Appends (number (of_integer whole)) out.old.items out.new.items) }
 {

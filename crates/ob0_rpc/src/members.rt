@@ -97,8 +97,8 @@ fn into_text(value: Value) -> Option<String>
     }
 }
 
-/// Returns the position that this value is: a line and a character, both whole numbers from 0 to
-/// 2^64-1. Returns None if it can't be read.
+/// Reads a value as a position: a line and a character, both whole numbers from 0 to 2^64-1.
+/// Returns None if one of them can't be read.
 pub fn position_of(value: &Value) -> Option<Position>
     ensures { result ≡ json_position (view value.now) }
 {
@@ -114,8 +114,8 @@ pub fn position_in(value: &Value, name: &str) -> Option<Position>
     position_of(value.get(name)?)
 }
 
-/// Returns the range that this value is: its start and its end, in either order. Returns None if it
-/// can't be read.
+/// Reads a value as a range: a start and an end, which may be before the start. Returns None if one
+/// of them can't be read.
 pub fn range_of(value: &Value) -> Option<Range>
     ensures { result ≡ json_range (view value.now) }
 {

@@ -36,8 +36,8 @@ pub enum ClientNotification {
     Other,
 }
 
-/// Returns the notification with this method. Its texts are moved out of the params. The only error
-/// is a failed allocation.
+/// Returns the notification with this method and these params. Texts of documents are moved out of
+/// the params, not copied. The only error is a failed allocation.
 pub fn notice(alloc: Global, method: &str, params: Value) -> Result<ClientNotification, RpcFault>
     ensures { ReportsAs method.now (view params) result }
 {

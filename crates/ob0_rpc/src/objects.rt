@@ -42,7 +42,7 @@ pub fn end_object(out: &mut Vec<u8>) -> Result<(), AllocError>
     write_piece(out, b"}")
 }
 
-/// An object with one member, whose name may need escapes.
+/// An object with one member. The member's name may need escapes.
 #[derive(Drop)]
 pub struct OneMember<'a, W> {
     pub key: &'a str,

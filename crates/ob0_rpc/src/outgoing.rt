@@ -45,7 +45,8 @@ impl<'a> WriteJson for ResponseError<'a> {
     }
 }
 
-/// The refusal of a request, or of a content that isn't a message.
+/// The refusal of a request, or of a content that isn't a message. In the second case the id is
+/// None.
 #[derive(Drop)]
 pub struct ErrorResponse<'a> {
     pub error: ResponseError<'a>,
@@ -122,7 +123,7 @@ pub fn result_of<W: WriteJson>(alloc: Global, id: &Id, value: &W) -> Result<Vec<
     content_of(alloc, &Response { id, result: value })
 }
 
-/// Returns the text of the refusal of a request, or of a content that isn't a message (id None).
+/// Returns the text of an error response. The id is None if the refused content isn't a message.
 pub fn error(
     alloc: Global,
     id: Option<&Id>,

@@ -1,8 +1,8 @@
-//! Writes positions, ranges and edits. A range is built from its end backwards, so that its digits
-//! are produced in their final place.
+//! Writes positions, ranges and edits. The text of a range is built backwards, from its last byte
+//! to its first. So each digit is written directly into its final place.
 //!
-//! A range is built in a fixed array on the stack and copied once. If it were appended piece by
-//! piece, each of its sixteen pieces would cost a capacity check and a copy.
+//! The text of a range is built in a fixed array on the stack and copied once. If it were appended
+//! piece by piece, each of its sixteen pieces would cost a capacity check and a copy.
 
 ghost use Rattle.std.specs.Prelude.{◌≡◌, ◌++◌, ◌∷◌, [], ◌+◌, ◌<◌, ◌≤◌, ◌^◌, OnOk, codes, decimal, drop, length};
 ghost use Rattle.serde_json.specs.Written.{compact_text};
@@ -15,7 +15,7 @@ use itoa::write_digits;
 use ob0_text::{Edit, Position, Range};
 use std::alloc::AllocError;
 
-/// The number of bytes of a buffer for a range's text together with the text around it. They are never longer.
+/// The length in bytes of a buffer. A range's text and the text around it always fit into it.
 const RANGE_CAPACITY: usize = 176;
 
 impl WriteJson for Position {

@@ -50,8 +50,8 @@ pub enum ClientRequest {
     },
 }
 
-/// Returns the request with this method and these params. The params of `initialize` must be an
-/// object; `shutdown` accepts any params.
+/// Returns the request with this method and these params, or an error. The params of an initialize
+/// request must be an object; a shutdown request accepts any params.
 pub fn request(alloc: Global, method: &str, params: &Value) -> Result<ClientRequest, RpcFault>
     ensures { Requests (request_by_method method.now (view params.now)) result }
 {
@@ -223,16 +223,16 @@ fn indent_of(params: &Value) -> Option<Indent>
     })
 }
 
-/// Returns the number of spaces in a level if `size` are requested: at least 1 and at most
-/// [`MAX_INDENT`].
+/// Returns the number of spaces for one level of indentation if `size` spaces are requested. It is
+/// at least 1 and at most [`MAX_INDENT`].
 fn spaces_of(size: u64) -> u8
     ensures { result ≡ level_spaces size }
 {
     size.min(MAX_INDENT as u64).max(1) as u8
 }
 
-/// Returns the kinds of actions that a context requests. `Some(None)` means that all kinds are requested, and `None`
-/// that the kinds can't be read.
+/// Returns the kinds of actions that a context requests. `Some(None)` means that all kinds are
+/// requested, and `None` that the context is missing or can't be read.
 fn kinds_of(
     alloc: Global,
     context: Option<&Value>,
@@ -249,7 +249,8 @@ fn kinds_of(
     only_in(alloc, context.get("only"))
 }
 
-/// Returns the texts of the member `only`. `Some(None)` means that it is absent, and `None` that it can't be read.
+/// Returns the texts of the member `only`. `Some(None)` means that the member is absent or null,
+/// and `None` that the member or one of its items can't be read.
 fn only_in(alloc: Global, only: Option<&Value>) -> Result<Option<Option<Vec<String>>>, AllocError>
     ensures { IfOk result
         (λ found. option_map kinds_seen found ≡ only_by (option_map (λ v. view v.now) only.entry)) }

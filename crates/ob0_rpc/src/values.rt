@@ -33,7 +33,7 @@ pub fn notification(alloc: Global, method: &str, params: Value) -> Result<Vec<u8
     text_of(alloc, &message)
 }
 
-/// Returns the value of the answer to a request.
+/// Returns the JSON value of the message that answers a request with this result.
 fn result_value(alloc: Global, id: &Id, value: Value) -> Result<Value, AllocError>
     ensures { IfOk result (λ v. view v ≡ result_message (id_data id.now) (view value)) }
 {
@@ -41,14 +41,14 @@ fn result_value(alloc: Global, id: &Id, value: Value) -> Result<Value, AllocErro
     json!(in alloc; {"id": id, "jsonrpc": "2.0", "result": value})
 }
 
-/// Returns the value of a notification.
+/// Returns the JSON value of a notification with this method and these params.
 fn notification_value(alloc: Global, method: &str, params: Value) -> Result<Value, AllocError>
     ensures { IfOk result (λ v. view v ≡ notification_message method.now (view params)) }
 {
     json!(in alloc; {"jsonrpc": "2.0", "method": method, "params": params})
 }
 
-/// Returns the value of an id.
+/// Returns the JSON value of an id: a number or a text.
 fn id_value(alloc: Global, id: &Id) -> Result<Value, AllocError>
     ensures { IfOk result (λ v. view v ≡ id_data id.now) }
 {
@@ -59,8 +59,8 @@ fn id_value(alloc: Global, id: &Id) -> Result<Value, AllocError>
     }
 }
 
-/// Returns the text of a message. It reads back as the message if this is nested at most 127 deep and has only whole
-/// numbers.
+/// Returns the text of a message. The text reads back as the message if the message is nested at
+/// most 127 deep and has only whole numbers.
 fn text_of(alloc: Global, message: &Value) -> Result<Vec<u8>, AllocError>
     ensures { IfOk result (λ bytes. has_float (view message.now) ≡ false
         → depth (view message.now) ≤ 127

@@ -1,4 +1,4 @@
--- The run of a module that an outcome of the machine means.
+-- Converts what the machine returns to the output, the end and the run of a module.
 -- Rule: none; for contracts: what values of the code mean.
 use Rattle.std.specs.Prelude.{List, map}
 use Rattle.ob0_language_runs.specs.Runs.{Run, Written}
@@ -12,18 +12,18 @@ use Rattle.ob0_run_cells.specs.ActivationLaws as cells
 use Rattle.ob0_run_cells.specs.LoweredStatements.{written_of}
 use Rattle.ob0_run_cells.specs.Lowering.{end_of}
 
--- the item of a module's output that an item of the code means
+-- returns the item of a module's output for an item that the machine returns
 abbrev pub item_of : Item → Written
 item_of i = written_of (machine.item_of i)
 
--- the output of a module that a list of items of the code means
+-- returns the output of a module for a list of items that the machine returns
 abbrev pub items_out : List Item → List Written
 items_out is = map written_of (machine.items_out is)
 
--- the end of a module's run that an end of the code means
+-- returns the end of a module's run for an end that the machine returns
 abbrev pub end_in : End → values.End
 end_in e = end_of (outcomes.end_in e)
 
--- the run that an outcome gives
+-- returns the run of a module for an outcome that the machine returns
 abbrev pub run_of : Outcome → Run
 run_of o = cells.run_of (outcomes.run_of o)

@@ -1,8 +1,9 @@
 //! Runs of well-typed modules.
 //!
-//! `lower` puts two facts together: the program means the module (`ProgramMeans`), and the run of a program that means
-//! a well-typed module is the module's run if there is room for it (`runs_lowered`). Its promise about a program is
-//! `RunsAs`, which `execute` uses for any module; `run` does both.
+//! The contract of `lower` follows from two facts. The program means the module (`ProgramMeans`). A
+//! program that means a well-typed module has the module's run, if there is room for that run
+//! (`runs_lowered`). So `lower` ensures `RunsAs`, and `execute` returns the run of any
+//! module for which its program has `RunsAs`.
 
 ghost use Rattle.std.specs.Prelude.{◌≡◌, IfOk};
 ghost use Rattle.ob0_tree.specs.Parsed.{named_tree_of};
@@ -25,7 +26,7 @@ use std::alloc::{AllocError, Global};
 ///
 /// # Errors
 ///
-/// An allocation failed, or a count, as of cells, has more than 64 bits.
+/// An allocation failed, or a count (for example of cells) doesn't fit 64 bits.
 pub fn lower(alloc: Global, checked: &WellTyped<'_>) -> Result<Program, AllocError>
     ensures runs { IfOk result (RunsAs (named_tree_of checked.now.module_read)) }
     ensures means { IfOk result (λ made. ProgramMeans as_labels
@@ -35,8 +36,8 @@ pub fn lower(alloc: Global, checked: &WellTyped<'_>) -> Result<Program, AllocErr
     ob0_run_lowering::lower(alloc, checked.resolved(), checked.declarations())
 }
 
-/// Executes a program on an input, with at most `calls` calls open at a time, and at most `turns` iterations of each
-/// execution of a loop. The module's body isn't a call.
+/// Executes a program on an input. At most `calls` calls may be open at a time, and each execution
+/// of a loop may make at most `turns` iterations. The module's body doesn't count as a call.
 ///
 /// # Errors
 ///
@@ -55,11 +56,12 @@ pub fn execute(
     ob0_run_machine::run(alloc, &program.code, input, calls, turns)
 }
 
-/// Runs a module on an input: `lower` and `execute`.
+/// Runs a module on an input: lowers it and executes the program, with the same bounds as
+/// `execute`.
 ///
 /// # Errors
 ///
-/// The errors of both.
+/// The errors of `lower` and of `execute`.
 pub fn run(
     alloc: Global,
     checked: &WellTyped<'_>,

@@ -1,5 +1,5 @@
--- A store as one list of cells. Each cell is a number: a number is one cell, FALSE is 0 and TRUE is 1,
--- and elements and members are one after the other.
+-- Defines the cells of a store, as one list. Each cell is a number. A number takes one cell, FALSE
+-- is 0, TRUE is 1, and elements and members follow one another.
 -- Rule: none; for contracts of lowering: a store of docs/LANGUAGE.md, Runs, as cells.
 use Rattle.std.specs.Prelude.{ℕ, ◌+◌, ◌*◌, Bool, true, false, List, [], ◌∷◌, ◌++◌, length, take, drop, ℤ, pos, if◌then◌else◌, slice_get, option_map, unwrap_or}
 use Rattle.ob0_language_names.specs.Names.{Name, same_name}
@@ -11,9 +11,10 @@ abbrev pub truth_cell : Bool → ℤ
 truth_cell false = pos 0
 truth_cell true = pos 1
 
--- the cells of a value
+-- the cells of values, of an array's elements and of a record's members
 abbrev mutual
-  -- the cells of a value: one for a number or a truth value, the cells of all parts for an array or a record
+  -- the cells of a value: one for a number or a truth value, the cells of all parts for an array or
+  -- a record
   pub cells_of : Value → List ℤ
   cells_of (number n) = n ∷ []
   cells_of (truth b) = truth_cell b ∷ []
@@ -35,9 +36,9 @@ abbrev pub all_cells : Store → List ℤ
 all_cells [] = []
 all_cells (v ∷ store) = cells_of v ++ all_cells store
 
--- the number of cells of a value of a type
+-- the number of cells of a type, and of the fields of a record
 abbrev mutual
-  -- the number of cells: 1 for a scalar, the sum over all parts for an array or a record
+  -- the number of cells of a type: 1 for a scalar, the sum over all parts for an array or a record
   pub size : Shape → ℕ
   size integer_shape = 1
   size boolean_shape = 1
@@ -49,24 +50,25 @@ abbrev mutual
   field_sizes no_field_shape = 0
   field_sizes (next_field_shape x s rest) = size s + field_sizes rest
 
--- the number of cells of the variables of a store
+-- the number of cells of all variables in a store with these types
 abbrev pub sizes : StoreTyping → ℕ
 sizes [] = 0
 sizes (s ∷ typing) = size s + sizes typing
 
--- the offset of a field in its record: it is after the fields before it
+-- the offset of a field in its record: the number of cells of the fields before the field
 abbrev pub field_offset : FieldShapes → Name → ℕ
 field_offset no_field_shape x = 0
 field_offset (next_field_shape y s rest) x =
     if same_name x y then 0 else size s + field_offset rest x
 
--- the offset of the part that a step selects: an element is after those with a lower index
+-- the offset of the element or field that a step selects: the number of cells of the elements or
+-- fields before this one
 abbrev pub step_offset : Shape → Step → ℕ
 step_offset (array_shape k n s) (at_index i) = i * size s
 step_offset (record_shape k fs) (at_field x) = field_offset fs x
 step_offset _ _ = 0
 
--- the offset of the part at the end of a path, in the cells of a value of a type
+-- the offset of the part at the end of a path, within the cells of a value with the type s
 abbrev pub offset : List Step → Shape → ℕ
 offset [] s = 0
 offset (step ∷ path) s =
@@ -82,6 +84,6 @@ address typing p =
 abbrev pub cells_at : ℕ → ℕ → List ℤ → List ℤ
 cells_at address n cells = take n (drop address cells)
 
--- the cells with other cells written over those at an address
+-- the cells of a list, with the new cells written over old ones, beginning at an address
 abbrev pub cells_with : ℕ → List ℤ → List ℤ → List ℤ
 cells_with address new cells = take address cells ++ (new ++ drop (address + length new) cells)

@@ -1,5 +1,5 @@
--- The meaning of lowered statements: they change cells, input and output
--- as the statements of a module do.
+-- The meaning of lowered statements: they change cells, input and output as the statements of a
+-- module change its state.
 -- Rule: none; for contracts of lowering, against docs/LANGUAGE.md, Runs 5 to 9.
 use Rattle.std.specs.Prelude.{◌≡◌, ℕ, ◌^◌, ◌<◌, true, List, [], ◌∷◌, ◌++◌, length, map, ℤ, Some}
 use Rattle.ob0_tree.specs.Tree.{Tree, else_part, elsif_part, expression, further_statement, items, maybe, selector, sequence, statement}
@@ -16,13 +16,13 @@ use Rattle.ob0_run_machine.specs.Lowered as lowered
 use Rattle.ob0_run_cells.specs.Cells.{address, all_cells, cells_of, size, sizes}
 use Rattle.ob0_run_cells.specs.Lowering.{NumberMeans, PlaceMeans, Slot, TruthMeans, ValueAt, end_of, place_of_designator, slot_address, value_of_expression}
 
--- an item of the machine's output
+-- the item of a module's output for an item of the machine's output
 abbrev pub written_of : execution.OutputItem → Written
 written_of (execution.number_out n) = number_out n
 written_of execution.line_out = line_out
 
--- states that a state of lowered code has the cells of a store of these types,
--- and the same input and output
+-- states that a state of lowered code has the cells of a store with these types, and the same input
+-- and output
 pub record Represents (typing : StoreTyping) (low : execution.MachineState) (s : State)
     : Type 0 where
   pub store_fits : StoreFits typing s.store
@@ -30,8 +30,9 @@ pub record Represents (typing : StoreTyping) (low : execution.MachineState) (s :
   pub same_input : low.input ≡ s.input
   pub same_output : map written_of low.output ≡ s.output
 
--- Holds if both runs continue in states that represent each other, or both have ended alike.
--- Holds too if the lowered run has no room.
+-- States that a run of the machine and a run of the module agree. They continue in states that
+-- represent each other, or have ended with the same end and output. Holds also if the machine has
+-- no room for its cells.
 abbrev pub ProgressRepresents : StoreTyping → execution.MachineProgress → Progress → Type 0
 ProgressRepresents typing execution.no_room q = Unit {0}
 ProgressRepresents typing (execution.running low) (running s) = Represents typing low s
@@ -52,13 +53,13 @@ argument_addresses typing (place_argument p ∷ args) =
     address typing p ∷ argument_addresses typing args
 argument_addresses typing (value_argument v ∷ args) = argument_addresses typing args
 
--- the target of a call: a procedure's index, and how many levels out it is declared
+-- the target of a call: a procedure's index, and how many levels out the procedure is declared
 pub record Target : Type 0 where
   pub procedure : ℕ
   pub up : ℕ
 
--- the facts that stay true while the statements of a body run: the types of the store, the meanings
--- of names, the activations that lowered code sees, and the effects of calls
+-- the facts that don't change while the statements of a body run: the types of the store, the
+-- meanings of names, the activations that lowered code sees, and the effects of calls
 pub record Body (N : Type 0) : Type 0 where
   pub typing : StoreTyping
   pub active : Meanings N Place (List Mode)
@@ -66,7 +67,7 @@ pub record Body (N : Type 0) : Type 0 where
   pub enters : Calls N
   pub lowered_enters : execution.CallEffect
 
--- states that lowered calls do what calls with the same arguments do
+-- states that lowered calls have the effect of the module's calls with the same arguments
 abbrev pub CallsRepresent : {N : Type 0} → Typed N → (N → Target) → Body N → Type 0
 CallsRepresent {N} checked targets b =
     (x : N) (signature : Signature)
@@ -80,8 +81,8 @@ CallsRepresent {N} checked targets b =
     (execution.entered b.levels (length low.cells) (targets x).up p) record low
     { cells = p.cells }) (b.enters x args s)
 
--- states that a body belongs to a checked module: its variables are in their slots,
--- and its procedures have their targets
+-- states that a body belongs to a checked module: its variables are in their slots, its procedures
+-- have their targets, and its store has fewer than 2^64 cells
 pub record ShowsBody {N : Type 0} (checked : Typed N) (slots : N → Slot) (targets : N → Target)
     (b : Body N) : Type 0 where
   pub names_fit : MeaningsFit b.typing checked b.active
@@ -91,8 +92,8 @@ pub record ShowsBody {N : Type 0} (checked : Typed N) (slots : N → Slot) (targ
   pub has_addresses : sizes b.typing < 2 ^ 64
   pub calls_represent : CallsRepresent checked targets b
 
--- states that a lowered step does what a step of the module does,
--- in each body and with each bound t on the iterations of a loop
+-- states that a lowered step has the effect of a step of the module, in each body and for each
+-- bound t on the iterations of a loop
 abbrev pub Does : {N : Type 0}
     → Typed N
     → (N → Slot)
@@ -107,7 +108,7 @@ Does {N} checked slots targets low_step step =
     → Represents b.typing low s
     → ProgressRepresents b.typing (low_step b t low) (step b t s)
 
--- states that lowered code does what a statement does
+-- states that an instruction has the effect of a statement
 abbrev pub StatementMeans : {N : Type 0}
     → Typed N
     → (N → Slot)
@@ -119,7 +120,7 @@ StatementMeans checked slots targets c a =
     Does checked slots targets (λ b t. execution.execute b.lowered_enters t b.levels c)
     (λ b t. execute b.active b.enters t a)
 
--- states that lowered code does what statements do
+-- states that instructions have the effect of a sequence of statements
 abbrev pub SequenceMeans : {N : Type 0}
     → Typed N
     → (N → Slot)
@@ -131,7 +132,7 @@ SequenceMeans checked slots targets cs a =
     Does checked slots targets (λ b t. execution.execute_all b.lowered_enters t b.levels cs)
     (λ b t. execute_all b.active b.enters t a)
 
--- Holds if lowered code does what the statements after the first of a sequence do.
+-- States that instructions have the effect of the statements after the first of a sequence.
 abbrev pub FurtherMean : {N : Type 0}
     → Typed N
     → (N → Slot)
@@ -143,7 +144,7 @@ FurtherMean checked slots targets cs rest =
     Does checked slots targets (λ b t. execution.execute_all b.lowered_enters t b.levels cs)
     (λ b t. execute_further b.active b.enters t rest)
 
--- Holds if lowered code does what an ELSE part does, or nothing if there is none.
+-- States that instructions have the effect of an ELSE part, or no effect if there is none.
 abbrev pub ElseMeans : {N : Type 0}
     → Typed N
     → (N → Slot)
@@ -155,8 +156,8 @@ ElseMeans checked slots targets cs last =
     Does checked slots targets (λ b t. execution.execute_all b.lowered_enters t b.levels cs)
     (λ b t. execute_else b.active b.enters t last)
 
--- Holds if lowered branches, with the statements that run if no condition is TRUE, do what ELSIF
--- parts and the ELSE part after them do.
+-- States that branches, and instructions that run if no condition is TRUE, have the effect of ELSIF
+-- parts and the ELSE part after them.
 abbrev pub ElsifsMean : {N : Type 0}
     → Typed N
     → (N → Slot)
@@ -171,7 +172,8 @@ ElsifsMean checked slots targets bs cs rest last =
     (execution.execute_all b.lowered_enters t b.levels cs))
     (λ b t. execute_elsifs b.active b.enters t rest (execute_else b.active b.enters t last))
 
--- Holds if an expression is only a designator of a variable, and a place of lowered code means its place.
+-- States that an expression is only a designator of a variable, and that a place of lowered code
+-- means the designator's place.
 pub record IsAt {N : Type 0} (checked : Typed N) (slots : N → Slot) (q : lowered.Place) (s : Shape)
     (e : Tree N expression) : Type 0 where
   pub name : N
@@ -181,8 +183,8 @@ pub record IsAt {N : Type 0} (checked : Typed N) (slots : N → Slot) (q : lower
   pub is_variable : checked.object_for name ≡ Some (a_variable shape)
   pub place_means : PlaceMeans checked slots q s (place_of_designator name path)
 
--- states that a lowered argument means an argument for a parameter:
--- a place for a VAR parameter, else a number, a truth or the cells of an array or a record
+-- states that a lowered argument means an argument for a parameter: a place for a VAR parameter,
+-- otherwise a number, a truth, or the cells of an array or a record
 abbrev pub ArgumentMeans : {N : Type 0}
     → Typed N
     → (N → Slot)

@@ -1,11 +1,12 @@
--- The meaning of lowered code: its places, numbers and truths against the designators
--- and expressions of a module, at the moments of a run.
--- A meaning is a relation between lowered code and a function of the moment (`Evaluated`), not a tree. So operators need
--- no types: a number of lowered code means a number. Only places and variables need types. An array or a record is
--- `ValueAt` a place: its expression evaluates to the value at the place, in parentheses or not. Only a VAR argument has
--- to be a designator without operators (`IsAt`). While arguments are passed there are cells after those of the store
--- (`passed` of a moment), so a meaning also holds then. A sign `+` is lowered to a sum with 0, which is in range exactly
--- if the number is.
+-- States the meaning of lowered places, numbers and truths: they give the places and values of a
+-- module's designators and expressions, at each moment of a run. A meaning is a relation between
+-- lowered code and a function of the moment (`Evaluated`). It doesn't mention the tree of the
+-- expression. So operators need no types: a number of lowered code means a number. Only places and
+-- variables need types. The value of an array or a record is in the cells at a place
+-- (`ValueAt`), even if its expression is in parentheses. Only a VAR argument has to be a
+-- designator without operators (`IsAt`). While arguments are passed, their cells follow the cells
+-- of the store (`passed` of a moment), so a meaning also holds then. A sign `+` is lowered to a sum
+-- with 0, which is in range exactly if the number is.
 -- Rule: none; for contracts of lowering, against docs/LANGUAGE.md, Runs 2 to 4.
 use Rattle.std.specs.Prelude.{◌≡◌, ℕ, zero, suc, ◌+◌, ◌^◌, ◌<◌, true, List, ◌++◌, ℤ, slice_index_or, Some}
 use Rattle.ob0_tree.specs.declared.tree.Relation.{Relation}
@@ -20,28 +21,27 @@ use Rattle.ob0_run_machine.specs.Evaluation.{Levels, level_at}
 use Rattle.ob0_run_machine.specs.Lowered as lowered
 use Rattle.ob0_run_cells.specs.Cells.{address, all_cells, sizes}
 
--- a slot for a variable: at an offset in the cells of the module or of the activation `up` levels
--- out, or at the address of a VAR parameter of the activation `up` levels out,
--- by its index among the VAR parameters
+-- the slot of a variable: an offset in the cells of the module or of the activation `up` levels
+-- out; or a VAR parameter of the activation `up` levels out, by its index among the VAR parameters
 pub data Slot : Type 0 where
   of_module : (offset : ℕ) → Slot
   held : (up offset : ℕ) → Slot
   by_reference : (up index : ℕ) → Slot
 
--- the address of a slot, as seen from the running activation
+-- the address of the variable in a slot, as seen from the running activation
 abbrev pub slot_address : Levels → Slot → ℕ
 slot_address ls (of_module offset) = offset
 slot_address ls (held up offset) = (level_at ls up).base + offset
 slot_address ls (by_reference up index) = slice_index_or (level_at ls up).addresses index 0
 
--- the lowered place of a slot
+-- the place in lowered code of the variable in a slot
 abbrev pub slot_place : Slot → lowered.Place
 slot_place (of_module offset) = lowered.in_module offset
 slot_place (held zero offset) = lowered.here offset
 slot_place (held (suc up) offset) = lowered.outside (suc up) offset
 slot_place (by_reference up index) = lowered.passed up index 0
 
--- the place of a part at an offset in another place
+-- the place at an offset within another place
 abbrev pub part_at : lowered.Place → ℕ → lowered.Place
 part_at (lowered.in_module at) k = lowered.in_module (machine.forward at k)
 part_at (lowered.here at) k = lowered.here (machine.forward at k)
@@ -49,8 +49,8 @@ part_at (lowered.outside up at) k = lowered.outside up (machine.forward at k)
 part_at (lowered.passed up index at) k = lowered.passed up index (machine.forward at k)
 part_at (lowered.element q i n s at) k = lowered.element q i n s (machine.forward at k)
 
--- a moment of a run: the store and its types, the cells of the arguments that were passed so far
--- for a call, the meanings of names, and the activations that lowered code sees
+-- a moment of a run: the store and its types, the cells of arguments that are being passed, the
+-- meanings of names, and the activations that lowered code sees
 pub record Moment (N : Type 0) : Type 0 where
   pub typing : StoreTyping
   pub store : Store
@@ -62,8 +62,8 @@ pub record Moment (N : Type 0) : Type 0 where
 abbrev pub cells_in : {N : Type 0} → Moment N → List ℤ
 cells_in m = all_cells m.store ++ m.passed
 
--- states that a moment belongs to a checked module: its variables are in their slots,
--- and there are fewer cells than addresses
+-- states that a moment belongs to a checked module: its store and names fit, its variables are in
+-- their slots, and its store has fewer than 2^64 cells
 pub record Shows {N : Type 0} (checked : Typed N) (slots : N → Slot) (m : Moment N) : Type 0 where
   pub store_fits : StoreFits m.typing m.store
   pub names_fit : MeaningsFit m.typing checked m.active
@@ -72,7 +72,7 @@ pub record Shows {N : Type 0} (checked : Typed N) (slots : N → Slot) (m : Mome
       → slot_address m.levels (slots x) ≡ address m.typing p
   pub has_addresses : sizes m.typing < 2 ^ 64
 
--- the end of a run, by the end of the lowered run
+-- the end of a module's run for an end of the machine's run
 abbrev pub end_of : machine.Halt → End
 end_of machine.Done = Done
 end_of machine.Overflow = Overflow
@@ -82,16 +82,17 @@ end_of machine.InputEnd = InputEnd
 end_of machine.CallBound = CallBound
 end_of machine.TurnBound = TurnBound
 
--- an outcome of the machine as one of the module
+-- the outcome in the module for an outcome of the machine; `f` converts the value
 abbrev pub outcome_of : {A B : Type 0} → (A → B) → machine.StepResult A → Outcome B
 outcome_of f (machine.gives a) = gives (f a)
 outcome_of f (machine.ends e) = ends (end_of e)
 
--- an evaluation: its outcome at each moment
+-- an evaluation: the outcome at each moment
 abbrev pub Evaluated : Type 0 → Type 0 → Type 0
 Evaluated N A = Moment N → Outcome A
 
--- states that a number of lowered code has the outcome of an evaluation at each moment
+-- states that a number of lowered code and an evaluation have the same outcome at each moment of
+-- the module
 abbrev pub NumberMeans : {N : Type 0}
     → Typed N
     → (N → Slot)
@@ -103,7 +104,8 @@ NumberMeans {N} checked slots n value =
     → Shows checked slots m
     → outcome_of number (machine.number m.levels (cells_in m) n) ≡ value m
 
--- states that a truth of lowered code has the outcome of an evaluation at each moment
+-- states that a truth of lowered code and an evaluation have the same outcome at each moment of the
+-- module
 abbrev pub TruthMeans : {N : Type 0}
     → Typed N
     → (N → Slot)
@@ -115,13 +117,13 @@ TruthMeans {N} checked slots t value =
     → Shows checked slots m
     → outcome_of truth (machine.truth m.levels (cells_in m) t) ≡ value m
 
--- Holds if an evaluation that gives a place gives a place for values of a type.
+-- States that an outcome is an end of the run, or a place that holds values of a type.
 abbrev pub GivesPlace : StoreTyping → Shape → Outcome Place → Type 0
 GivesPlace typing s (gives p) = PlaceFits typing p s
 GivesPlace typing s (ends e) = Unit {0}
 
--- states that a place of lowered code has the address of an evaluated place,
--- which is one for values of a type
+-- states that a place of lowered code has the address of the place that an evaluation gives, and
+-- that this place holds values of a type
 abbrev pub PlaceMeans : {N : Type 0}
     → Typed N
     → (N → Slot)
@@ -135,7 +137,8 @@ PlaceMeans {N} checked slots q s value =
     ≡ (value m >>= (λ p. gives (address m.typing p))))
     × GivesPlace m.typing s (value m)
 
--- states that the cells at a place of lowered code are the cells of an evaluated value of a type
+-- states that an evaluation gives the value in the store at the place that a place of lowered code
+-- means, which holds values of a type
 abbrev pub ValueAt : {N : Type 0}
     → Typed N
     → (N → Slot)
@@ -170,30 +173,31 @@ value_of_factor e m = evaluate_factor m.active m.store e
 abbrev pub place_of_designator : {N : Type 0} → N → Tree N (items selector) → Evaluated N Place
 place_of_designator x path m = designate m.active m.store x path
 
--- the rest of a chain: the outcome of the remaining operators or selectors, by the value so far
+-- the rest of a chain: the outcome of the remaining operators or selectors, as a function of the
+-- moment and the value so far
 abbrev pub RestOfChain : Type 0 → Type 0 → Type 0
 RestOfChain N A = Moment N → A → Outcome A
 
--- the outcome of the remaining addends, by the value so far
+-- the outcome of the remaining addends at a moment, from the value so far
 abbrev pub addends_left : {N : Type 0} → Tree N (items addend) → RestOfChain N Value
 addends_left rest m v = evaluate_addends m.active m.store v rest
 
--- the outcome of the remaining factors, by the value so far
+-- the outcome of the remaining factors at a moment, from the value so far
 abbrev pub multipliers_left : {N : Type 0} → Tree N (items multiplier) → RestOfChain N Value
 multipliers_left rest m v = evaluate_multipliers m.active m.store v rest
 
--- the place of a part: the steps to it are appended to the path of a place
+-- a place with more steps at the end of its path
 abbrev pub further : Place → List Step → Place
 further p steps = record { variable = p.variable; path = p.path ++ steps }
 
--- the outcome of the remaining selectors, by the place so far
+-- the outcome of the remaining selectors at a moment, from the place so far
 abbrev pub selectors_left : {N : Type 0} → Tree N (items selector) → RestOfChain N Place
 selectors_left rest m p =
     or_stuck (read_place m.store p) >>=
     (λ v. follow m.active m.store v rest >>= (λ steps. gives (further p steps)))
 
--- states that a place, a number or a truth so far, followed by the rest of a chain,
--- is the evaluation of the whole
+-- states that there is an evaluation for which `Means` holds, and which, followed by the rest of a
+-- chain, is the evaluation of the whole chain
 abbrev pub Leads : {N A : Type 0}
     → Typed N
     → (N → Slot)
@@ -206,7 +210,8 @@ Leads {N} {A} checked slots Means rest whole =
     × Means so_far
     × ((m : Moment N) → Shows checked slots m → (so_far m >>= rest m) ≡ whole m)
 
--- Holds if a place so far, followed by the remaining selectors, is the place of the whole designator.
+-- States that a place of lowered code means the first part of a designator. From this place the
+-- remaining selectors give the place of the whole designator.
 abbrev pub PlaceLeads : {N : Type 0}
     → Typed N
     → (N → Slot)
@@ -218,7 +223,8 @@ abbrev pub PlaceLeads : {N : Type 0}
 PlaceLeads checked slots q s rest =
     Leads checked slots (PlaceMeans checked slots q s) (selectors_left rest)
 
--- Holds if a number so far, followed by the rest of a chain, is the number of the whole.
+-- States that a number of lowered code means the first part of a chain. From this number the rest
+-- of the chain gives the value of the whole.
 abbrev pub NumberLeads : {N : Type 0}
     → Typed N
     → (N → Slot)
@@ -228,7 +234,8 @@ abbrev pub NumberLeads : {N : Type 0}
     → Type 0
 NumberLeads checked slots n = Leads checked slots (NumberMeans checked slots n)
 
--- Holds if a truth so far, followed by the rest of a chain, is the truth of the whole.
+-- States that a truth of lowered code means the first part of a chain. From this truth the rest of
+-- the chain gives the value of the whole.
 abbrev pub TruthLeads : {N : Type 0}
     → Typed N
     → (N → Slot)
@@ -238,7 +245,7 @@ abbrev pub TruthLeads : {N : Type 0}
     → Type 0
 TruthLeads checked slots t = Leads checked slots (TruthMeans checked slots t)
 
--- the machine's relation for a relation of the language
+-- the machine's comparator for a relation of the language
 abbrev pub relation_of : Relation → lowered.Comparator
 relation_of relation.Equal = lowered.equal
 relation_of relation.NotEqual = lowered.not_equal

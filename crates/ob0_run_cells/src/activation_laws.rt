@@ -1,8 +1,9 @@
-//! The law of lowered runs. It is the contract of a function that does nothing.
+//! The law about runs of lowered programs, as the contract of a function that does nothing.
 
 ghost use Rattle.ob0_run_cells.specs.ActivationLaws.{RunsLowered};
 
-/// States that the run of a program that is lowered from a well-typed module is the module's run, if it has room.
+/// States that a program lowered from a well-typed module has the output and the end of the
+/// module's run, if there is room for the program's cells.
 pub fn runs_lowered()
     ensures { RunsLowered }
 {}

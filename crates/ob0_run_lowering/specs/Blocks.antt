@@ -1,8 +1,10 @@
--- The meaning of the code of procedures and blocks, at their places in a well-typed module.
--- A procedure gets an index at its heading, with a placeholder in the table of procedures; its code is kept there at its
--- end. Clauses hold for any later table that has the same code from an index to its end (`Later`), so earlier code keeps
--- its meaning, and no clause mentions the last table. `Goes` holds for any statements and any procedures after: the
--- clause of a procedure is one for each rest, and the loop of a block composes them (`goes_then`).
+-- States that each procedure and each block of a well-typed module is lowered to code that means
+-- it. A procedure gets an index at its heading, with a placeholder in the table of procedures. At
+-- the procedure's end its code is stored there. Clauses hold for any later table that has the same
+-- code from an index to the end (`Later`). So earlier code keeps its meaning, and no
+-- clause mentions the final table. `Goes` holds for any statements and any further
+-- procedures of a block. The loop over the procedures of a block composes these clauses
+-- (`goes_then`).
 -- Rule: none; for contracts of lowering.
 use Rattle.std.specs.Prelude.{◌≡◌, ℕ, ◌≤◌, true, List, length, Some, slice_get}
 use Rattle.ob0_tree.specs.Tree.{Tree, block, body, items, maybe, procedure}
@@ -20,7 +22,7 @@ use Rattle.ob0_run_lowering.specs.Placed.{Follows, LocatesAll, IsFrame, Matches,
 use Rattle.ob0_run_lowering.specs.declared.programs.Lowering.{Lowering}
 use Rattle.ob0_run_lowering.specs.declared.visible_sites.Frame.{Frame}
 
--- states that a table has the code of procedures, from an index to its end
+-- states that a table has the code of the procedures `ps`, at each index of `ps` that is at least n
 abbrev pub Later : List lowered.Routine → ℕ → List Routine → Type 0
 Later table n ps =
     (i : ℕ) (e : Routine)
@@ -28,19 +30,19 @@ Later table n ps =
     → slice_get ps i ≡ Some e
     → slice_get table i ≡ Some (procedure_of e)
 
--- Holds if each index of an earlier table of procedures has the same code in a later one.
+-- States that a later table of procedures has the same code at each index of an earlier one.
 abbrev pub Grown : List Routine → List Routine → Type 0
 Grown before now = (i : ℕ) (e : Routine) → slice_get before i ≡ Some e → slice_get now i ≡ Some e
 
--- the state before some procedures of a block: the bindings of names, their placing,
--- and the ordinal of the next ARRAY or RECORD
+-- the state before the remaining procedures of a block: the environment, the placement of its
+-- names, and the ordinal of the next ARRAY or RECORD
 pub record BlockState : Type 0 where
   pub env : TypeEnvironment Label
   pub placing : Placing Label
   pub next : ℕ
 
--- states that the remaining procedures and statements fit in a state,
--- and that all names they see are declared and located
+-- states that the remaining procedures and the statements of a block fit in a state, and that all
+-- names in scope are declared and located
 pub record Ready (t : Tables) (sites : List Site) (depth : ℕ) (s : BlockState)
     (statements : Tree Label (maybe body)) (ps : Tree Label (items procedure)) : Type 0 where
   pub declared_there : AreDeclared (declared_in t) s.env
@@ -49,8 +51,8 @@ pub record Ready (t : Tables) (sites : List Site) (depth : ℕ) (s : BlockState)
   pub fits : procedures_fit as_labels s.env s.next statements ps ≡ true
   pub declared_following : ProceduresDeclared (declared_in t) s.env s.next ps
 
--- Holds if, in a table of procedures, the remaining procedures of a block have code that means their blocks, and
--- `code` means the block's statements.
+-- States that the code in a table means the remaining procedures of a block, and that `code` means
+-- the block's statements.
 abbrev pub AllMean : List lowered.Routine
     → BlockState
     → lowered.Instructions
@@ -60,8 +62,9 @@ abbrev pub AllMean : List lowered.Routine
 AllMean table s code statements ps =
     ProceduresMean (label_table table) s.env s.placing s.next code statements ps
 
--- states that procedures are lowered from a state of their block, except the remaining ones:
--- if these mean their blocks, all do
+-- States that the procedures `ps` of a block are lowered from a state, up to the procedures `left`.
+-- If a table has code that means `left` in the state reached, this code means `ps` in the state
+-- before.
 pub record Reaches (t : Tables) (w v : Lowering) (depth : ℕ) (s : BlockState)
     (statements : Tree Label (maybe body)) (ps left : Tree Label (items procedure)) : Type 0 where
   pub now : BlockState
@@ -71,7 +74,9 @@ pub record Reaches (t : Tables) (w v : Lowering) (depth : ℕ) (s : BlockState)
       → AllMean table now code statements left
       → AllMean table s code statements ps
 
--- states that procedures are lowered from each state, except the remaining ones
+-- States that the procedures `ps` of a block are lowered up to the procedures `left`. This holds
+-- from each state and for any statements (`Reaches`). The tables of sites and of procedures
+-- only grow.
 pub record Goes (t : Tables) (w v : Lowering) (depth : ℕ) (ps left : Tree Label (items procedure))
     : Type 0 where
   pub on : (s : BlockState) (statements : Tree Label (maybe body))
@@ -81,7 +86,8 @@ pub record Goes (t : Tables) (w v : Lowering) (depth : ℕ) (ps left : Tree Labe
   pub longer : length w.procedures.items ≤ length v.procedures.items
   pub grown : Grown w.procedures.items v.procedures.items
 
--- states that the code of a block means it
+-- states that `entry` means a block, in each table with the procedures that were added while the
+-- block was lowered
 pub record MeansBlock (w v : Lowering) (f : Frame) (b : Tree Label block) (entry : Routine)
     (env : TypeEnvironment Label) (p : Placed Label) (k : ℕ) : Type 0 where
   pub means : (table : List lowered.Routine)
@@ -89,7 +95,8 @@ pub record MeansBlock (w v : Lowering) (f : Frame) (b : Tree Label block) (entry
       → BlockMeans (label_table table) (slots_at f.depth) env p k entry.cells
       (sequence_of entry.body.items) b
 
--- states that a block is lowered to its number of cells and the code of its statements
+-- states that `entry` means a block if the block fits, and that the tables of sites and of
+-- procedures only grow
 pub record LowersBlock (t : Tables) (w v : Lowering) (f : Frame) (b : Tree Label block)
     (entry : Routine) : Type 0 where
   pub on : (env : TypeEnvironment Label) (p : Placed Label) (k : ℕ)

@@ -1,4 +1,5 @@
--- The meaning of the code of expressions, designators and arguments, if a scene is right.
+-- States that expressions, designators and arguments are lowered to code that means them, if a
+-- scene is right.
 -- Rule: none; for contracts of lowering.
 use Rattle.std.specs.Prelude.{◌≡◌, ℕ, true, Some}
 use Rattle.ob0_tree.specs.Tree.{Tree, expression, items, selector}
@@ -23,25 +24,25 @@ use Rattle.ob0_run_lowering.specs.declared.lowered.TypedPlace.{TypedPlace}
 use Rattle.ob0_run_lowering.specs.declared.lowered.Lowered.{Lowered}
 use Rattle.ob0_run_lowering.specs.declared.scene.Scene.{Scene}
 
--- Holds if a value of the code's types means an expression of a type.
+-- States that a `Lowered` means an evaluated value of a type.
 abbrev pub Means : Typed Label → (Label → Slot) → Lowered → Shape → Evaluated Label Value → Type 0
 Means checked slots l s value = CodeMeans checked slots (code_of l) s value
 
--- Holds if P holds for all checked names and slots that a scene sees.
+-- States P for all checked names and slots that a scene sees.
 abbrev pub WhereSeen : Scene → (Typed Label → (Label → Slot) → Type 0) → Type 0
 WhereSeen scene P =
     (checked : Typed Label) (slots : Label → Slot) (targets : Label → Target)
     → Sees scene checked slots targets
     → P checked slots
 
--- Holds if code means an expression in a scene, or the expression has no type.
+-- States that code means an expression in a scene. Claims nothing if the expression has no type.
 abbrev pub Lowers : Scene → Tree ℕ expression → Lowered → Type 0
 Lowers scene e l =
     WhereSeen scene (λ checked slots. (s : Shape)
     → type_of checked (in_labels scene.resolved.now e) ≡ Some s
     → Means checked slots l s (value_of_expression (in_labels scene.resolved.now e)))
 
--- states that a number means an expression, if that is an INTEGER
+-- states that a number means an expression in a scene, if the expression is an INTEGER
 abbrev pub LowersNumber : Scene → Tree ℕ expression → Number → Type 0
 LowersNumber scene e n =
     WhereSeen scene (λ checked slots. type_of checked (in_labels scene.resolved.now e)
@@ -49,7 +50,7 @@ LowersNumber scene e n =
     → NumberMeans checked slots (number_of n)
     (value_of_expression (in_labels scene.resolved.now e)))
 
--- states that a truth means an expression, if that is a BOOLEAN
+-- states that a truth means an expression in a scene, if the expression is a BOOLEAN
 abbrev pub LowersTruth : Scene → Tree ℕ expression → Truth → Type 0
 LowersTruth scene e t =
     WhereSeen scene (λ checked slots. type_of checked (in_labels scene.resolved.now e)
@@ -57,7 +58,8 @@ LowersTruth scene e t =
     → TruthMeans checked slots (truth_of t)
     (value_of_expression (in_labels scene.resolved.now e)))
 
--- states that a place and its type are those of a variable with its selectors
+-- states that `l` has the place and the type of a variable with its selectors; claims nothing if
+-- this designator has no type
 abbrev pub Locates : Scene → ℕ → Tree ℕ (items selector) → TypedPlace → Type 0
 Locates scene x path l =
     WhereSeen scene (λ checked slots. (s : Shape)
@@ -67,7 +69,8 @@ Locates scene x path l =
     × PlaceMeans checked slots (place_of l.place) s
     (place_of_designator (label_in scene.resolved.now x) (in_labels scene.resolved.now path)))
 
--- states that a place and its type are those of an expression, if that is only a designator
+-- states that `l` has the place and the type of an expression that is only a designator; claims
+-- nothing about other expressions
 abbrev pub LocatesAlone : Scene → Tree ℕ expression → TypedPlace → Type 0
 LocatesAlone scene e l =
     WhereSeen scene (λ checked slots. (s : Shape)
@@ -75,7 +78,7 @@ LocatesAlone scene e l =
     → (type_shape (shapes_of scene.types.now) l.of ≡ s)
     × IsAt checked slots (place_of l.place) s (in_labels scene.resolved.now e))
 
--- states that the code of an argument means it, if it fits its parameter
+-- states that a lowered argument means an argument, if the argument fits its parameter
 abbrev pub LowersArgument : Scene → Formal → Tree ℕ expression → Argument → Type 0
 LowersArgument scene f e a =
     WhereSeen scene (λ checked slots. argument_fits checked

@@ -14,7 +14,7 @@ use Rattle.ob0_run_lowering.specs.declared.scene.Scene.{Scene}
 use Rattle.ob0_run_lowering.specs.declared.scene.Site.{Site}
 use Rattle.ob0_run_lowering.specs.declared.scene.Site.TheVariants as site
 
--- the place of a declaration in lowered code, as seen from an activation of this depth
+-- the place of a site in lowered code, as seen from an activation of this depth
 abbrev pub seen_from : ℕ → Site → Whereabouts
 seen_from depth site.Nowhere = nowhere
 seen_from depth (site.Module offset) = in_slot (of_module offset)
@@ -23,30 +23,31 @@ seen_from depth (site.ByReference at index) = in_slot (by_reference (depth - at)
 seen_from depth (site.Procedure at index) =
     at_target (record { procedure = index; up = depth - at })
 
--- the site of an ordinal
+-- the site of an ordinal in a table; `Nowhere` if the table is too short
 abbrev pub site_at : List Site → ℕ → Site
 site_at sites k = slice_index_or sites k site.Nowhere
 
--- the place of a label's declaration in lowered code, as seen from a scene
+-- the place in lowered code of the declaration of a label, as seen from a scene
 abbrev pub whereabouts : Scene → Label → Whereabouts
 whereabouts scene (declared k) = seen_from scene.depth (site_at scene.sites.now k)
 whereabouts scene (as_written x) = nowhere
 
--- the slot of a name in a scene
+-- the slot of the variable that a label refers to, as seen from a scene
 abbrev pub slot_at : Scene → Label → Slot
 slot_at scene x = slot_of (whereabouts scene x)
 
--- the target of a name in a scene
+-- the target of the procedure that a label refers to, as seen from a scene
 abbrev pub target_at : Scene → Label → Target
 target_at scene x = target_of (whereabouts scene x)
 
--- the object of a label's declaration
+-- the object of the declaration that a label refers to; None if the label isn't bound
 abbrev pub object_at : Tables → Label → Option (Object Shape Signature)
 object_at t (declared k) = declared_in t k
 object_at t (as_written x) = None
 
--- states that a scene is right for the checked names of a body, their slots and their targets:
--- each bound name has the object of its declaration, and the slot or target of the scene
+-- states that a scene is right for the checked names of a body, their slots and their targets: the
+-- scene has the object of each bound name, the slot of each variable, and the target of each
+-- procedure
 pub record Sees (scene : Scene) (checked : Typed Label) (slots : Label → Slot)
     (targets : Label → Target) : Type 0 where
   pub bound : (x : Label) (o : Object Shape Signature)

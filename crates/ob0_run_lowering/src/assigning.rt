@@ -1,5 +1,5 @@
-//! Assignments. In a well-typed module the right side has code. If it has none the assignment is lowered to
-//! `WriteLine`, since some instruction has to be returned.
+//! The lowering of assignments. In a well-typed module the right side has code. If it has none, the
+//! assignment is lowered to `WriteLine`, since some instruction has to be returned.
 
 ghost use Rattle.std.specs.Prelude.{◌≡◌, IfOk};
 ghost use Rattle.ob0_tree.specs.View.{assignment_of};
@@ -15,7 +15,7 @@ use ob0_run_machine::code::{
 use ob0_tree::Assignment;
 use std::alloc::{AllocError, Global};
 
-/// Returns the code of an assignment of a number.
+/// Returns the code that assigns a number to a place.
 fn store_number(alloc: Global, place: Place, n: Number) -> Result<Instruction, AllocError>
     ensures { IfOk result
         (λ made. statement_of made ≡ machine.stores_number (place_of place) (number_of n)) }
@@ -26,7 +26,7 @@ fn store_number(alloc: Global, place: Place, n: Number) -> Result<Instruction, A
     }
 }
 
-/// Returns the code of an assignment of a number to a variable.
+/// Returns the code that assigns a number to a variable.
 fn store_variable(alloc: Global, variable: Variable, n: Number) -> Result<Instruction, AllocError>
     ensures { IfOk result
         (λ made. statement_of made ≡ machine.stores_number (variable_of variable) (number_of n)) }
@@ -40,7 +40,7 @@ fn store_variable(alloc: Global, variable: Variable, n: Number) -> Result<Instru
     }
 }
 
-/// Returns the code of an assignment of an operation on a variable to that variable.
+/// Returns the code that assigns to a variable the result of an operation on this variable.
 fn update(variable: Variable, link: Link) -> Instruction
     ensures { statement_of result ≡ machine.stores_number (variable_of variable)
         (applied link (machine.cell (variable_of variable))) }
@@ -51,7 +51,8 @@ fn update(variable: Variable, link: Link) -> Instruction
     }
 }
 
-/// Returns the code of an assignment of an operation's result to a variable, which may be its left operand.
+/// Returns the code that assigns the result of an operation to a variable. If the variable is also
+/// the left operand, the code is an update.
 fn store_operation(
     alloc: Global,
     variable: Variable,
@@ -80,7 +81,8 @@ fn store_operation(
     }
 }
 
-/// Returns the code of an assignment of TRUE or FALSE. It is one node if the target is an element.
+/// Returns the code of an assignment of TRUE or FALSE. It is one node if the target is an element
+/// whose array and index are variables.
 fn store_constant(place: Place, b: bool) -> Instruction
     ensures { statement_of result ≡ machine.stores_truth (place_of place) (machine.constant b) }
 {
@@ -90,7 +92,7 @@ fn store_constant(place: Place, b: bool) -> Instruction
     }
 }
 
-/// Returns the code of an assignment of a truth value.
+/// Returns the code that assigns a truth value to a place.
 fn store_truth(place: Place, t: Truth) -> Instruction
     ensures { statement_of result ≡ machine.stores_truth (place_of place) (truth_of t) }
 {
@@ -100,7 +102,7 @@ fn store_truth(place: Place, t: Truth) -> Instruction
     }
 }
 
-/// Returns the code of an assignment: of a number, of a truth, or of the cells of an array or a record.
+/// Returns the code of an assignment of a number, a truth, or the cells of an array or a record.
 pub(crate) fn assignment(
     alloc: Global,
     scene: &Scene<'_, '_, '_>,

@@ -1,9 +1,10 @@
-//! Calls of procedures and of the standard procedures. No well-typed module calls a variable, or Read without an
-//! argument. Such calls are lowered to `WriteLine`, since some instruction has to be returned.
+//! The lowering of calls, of declared and of standard procedures. No well-typed module calls a
+//! variable, or calls Read without an argument. Such calls are lowered to `WriteLine`, since some
+//! instruction has to be returned.
 //!
-//! Arguments and parameters are visited in pairs, and no length is compared: if one list is longer, the arguments don't
-//! fit, and nothing is claimed. Read needs the place of its argument (`locate_argument`), Write the number of its
-//! argument (`number`).
+//! Arguments and parameters are visited in pairs, without comparing how many there are. If one list
+//! is longer, the arguments don't fit, and nothing is claimed. Read needs the place of its argument
+//! (`locate_argument`), Write the number (`number`).
 
 ghost use Rattle.std.specs.Prelude.{◌≡◌, IfOk, Some, map, option_map, slice_get};
 ghost use Rattle.ob0_tree.specs.View.{arguments_of, call_of};
@@ -25,7 +26,7 @@ use ob0_tree::{Call, Expression};
 use ob0_types_table::{Formal, Object, Standard};
 use std::alloc::{AllocError, Global};
 
-/// Returns the code of a call.
+/// Returns the code of a call statement.
 pub(crate) fn call(
     alloc: Global,
     scene: &Scene<'_, '_, '_>,
@@ -52,7 +53,7 @@ pub(crate) fn call(
     }
 }
 
-/// Returns the code of a call of a procedure with these parameters.
+/// Returns the code of a call of a declared procedure with these parameters.
 fn lower_call(
     alloc: Global,
     scene: &Scene<'_, '_, '_>,
@@ -74,7 +75,8 @@ fn lower_call(
     }))
 }
 
-/// Returns the code of the arguments of a call, each for its parameter.
+/// Returns the code of a call's arguments, each according to its parameter. It is empty if the call
+/// has no argument list.
 fn arguments(
     alloc: Global,
     scene: &Scene<'_, '_, '_>,
@@ -109,7 +111,7 @@ fn all_arguments(
     Ok(made)
 }
 
-/// Returns the first argument of a call.
+/// Returns the first argument of a call, or None if it has no arguments.
 fn first(given: &Option<Vec<Expression>>) -> Option<&Expression>
     ensures { option_map (λ e. e.now) result ≡ slice_get (given_in given.now) 0 }
 {

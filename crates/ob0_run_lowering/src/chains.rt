@@ -1,11 +1,14 @@
-//! Rows of operations. The second operation in a row begins a `Chain`, the second `&` or OR an `All` or an `Any`.
+//! Makes chains of operations. A second operation on the result of the first makes a `Chain`. A
+//! third operand of `&` makes an `All`, a third operand of OR an `Any`.
 //!
-//! In `v + i * j` the sum goes to the end of the row of its right operand. By `View` these nodes mean the same nested
-//! code, so no other module has to distinguish them. The same holds for the forms of places, negations and assignments
-//! that the machine evaluates in fewer steps. Since the meaning is the same, the depth of a row has a separate clause
-//! (`specs/Rows`): one more operand makes a conjunction at most as deep on the left as it was, or as a pair
-//! (`GoesOnFlat`), and so the first operand of a conjunction isn't one (`IsFlat`). `both` and `either` list each case of
-//! the left operand, since a proof knows nothing about the operand in a wildcard arm.
+//! In `v + i * j` the sum becomes the last operation of the chain that begins with `i * j`.
+//! According to `View` these nodes have the same meaning as nested ones, so no other module has to
+//! distinguish them. The same holds for the forms of places, negations and assignments that the
+//! machine evaluates in fewer steps. Since the meaning is the same, separate clauses state how deep
+//! the code is nested (`specs/Rows`). One more operand makes a conjunction at most as deep on the
+//! left as before, or as a pair (`GoesOnFlat`). So the first operand of a conjunction isn't a
+//! conjunction (`IsFlat`). `both` and `either` list each case of the left operand, since a proof
+//! knows nothing about an operand in a wildcard arm.
 
 ghost use Rattle.std.specs.Prelude.{◌≡◌, ◌≤◌, IfOk, IfSome, max, suc};
 ghost use Rattle.ob0_run_machine.specs.Lowered as machine;
@@ -18,7 +21,7 @@ use ob0_run_machine::code::{
 };
 use std::alloc::{AllocError, Global};
 
-/// Returns the link of an operator with its right operand.
+/// Returns the link that applies an operator to a number, with `right` as its right operand.
 fn link(operator: Operator, right: Number) -> Link
     ensures { (left : machine.Number)
         → applied result left ≡ machine.operation (operator_of operator) left (number_of right) }
@@ -52,7 +55,8 @@ fn link(operator: Operator, right: Number) -> Link
     }
 }
 
-/// Returns the link of an operator whose left operand is a variable, or None if there is no such link.
+/// Returns the link that applies an operator to a number, with a variable as its left operand.
+/// Returns None for a quotient or a remainder, for which there is no such link.
 fn link_after(operator: Operator, variable: Variable) -> Option<Link>
     ensures { IfSome result (λ l. (right : machine.Number) → applied l right
         ≡ machine.operation (operator_of operator) (machine.cell (variable_of variable)) right) }
@@ -66,14 +70,14 @@ fn link_after(operator: Operator, variable: Variable) -> Option<Link>
     }
 }
 
-/// Returns a row of one operation.
+/// Returns one operation as a number: the link applied to the first operand.
 fn single(alloc: Global, first: FirstOperand, link: Link) -> Result<Number, AllocError>
     ensures { IfOk result (λ n. number_of n ≡ applied link (first_of first)) }
 {
     Ok(Number::Operation(Box::new(alloc, Operation { first, link })?))
 }
 
-/// Returns a row of two operations.
+/// Returns the chain of an operation and a second link.
 fn two(alloc: Global, operation: Operation, next: Link) -> Result<Number, AllocError>
     ensures { IfOk result (λ n. number_of n ≡ applied next (operation_of operation)) }
 {
@@ -84,7 +88,7 @@ fn two(alloc: Global, operation: Operation, next: Link) -> Result<Number, AllocE
     Ok(Number::Chain(Box::new(alloc, Chain { first, rest })?))
 }
 
-/// Returns a row with one more operation.
+/// Returns a chain with one more link at its end.
 fn longer(alloc: Global, chain: Chain, link: Link) -> Result<Number, AllocError>
     ensures { IfOk result (λ n. number_of n ≡ applied link (chained_in chain)) }
 {
@@ -93,7 +97,7 @@ fn longer(alloc: Global, chain: Chain, link: Link) -> Result<Number, AllocError>
     Ok(Number::Chain(Box::new(alloc, Chain { first, rest })?))
 }
 
-/// Returns an operation between a variable and a number, as a row of one operation.
+/// Returns an operation between a variable and a number. It isn't made part of a chain.
 fn plain(
     alloc: Global,
     operator: Operator,
@@ -110,8 +114,8 @@ fn plain(
     )
 }
 
-/// Returns an operation between a variable and a number. If the number is a row of operations, all are in one row, since a
-/// variable can be evaluated after the right operand.
+/// Returns an operation between a variable and a number. If the number is an operation or a chain,
+/// the result is one chain: it evaluates the variable last, which gives the same value.
 fn operation_on_variable(
     alloc: Global,
     operator: Operator,
@@ -131,7 +135,8 @@ fn operation_on_variable(
     }
 }
 
-/// Returns an operation between two numbers. If the left operand is an operation, both are in one row.
+/// Returns an operation between two numbers. If the left operand is an operation or a chain, the
+/// result is one chain.
 pub(crate) fn operation(
     alloc: Global,
     operator: Operator,
@@ -155,7 +160,7 @@ pub(crate) fn operation(
     }
 }
 
-/// Returns a conjunction with one more truth.
+/// Returns the conjunction of several truths and one more at the end.
 fn all_of(alloc: Global, several: Several, right: Truth) -> Result<Truth, AllocError>
     ensures meaning { IfOk result
         (λ t. truth_of t ≡ machine.both (all_in several) (truth_of right)) }
@@ -168,7 +173,7 @@ fn all_of(alloc: Global, several: Several, right: Truth) -> Result<Truth, AllocE
     Ok(Truth::All(several))
 }
 
-/// Returns a disjunction with one more truth.
+/// Returns the disjunction of several truths and one more at the end.
 fn any_of(alloc: Global, several: Several, right: Truth) -> Result<Truth, AllocError>
     ensures meaning { IfOk result
         (λ t. truth_of t ≡ machine.either (any_in several) (truth_of right)) }
@@ -244,7 +249,8 @@ fn pair_of_either(alloc: Global, left: Truth, right: Truth) -> Result<Truth, All
     Ok(Truth::Either(Box::new(alloc, Truths { left, right })?))
 }
 
-/// `left & right`.
+/// Returns the conjunction of two truths. If the left one is a conjunction, the right one is
+/// appended.
 pub(crate) fn both(alloc: Global, left: Truth, right: Truth) -> Result<Truth, AllocError>
     ensures meaning { IfOk result
         (λ t. truth_of t ≡ machine.both (truth_of left) (truth_of right)) }
@@ -296,7 +302,8 @@ pub(crate) fn both(alloc: Global, left: Truth, right: Truth) -> Result<Truth, Al
     }
 }
 
-/// `left OR right`.
+/// Returns the disjunction of two truths. If the left one is a disjunction, the right one is
+/// appended.
 pub(crate) fn either(alloc: Global, left: Truth, right: Truth) -> Result<Truth, AllocError>
     ensures meaning { IfOk result
         (λ t. truth_of t ≡ machine.either (truth_of left) (truth_of right)) }

@@ -1,4 +1,4 @@
-//! The facts about a module that the lowering of its blocks needs.
+//! The facts about a module that are needed to lower its blocks.
 
 ghost use Rattle.std.specs.Prelude.{◌≡◌};
 
@@ -7,7 +7,8 @@ use ob0_scope_table::Resolved;
 use ob0_types_table::TypeId;
 use std::alloc::Global;
 
-/// The module, its types, and the allocator.
+/// The data with which the blocks of a module are lowered: the module, its types, and the
+/// allocator.
 #[derive(Clone, Copy)]
 pub(crate) struct LoweringContext<'g, 'k, 't> {
     pub(crate) alloc: Global,
@@ -24,7 +25,8 @@ impl<'g, 'k, 't> LoweringContext<'g, 'k, 't> {
     ghost use Rattle.ob0_run_lowering.specs.Scenes.{object_at};
     ghost use Rattle.ob0_run_lowering.specs.Placed.{declared_size};
 
-    /// Returns the type of the variable that a name declares.
+    /// Returns the type that the name at a token declares: of a variable, a parameter or a
+    /// constant, or the type with this name. Returns None for any other declaration.
     fn type_of(&self, name: usize) -> Option<TypeId>
         ensures { option_map (type_shape (shapes_of self.now.types.now)) result
             ≡ type_declared (object_at self.now.types.now (label_in self.now.resolved.now name)) }
@@ -33,7 +35,8 @@ impl<'g, 'k, 't> LoweringContext<'g, 'k, 't> {
         self.types.declarations().declared_type(ordinal)
     }
 
-    /// Returns the number of cells of the variable that a name declares.
+    /// Returns the number of cells of the variable that the name at a token declares, or 0 if the
+    /// name has no type.
     pub(crate) fn size(&self, name: usize) -> usize
         ensures { result ≡ declared_size self.now.types.now (label_in self.now.resolved.now name) }
     {

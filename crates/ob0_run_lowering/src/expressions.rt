@@ -1,4 +1,5 @@
-//! Lowering of expressions, places and arguments, for statements.
+//! Makes the code that statements need from expressions: numbers, truths, places and arguments. If
+//! an expression has no such code, a default is returned, for example 0 or FALSE.
 
 ghost use Rattle.std.specs.Prelude.{IfOk};
 ghost use Rattle.ob0_tree.specs.View.{expression_of};
@@ -17,7 +18,7 @@ use ob0_types_table::designated::lone_designator;
 use ob0_types_table::{Formal, TypeId};
 use std::alloc::{AllocError, Global};
 
-/// Returns the number of a code, or 0 if it has another type.
+/// Returns the number that is an expression's code, or 0 if the code isn't a number.
 fn number_of(lowered: Lowered) -> Number
     ensures { IsNumberOf lowered result }
 {
@@ -29,7 +30,7 @@ fn number_of(lowered: Lowered) -> Number
     }
 }
 
-/// Returns the truth of a code, or FALSE if it has another type.
+/// Returns the truth that is an expression's code, or FALSE if the code isn't a truth.
 fn truth_of(lowered: Lowered) -> Truth
     ensures taken { IsTruthOf lowered result }
     ensures flat { IsFlat lowered → IsFlat (code.Truth result) }
@@ -42,7 +43,8 @@ fn truth_of(lowered: Lowered) -> Truth
     }
 }
 
-/// Returns a code as an argument that is passed by value.
+/// Returns the argument that passes an expression by value. If the expression has no code, the
+/// argument is FALSE.
 fn value_of(lowered: Lowered) -> Argument
     ensures { IsValueOf lowered result }
 {
@@ -61,7 +63,7 @@ fn nowhere() -> TypedPlace {
     }
 }
 
-/// Returns a place that was found, or the module's first cell.
+/// Returns the place that was found, or the module's first cell if no place was found.
 fn place_of(found: Option<TypedPlace>) -> TypedPlace
     ensures { IsTypedPlaceOf found result }
 {
@@ -84,7 +86,7 @@ impl<'s, 'k, 't> Scene<'s, 'k, 't> {
         self.lower_expression(alloc, e)
     }
 
-    /// Returns the code of an expression that evaluates to a number.
+    /// Returns the number that an expression means, or 0 if the expression isn't an INTEGER.
     pub fn number(&self, alloc: Global, e: &Expression) -> Result<Number, AllocError>
         ensures { IfOk result (LowersNumber self.now (expression_of e.now)) }
     {
@@ -92,7 +94,7 @@ impl<'s, 'k, 't> Scene<'s, 'k, 't> {
         Ok(number_of(lowered))
     }
 
-    /// Returns the code of a condition.
+    /// Returns the truth that a condition means, or FALSE if the expression isn't a BOOLEAN.
     pub fn truth(&self, alloc: Global, e: &Expression) -> Result<Truth, AllocError>
         ensures lowers { IfOk result (LowersTruth self.now (expression_of e.now)) }
         ensures flat { IfOk result (λ t. IsFlat (code.Truth t)) }
@@ -101,7 +103,8 @@ impl<'s, 'k, 't> Scene<'s, 'k, 't> {
         Ok(truth_of(lowered))
     }
 
-    /// Returns the place of a variable with its selectors, and its type.
+    /// Returns the place of a designator and its type, or the module's first cell if there is no
+    /// such place.
     pub fn place(&self, alloc: Global, d: &Designator) -> Result<TypedPlace, AllocError>
         ensures { IfOk result (Locates self.now (out-Designator d.now).name (selectors_in d.now)) }
     {
@@ -109,7 +112,8 @@ impl<'s, 'k, 't> Scene<'s, 'k, 't> {
         Ok(place_of(found))
     }
 
-    /// Returns the place of an argument for a VAR parameter, which has to be a designator without operators.
+    /// Returns the place of an argument for a VAR parameter. Returns the module's first cell if the
+    /// argument isn't only a designator.
     pub fn locate_argument(&self, alloc: Global, e: &Expression) -> Result<TypedPlace, AllocError>
         ensures { IfOk result (LocatesAlone self.now (expression_of e.now)) }
     {
@@ -119,7 +123,7 @@ impl<'s, 'k, 't> Scene<'s, 'k, 't> {
         }
     }
 
-    /// Returns the code of an argument of a call.
+    /// Returns the code of an argument, according to its parameter: its place or its value.
     pub fn argument(
         &self,
         alloc: Global,

@@ -1,12 +1,12 @@
-//! Lowering: designators, expressions and arguments, the statements of a body, and declarations, blocks and procedures.
-//! A well-typed module becomes a program of the machine that means it.
+//! Lowering: a well-typed module becomes a program of the machine that has the module's meaning.
 //!
-//! There are three layers: designators, expressions and arguments; the statements of a body; declarations, blocks and
-//! procedures. The contracts of the first two hold for any `checked`, `slots` and `targets` for which the scene is right
-//! (`Sees`): each bound name has the object of its declaration, and is at the place that the scene has for it. So they
-//! mention no environments, placings or blocks. The code that lowers blocks shows `Sees` at each body. The code of an
-//! expression means it if the expression has a type (`Lowers`); otherwise nothing is claimed. So every tree is accepted,
-//! and each has some code.
+//! There are three layers: designators, expressions and arguments; the statements of a body;
+//! declarations, blocks and procedures. The contracts of the first two hold for any `checked`,
+//! `slots` and `targets` for which the scene is right (`Sees`): each bound name has the object of
+//! its declaration, and is at the place that the scene has for it. So these contracts mention no
+//! environments, placements or blocks. The code that lowers blocks shows `Sees` at each body. The
+//! code of an expression means the expression if the expression has a type (`Lowers`). Otherwise
+//! nothing is claimed about the code. So every tree is accepted, and code is made for each.
 #![tactic(auto)]
 
 mod assigning;

@@ -1,10 +1,12 @@
-//! Lowering of designators and expressions, at a body. Chains are walked by loops, nestings by calls.
+//! The lowering of designators and expressions. Loops visit the parts of a chain; recursion visits
+//! nested parts.
 //!
-//! Code and meaning are two steps. `specs/Codes` and `specs/Trees` define the code of a tree (`expression_code`), as
-//! functions that compute; each function here returns that code. An induction over trees (`proofs/TreesMean`) shows that
-//! the code means the tree, by the laws of `ob0_run_cells`. No proof of a function mentions moments or cells. The types
-//! of places come from the table; only `bound` of `Sees` relates them to the checked types. A variable that isn't in
-//! scope also has a type, about which nothing is claimed.
+//! Code and meaning are separate. `specs/Codes` and `specs/Trees` define the code of a tree by
+//! functions that compute (`expression_code`), and each function here returns that code. An
+//! induction over trees (`proofs/TreesMean`) shows that the code means the tree, by the laws of
+//! `ob0_run_cells`. No proof about a function mentions moments or cells. The types of places come
+//! from the table; only `bound` of `Sees` relates them to the checked types. A variable that isn't
+//! in scope also has a type, about which nothing is claimed.
 
 ghost use Rattle.std.specs.Prelude.{◌≡◌, IfOk, Some, option_and_then, option_map, pos};
 ghost use Rattle.ob0_tree.specs.Places.{value_at};
@@ -49,7 +51,8 @@ fn constant(value: Scalar) -> Lowered
 }
 
 impl<'s, 'k, 't> Scene<'s, 'k, 't> {
-    /// Returns the type of the variable that a name refers to.
+    /// Returns the type of the variable that the name at a token refers to, or None if the name
+    /// refers to no variable.
     fn variable_type(&self, name: usize) -> Option<TypeId>
         ensures { option_map (type_shape (shapes_of self.now.types.now)) result
             ≡ variable_of (object_at self.now.types.now (label_in self.now.resolved.now name)) }
@@ -64,7 +67,8 @@ impl<'s, 'k, 't> Scene<'s, 'k, 't> {
         }
     }
 
-    /// Returns the value of the constant that a name refers to.
+    /// Returns the value of the constant that the name at a token refers to, or None if the name
+    /// refers to no constant.
     fn constant(&self, name: usize) -> Option<Scalar>
         ensures { option_map scalar_value result
             ≡ constant_of (object_at self.now.types.now (label_in self.now.resolved.now name)) }
@@ -79,7 +83,8 @@ impl<'s, 'k, 't> Scene<'s, 'k, 't> {
         }
     }
 
-    /// Returns the spelling of a field's name. It is empty if the name is bound to a declaration.
+    /// Returns the text of the field's name at a token, or the empty text if the name is bound to a
+    /// declaration.
     fn field_name(&self, token: usize) -> &'t str
         ensures { result.now ≡ label_text (label_in self.now.resolved.now token) }
     {
@@ -89,14 +94,15 @@ impl<'s, 'k, 't> Scene<'s, 'k, 't> {
         }
     }
 
-    /// Returns the value of a token that is a number.
+    /// Returns the value of the number at a token.
     fn integer(&self, token: usize) -> i32
         ensures { result ≡ pos (value_at self.now.resolved.now.module_read.source token) }
     {
         number_at(self.resolved.tokens(), token)
     }
 
-    /// Returns the place of a whole variable.
+    /// Returns the place of the variable that the name at a token refers to, without selectors.
+    /// Returns None if the name refers to no variable.
     fn base(&self, alloc: Global, name: usize) -> Result<Option<TypedPlace>, AllocError>
         ensures { IfOk result (λ o. option_map (found_of (shapes_of self.now.types.now)) o
             ≡ base_found self.now (label_in self.now.resolved.now name)) }
@@ -110,7 +116,7 @@ impl<'s, 'k, 't> Scene<'s, 'k, 't> {
         }
     }
 
-    /// Returns the code of the value at a place.
+    /// Returns the code of the value at a place: a number, a truth or the cells of a larger value.
     fn code_at_place(&self, at: TypedPlace) -> Lowered
         ensures code { code_of result
             ≡ code_at_place (found_of (shapes_of self.now.types.now) at).place
@@ -138,7 +144,8 @@ impl<'s, 'k, 't> Scene<'s, 'k, 't> {
         }
     }
 
-    /// Returns the place of a field of a record.
+    /// Returns the place of a field of the record at a place, or None if the type of this place has
+    /// no such field.
     fn field(
         &self,
         alloc: Global,
@@ -161,7 +168,8 @@ impl<'s, 'k, 't> Scene<'s, 'k, 't> {
         }
     }
 
-    /// Returns the place of an element of an array.
+    /// Returns the place of an element of the array at a place, or None if the type of this place
+    /// isn't an array type.
     fn element(
         &self,
         alloc: Global,
@@ -307,7 +315,8 @@ impl<'s, 'k, 't> Scene<'s, 'k, 't> {
         }
     }
 
-    /// Returns the code of a constant, or of the value at a designator's place.
+    /// Returns the code of a designator: of a constant's value, or of the value at a variable's
+    /// place.
     #[cycle(lowering)]
     fn lower_designator(&self, alloc: Global, d: &Designator) -> Result<Lowered, AllocError>
         ensures code { IfOk result (λ l. code_of l
@@ -323,7 +332,8 @@ impl<'s, 'k, 't> Scene<'s, 'k, 't> {
         }
     }
 
-    /// Returns the place of a variable with its selectors.
+    /// Returns the place of a designator: a variable with its selectors. Returns None if the
+    /// designator has no place.
     #[cycle(lowering)]
     pub(crate) fn locate(
         &self,

@@ -1,4 +1,4 @@
-//! The code of operations.
+//! Makes the code of an operation from the code of its operands.
 
 ghost use Rattle.std.specs.Prelude.{◌≡◌, IfOk, Some};
 ghost use Rattle.ob0_tree.specs.declared.tree.Sign.TheVariants as signs;
@@ -18,7 +18,7 @@ use ob0_run_machine::code::{Number, Operands, Operator, Place, Row, Truth, Truth
 use ob0_tree::{AddOperator, MultiplyOperator, Relation, Sign};
 use std::alloc::{AllocError, Global};
 
-/// Returns the number that an operand is, or None if it has another type.
+/// Returns the number that is an operand's code, or None if the code isn't a number.
 fn number_in(operand: Lowered) -> Option<Number>
     ensures { result ≡ number_in operand }
 {
@@ -30,7 +30,7 @@ fn number_in(operand: Lowered) -> Option<Number>
     }
 }
 
-/// Returns the truth that an operand is, or None if it has another type.
+/// Returns the truth that is an operand's code, or None if the code isn't a truth.
 fn truth_in(operand: Lowered) -> Option<Truth>
     ensures { result ≡ truth_in operand }
 {
@@ -142,7 +142,7 @@ fn lower_minus(alloc: Global, operand: Lowered) -> Result<Lowered, AllocError>
     }
 }
 
-/// Returns the code of a term with the sign `+`: its sum with 0.
+/// Returns the code of a term with the sign `+`: the sum of the term and 0.
 fn lower_plus(alloc: Global, operand: Lowered) -> Result<Lowered, AllocError>
     ensures code { IfOk result
         (λ l. code_of l ≡ codes.signed (Some signs.Plus) (code_of operand)) }
@@ -156,7 +156,7 @@ fn lower_plus(alloc: Global, operand: Lowered) -> Result<Lowered, AllocError>
     )
 }
 
-/// Returns the code of a term with its sign.
+/// Returns the code of a term with its sign, or the term's own code if it has no sign.
 pub(crate) fn lower_sign(
     alloc: Global,
     sign: Option<Sign>,
@@ -199,7 +199,7 @@ fn relation_in(relation: Relation) -> code::Comparator
     }
 }
 
-/// Returns the relation of a variable with a literal.
+/// Returns the code of a comparison of a variable with a literal.
 fn compare_to_literal(relation: code::Comparator, variable: Variable, n: i32) -> Truth
     ensures code { truth_of result ≡ view.compared_by relation variable (machine.literal n) }
     ensures flat { (and_depth result ≡ 0) × (or_depth result ≡ 0) }
@@ -210,7 +210,8 @@ fn compare_to_literal(relation: code::Comparator, variable: Variable, n: i32) ->
     }
 }
 
-/// Returns the relation of a variable with a number. With a literal or a variable it is one node.
+/// Returns the code of a comparison of a variable with a number. If the number is a literal or
+/// another variable, the code is one node.
 fn compare_variable(
     alloc: Global,
     relation: code::Comparator,
@@ -232,8 +233,8 @@ fn compare_variable(
     }
 }
 
-/// Returns the relation of the number at a place with another number. An element whose array and index are variables is
-/// compared with a variable in one node.
+/// Returns the code of a comparison of the number at a place with another number. The code is one
+/// node if an element whose array and index are variables is compared with a variable.
 fn compare_cell(
     alloc: Global,
     relation: code::Comparator,
@@ -277,7 +278,7 @@ fn compare_row(
     }
 }
 
-/// Returns the relation of two numbers.
+/// Returns the code of a comparison of two numbers.
 fn relate_numbers(
     alloc: Global,
     relation: Relation,
@@ -299,7 +300,8 @@ fn relate_numbers(
     }
 }
 
-/// Returns the code of `=` or `#` of two truths.
+/// Returns the code of `=` or `#` between two truths. Any other relation between truths has no
+/// code.
 fn relate_truths(
     alloc: Global,
     relation: Relation,
@@ -327,7 +329,8 @@ fn relate_truths(
     }
 }
 
-/// Returns the code of the relation of a number with an operand, which has no code if the operand isn't a number.
+/// Returns the code of a relation between a number and an operand. There is no code if the operand
+/// isn't a number.
 fn compare_numbers(
     alloc: Global,
     relation: Relation,
@@ -345,7 +348,8 @@ fn compare_numbers(
     Ok(Lowered::Truth(truth))
 }
 
-/// Returns the code of the relation of a truth with an operand, which has no code if the operand isn't a truth.
+/// Returns the code of a relation between a truth and an operand. There is no code if the operand
+/// isn't a truth.
 fn compare_truths(
     alloc: Global,
     relation: Relation,

@@ -1,9 +1,11 @@
-//! The code of places and of their values, in the form that is evaluated in the fewest steps.
+//! Makes the code of places and of the values in them, in the form that the machine evaluates in
+//! the fewest steps.
 //!
-//! Offsets are added when a place is lowered (`part_at`): a field of a variable is a variable, and a field of an element
-//! is an element with an offset. An element at a literal index within its array is a part of the array
-//! (`element_at_place`), at the same address in all activations and over all cells (`proofs/PartsFound`). So the machine
-//! needs one step for a field of a variable, as for the variable.
+//! Offsets are added when a place is lowered (`part_at`). A field of a variable is a variable, and
+//! a field of an element is an element with an offset. An element at a literal index within its
+//! array is a part of the array (`element_at_place`). The part has the same address as the element
+//! in all activations and over all cells (`proofs/PartsFound`). So the machine takes one step for a
+//! field of a variable, as for the variable itself.
 
 ghost use Rattle.std.specs.Prelude.{◌≡◌, IfOk, length};
 ghost use Rattle.ob0_run_machine.specs.Lowered as machine;
@@ -17,7 +19,7 @@ use ob0_run_machine::code::{
 };
 use std::alloc::{AllocError, Global};
 
-/// Returns the code of the number at a place.
+/// Returns the number in the cell at a place.
 pub(crate) fn content(place: Place) -> Number
     ensures { number_of result ≡ machine.cell (place_of place) }
 {
@@ -27,7 +29,7 @@ pub(crate) fn content(place: Place) -> Number
     }
 }
 
-/// Returns the place of a part at an offset.
+/// Returns the place at an offset within a place.
 pub(crate) fn part(alloc: Global, whole: Place, offset: usize) -> Result<Place, AllocError>
     ensures { IfOk result (λ p. place_of p ≡ part_at (place_of whole) offset) }
 {
@@ -62,8 +64,9 @@ fn part_of_variable(alloc: Global, variable: Variable, offset: usize) -> Result<
     }
 }
 
-/// Returns the place at an offset from the address of a VAR parameter of the activation `up` levels out. It is a
-/// `Variable` if the activation is the running one and index and offset have 32 bits.
+/// Returns the place at an offset from the address of a VAR parameter of the activation `up` levels
+/// out. It is a `Variable` if the activation is the running one and both index and offset have 32
+/// bits.
 pub(crate) fn reference(
     alloc: Global,
     up: usize,
@@ -82,7 +85,7 @@ pub(crate) fn reference(
     Ok(Place::Passed(Box::new(alloc, reference)?))
 }
 
-/// Returns a part of an element, if the array and the index are variables.
+/// Returns the place at an offset within an element whose array and index are variables.
 fn part_of_row(alloc: Global, row: Row, offset: usize) -> Result<Place, AllocError>
     ensures { IfOk result (λ p. place_of p ≡ part_at (row_of row) offset) }
 {
@@ -93,7 +96,7 @@ fn part_of_row(alloc: Global, row: Row, offset: usize) -> Result<Place, AllocErr
     Ok(Place::Row(Box::new(alloc, row)?))
 }
 
-/// Returns a part of an element.
+/// Returns the place at an offset within an element.
 fn part_of_element(alloc: Global, element: Element, offset: usize) -> Result<Place, AllocError>
     ensures { IfOk result (λ p. place_of p ≡ part_at (element_of element) offset) }
 {
@@ -114,7 +117,8 @@ fn part_of_element(alloc: Global, element: Element, offset: usize) -> Result<Pla
     Ok(Place::Element(Box::new(alloc, element)?))
 }
 
-/// Returns the offset of the element at a literal index, or None if the array has no such element.
+/// Returns the offset of an array's element at a literal index, or None if there is no such
+/// element.
 fn literal_offset(index: i32, length: usize, stride: usize) -> Option<usize>
     ensures { result ≡ known_offset (machine.literal index) length stride }
 {
@@ -140,15 +144,15 @@ fn first_offset(first: &FirstOperand, length: usize, stride: usize) -> Option<us
     }
 }
 
-/// Returns the number of operations in a row.
+/// Returns the number of operations in a chain.
 fn count_links(chain: &Chain) -> usize
     ensures { result ≡ length (out-Chain chain.now).rest.items }
 {
     chain.rest.len()
 }
 
-/// Returns the offset of the element whose index is a row of operations. It is known only if the row has no operations
-/// and begins with a literal.
+/// Returns the offset of an element whose index is a chain. It is known only if the chain has no
+/// operations and begins with a literal.
 fn chain_offset(chain: &Chain, length: usize, stride: usize) -> Option<usize>
     ensures { result ≡ known_offset (chained_in chain.now) length stride }
 {
@@ -159,7 +163,8 @@ fn chain_offset(chain: &Chain, length: usize, stride: usize) -> Option<usize>
     None
 }
 
-/// Returns the offset of an element if its index is a literal within the array.
+/// Returns the offset of an array's element if its index is a literal within the array, otherwise
+/// None.
 fn known_offset(index: &Number, length: usize, stride: usize) -> Option<usize>
     ensures { result ≡ known_offset (number_of index.now) length stride }
 {
@@ -173,7 +178,8 @@ fn known_offset(index: &Number, length: usize, stride: usize) -> Option<usize>
     }
 }
 
-/// Returns an element of the array at a place: at a literal index it is a part of the array.
+/// Returns the place of an element of the array at a place. If the index is a literal within the
+/// array, the element is a part of the array.
 pub(crate) fn element(
     alloc: Global,
     array: Place,
@@ -190,7 +196,7 @@ pub(crate) fn element(
     }
 }
 
-/// Returns an element at an index that is evaluated by the run.
+/// Returns the place of an element whose index is evaluated during the run.
 fn computed_element(
     alloc: Global,
     array: Place,
@@ -207,7 +213,7 @@ fn computed_element(
     }
 }
 
-/// Returns an element of an array that is a variable.
+/// Returns the place of an element of an array that is a variable.
 fn variable_element(
     alloc: Global,
     array: Variable,

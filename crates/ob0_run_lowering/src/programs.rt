@@ -1,4 +1,4 @@
-//! Procedures, blocks, and the program of a module.
+//! The lowering of procedures, of blocks, and of a whole module.
 
 ghost use Rattle.std.specs.Prelude.{◌≡◌, ℕ, IfOk, OnOk, slice_set};
 ghost use Rattle.ob0_tree.specs.Tree.{more};
@@ -23,14 +23,15 @@ use ob0_tree::{Block, Procedure};
 use ob0_types_table::DeclarationTable;
 use std::alloc::{AllocError, Global};
 
-/// The lowering of a module so far: the sites of the names in scope, and the procedures.
+/// The state while a module is lowered: the sites of the names in scope, and the code of the
+/// procedures so far.
 #[derive(Drop)]
 pub(crate) struct Lowering {
     pub(crate) visible: VisibleSites,
     pub(crate) procedures: Vec<code::Routine>,
 }
 
-/// The program of a module.
+/// The lowered program of a module.
 #[derive(Drop)]
 pub struct Program {
     pub code: code::LoweredCode,
@@ -46,7 +47,7 @@ impl Lowering {
     ghost use Rattle.ob0_run_machine.specs.declared.code.Routine as code;
     ghost use Rattle.ob0_run_lowering.specs.Placed.{Follows, put_at};
 
-    /// Keeps the code of a procedure at its index.
+    /// Stores the code of a procedure at its index. Does nothing if there is no such index.
     fn keep(&mut self, index: usize, entry: code::Routine)
         ensures procedures { self.new.procedures.items
             ≡ slice_set self.old.procedures.items index entry }
@@ -57,7 +58,8 @@ impl Lowering {
         }
     }
 
-    /// Gives a procedure an index in the program, which its name refers to after the heading. Its code is kept later.
+    /// Gives a procedure the next index in the program and binds its name to this index. Until the
+    /// code is stored, the index has an empty procedure. Returns the index.
     fn announce(
         &mut self,
         context: &LoweringContext<'_, '_, '_>,
@@ -84,8 +86,8 @@ impl Lowering {
         Ok(index)
     }
 
-    /// Lowers a procedure. It is in scope after its heading, and so in its own body. Its parameters and declarations are
-    /// in scope up to its end.
+    /// Lowers a procedure. Its name is bound before its body is lowered, so the body can call it.
+    /// Its parameters and declarations are in scope up to its end.
     #[cycle(blocks)]
     fn procedure(
         &mut self,
@@ -114,7 +116,8 @@ impl Lowering {
         Ok(())
     }
 
-    /// Lowers a block: its variables, its procedures, and then its statements.
+    /// Lowers a block: places its variables, lowers its procedures, and then its statements.
+    /// Returns the number of cells of its variables and the code of its statements.
     #[cycle(blocks)]
     fn block(
         &mut self,
@@ -143,7 +146,7 @@ impl Lowering {
     }
 }
 
-/// Returns the program of a module, by the table of its declarations.
+/// Returns the program of a module, according to the table of its declarations.
 ///
 /// # Errors
 ///

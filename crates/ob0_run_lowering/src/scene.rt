@@ -1,4 +1,4 @@
-//! The facts that the lowering of a body needs.
+//! The facts that are needed to lower a body: the scene, and the sites of declarations.
 
 ghost use Rattle.std.specs.Prelude.{◌≡◌, IfOk};
 ghost use Rattle.ob0_run_machine.specs.View.{place_of};
@@ -12,11 +12,11 @@ use ob0_scope_table::Resolved;
 use ob0_types_table::Object;
 use std::alloc::{AllocError, Global};
 
-/// The place of a declaration. `depth` is the depth of an activation: 0 for the module's, 1 for the procedures that the
-/// module declares.
+/// Where lowered code finds a declaration. `depth` is the depth of an activation: 0 for the module,
+/// 1 for the procedures that the module declares.
 #[derive(Clone, Copy, PartialEq, Eq)]
 pub enum Site {
-    /// Nowhere in lowered code: a constant or a type.
+    /// Not in lowered code: a constant or a type.
     Nowhere,
     /// A variable, at an offset in the cells of the module.
     Module(usize),
@@ -28,7 +28,7 @@ pub enum Site {
     Procedure { depth: usize, index: usize },
 }
 
-/// The procedure of a call: its index, and how many levels out it is declared.
+/// The procedure that a call reaches: its index, and how many levels out it is declared.
 #[derive(Clone, Copy)]
 pub struct CallTarget {
     pub procedure: usize,
@@ -36,7 +36,7 @@ pub struct CallTarget {
 }
 
 impl CallTarget {
-    /// Returns the target of a name that isn't a procedure's.
+    /// Returns the target for a name that isn't a procedure's name: index 0 and level 0.
     fn none() -> CallTarget
         ensures { result ≡ record { procedure = 0; up = 0 } }
     {
@@ -47,8 +47,8 @@ impl CallTarget {
     }
 }
 
-/// The facts at a body: the module, its types, the place of each declaration by its ordinal, and the depth of the body's
-/// activation, which is 0 for the module.
+/// The facts at a body: the module, its types, the site of each declaration by its ordinal, and the
+/// depth of the body's activation, which is 0 for the module.
 #[derive(Clone, Copy)]
 pub struct Scene<'s, 'k, 't> {
     pub resolved: &'s Resolved<'t>,
@@ -64,7 +64,8 @@ impl<'s, 'k, 't> Scene<'s, 'k, 't> {
     ghost use Rattle.ob0_types_table.specs.Tables.{object_in};
     ghost use Rattle.ob0_run_lowering.specs.Scenes.{object_at, seen_from, slot_at, target_at, whereabouts};
 
-    /// Returns the object that a name is declared as.
+    /// Returns the object of the declaration that the name at a token refers to, or None if the
+    /// name isn't bound.
     pub fn object(&self, name: usize) -> Option<&'k Object>
         ensures { option_and_then (λ o. object_in (shapes_of self.now.types.now) o.now) result
             ≡ object_at self.now.types.now (label_in self.now.resolved.now name) }
@@ -73,7 +74,8 @@ impl<'s, 'k, 't> Scene<'s, 'k, 't> {
         self.types.declarations().object(ordinal)
     }
 
-    /// Returns the place of a name's declaration.
+    /// Returns the site of the declaration that the name at a token refers to, or `Nowhere` if
+    /// there is none.
     fn site(&self, name: usize) -> Site
         ensures { seen_from self.now.depth result
             ≡ whereabouts self.now (label_in self.now.resolved.now name) }
@@ -87,7 +89,8 @@ impl<'s, 'k, 't> Scene<'s, 'k, 't> {
         }
     }
 
-    /// Returns the procedure that a name refers to.
+    /// Returns the procedure that the name at a token refers to, as seen from the body. For any
+    /// other name this is index 0 and level 0.
     pub fn target(&self, name: usize) -> CallTarget
         ensures { record { procedure = result.procedure; up = result.up }
             ≡ target_at self.now (label_in self.now.resolved.now name) }
@@ -104,7 +107,8 @@ impl<'s, 'k, 't> Scene<'s, 'k, 't> {
         }
     }
 
-    /// Returns the place of a variable.
+    /// Returns the place of the variable that the name at a token refers to. For any other name
+    /// this is the module's first cell.
     pub(crate) fn variable(&self, alloc: Global, name: usize) -> Result<Place, AllocError>
         ensures { IfOk result (λ p. place_of p
             ≡ slot_place (slot_at self.now (label_in self.now.resolved.now name))) }

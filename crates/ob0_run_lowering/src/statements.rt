@@ -1,8 +1,9 @@
-//! Statements, their branches and their loops.
+//! The lowering of statements.
 //!
-//! The invariant of a loop says: the code made so far, followed by any code of the rest, is code of the whole
-//! (`SequenceMade`, `BranchesMade`, `ArgumentsMade`). At the end there is no rest. An empty statement has no code, so the
-//! code may have fewer statements than the text.
+//! The invariant of each loop says that the code so far, followed by any code of the remaining
+//! parts, is code of the whole (`SequenceMade`, `BranchesMade`, `ArgumentsMade`). At the end no
+//! part remains. An empty statement has no code, so there may be fewer instructions than
+//! statements.
 
 ghost use Rattle.std.specs.Prelude.{◌≡◌, ◌++◌, IfOk, OnOk, option_map, option_to_list};
 ghost use Rattle.ob0_tree.specs.View as view;
@@ -18,7 +19,7 @@ use ob0_run_machine::code;
 use ob0_tree::{If, Statement};
 use std::alloc::{AllocError, Global};
 
-/// Returns the code of a body, which is empty if there is no BEGIN.
+/// Returns the code of a body. It is empty if there is no BEGIN.
 pub fn body(
     alloc: Global,
     scene: &Scene<'_, '_, '_>,
@@ -33,7 +34,7 @@ pub fn body(
     }
 }
 
-/// Adds the code of a statement, if it has code.
+/// Adds the code of a statement to a list. Does nothing if the statement has no code.
 fn add(made: &mut Vec<code::Instruction>, next: Option<code::Instruction>) -> Result<(), AllocError>
     ensures { OnOk result (made.new.items ≡ made.old.items ++ option_to_list next) }
 {
@@ -92,7 +93,7 @@ fn sequence(
     Ok(made)
 }
 
-/// Returns the code of IF with its ELSIF and ELSE parts.
+/// Returns the code of an IF with its ELSIF parts and its ELSE part.
 #[cycle(statements)]
 fn branches(
     alloc: Global,

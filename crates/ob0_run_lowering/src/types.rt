@@ -1,7 +1,8 @@
-//! The types of a module, with their numbers of cells.
+//! The types of a module, with their numbers of cells and the offsets of fields.
 //!
-//! Sizes are computed once, for each entry of the checker's table from the entries before it (`LayOut` has the order of
-//! `shapes_from`), with the offsets of a record's fields. So the offset of a field is a look-up by its place.
+//! Sizes and offsets are computed once. The layout of each entry of the checker's table results
+//! from the layouts before it, in the order of `shapes_from` (`LayOut`). So the offset of
+//! a field is found by the index of the field in the record.
 
 ghost use Rattle.std.specs.Prelude.{◌≡◌, ◌≤◌, ◌+◌, ◌*◌, ◌^◌, ℕ, IfOk, List, MatchResult, slice_index_or};
 ghost use Rattle.ob0_run_cells.specs.Cells.{field_offset, size, step_offset};
@@ -16,28 +17,29 @@ use ob0_types_table::{DeclarationTable, Field, FieldOf, TypeEntry, TypeId};
 use std::alloc::{AllocError, Global};
 use std::marker::Model;
 
-/// The layout of a record: its number of cells, and the offset of each field.
+/// The layout of a record: its number of cells, and the offset of each field within these cells.
 #[derive(Drop)]
 struct RecordLayout {
     cells: usize,
     offsets: Vec<usize>,
 }
 
-/// The sizes of an entry of the table of types.
+/// The layout of an array or a record type: an array's number of cells, or a record's layout.
 #[derive(Drop)]
 enum Layout {
     Array(usize),
     Record(RecordLayout),
 }
 
-/// The table of a module's declarations, with the sizes of its types.
+/// The table of a module's declarations, with the layouts of its types.
 #[derive(Drop)]
 pub struct Types<'k> {
     known: &'k DeclarationTable,
     layouts: Vec<Layout>,
 }
 
-/// Returns a sum of cells. It is an error exactly if the sum has more than 64 bits: no allocation is that large.
+/// Returns the sum of two numbers of cells. Fails exactly if the sum has more than 64 bits, since
+/// no allocation is that large.
 fn plus(cells: usize, more: usize) -> Result<usize, AllocError>
     ensures { MatchResult result (λ n. n ≡ cells + more) (λ _. 2 ^ 64 ≤ cells + more) }
 {
@@ -47,7 +49,8 @@ fn plus(cells: usize, more: usize) -> Result<usize, AllocError>
     }
 }
 
-/// Returns `count` times `cells`. It is an error exactly if the product has more than 64 bits.
+/// Returns the product of a count and a number of cells. Fails exactly if the product has more than
+/// 64 bits.
 fn times(count: usize, cells: usize) -> Result<usize, AllocError>
     ensures { MatchResult result (λ n. n ≡ count * cells) (λ _. 2 ^ 64 ≤ count * cells) }
 {
@@ -57,7 +60,8 @@ fn times(count: usize, cells: usize) -> Result<usize, AllocError>
     }
 }
 
-/// Returns the number of cells of the array at a place of the table.
+/// Returns the number of cells of the array type at an index of the table, or 0 if the table has no
+/// array type at this index.
 fn array_cells(layouts: &[Layout], place: usize) -> usize
     ensures { (shapes : List values.Shape)
         → LayOut shapes layouts.now
@@ -72,7 +76,8 @@ fn array_cells(layouts: &[Layout], place: usize) -> usize
     }
 }
 
-/// Returns the record at a place of the table.
+/// Returns the layout of the record type at an index of the table, or None if the table has no
+/// record type at this index.
 fn record_at(layouts: &[Layout], place: usize) -> Option<&RecordLayout>
     ensures { (shapes : List values.Shape)
         → LayOut shapes layouts.now
@@ -98,7 +103,7 @@ fn record_cells(layouts: &[Layout], place: usize) -> usize
     }
 }
 
-/// Returns the number of cells of a type, by the layouts so far.
+/// Returns the number of cells of a type, according to the layouts so far.
 fn size_in(layouts: &[Layout], of: TypeId) -> usize
     ensures { (shapes : List values.Shape)
         → LayOut shapes layouts.now
@@ -113,7 +118,7 @@ fn size_in(layouts: &[Layout], of: TypeId) -> usize
     }
 }
 
-/// Returns the layout of a record: its fields one after the other.
+/// Returns the layout of a record whose fields are one after the other.
 fn lay_out_record(
     alloc: Global,
     layouts: &[Layout],
@@ -132,7 +137,7 @@ fn lay_out_record(
     Ok(RecordLayout { cells, offsets })
 }
 
-/// Returns the layout of an entry of the table, by the layouts before it.
+/// Returns the layout of an entry of the table, according to the layouts before it.
 fn entry(alloc: Global, layouts: &[Layout], shape: &TypeEntry) -> Result<Layout, AllocError>
     ensures { (shapes : List values.Shape)
         → LayOut shapes layouts.now
@@ -165,11 +170,11 @@ impl<'k> Types<'k> {
     ghost use Rattle.ob0_types_table.specs.KnownTables.{shapes_of};
     ghost use Rattle.ob0_language_values.specs.Values.{at_field};
 
-    /// Computes the sizes of all types.
+    /// Computes the layouts of all types of the table.
     ///
     /// # Errors
     ///
-    /// Out of memory.
+    /// An allocation failed, or a size has more than 64 bits.
     pub fn new(alloc: Global, known: &'k DeclarationTable) -> Result<Types<'k>, AllocError>
         ensures { IfOk result (λ t. t ≡ known.now) }
     {
@@ -191,7 +196,8 @@ impl<'k> Types<'k> {
         size_in(self.layouts.as_slice(), of)
     }
 
-    /// Returns the offset of the first field with this name, in the cells of a record.
+    /// Returns the offset, in the cells of a record, of the first field with this name. Returns the
+    /// size of the record if there is no such field, and 0 for any other type.
     pub fn offset(&self, of: TypeId, name: &str) -> usize
         ensures { result ≡ step_offset (type_shape (shapes_of self.now) of) (at_field name.now) }
     {
@@ -208,7 +214,7 @@ fn offset_at(offsets: &[usize], index: usize) -> usize
     }
 }
 
-/// Returns the offset of a field, or the size of the record if there is no such field.
+/// Returns the offset of a field of a record, or the size of the record for None.
 fn record_offset(laid: &RecordLayout, field: Option<FieldOf>) -> usize
     ensures { (k : ℕ) (fs : values.FieldShapes) (x : Name)
         → AreLaidOut fs laid.now
@@ -237,7 +243,8 @@ fn offset_in(known: &DeclarationTable, layouts: &[Layout], of: TypeId, name: &st
     }
 }
 
-/// Returns the layouts of all types of the table, each by the layouts before it.
+/// Returns the layouts of all types of the table, in the order of the table. Each layout results
+/// from the layouts before it.
 fn lay_out_all(alloc: Global, known: &DeclarationTable) -> Result<Vec<Layout>, AllocError>
     ensures { IfOk result (λ layouts. LayOut (shapes_of known.now) layouts.items) }
 {

@@ -1,7 +1,7 @@
-//! The places of the declarations in scope, and the placing of the names of a block or a heading.
+//! The sites of the declarations in scope, and the placement of the names of a block or a heading.
 //!
-//! A binding keeps the site that it hides, which is restored at the end of the procedure. So a table by ordinal is
-//! enough, and a procedure costs as much as it declares.
+//! A binding records the site that it hides. At the end of the procedure this site is restored. So
+//! one table by ordinal is enough, and a procedure takes time only for the names that it declares.
 
 ghost use Rattle.std.specs.Prelude.{◌≡◌, ◌≤◌, ◌+◌, ◌^◌, ℕ, suc, IfOk, OnOk, MatchOption, length, slice_set};
 ghost use Rattle.ob0_run_lowering.specs.Scenes.{site_at};
@@ -12,21 +12,23 @@ use crate::contexts::LoweringContext;
 use ob0_tree::{Names as NameList, Section, Variables};
 use std::alloc::{AllocError, Global};
 
-/// The site that an ordinal had before a binding.
+/// A site that a binding has hidden: an ordinal, and its site before the binding.
 #[derive(Drop, Clone, Copy)]
 pub(crate) struct Hidden {
     pub(crate) ordinal: usize,
     pub(crate) before: Site,
 }
 
-/// The site of each declaration in scope, by its ordinal, and the sites that bindings have hidden, the oldest first.
+/// The site of each declaration in scope, by its ordinal. `hidden` lists the sites that bindings
+/// have hidden, the oldest first.
 #[derive(Drop)]
 pub(crate) struct VisibleSites {
     pub(crate) sites: Vec<Site>,
     pub(crate) hidden: Vec<Hidden>,
 }
 
-/// An activation so far: its depth, which is 0 for the module, and its numbers of cells and of VAR parameters.
+/// The activation of a block, as far as names are placed in it: its depth, which is 0 for the
+/// module, the number of its cells, and the number of its VAR parameters.
 #[derive(Clone, Copy)]
 pub(crate) struct Frame {
     pub(crate) depth: usize,
@@ -34,7 +36,7 @@ pub(crate) struct Frame {
     pub(crate) references: usize,
 }
 
-/// Returns the site of the next variable of an activation.
+/// Returns the site that the next variable of an activation gets.
 fn next_site(frame: Frame) -> Site
     ensures { IsNextSite frame result }
 {
@@ -83,7 +85,7 @@ impl VisibleSites {
         }
     }
 
-    /// Makes the list long enough for an ordinal.
+    /// Extends the list of sites until it has an entry for an ordinal. New entries are `Nowhere`.
     fn reach(&mut self, ordinal: usize) -> Result<(), AllocError>
         ensures same { OnOk result
             ((k : ℕ) → site_at self.new.sites.items k ≡ site_at self.old.sites.items k) }
@@ -107,7 +109,7 @@ impl VisibleSites {
         }
     }
 
-    /// Returns the site of an ordinal.
+    /// Returns the site of an ordinal, or `Nowhere` if the list is too short for it.
     fn at(&self, ordinal: usize) -> Site
         ensures { result ≡ site_at self.now.sites.items ordinal }
     {
@@ -117,7 +119,7 @@ impl VisibleSites {
         }
     }
 
-    /// Brings a declaration into scope.
+    /// Brings a declaration into scope: sets the site of its ordinal and records the site before.
     fn bind_ordinal(&mut self, ordinal: usize, site: Site) -> Result<(), AllocError>
         ensures sites { OnOk result ((k : ℕ)
             → site_at self.new.sites.items k
@@ -131,7 +133,7 @@ impl VisibleSites {
         Ok(())
     }
 
-    /// Brings the declaration of a name into scope. A name without an ordinal declares nothing.
+    /// Brings a declaration into scope, as `bind_ordinal` does. Does nothing without an ordinal.
     pub(crate) fn bind(&mut self, ordinal: Option<usize>, site: Site) -> Result<(), AllocError>
         ensures sites { OnOk result ((k : ℕ)
             → site_at self.new.sites.items k
@@ -144,14 +146,15 @@ impl VisibleSites {
         }
     }
 
-    /// Returns the number of hidden sites.
+    /// Returns the number of hidden sites. Given this number, `back_to` later restores the
+    /// sites that were hidden in between.
     pub(crate) fn mark(&self) -> usize
         ensures { result ≡ length self.now.hidden.items }
     {
         self.hidden.len()
     }
 
-    /// Restores the sites that were hidden after a mark, the latest first.
+    /// Restores the sites that were hidden after the first `mark` ones, the latest first.
     pub(crate) fn back_to(&mut self, mark: usize)
         ensures { (w : VisibleSites)
             → Follows w self.old
@@ -166,7 +169,8 @@ impl VisibleSites {
         }
     }
 
-    /// Places the declaration of a name: a VAR parameter by its index, a variable in new cells.
+    /// Places a declared name in an activation: a VAR parameter gets the next index, a variable new
+    /// cells. Returns the frame with this name added. Also fails if a number has more than 64 bits.
     fn place(
         &mut self,
         context: &LoweringContext<'_, '_, '_>,
@@ -201,7 +205,8 @@ impl VisibleSites {
         Ok(next)
     }
 
-    /// Places names of one type.
+    /// Places the names of one declaration, one after the other. Returns the frame with these names
+    /// added.
     fn place_names(
         &mut self,
         context: &LoweringContext<'_, '_, '_>,
@@ -237,7 +242,8 @@ impl VisibleSites {
         Ok(now)
     }
 
-    /// Places the variables of a block.
+    /// Places the variables of a block, one after the other. Returns the frame with these variables
+    /// added.
     pub(crate) fn variables(
         &mut self,
         context: &LoweringContext<'_, '_, '_>,
@@ -271,7 +277,8 @@ impl VisibleSites {
         Ok(now)
     }
 
-    /// Places the parameters of a procedure.
+    /// Places the parameters of a procedure, one after the other. Returns the frame with these
+    /// parameters added.
     pub(crate) fn parameters(
         &mut self,
         context: &LoweringContext<'_, '_, '_>,

@@ -1,4 +1,4 @@
--- The flag of a run's memory.
+-- States whether an allocation of a run has failed.
 -- Rule: docs/PROTOCOL.md, The program 6: `Memory` is reported where an allocation fails.
 use Rattle.std.specs.Prelude.{Bool}
 use Rattle.ob0_run_machine.specs.declared.memory.Memory.{Memory}

@@ -1,4 +1,4 @@
--- The value of places, numbers and truths of lowered code, in activations and over cells.
+-- Defines the value of places, numbers and truths of lowered code, for given activations and cells.
 -- Rule: none; for contracts of the machine: what lowered expressions mean,
 -- by the rules of docs/LANGUAGE.md, Runs 2 to 4.
 use Rattle.std.specs.Prelude.{ℕ, suc, zero, ◌+◌, ◌*◌, ◌%◌, ◌^◌, Bool, true, false, not, ◌&&◌, List, [], ◌∷◌, Option, None, Some, ℤ, pos, negsuc, ◌+ℤ◌, ◌-ℤ◌, ◌*ℤ◌, neg_ℤ, if◌then◌else◌, nat_lt, slice_index_or, int_lt, int_le, drop}
@@ -8,16 +8,16 @@ pub use Rattle.ob0_language_values.specs.Values.{fits, same_truth}
 use Rattle.ob0_run_machine.specs.Lowered.{Place, in_module, here, outside, passed, element, Number, literal, cell, negative, operation, Operator, sum, difference, product, quotient, remainder, Comparator, equal, not_equal, less, less_equal, greater, greater_equal, Truth, constant, flag, negation, both, either, related, same, different}
 
 infixl 20 ◌>>=◌
--- the end of a run
+-- the end of a run: Done, a fault, or a bound that was reached
 pub data Halt : Type 0 where
   Done Overflow Divisor Index InputEnd CallBound TurnBound : Halt
 
--- a step of a run gives something, or it ends the run
+-- the outcome of an evaluation: it gives a value, or ends the run
 pub data StepResult (A : Type 0) : Type 0 where
   gives : A → StepResult A
   ends : Halt → StepResult A
 
--- one evaluation after another: an end of the first is the end of both
+-- continues with the value of an evaluation; if the evaluation ends the run, `next` is skipped
 abbrev pub ◌>>=◌ : {A B : Type 0} → StepResult A → (A → StepResult B) → StepResult B
 ◌>>=◌ (gives a) next = next a
 ◌>>=◌ (ends e) next = ends e
@@ -31,20 +31,20 @@ pub record Level : Type 0 where
 abbrev pub Levels : Type 0
 Levels = List Level
 
--- the first of some activations; of none, one with base 0 and no addresses
+-- the first activation of a list; for the empty list one with base 0 and no addresses
 abbrev pub innermost : Levels → Level
 innermost [] = record { base = 0; addresses = [] }
 innermost (l ∷ ls) = l
 
--- the activation some levels out
+-- the activation `up` levels out
 abbrev pub level_at : Levels → ℕ → Level
 level_at ls up = innermost (drop up ls)
 
--- addresses wrap at 64 bits
+-- the address at an offset after another address; the sum wraps at 64 bits
 abbrev pub forward : ℕ → ℕ → ℕ
 forward address offset = (address + offset) % 2 ^ 64
 
--- the address of an element; Index if the index is negative or not below the length
+-- the address of an array's element; the end Index if the index is negative or not below the length
 abbrev pub element_at : ℕ → ℕ → ℕ → ℤ → StepResult ℕ
 element_at address length stride (pos i) =
     if nat_lt i length then gives (forward address (i * stride)) else ends Index
@@ -54,16 +54,16 @@ element_at address length stride (negsuc i) = ends Index
 abbrev pub cell_at : List ℤ → ℕ → ℤ
 cell_at cells address = slice_index_or cells address (pos 0)
 
--- a result of 32 bits, or Overflow
+-- the number as an outcome; the end Overflow if it has more than 32 bits
 abbrev pub in_range : ℤ → StepResult ℤ
 in_range n = if fits n then gives n else ends Overflow
 
--- the result of a division, which is None for a divisor below 1
+-- the result of a division as an outcome; None, for a divisor below 1, is the end Divisor
 abbrev pub divided_by : Option ℤ → StepResult ℤ
 divided_by None = ends Divisor
 divided_by (Some n) = in_range n
 
--- an operator on two numbers
+-- the outcome of an operator on two numbers
 abbrev pub operate : Operator → ℤ → ℤ → StepResult ℤ
 operate sum a b = in_range (a +ℤ b)
 operate difference a b = in_range (a -ℤ b)
@@ -72,7 +72,7 @@ operate quotient a b = divided_by (divided division.quotient a b)
 operate remainder a b = divided_by (divided division.remainder a b)
 
 abbrev mutual
-  -- the address of a place among all cells; Index if an array has no such element
+  -- the address of a place; the end Index if an array has no such element
   pub address : Levels → List ℤ → Place → StepResult ℕ
   address ls cells (in_module offset) = gives offset
   address ls cells (here offset) = gives (forward (innermost ls).base offset)
@@ -82,14 +82,14 @@ abbrev mutual
   address ls cells (element p i length stride offset) =
       address ls cells p >>= (λ a. number ls cells i >>= element_at (forward a offset) length stride)
 
-  -- the value of a number; each operation gives 32 bits or ends the run
+  -- the value of a number; each result of an operation has 32 bits, or the run ends
   pub number : Levels → List ℤ → Number → StepResult ℤ
   number ls cells (literal n) = gives n
   number ls cells (cell p) = address ls cells p >>= (λ a. gives (cell_at cells a))
   number ls cells (negative n) = number ls cells n >>= (λ a. in_range (neg_ℤ a))
   number ls cells (operation o m n) = number ls cells m >>= (λ a. number ls cells n >>= operate o a)
 
--- a relation between two numbers
+-- true if a relation holds between two numbers
 abbrev pub compare : Comparator → ℤ → ℤ → Bool
 compare equal a b = int_le a b && int_le b a
 compare not_equal a b = not (int_le a b && int_le b a)
@@ -104,12 +104,13 @@ is_true (pos zero) = false
 is_true (pos (suc n)) = true
 is_true (negsuc n) = true
 
--- a truth value as a cell
+-- the cell of a truth value: 0 for FALSE, 1 for TRUE
 abbrev pub as_cell : Bool → ℤ
 as_cell false = pos 0
 as_cell true = pos 1
 
--- the value of a truth
+-- the value of a truth; the right side of `both` or `either` is evaluated only if the left side
+-- doesn't decide the value
 abbrev pub truth : Levels → List ℤ → Truth → StepResult Bool
 truth ls cells (constant b) = gives b
 truth ls cells (flag p) = address ls cells p >>= (λ a. gives (is_true (cell_at cells a)))

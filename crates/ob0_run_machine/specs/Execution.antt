@@ -1,13 +1,13 @@
--- Runs of lowered code, by big steps: statements, calls and whole programs, over the activations
--- that are seen, the cells, the rest of the input,
--- and bounds c on open calls and t on the iterations of a loop.
+-- Defines runs of lowered code, by big steps: of statements, calls and whole programs. They depend
+-- on the activations that are seen, the cells, the rest of the input, the bound c on open calls,
+-- and the bound t on the iterations of a loop.
 -- Rule: none; for contracts of the machine: what lowered statements mean,
 -- by the rules of docs/LANGUAGE.md, Runs 5 to 10.
 use Rattle.std.specs.Prelude.{ℕ, zero, suc, ◌+◌, ◌-◌, ◌^◌, Bool, true, false, ◌&&◌, List, [], ◌∷◌, ◌++◌, length, take, drop, replicate, ℤ, pos, Some, None, Option, if◌then◌else◌, nat_le, nat_lt, slice_get, slice_set}
 use Rattle.ob0_run_machine.specs.Lowered.{LoweredArgument, by_place, by_number, by_truth, by_block, Instruction, stores_number, stores_truth, copies, reads, writes, writes_line, chooses, while_loop, repeat_loop, calls, Instructions, no_statement, before, Branches, no_branch, branch, Routine, LoweredCode}
 use Rattle.ob0_run_machine.specs.Evaluation.{CallBound, Done, Halt, InputEnd, StepResult, Levels, TurnBound, address, as_cell, ends, gives, innermost, number, truth, ◌>>=◌}
 
--- an item of output
+-- an item of output: a number, or the end of a line
 pub data OutputItem : Type 0 where
   number_out : ℤ → OutputItem
   line_out : OutputItem
@@ -18,26 +18,28 @@ pub record MachineState : Type 0 where
   pub input : List ℤ
   pub output : List OutputItem
 
--- a run continues, or it has ended with this output.
--- There is no room if there are no addresses for the cells of an activation
+-- a run continues in a state, or it has ended with this output, or it has no room: the cells of an
+-- activation would need addresses of more than 64 bits
 pub data MachineProgress : Type 0 where
   running : MachineState → MachineProgress
   stopped : Halt → List OutputItem → MachineProgress
   no_room : MachineProgress
 
--- an evaluation, followed by a use of its result
+-- continues a run with the value of an evaluation; if the evaluation ends the run, `next` is
+-- skipped
 abbrev pub use_in : {A : Type 0} → MachineState → StepResult A → (A → MachineProgress)
     → MachineProgress
 use_in s (gives a) next = next a
 use_in s (ends e) next = stopped e s.output
 
--- a run, followed by a further step if it hasn't ended
+-- continues a run with a further step if the run hasn't ended
 abbrev pub continue_with : MachineProgress → (MachineState → MachineProgress) → MachineProgress
 continue_with (running s) next = next s
 continue_with (stopped e out) next = stopped e out
 continue_with no_room next = no_room
 
--- one of two ways, by a condition
+-- continues a run with one of two steps, chosen by the value of a condition; if the evaluation of
+-- the condition ends the run, both are skipped
 abbrev pub choose : MachineState → StepResult Bool
     → (MachineState → MachineProgress)
     → (MachineState → MachineProgress)
@@ -50,42 +52,45 @@ choose s (ends e) when_true when_false = stopped e s.output
 abbrev pub append_output : MachineState → OutputItem → MachineState
 append_output s i = record s { output = s.output ++ i ∷ [] }
 
--- the state after a number was stored at an address; unchanged if there is no cell at it
+-- the state after a number was stored at an address; unchanged if there is no cell at this address
 abbrev pub store_at : MachineState → ℕ → ℤ → MachineState
 store_at s a n = record s { cells = slice_set s.cells a n }
 
--- the cells after n cells were copied from one address to another; unchanged if there are too few at either
+-- the cells after n cells were copied from one address to another; unchanged if there are too few
+-- cells at either address
 abbrev pub copied : List ℤ → (to from n : ℕ) → List ℤ
 copied cells to from n =
     if nat_le (to + n) (length cells) && nat_le (from + n) (length cells)
     then take to cells ++ (take n (drop from cells) ++ drop (to + n) cells)
     else cells
 
--- n new cells, each 0
+-- n new cells, each with the value 0
 abbrev pub zeros : ℕ → List ℤ
 zeros n = replicate n (pos 0)
 
--- the n cells at an address, or n zeros if there are too few
+-- the n cells at an address, or n zeros if there are fewer cells
 abbrev pub block_at : List ℤ → (from n : ℕ) → List ℤ
 block_at cells from n =
     if nat_le (from + n) (length cells) then take n (drop from cells) else zeros n
 
--- `Read` takes the next number of the input, or ends with InputEnd
+-- the run after `Read`: the next number of the input is stored at an address; if no input is left,
+-- the run ends with InputEnd
 abbrev pub read_number : MachineState → ℕ → List ℤ → MachineProgress
 read_number s a [] = stopped InputEnd s.output
 read_number s a (n ∷ rest) = running (store_at (record s { input = rest }) a n)
 
--- the arguments passed so far: values as cells at the end, and places as addresses,
--- both in the order of the parameters
+-- the arguments passed so far: the values as cells at the end of all cells, the places as
+-- addresses, both in the order of the parameters
 pub record Passed : Type 0 where
   pub cells : List ℤ
   pub addresses : List ℕ
 
--- more cells of arguments
+-- the passed arguments with more cells at the end
 abbrev pub pass_cells : Passed → List ℤ → Passed
 pass_cells p more = record p { cells = p.cells ++ more }
 
--- an argument is passed: a VAR parameter's address, or cells
+-- the passed arguments with one more argument: the address of a VAR argument, or the cells of a
+-- value
 abbrev pub pass : Levels → LoweredArgument → Passed → StepResult Passed
 pass ls (by_place p) done =
     address ls done.cells p >>= (λ a. gives record done { addresses = done.addresses ++ a ∷ [] })
@@ -95,13 +100,14 @@ pass ls (by_truth t) done =
 pass ls (by_block p n) done =
     address ls done.cells p >>= (λ a. gives (pass_cells done (block_at done.cells a n)))
 
--- arguments are evaluated and passed from left to right
+-- the passed arguments with more arguments, which are evaluated and passed from left to right
 abbrev pub pass_all : Levels → List LoweredArgument → Passed → StepResult Passed
 pass_all ls [] done = gives done
 pass_all ls (a ∷ as_given) done = pass ls a done >>= pass_all ls as_given
 
--- WHILE evaluates its condition; if it is TRUE and no iteration of t is left, the run ends
--- with TurnBound; otherwise one more is made
+-- The run of a WHILE, with at most t iterations. If its condition is FALSE, the statement ends. If
+-- the condition is TRUE, one more iteration is made. If no iteration is left, the run ends with
+-- TurnBound instead.
 abbrev pub turns : ℕ → (MachineState → StepResult Bool)
     → (MachineState → MachineProgress)
     → MachineState
@@ -112,8 +118,9 @@ turns (suc t) condition statements s =
     choose s (condition s) (λ s'. continue_with (statements s') (turns t condition statements))
     running
 
--- REPEAT makes an iteration and then evaluates its condition: TRUE ends the statement; FALSE ends
--- the run with TurnBound if no iteration of t after the first is left; otherwise one more is made
+-- The run of a REPEAT, with at most t iterations after the first. Its condition is evaluated after
+-- each iteration. If the condition is TRUE, the statement ends. If it is FALSE, one more iteration
+-- is made. If no iteration is left, the run ends with TurnBound instead.
 abbrev pub turns_until : ℕ → (MachineState → StepResult Bool)
     → (MachineState → MachineProgress)
     → MachineState
@@ -124,18 +131,20 @@ turns_until zero condition turn s =
 turns_until (suc t) condition turn s =
     continue_with (turn s) (λ s'. choose s' (condition s') running (turns_until t condition turn))
 
--- the effect of a call of a procedure, by the activations that its body sees, its own first,
--- whose arguments have been passed
+-- the effect of a call whose arguments have been passed: a function of the procedure's index, the
+-- activations that the procedure's body sees (its own first), and the state
 abbrev pub CallEffect : Type 0
 CallEffect = ℕ → Levels → MachineState → MachineProgress
 
--- the activations that a called procedure sees
+-- the activations that a called procedure sees: its own activation, then the activation `up` levels
+-- out and all around this one
 abbrev pub entered : Levels → (base up : ℕ) → Passed → Levels
 entered ls base up p = record { base = base; addresses = p.addresses } ∷ drop up ls
 
--- an assignment finds its place, then evaluates its right side, then stores
+-- the run of statements; an assignment finds its place, then evaluates its right side, then stores
 unfoldable mutual
-  -- one statement; `enter` is what a call does, and t bounds the iterations of each loop
+  -- the run of one statement; `enter` is the effect of calls, and t bounds the iterations of each
+  -- loop
   pub execute : CallEffect → ℕ → Levels → Instruction → MachineState → MachineProgress
   execute enter t ls (stores_number p n) s =
       use_in s (address ls s.cells p)
@@ -160,13 +169,13 @@ unfoldable mutual
       use_in s (pass_all ls args record { cells = s.cells; addresses = [] })
       (λ p. enter k (entered ls (length s.cells) up p) record s { cells = p.cells })
 
-  -- statements, one after the other
+  -- the run of statements, one after the other
   pub execute_all : CallEffect → ℕ → Levels → Instructions → MachineState → MachineProgress
   execute_all enter t ls no_statement s = running s
   execute_all enter t ls (before a rest) s =
       continue_with (execute enter t ls a s) (execute_all enter t ls rest)
 
-  -- the statements of the first branch with a TRUE condition, or `otherwise`
+  -- the run of the first branch with a TRUE condition, or of `otherwise` if there is none
   pub execute_branches : CallEffect → ℕ → Levels → Branches
       → (MachineState → MachineProgress)
       → MachineState
@@ -176,27 +185,29 @@ unfoldable mutual
       choose s (truth ls s.cells c) (execute_all enter t ls body)
       (execute_branches enter t ls rest otherwise)
 
--- a call that returns drops its cells and keeps the first n
+-- the run after a call: if the call has returned, only the first n cells remain
 abbrev pub drop_variables : ℕ → MachineProgress → MachineProgress
 drop_variables n (running s) = running record s { cells = take n s.cells }
 drop_variables n (stopped e out) = stopped e out
 drop_variables n no_room = no_room
 
--- an activation gets n new cells at the end, if all cells have addresses of 64 bits
+-- adds n cells at the end and continues the run with `next`; if the number of cells doesn't fit 64
+-- bits, the run has no room
 abbrev pub with_cells : ℕ → (MachineState → MachineProgress) → MachineState → MachineProgress
 with_cells n next s =
     if nat_lt (length s.cells + n) (2 ^ 64)
     then next record s { cells = s.cells ++ zeros n }
     else no_room
 
--- the body of a procedure runs with its own cells after its arguments;
--- a procedure that doesn't exist does nothing
+-- the run of a procedure's body, with its own cells after its arguments; without a procedure
+-- nothing happens
 unfoldable pub activate : CallEffect → ℕ → Levels → Option Routine → MachineState → MachineProgress
 unfolding execute_all
 activate enter t ls None s = running s
 activate enter t ls (Some p) s = with_cells p.cells (execute_all enter t ls p.body) s
 
--- calls, of which c more may be open
+-- the effect of a call if c more calls may be open: the procedure's body runs, then its cells are
+-- dropped; if c is 0, the run ends with CallBound
 unfoldable pub call : List Routine → ℕ → ℕ → CallEffect
 unfolding activate
 call procedures zero t k ls s = stopped CallBound s.output
@@ -209,17 +220,18 @@ pub record MachineRun : Type 0 where
   pub output : List OutputItem
   pub ending : Halt
 
--- a run that reaches the end of the program ends with Done; one without room comes to nothing
+-- the output and the end of a run: Done if it reached the end of the program; None if it had no
+-- room
 abbrev pub finished : MachineProgress → Option MachineRun
 finished (running s) = Some (record { output = s.output; ending = Done })
 finished (stopped e out) = Some (record { output = out; ending = e })
 finished no_room = None
 
--- the module's own activation is the outermost one
+-- the activations that the module's body sees: only the module's, with base 0
 abbrev pub outermost : Levels
 outermost = record { base = 0; addresses = [] } ∷ []
 
--- the run of a program on an input, if there is room for it
+-- the run of a program on an input, with the bounds c and t; None if there is no room for its cells
 unfoldable pub run : LoweredCode → List ℤ → ℕ → ℕ → Option MachineRun
 unfolding execute_all call
 run program input c t =

@@ -1,4 +1,4 @@
--- The activations that an activation sees, itself first, and the addresses of VAR parameters.
+-- Converts the machine's activations and addresses to lists.
 -- Rule: none; for contracts of the machine.
 use Rattle.std.specs.Prelude.{ℕ, List, Option, Some, None, [], ◌∷◌}
 use denote.Ref.{Bor}
@@ -8,17 +8,17 @@ use Rattle.ob0_run_machine.specs.declared.level.Level as code
 use Rattle.ob0_run_machine.specs.Evaluation.{Levels}
 
 abbrev mutual
-  -- an activation of the code, and those around it
+  -- the activation of a `Level`, and the activations around it
   pub levels_of : code.Level → Levels
   levels_of (code.Level' base addresses enclosing) =
       record { base = base; addresses = addresses.now } ∷ levels_after enclosing
 
-  -- the activations around one, if there are any
+  -- the activations around an activation; empty for the module's
   pub levels_after : code.Held-Level-enclosing → Levels
   levels_after code.None' = []
   levels_after (code.Some' pointer l) = levels_of l
 
--- the activations that one of the code sees
+-- the activations that a `Level` sees, itself first; empty for None
 abbrev pub levels_seen : Option (Bor code.Level) → Levels
 levels_seen None = []
 levels_seen (Some l) = levels_of l.now

@@ -1,14 +1,15 @@
 -- Lowered code: a module whose variables are offsets of cells, whose designators are bases, bounds
 -- and offsets, and whose calls name their procedure by its index.
--- No definition has a premise on the code or a case that is stuck. An address without a cell has the value 0, and writing
--- to it changes nothing. A block is copied if both places have all its cells; as an argument it is zeros if its place
--- doesn't. A procedure that doesn't exist does nothing. An activation further out than there are has base 0 and no
--- addresses. Addresses wrap at 64 bits. So no index is tested twice, and no lowered code needs a premise. Arguments are
--- added at the end of the cells one by one, and the next is evaluated over the cells so far (`pass_all`).
+-- The definitions on lowered code hold for any code: they have no premises and no case without a
+-- meaning. An address without a cell has the value 0, and writing to it changes nothing. A block is
+-- copied if all its cells exist at both places; as an argument it is zeros if some don't exist. A
+-- procedure that doesn't exist does nothing. An activation that doesn't exist has base 0 and no
+-- addresses. Addresses wrap at 64 bits. So no index has to be tested twice. Arguments are added one
+-- by one at the end of the cells, and each is evaluated over the cells so far (`pass_all`).
 -- Rule: none; for contracts of the machine: lowered code.
 use Rattle.std.specs.Prelude.{ℕ, Bool, List, ℤ}
 
--- the operators between two numbers
+-- an operator on two numbers
 pub data Operator : Type 0 where
   sum difference product quotient remainder : Operator
 
@@ -34,11 +35,11 @@ mutual
     negative : Number → Number
     operation : Operator → Number → Number → Number
 
--- the relations of numbers
+-- a relation between two numbers
 pub data Comparator : Type 0 where
   equal not_equal less less_equal greater greater_equal : Comparator
 
--- truth values
+-- a truth value: a constant, the cell at a place, a relation, or an operation on truth values
 pub data Truth : Type 0 where
   constant : Bool → Truth
   flag : Place → Truth
@@ -47,8 +48,8 @@ pub data Truth : Type 0 where
   related : Comparator → Number → Number → Truth
   same different : Truth → Truth → Truth
 
--- a place for a VAR parameter, a value for another:
--- a number, a truth, or the cells of an array or a record
+-- an argument: a place for a VAR parameter; otherwise a value, which is a number, a truth, or the
+-- cells of an array or a record
 pub data LoweredArgument : Type 0 where
   by_place : Place → LoweredArgument
   by_number : Number → LoweredArgument
@@ -69,15 +70,15 @@ mutual
     chooses : Branches → Instructions → Instruction
     while_loop : Truth → Instructions → Instruction
     repeat_loop : Instructions → Truth → Instruction
-    -- of a procedure that is declared in the activation `up` levels out
+    -- calls a procedure that is declared in the activation `up` levels out
     calls : (procedure up : ℕ) → List LoweredArgument → Instruction
 
-  -- statements, one before the rest
+  -- a list of statements
   pub data Instructions : Type 0 where
     no_statement : Instructions
     before : Instruction → Instructions → Instructions
 
-  -- conditions, each with the statements that run if it is the first that is TRUE
+  -- conditions, each with the statements that run if this condition is the first that is TRUE
   pub data Branches : Type 0 where
     no_branch : Branches
     branch : Truth → Instructions → Branches → Branches

@@ -7,7 +7,8 @@ ghost use Rattle.ob0_run_machine.specs.Levels.{addresses_in};
 use crate::memory::Memory;
 use std::alloc::AllocError;
 
-/// Addresses in order. One or two are stored here, more in a list, so most calls allocate nothing for them.
+/// The addresses of a call's VAR parameters, in order. One or two are stored inline, more in a
+/// list, so most calls allocate no memory for them.
 #[derive(Drop)]
 pub(crate) enum Addresses {
     Empty,
@@ -16,7 +17,7 @@ pub(crate) enum Addresses {
     More(Vec<usize>),
 }
 
-/// Returns a list of three addresses.
+/// Returns the list of three addresses.
 fn three(memory: &mut Memory, a: usize, b: usize, c: usize) -> Result<Addresses, AllocError>
     ensures listed { IfOk result (λ r. addresses_in r ≡ a ∷ b ∷ c ∷ []) }
     ensures failed { OnErr result (has_failed memory.new ≡ true) }

@@ -1,4 +1,4 @@
-//! Calls of procedures. A call's cells are dropped when it returns.
+//! Calls of procedures. The cells of a call are dropped when the call returns.
 
 ghost use Rattle.std.specs.Prelude.{◌≡◌, map, option_map, slice_get, take};
 ghost use Rattle.ob0_run_machine.specs.Evaluation.{innermost};
@@ -12,7 +12,7 @@ use crate::level::Level;
 use crate::machine::Machine;
 use crate::statements::run_inlined;
 
-/// Returns the procedure at an index.
+/// Returns the procedure at an index, or None if there is no such procedure.
 #[inline(always)]
 fn procedure_at<'p>(procedures: &'p [Routine], procedure: usize) -> Option<&'p Routine>
     ensures { option_map (λ p. procedure_of p.now) result
@@ -24,7 +24,8 @@ fn procedure_at<'p>(procedures: &'p [Routine], procedure: usize) -> Option<&'p R
     Some(&procedures[procedure])
 }
 
-/// Runs the body of a procedure, with its own cells after its arguments.
+/// Adds the cells of a procedure's own variables after its arguments, then runs its body. Does
+/// nothing for None.
 fn activate<F: Fn(&mut Machine<'_>, usize, &Level<'_>) -> Result<(), Stop>>(
     procedure: Option<&Routine>,
     level: &Level<'_>,
@@ -48,7 +49,7 @@ fn activate<F: Fn(&mut Machine<'_>, usize, &Level<'_>) -> Result<(), Stop>>(
     }
 }
 
-/// Drops the cells of an activation.
+/// Drops the cells of an activation: all cells from its base to the end.
 fn drop_variables(machine: &mut Machine<'_>, level: &Level<'_>)
     ensures { state_of machine.new
         ≡ record (state_of machine.old)
@@ -57,7 +58,9 @@ fn drop_variables(machine: &mut Machine<'_>, level: &Level<'_>)
     machine.cells.truncate(level.base);
 }
 
-/// Calls a procedure, if `calls` more calls may be open.
+/// Calls a procedure whose arguments have been passed, and drops its cells when it returns. `calls`
+/// is the number of further calls that may be open. If it is 0, the call ends the run with
+/// CallBound.
 #[inline(never)]
 pub(crate) fn call(
     program: &LoweredCode,

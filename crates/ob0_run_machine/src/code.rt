@@ -1,26 +1,31 @@
-//! Lowered code: variables are offsets of cells, designators are bases, bounds and offsets, and a call refers to its
-//! procedure by its index.
+//! Lowered code: variables are offsets of cells, designators are bases, bounds and offsets, and a
+//! call refers to its procedure by its index.
 //!
-//! Several nodes have the same view, so the machine takes fewer steps by the same definitions:
+//! Some nodes are special forms of others, with the same meaning by `View`. The machine takes fewer
+//! steps for them, and the meaning of lowered code is defined without them:
 //!
-//! - A variable of the module or of the running activation, or at an offset from the address of a VAR parameter, is one
-//!   tag (`Variable`): as a number, as the target of an assignment, and as array and index of a `Row`.
-//! - The operations of a row are links on an accumulator, with the operator and a literal or variable in one tag
-//!   (`Link`). Any other right operand is evaluated by a called function (`apply_other`). `v + i * j` is also a row
-//!   (`VariableSum`), since the variable has the same value after the product was evaluated.
-//! - `x := x + k` is an `Increase`, `x := x * y` an `Update`. An assignment of a row to a variable evaluates the row
-//!   itself (`StoreChain`).
-//! - A variable compared with a literal or a variable is one node (`LessThanLiteral`, `ComparedToLiteral`,
-//!   `ComparedToVariable`). So are an element compared with a variable (`RowToVariable`), an element that becomes TRUE or
-//!   FALSE (`StoreConstant`), and `~flag` (`Unset`).
-//! - Conditions that compare variables are evaluated inline, a flag and an element by small functions (`flag`,
-//!   `compare_row`), all others in a large function (`flat_truth`).
+//! - A variable of the module or of the running activation, or at an offset from the address of a
+//!   VAR parameter, is one tag (`Variable`). It occurs as a number, as the target of an assignment,
+//!   and as the array and the index of a `Row`.
+//! - The operations of a chain are links, which are applied to the result so far. A `Link` has the
+//!   operator and a literal or a variable in one tag. Any other right operand is evaluated by a
+//!   called function (`apply_other`). `v + i * j` is also a chain (`VariableSum`), since
+//!   `v` has the same value before and after the product is evaluated.
+//! - `x := x + k` is an `Increase`, `x := x * y` an `Update`. The assignment of a chain to a
+//!   variable is a `StoreChain`.
+//! - A variable compared with a literal or a variable is one node (`LessThanLiteral`,
+//!   `ComparedToLiteral`, `ComparedToVariable`). The same holds for an element compared with a
+//!   variable (`RowToVariable`), for the assignment of TRUE or FALSE to an element
+//!   (`StoreConstant`), and for `~flag` (`Unset`).
+//! - Comparisons of variables are evaluated inline, flags and elements by small functions (`flag`,
+//!   `compare_row`), all other conditions by a large function (`flat_truth`).
 //!
-//! Long sums and long conjunctions are `Chain`, `All` and `Any`, which loops evaluate; they mean pairs that are nested to
-//! the left. So a long chain of operators needs no stack. A row of operations begins with a `FirstOperand`, which is no
-//! operation. So no row is nested in the left operand of another, by its type.
+//! Long sums, conjunctions and disjunctions are a `Chain`, an `All` and an `Any`. They mean pairs
+//! that are nested on the left, and loops evaluate them. So a long chain of operators needs no
+//! stack. A chain begins with a `FirstOperand`, which can't be an operation. So the first operand
+//! of a chain is never a chain.
 
-/// The operators between two numbers.
+/// An operator on two numbers.
 #[derive(Clone, Copy, PartialEq, Eq, Debug)]
 pub enum Operator {
     Sum,
@@ -30,13 +35,15 @@ pub enum Operator {
     Remainder,
 }
 
-/// A variable of the module or of the running activation, by its offset in their cells, or a place at an offset from the
-/// address of a VAR parameter of the running activation, by its index among the VAR parameters.
+/// A variable, with its kind in one tag. It is at an offset in the cells of the module or of the
+/// running activation, or at an offset from the address of a VAR parameter of the running
+/// activation.
 #[derive(Clone, Copy, PartialEq, Eq, Debug)]
 pub enum Variable {
     Module(usize),
     Here(usize),
-    /// Its numbers have 32 bits, so a `Variable` has 16 bytes. Larger numbers are in a `Place::Passed`.
+    /// The index of the parameter among the VAR parameters, and an offset. Both have 32 bits, so a
+    /// `Variable` has 16 bytes. Larger numbers are in a `Place::Passed`.
     ByReference { index: u32, offset: u32 },
 }
 
@@ -48,13 +55,14 @@ pub enum Place {
     /// At an offset in the cells of the activation that is `up` levels out.
     Outside { up: usize, offset: usize },
     Passed(Box<Reference>),
-    /// An element of an array that is a variable, at an index that is a variable: an `Element` in one step.
+    /// An element whose array and index are variables. It is an `Element` that is evaluated in one
+    /// step.
     Row(Box<Row>),
     Element(Box<Element>),
 }
 
-/// A place at an offset from the address of a VAR parameter of the activation `up` levels out, by its index among the VAR
-/// parameters.
+/// A place at an offset from the address of a VAR parameter. The parameter belongs to the
+/// activation `up` levels out, and `index` is its index among the VAR parameters.
 #[derive(Clone, Copy, PartialEq, Eq, Debug)]
 pub struct Reference {
     pub up: usize,
@@ -62,7 +70,8 @@ pub struct Reference {
     pub offset: usize,
 }
 
-/// A place at an offset in the element at an index of an array, which has `length` elements of `stride` cells each.
+/// A place at an offset in an element of an array, if the array and the index are variables. The
+/// array has `length` elements of `stride` cells each.
 #[derive(Clone, Copy, PartialEq, Eq, Debug)]
 pub struct Row {
     pub array: Variable,
@@ -72,7 +81,8 @@ pub struct Row {
     pub offset: usize,
 }
 
-/// A place at an offset in the element at an index of an array, which has `length` elements of `stride` cells each.
+/// A place at an offset in an element of an array, which has `length` elements of `stride` cells
+/// each.
 #[cycle(numbers)]
 #[derive(Drop)]
 pub struct Element {
@@ -98,7 +108,7 @@ pub enum Number {
     Chain(Box<Chain>),
 }
 
-/// The first operand of a row of operations: a number that isn't an operation.
+/// The first operand of an operation or a chain: a number that isn't an operation.
 #[cycle(numbers)]
 #[derive(Drop)]
 pub enum FirstOperand {
@@ -108,7 +118,7 @@ pub enum FirstOperand {
     Negative(Box<Number>),
 }
 
-/// A number and an operation on it.
+/// A first operand and one operation on it.
 #[cycle(numbers)]
 #[derive(Drop)]
 pub struct Operation {
@@ -124,8 +134,9 @@ pub struct Chain {
     pub rest: Vec<Link>,
 }
 
-/// An operator with its right operand: a literal, a variable or another number. The left operand is the result so far.
-/// If the case's name begins with `Variable`, the variable is the left operand and the result so far the right one.
+/// An operator with its right operand: a literal, a variable or another number. The left operand is
+/// the result so far. In the cases whose name begins with `Variable`, the variable is the left
+/// operand, and the result so far is the right operand.
 #[cycle(numbers)]
 #[derive(Drop)]
 pub enum Link {
@@ -145,7 +156,7 @@ pub enum Link {
     Other(Operator, Number),
 }
 
-/// The relations of numbers.
+/// A relation between two numbers.
 #[derive(Clone, Copy, PartialEq, Eq, Debug)]
 pub enum Comparator {
     Equal,
@@ -179,7 +190,8 @@ pub enum Truth {
     /// Many truths joined by `OR`.
     Any(Box<Several>),
     Related(Comparator, Box<Operands>),
-    /// A variable that is less than a literal: a `Related` in one step, like the next three.
+    /// A variable that is less than a literal. This case and the next three are a `Related` that is
+    /// evaluated in one step.
     LessThanLiteral(Variable, i32),
     /// A variable compared with a literal.
     ComparedToLiteral(Comparator, Variable, i32),
@@ -190,7 +202,7 @@ pub enum Truth {
     Different(Box<Truths>),
 }
 
-/// Two truth values that are compared or joined.
+/// The two sides of `&`, OR or a comparison of truth values.
 #[cycle(truths)]
 #[derive(Drop)]
 pub struct Truths {
@@ -198,7 +210,7 @@ pub struct Truths {
     pub right: Truth,
 }
 
-/// Many truth values in a row, from left to right.
+/// Truth values that are joined by `&` or by OR, from left to right.
 #[cycle(truths)]
 #[derive(Drop)]
 pub struct Several {
@@ -206,13 +218,13 @@ pub struct Several {
     pub rest: Vec<Truth>,
 }
 
-/// A place for a VAR parameter, a value for another.
+/// An argument: a place for a VAR parameter, a value for any other parameter.
 #[derive(Drop)]
 pub enum Argument {
     Place(Place),
     Number(Number),
     Truth(Truth),
-    /// The cells of an array or a record: their first place, and their number.
+    /// The cells of an array or a record: the place of the first cell, and the number of cells.
     Block(Place, usize),
 }
 
@@ -221,18 +233,18 @@ pub enum Argument {
 #[derive(Drop)]
 pub enum Instruction {
     StoreNumber(Place, Number),
-    /// A variable becomes a number.
+    /// Assigns a number to a variable.
     StoreVariable(Variable, Number),
-    /// A variable becomes the result of operations in a row.
+    /// Assigns the result of a chain of operations to a variable.
     StoreChain(Variable, Box<Chain>),
-    /// A variable becomes the result of an operation whose left operand it is, as in `x := x * 2`.
+    /// Assigns to a variable the result of an operation on this variable, as in `x := x * 2`.
     Update(Variable, Link),
-    /// As in `x := x + 1`.
+    /// Adds a literal to a variable, as in `x := x + 1`.
     Increase(Variable, i32),
     StoreTruth(Place, Truth),
-    /// An element becomes TRUE or FALSE.
+    /// Assigns TRUE or FALSE to an element.
     StoreConstant(Box<Row>, bool),
-    /// Copies cells from the second place to the first; the last field is their number.
+    /// Copies cells from the second place to the first; the last field is the number of cells.
     Copy(Place, Place, usize),
     Read(Place),
     Write(Number),
@@ -243,8 +255,9 @@ pub enum Instruction {
     Call(ProcedureCall),
 }
 
-/// IF: its condition with the statements that run if it is TRUE, its ELSIF parts, and the statements that run if no
-/// condition is TRUE. So an IF without ELSIF is evaluated without a list.
+/// IF: its condition with the statements that run if it is TRUE, its ELSIF parts, and the
+/// statements that run if no condition is TRUE. The first condition isn't in the list, so an IF
+/// without ELSIF is evaluated without a list.
 #[cycle(statements)]
 #[derive(Drop)]
 pub struct Conditional {

@@ -1,9 +1,10 @@
-//! Copies of cells: at once between parts of a slice that are apart, one by one between parts that overlap.
+//! Copies of cells within a slice: by `copy_from_slice` between parts that don't overlap, otherwise
+//! by `copy_within`.
 
 ghost use Rattle.std.specs.Prelude.{◌≡◌, ◌+◌, ◌≤◌, length};
 ghost use Rattle.ob0_run_machine.specs.Execution.{copied};
 
-/// Copies `count` cells to a place after them.
+/// Copies `count` cells from `from` to `to`. The copied cells have to end before `to`.
 pub(crate) fn copy_up(cells: &mut [i32], to: usize, from: usize, count: usize)
     requires { (from + count ≤ to) × (to + count ≤ length cells.old) }
     ensures { cells.new ≡ copied cells.old to from count }
@@ -12,7 +13,7 @@ pub(crate) fn copy_up(cells: &mut [i32], to: usize, from: usize, count: usize)
     back[..count].copy_from_slice(&front[from..from + count]);
 }
 
-/// Copies `count` cells to a place before them.
+/// Copies `count` cells from `from` to `to`. The copy has to end before `from`.
 fn copy_down(cells: &mut [i32], to: usize, from: usize, count: usize)
     requires { (to + count ≤ from) × (from + count ≤ length cells.old) }
     ensures { cells.new ≡ copied cells.old to from count }
@@ -21,7 +22,7 @@ fn copy_down(cells: &mut [i32], to: usize, from: usize, count: usize)
     front[to..to + count].copy_from_slice(&back[..count]);
 }
 
-/// Copies `count` cells from one address to another.
+/// Copies `count` cells from `from` to `to`. The two parts may overlap.
 pub(crate) fn copy_cells(cells: &mut [i32], to: usize, from: usize, count: usize)
     requires { (to + count ≤ length cells.old) × (from + count ≤ length cells.old) }
     ensures { cells.new ≡ copied cells.old to from count }

@@ -4,7 +4,8 @@ ghost use Rattle.std.specs.Prelude.{◌≡◌, Some};
 
 use std::alloc::{AllocError, AllocFailed};
 
-/// How an expression ends a run: each case is the case of `End` with the same name.
+/// The fault with which an expression ends a run. Each case is the case of `End` with the same
+/// name.
 #[derive(Clone, Copy, PartialEq, Eq, Debug)]
 pub(crate) enum Ending {
     Overflow,
@@ -12,7 +13,8 @@ pub(crate) enum Ending {
     Index,
 }
 
-/// Why a statement ends a run. It has one tag, so a step's result is returned in registers.
+/// The reason why a statement ends a run. It is only a tag, so a step's result is returned in
+/// registers.
 #[derive(Clone, Copy, PartialEq, Eq, Debug)]
 pub(crate) enum Stop {
     Overflow,

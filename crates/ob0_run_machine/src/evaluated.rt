@@ -1,17 +1,18 @@
-//! The results of evaluations.
+//! The result of an evaluation, in a form that is returned in registers.
 //!
-//! A `Result` of a number or an address is returned through memory, an enum with one payload in registers. So a function
-//! that is called (`operation`, `chain`, `element`, `flat_truth`, ..) returns an `Evaluated`, and a function that is
-//! inlined a `Result`, with `?`; `flat` and `into_result` convert them. The steps of statements return
-//! `Result<(), Stop>`. A `Stop` has one tag, with no enum in it, so this is also returned in registers; `end_at` says
-//! which end it is, and is None if an allocation failed.
+//! A `Result` of a number or an address is returned through memory. An enum with one payload is
+//! returned in registers. So the functions that aren't inlined (`operation`, `flat_truth`,
+//! ..) return the type `Evaluated`. The inlined ones return a `Result` and use `?`. `flat`
+//! and `into_result` convert between the two. The steps of statements return `Result<(), Stop>`. A
+//! `Stop` is only a tag, so this result is also returned in registers. `end_at` gives the end
+//! of the run for a `Stop`, or None if an allocation failed.
 
 ghost use Rattle.std.specs.Prelude.{◌≡◌};
 ghost use Rattle.ob0_run_machine.specs.Answers.{outcome_of, outcome_of_result};
 
 use crate::ending::Ending;
 
-/// The result of an evaluation, or how it ends the run, in one tag.
+/// The value of an evaluation, or the fault that ends the run. One tag distinguishes all cases.
 #[derive(Clone, Copy, PartialEq, Eq, Debug)]
 pub(crate) enum Evaluated<T> {
     Value(T),
@@ -20,7 +21,7 @@ pub(crate) enum Evaluated<T> {
     Index,
 }
 
-/// Returns a result in one tag.
+/// Converts a `Result` to a `Evaluated` with the same value or the same fault.
 #[inline(always)]
 pub(crate) fn flat<T: Copy>(given: Result<T, Ending>) -> Evaluated<T>
     ensures { outcome_of result ≡ outcome_of_result given }
@@ -35,7 +36,7 @@ pub(crate) fn flat<T: Copy>(given: Result<T, Ending>) -> Evaluated<T>
     }
 }
 
-/// Returns an evaluation as a `Result`.
+/// Converts a `Evaluated` to a `Result` with the same value or the same fault.
 #[inline(always)]
 pub(crate) fn into_result<T: Copy>(given: Evaluated<T>) -> Result<T, Ending>
     ensures { outcome_of_result result ≡ outcome_of given }

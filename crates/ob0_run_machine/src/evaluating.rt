@@ -1,5 +1,6 @@
-//! Places, numbers and truths, evaluated in an activation and over the cells. A step that is inlined returns a
-//! `Result`; one that is called returns an `Evaluated`, which comes back in registers.
+//! The evaluation of places, numbers and truths, in an activation and over the cells. An inlined
+//! function returns a `Result`. A function that isn't inlined returns a `Evaluated`, in
+//! registers.
 
 ghost use Rattle.std.specs.Prelude.{◌≡◌, List, ℤ, false, if◌then◌else◌, true};
 ghost use Rattle.ob0_run_machine.specs.Answers.{linked, outcome_of, outcome_of_result};
@@ -56,7 +57,8 @@ fn value_of(variable: Variable, level: &Level<'_>, cells: &[i32]) -> i32
     cell_at(cells, variable_at(variable, level))
 }
 
-/// Returns an address in an element, if the array and the index are variables.
+/// Returns the address of a place in an element whose array and index are variables. Returns the
+/// fault Index if the array has no such element.
 #[inline(always)]
 pub(crate) fn row(row: &Row, level: &Level<'_>, cells: &[i32]) -> Result<usize, Ending>
     ensures { outcome_of_result result ≡ address (levels_of level.now) cells.now (row_of row.now) }
@@ -66,7 +68,7 @@ pub(crate) fn row(row: &Row, level: &Level<'_>, cells: &[i32]) -> Result<usize, 
     element_at(array, row.length, row.stride, index)
 }
 
-/// Returns the address of a place.
+/// Returns the address of a place, or the fault that an index in this place causes.
 #[inline(always)]
 #[cycle(evaluation)]
 pub(crate) fn locate(place: &Place, level: &Level<'_>, cells: &[i32]) -> Result<usize, Ending>
@@ -82,7 +84,7 @@ pub(crate) fn locate(place: &Place, level: &Level<'_>, cells: &[i32]) -> Result<
     }
 }
 
-/// Returns an address in an element.
+/// Returns the result of `locate_element`, in registers.
 #[inline(never)]
 #[cycle(evaluation)]
 fn element(e: &Element, level: &Level<'_>, cells: &[i32]) -> Evaluated<usize>
@@ -102,7 +104,7 @@ fn locate_element(e: &Element, level: &Level<'_>, cells: &[i32]) -> Result<usize
     element_at(forward(a, e.offset), e.length, e.stride, i)
 }
 
-/// Returns the value of a number.
+/// Returns the value of a number, or the fault that ends its evaluation.
 #[inline(always)]
 #[cycle(evaluation)]
 pub(crate) fn evaluate_number(n: &Number, level: &Level<'_>, cells: &[i32]) -> Result<i32, Ending>
@@ -121,7 +123,8 @@ pub(crate) fn evaluate_number(n: &Number, level: &Level<'_>, cells: &[i32]) -> R
     }
 }
 
-/// Returns the value of the first operand of a row.
+/// Returns the value of the first operand of an operation or a chain, or the fault that ends its
+/// evaluation.
 #[inline(always)]
 #[cycle(evaluation)]
 fn evaluate_first(n: &FirstOperand, level: &Level<'_>, cells: &[i32]) -> Result<i32, Ending>
@@ -150,7 +153,8 @@ fn opposite(operand: &Number, level: &Level<'_>, cells: &[i32]) -> Evaluated<i32
     }
 }
 
-/// Evaluates an operation. If its left operand is a variable, as in most, no registers have to be saved.
+/// Evaluates an operation. If its left operand is a variable, as in most operations, no registers
+/// have to be saved.
 #[inline(never)]
 #[cycle(evaluation)]
 fn operation(o: &Operation, level: &Level<'_>, cells: &[i32]) -> Evaluated<i32>
@@ -194,8 +198,8 @@ pub(crate) fn operations(c: &Chain, level: &Level<'_>, cells: &[i32]) -> Result<
     Ok(left)
 }
 
-/// Applies an operation to a number. It is small, so it is inlined: a right operand that is neither a literal nor a
-/// variable is evaluated in a call.
+/// Applies a link to a number. It is inlined: it is small, because a right operand that is neither
+/// a literal nor a variable is evaluated in a call.
 #[inline(always)]
 #[cycle(evaluation)]
 fn apply(link: &Link, left: i32, level: &Level<'_>, cells: &[i32]) -> Result<i32, Ending>
@@ -219,7 +223,8 @@ fn apply(link: &Link, left: i32, level: &Level<'_>, cells: &[i32]) -> Result<i32
     }
 }
 
-/// Applies an operator to a number and an expression.
+/// Evaluates an expression, and applies an operator with `left` as its left operand and this value
+/// as its right operand.
 #[inline(never)]
 #[cycle(evaluation)]
 fn apply_other(
@@ -239,7 +244,7 @@ fn apply_other(
     }
 }
 
-/// Returns the result of an operation on the value of a variable.
+/// Applies a link to the value of a variable and returns the result.
 #[inline(always)]
 pub(crate) fn evaluate_update(
     variable: Variable,
@@ -278,7 +283,8 @@ fn unset(place: &Place, level: &Level<'_>, cells: &[i32]) -> Result<bool, Ending
     Ok(!a)
 }
 
-/// Returns the value of a truth. Constants, flags and comparisons of variables, as most conditions are, are inlined.
+/// Returns the value of a truth. The most frequent forms are inlined: constants, flags and
+/// comparisons of variables.
 #[inline(always)]
 pub(crate) fn evaluate_truth(t: &Truth, level: &Level<'_>, cells: &[i32]) -> Result<bool, Ending>
     ensures { outcome_of_result result ≡ truth (levels_of level.now) cells.now (truth_of t.now) }

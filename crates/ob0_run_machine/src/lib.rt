@@ -1,4 +1,4 @@
-//! Lowered code, what it means, and the machine that runs it over one store of cells.
+//! Lowered code, its meaning, and the machine that runs it over one list of cells.
 #![tactic(auto)]
 
 mod addresses;

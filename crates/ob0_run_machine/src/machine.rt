@@ -28,7 +28,7 @@ pub(crate) struct Machine<'i> {
     pub output: Vec<Item>,
 }
 
-/// Writes a cell. Does nothing if there is no cell at the address.
+/// Stores a number in the cell at an address. Does nothing if there is no such cell.
 #[inline(always)]
 pub(crate) fn store(cells: &mut Vec<i32>, address: usize, number: i32)
     ensures { cells.new.items ≡ slice_set cells.old.items address number }
@@ -38,7 +38,8 @@ pub(crate) fn store(cells: &mut Vec<i32>, address: usize, number: i32)
     }
 }
 
-/// Copies `count` cells from one address to another. Does nothing if there are too few cells at either.
+/// Copies `count` cells from one address to another. Does nothing if there are too few cells at
+/// either address.
 pub(crate) fn copy(cells: &mut Vec<i32>, to: usize, from: usize, count: usize)
     ensures { cells.new.items ≡ copied cells.old.items to from count }
 {
@@ -63,7 +64,8 @@ impl<'i> Machine<'i> {
         self.cells.len()
     }
 
-    /// Moves the next number of the input to a cell. Ends the run if no input is left.
+    /// Reads the next number of the input and stores it at an address. Returns `Stop::InputEnd` if
+    /// no input is left.
     pub(crate) fn read_number(&mut self, address: usize) -> Result<(), Stop>
         ensures { MachineSteps result self.new
             (read_number (state_of self.old) address (state_of self.old).input) }

@@ -1,8 +1,10 @@
-//! The memory of a run. Its lists grow only here, so it is known whether `Memory::fail` was called.
+//! The memory of a run. The lists of a run grow only here, so the memory knows whether an
+//! allocation has failed.
 //!
-//! A step is out of memory only if that was called (`MachineSteps`, `Passes`), so a fault or a bound can't be reported as
-//! out of memory. Each function that grows a list fails only if the list had too little capacity (`full`). Nothing states
-//! that the run needed the memory, or that the allocator refused it.
+//! A step may be out of memory only if `Memory::fail` was called (`MachineSteps`, `Passes`). So a
+//! fault or a bound can't be reported as out of memory. A function that grows a list fails only if
+//! the list had too little capacity (`full`). Nothing states that the run needed the memory, or
+//! that the allocator refused it.
 
 ghost use Rattle.std.specs.Prelude.{◌≡◌, ◌+◌, ◌++◌, ◌∷◌, ◌<◌, ◌≤◌, ◌^◌, [], OnErr, OnOk, false, length, true, vec_capacity, vec_len};
 ghost use Rattle.ob0_run_machine.specs.Execution.{block_at, zeros};
@@ -22,7 +24,7 @@ pub(crate) struct Memory {
 }
 
 impl Memory {
-    /// Returns the memory of a new run.
+    /// Returns the memory of a new run, in which no allocation has failed.
     pub(crate) fn new(alloc: Global) -> Memory
         ensures { has_failed result ≡ false }
     {
@@ -53,7 +55,8 @@ impl Memory {
         }
     }
 
-    /// Adds `count` new cells at the end. A few, as most procedures have, are added one by one, without a call.
+    /// Adds `count` cells with the value 0 at the end. If there are at most `FEW_CELLS`, as in most
+    /// procedures, they are added one by one, without a call.
     #[inline(always)]
     pub(crate) fn push_zeros(
         &mut self,
@@ -92,7 +95,8 @@ impl Memory {
         }
     }
 
-    /// Adds a copy of `count` cells at the end, or zeros if there are too few cells at the address.
+    /// Adds at the end a copy of the `count` cells that begin at an address. Adds `count` zeros
+    /// instead if there are fewer cells from there to the end.
     pub(crate) fn push_block(
         &mut self,
         cells: &mut Vec<i32>,
@@ -116,7 +120,7 @@ impl Memory {
         Ok(())
     }
 
-    /// Notes that an allocation has failed, and returns the error.
+    /// Records that an allocation has failed, and returns the error.
     #[cold]
     fn fail(&mut self) -> AllocError
         ensures { has_failed self.new ≡ true }

@@ -10,7 +10,7 @@ ghost use Rattle.ob0_run_machine.specs.View.{operator_of, relation_of};
 use crate::code::{Comparator, Operator};
 use crate::ending::Ending;
 
-/// Returns a number, or the end Overflow if there is none.
+/// Returns the number, or the fault Overflow for None.
 #[inline(always)]
 fn in_range(number: Option<i32>) -> Result<i32, Ending>
     ensures { outcome_of_result result ≡ if_there number }
@@ -21,7 +21,7 @@ fn in_range(number: Option<i32>) -> Result<i32, Ending>
     }
 }
 
-/// Returns the result of a division, or the end Divisor if there is none.
+/// Returns the result of a division, or the fault Divisor for None.
 #[inline(always)]
 fn of_division(number: Option<i32>) -> Result<i32, Ending>
     ensures { outcome_of_result result ≡ divided_by number }
@@ -32,7 +32,7 @@ fn of_division(number: Option<i32>) -> Result<i32, Ending>
     }
 }
 
-/// Returns the quotient by a divisor of at least 1, rounded down.
+/// Returns the quotient, rounded down. Returns the fault Divisor if the divisor is below 1.
 #[inline(always)]
 pub(crate) fn divide(left: i32, right: i32) -> Result<i32, Ending>
     ensures { outcome_of_result result ≡ operate quotient left right }
@@ -40,7 +40,8 @@ pub(crate) fn divide(left: i32, right: i32) -> Result<i32, Ending>
     of_division(ob0_language_values::divide(left, right))
 }
 
-/// Returns the remainder by a divisor of at least 1, which is not negative.
+/// Returns the remainder, which is never negative. Returns the fault Divisor if the divisor is
+/// below 1.
 #[inline(always)]
 pub(crate) fn modulo(left: i32, right: i32) -> Result<i32, Ending>
     ensures { outcome_of_result result ≡ operate remainder left right }
@@ -48,14 +49,15 @@ pub(crate) fn modulo(left: i32, right: i32) -> Result<i32, Ending>
     of_division(ob0_language_values::modulo(left, right))
 }
 
-/// Returns the sum, or None if it has more than 32 bits. It is computed in 64 bits and compared once, which is compiled
-/// to an addition and a jump on overflow; `checked_add` takes five instructions more.
+/// Returns the sum, or None if it has more than 32 bits. It is computed in 64 bits and compared
+/// once. This compiles to an addition and a jump on overflow; `checked_add` takes five instructions
+/// more.
 #[inline(always)]
 fn sum_of(left: i32, right: i32) -> Option<i32>
     ensures { SomeIff result (FitsSigned w32 (left +ℤ right)) (left +ℤ right) }
 {
     let sum = left as i64 + right as i64;
-    // The distance from the least number: a number below that is larger than any of 32 bits.
+    // The distance from -2^31, without a sign. It has more than 32 bits if the sum has.
     let distance = (sum + 2_147_483_648).cast_unsigned();
     if distance > 4_294_967_295 {
         None
@@ -64,7 +66,8 @@ fn sum_of(left: i32, right: i32) -> Option<i32>
     }
 }
 
-/// Returns the sum, or the end Overflow if it has more than 32 bits. Difference and product do the same.
+/// Returns the sum, or the fault Overflow if it has more than 32 bits. `subtract` and `multiply` do
+/// the same for the difference and the product.
 #[inline(always)]
 pub(crate) fn add(left: i32, right: i32) -> Result<i32, Ending>
     ensures { outcome_of_result result ≡ operate sum left right }
@@ -86,7 +89,7 @@ pub(crate) fn multiply(left: i32, right: i32) -> Result<i32, Ending>
     in_range(left.checked_mul(right))
 }
 
-/// Returns the result of an operator.
+/// Applies an operator to two numbers. Returns the result, or the fault Overflow or Divisor.
 #[inline(always)]
 pub(crate) fn operate(operator: Operator, left: i32, right: i32) -> Result<i32, Ending>
     ensures { outcome_of_result result ≡ operate (operator_of operator) left right }
@@ -100,7 +103,7 @@ pub(crate) fn operate(operator: Operator, left: i32, right: i32) -> Result<i32, 
     }
 }
 
-/// Returns the number with the other sign, or the end Overflow.
+/// Returns the number with the opposite sign, or the fault Overflow if it has more than 32 bits.
 #[inline(always)]
 pub(crate) fn negative(number: i32) -> Result<i32, Ending>
     ensures { outcome_of_result result ≡ in_range (neg_ℤ number) }
@@ -108,7 +111,7 @@ pub(crate) fn negative(number: i32) -> Result<i32, Ending>
     in_range(number.checked_neg())
 }
 
-/// Returns whether two numbers are in a relation.
+/// Returns whether a relation holds between two numbers.
 #[inline(always)]
 pub(crate) fn compare(relation: Comparator, left: i32, right: i32) -> bool
     ensures { result ≡ compare (relation_of relation) left right }
@@ -123,7 +126,7 @@ pub(crate) fn compare(relation: Comparator, left: i32, right: i32) -> bool
     }
 }
 
-/// Returns whether two truth values are the same.
+/// Returns whether two truth values are equal.
 #[inline(always)]
 pub(crate) fn alike(left: bool, right: bool) -> bool
     ensures { result ≡ same_truth left right }
@@ -147,7 +150,7 @@ pub(crate) fn as_cell(truth: bool) -> i32
     if truth { 1 } else { 0 }
 }
 
-/// Returns the address at an offset from another.
+/// Returns the address `offset` cells after another one. The sum wraps at 64 bits.
 #[inline(always)]
 pub(crate) fn forward(address: usize, offset: usize) -> usize
     ensures { result ≡ forward address offset }
@@ -155,7 +158,8 @@ pub(crate) fn forward(address: usize, offset: usize) -> usize
     address.wrapping_add(offset)
 }
 
-/// Returns the address of an array's element, or the end Index.
+/// Returns the address of an array's element, or the fault Index if the array has no such element.
+/// `address` is the address of the array, or of a part of its first element.
 #[inline(always)]
 pub(crate) fn element_at(
     address: usize,

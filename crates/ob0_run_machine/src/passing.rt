@@ -1,4 +1,5 @@
-//! The passing of arguments: values as cells at the end, VAR parameters as addresses.
+//! Passes arguments: a value becomes cells at the end of all cells, a VAR argument becomes an
+//! address.
 
 ghost use Rattle.std.specs.Prelude.{map};
 ghost use Rattle.ob0_run_machine.specs.Execution.{pass, pass_all};
@@ -14,7 +15,8 @@ use crate::level::Level;
 use crate::memory::Memory;
 use crate::operators::as_cell;
 
-/// Evaluates an argument and passes it.
+/// Evaluates an argument and passes it: adds its value at the end of `cells`, or the address of its
+/// place at the end of `addresses`.
 #[inline(always)]
 fn pass(
     memory: &mut Memory,
@@ -48,7 +50,7 @@ fn pass(
     Ok(())
 }
 
-/// Evaluates and passes arguments, from left to right.
+/// Evaluates and passes arguments, one after another, from left to right.
 #[inline(always)]
 pub(crate) fn pass_all(
     memory: &mut Memory,

@@ -1,4 +1,4 @@
-//! Runs of programs.
+//! The run of a program on an input, with its output and its end.
 
 ghost use Rattle.std.specs.Prelude.{◌≡◌, IfOk, Some};
 ghost use Rattle.ob0_run_machine.specs.Execution.{run};
@@ -18,19 +18,19 @@ use std::alloc::{AllocError, Global};
 /// The end of a run.
 #[derive(Clone, Copy, PartialEq, Eq, Debug)]
 pub enum End {
-    /// The end of the program.
+    /// The end of the program was reached.
     Done,
-    /// A result outside the 32 bits.
+    /// A result had more than 32 bits.
     Overflow,
-    /// A divisor below 1.
+    /// A divisor was below 1.
     Divisor,
-    /// An index outside its array.
+    /// An index was outside its array.
     Index,
-    /// Nothing left to read.
+    /// No input was left to read.
     InputEnd,
-    /// One more call than may be open.
+    /// One more call than allowed would have been open.
     CallBound,
-    /// One more iteration than an execution of a loop may make.
+    /// A loop would have made one more iteration than allowed.
     TurnBound,
 }
 
@@ -41,7 +41,7 @@ pub struct Outcome {
     pub end: End,
 }
 
-/// Runs the statements of a program.
+/// Runs the statements of a program's body, starting with the machine's state.
 fn execute(
     program: &LoweredCode,
     calls: u32,
@@ -62,7 +62,9 @@ fn execute(
     run_called(&program.body, &level, turns, machine, &enter)
 }
 
-/// Returns the end of a run by the result of its statements. It is an error exactly if that is `Stop::Memory`.
+/// Returns the end of a run from the result of its statements: Done if the statements returned
+/// normally, otherwise the end for their `Stop`. Returns an error exactly if an allocation failed
+/// (`Stop::Memory`).
 fn end_of(executed: Result<(), Stop>) -> Result<End, AllocError>
     ensures { IsEndOf executed result }
 {
@@ -80,8 +82,8 @@ fn end_of(executed: Result<(), Stop>) -> Result<End, AllocError>
     }
 }
 
-/// Runs a program on an input, with at most `calls` calls open at a time, and at most `turns` iterations of each
-/// execution of a loop. The program's own statements aren't a call.
+/// Runs a program on an input, with at most `calls` calls open at a time, and at most `turns`
+/// iterations of each execution of a loop. The program's own statements aren't a call.
 ///
 /// # Errors
 ///

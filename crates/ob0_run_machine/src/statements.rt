@@ -1,4 +1,4 @@
-//! Statements. The effect of calls is an argument.
+//! The execution of statements. A call is performed by a closure that is an argument (`enter`).
 
 ghost use Rattle.std.specs.Prelude.{◌≡◌, ◌++◌, ◌∷◌, [], List, ℕ, ℤ};
 ghost use Rattle.ob0_run_machine.specs.Answers.{outcome_of_result};
@@ -25,7 +25,8 @@ use crate::machine::{Item, Machine, copy, store};
 use crate::operators::{add, as_cell, compare};
 use crate::passing::pass_all;
 
-/// Assigns a number to any place. It isn't inlined, so that `statement` is small enough to be inlined.
+/// Assigns a number to any place. It isn't inlined, so that `statement` is small enough to be
+/// inlined.
 #[tactic(auto, unfolding(crate::specs::Execution::execute))]
 #[inline(never)]
 fn store_number(
@@ -64,7 +65,8 @@ fn store_variable(
     Ok(())
 }
 
-/// Assigns a row of operations to a variable. It isn't inlined for the same reason.
+/// Assigns the result of a chain of operations to a variable. Like `store_number`, it isn't
+/// inlined.
 #[tactic(auto, unfolding(crate::specs::Execution::execute))]
 #[inline(never)]
 fn store_chain(
@@ -112,7 +114,8 @@ fn increase(
     increase_at(variable_at(variable, level), by, machine)
 }
 
-/// Assigns the result of an operation on a variable to it. It isn't inlined for the same reason.
+/// Assigns to a variable the result of an operation on this variable. Like `store_number`, it isn't
+/// inlined.
 #[tactic(auto, unfolding(crate::specs::Execution::execute))]
 #[inline(never)]
 fn update(
@@ -131,7 +134,7 @@ fn update(
     Ok(())
 }
 
-/// Assigns a truth value. It isn't inlined for the same reason.
+/// Assigns a truth value to a place. Like `store_number`, it isn't inlined.
 #[tactic(auto, unfolding(crate::specs::Execution::execute))]
 #[inline(never)]
 fn store_truth(
@@ -319,7 +322,8 @@ fn statement<F: Fn(&mut Machine<'_>, usize, &Level<'_>) -> Result<(), Stop>>(
     }
 }
 
-/// Runs statements in order. Loops and procedures run their bodies by this, without a call.
+/// Runs statements in order. It is inlined, so loops and procedures run their bodies without a
+/// call.
 #[inline(always)]
 #[cycle(execution)]
 pub(crate) fn run_inlined<F: Fn(&mut Machine<'_>, usize, &Level<'_>) -> Result<(), Stop>>(
@@ -339,7 +343,7 @@ pub(crate) fn run_inlined<F: Fn(&mut Machine<'_>, usize, &Level<'_>) -> Result<(
     Ok(())
 }
 
-/// Runs statements in order, in a call: the branches of an IF.
+/// Runs statements in order. It isn't inlined; an IF runs its branches by this function.
 #[inline(never)]
 #[cycle(execution)]
 pub(crate) fn run_called<F: Fn(&mut Machine<'_>, usize, &Level<'_>) -> Result<(), Stop>>(
@@ -356,7 +360,7 @@ pub(crate) fn run_called<F: Fn(&mut Machine<'_>, usize, &Level<'_>) -> Result<()
     run_inlined(statements, level, turns, machine, enter)
 }
 
-/// Runs statements in order, in a call unless there are none, as in an IF without ELSE.
+/// Runs statements in order. If there are none, as in an IF without ELSE, no function is called.
 #[inline(always)]
 #[cycle(execution)]
 fn run_unless_empty<F: Fn(&mut Machine<'_>, usize, &Level<'_>) -> Result<(), Stop>>(
@@ -377,7 +381,7 @@ fn run_unless_empty<F: Fn(&mut Machine<'_>, usize, &Level<'_>) -> Result<(), Sto
     run_called(statements, level, turns, machine, enter)
 }
 
-/// Runs an IF: the statements after the first condition that is TRUE.
+/// Runs an IF: the statements of the first condition that is TRUE, otherwise its ELSE part.
 #[inline(always)]
 #[cycle(execution)]
 fn branches<F: Fn(&mut Machine<'_>, usize, &Level<'_>) -> Result<(), Stop>>(
@@ -402,7 +406,7 @@ fn branches<F: Fn(&mut Machine<'_>, usize, &Level<'_>) -> Result<(), Stop>>(
     other_branches(i, level, turns, machine, enter)
 }
 
-/// Runs the ELSIF parts of an IF, and its ELSE.
+/// Runs the first ELSIF part of an IF whose condition is TRUE, otherwise its ELSE part.
 #[inline(never)]
 #[cycle(execution)]
 fn other_branches<F: Fn(&mut Machine<'_>, usize, &Level<'_>) -> Result<(), Stop>>(
@@ -424,7 +428,8 @@ fn other_branches<F: Fn(&mut Machine<'_>, usize, &Level<'_>) -> Result<(), Stop>
     run_unless_empty(&i.otherwise, level, turns, machine, enter)
 }
 
-/// Adds a number to the variable at an address, as a step of a run.
+/// Adds a number to the variable at an address. It is `increase_at` with the error type of a
+/// statement.
 #[tactic(auto, unfolding(crate::specs::Execution::execute))]
 #[inline(always)]
 fn count(address: usize, by: i32, machine: &mut Machine<'_>) -> Result<(), Stop>
@@ -452,7 +457,8 @@ fn is_below(address: usize, limit: i32, machine: &Machine<'_>) -> bool
     )
 }
 
-/// Runs the statements of a counting loop: some, and then the one that adds a number to the variable at an address.
+/// Runs one iteration of a counting loop: `statements`, which are all but the last, and then the
+/// last one, which adds a number to the variable at an address.
 #[inline(always)]
 #[cycle(execution)]
 fn run_counted<F: Fn(&mut Machine<'_>, usize, &Level<'_>) -> Result<(), Stop>>(
@@ -476,8 +482,9 @@ fn run_counted<F: Fn(&mut Machine<'_>, usize, &Level<'_>) -> Result<(), Stop>>(
     count(address, by, machine)
 }
 
-/// Runs a counting loop: a WHILE whose condition compares a variable with a literal, and whose last statement adds a
-/// number to a variable. The addresses of both variables are found once.
+/// Runs a counting loop: a WHILE whose condition is that a variable is less than a literal, and
+/// whose last statement adds a number to a variable. The addresses of both variables are found
+/// once.
 #[inline(always)]
 #[cycle(execution)]
 fn run_counting<F: Fn(&mut Machine<'_>, usize, &Level<'_>) -> Result<(), Stop>>(
@@ -512,7 +519,7 @@ fn run_counting<F: Fn(&mut Machine<'_>, usize, &Level<'_>) -> Result<(), Stop>>(
     }
 }
 
-/// Runs a WHILE. It ends the run with TurnBound if the condition is TRUE after as many iterations as it may make.
+/// Runs a WHILE. Ends the run with TurnBound if the condition is TRUE after `turns` iterations.
 #[inline(never)]
 #[cycle(execution)]
 fn run_while<F: Fn(&mut Machine<'_>, usize, &Level<'_>) -> Result<(), Stop>>(
@@ -536,7 +543,7 @@ fn run_while<F: Fn(&mut Machine<'_>, usize, &Level<'_>) -> Result<(), Stop>>(
     run_any_while(w, level, turns, machine, enter)
 }
 
-/// Runs a WHILE of any form.
+/// Runs a WHILE, whatever its form.
 #[inline(always)]
 #[cycle(execution)]
 fn run_any_while<F: Fn(&mut Machine<'_>, usize, &Level<'_>) -> Result<(), Stop>>(
@@ -563,7 +570,8 @@ fn run_any_while<F: Fn(&mut Machine<'_>, usize, &Level<'_>) -> Result<(), Stop>>
     }
 }
 
-/// Runs a REPEAT. The first iteration is made even if the bound is 0.
+/// Runs a REPEAT. Ends the run with TurnBound if the condition is FALSE after `turns` iterations.
+/// The first iteration is made even if `turns` is 0.
 #[inline(never)]
 #[cycle(execution)]
 fn run_repeat<F: Fn(&mut Machine<'_>, usize, &Level<'_>) -> Result<(), Stop>>(

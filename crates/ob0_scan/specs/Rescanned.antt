@@ -6,9 +6,9 @@ use Rattle.ob0_scan.specs.Scanned.{Scanned, IsScanOf}
 use Rattle.ob0_scan.specs.Reused.{Reuses, kinds, names_in, words_in}
 use Rattle.ob0_scan.specs.SameKinds.{HasSameTokens, HasSameWords}
 
--- Holds if `r` has the scan of the new text and its flags say nothing false. `alike` is about the
--- kinds of all tokens, `same_names` about the identifiers, and `same_words` about kinds and
--- spellings.
+-- Holds if `r` has the scan of the new text, and is right about what this scan has in common with
+-- the old one. If `alike` is true, all tokens have the same kinds as before. If `same_names` is
+-- true, the identifiers are the same, and if `same_words` is true, all kinds and spellings are.
 pub record IsRescanOf (old : Scanned) (new : List ℕ) (from removed added : ℕ) (r : RescanInPlace)
     : Type 0 where
   pub scan : IsScanOf new r.rescan.tokens

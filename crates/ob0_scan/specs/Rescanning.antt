@@ -1,4 +1,4 @@
--- Defines the state of a scan of a changed text.
+-- Defines the states of a scan that reuses tokens and comments of the text before a change.
 -- Rule: none; for private contracts of the scanner.
 use Rattle.std.specs.Prelude.{◌≡◌, ℕ, ◌+◌, ◌-◌, ◌<◌, ◌≤◌, ◌^◌, ◌==◌, ◌||◌, ◌⊎◌, Bool, false, List, [], ◌∷◌, ◌++◌, Option, Some, None, IsTrue, length, map, take, drop, max}
 use Rattle.std.specs.List.{All, slice_get}
@@ -11,28 +11,30 @@ use Rattle.ob0_scan.specs.declared.rescanning.Between.{Between}
 use Rattle.ob0_scan.specs.Scanned.{Scanned, IsScan, span_from, token_at, comment_at}
 use Rattle.ob0_scan.specs.Reused.{back_tokens, back_comments, move_span, moved_token, Reuses, IsNew}
 
--- Returns the end of a token, or 0 for None.
+-- Returns the byte offset at which a token ends, or 0 for None.
 abbrev pub token_end : Option Token → ℕ
 token_end None = 0
 token_end (Some t) = t.span.end
 
--- Returns the end of a comment, or 0 for None.
+-- Returns the byte offset at which a comment ends, or 0 for None.
 abbrev pub comment_end : Option Span → ℕ
 comment_end None = 0
 comment_end (Some c) = c.end
 
--- Returns the end of the last token or comment, whichever is later, or 0 if there is none.
+-- Returns the byte offset at which the last token or comment ends, whichever is later, or 0 if
+-- there is none.
 abbrev pub last_end : List Token → List Span → ℕ
 last_end tokens comments =
     max (token_end (slice_get tokens (length tokens - 1)))
     (comment_end (slice_get comments (length comments - 1)))
 
--- Returns true if the first token begins at this place.
+-- Returns true if the first token begins at this byte offset. Returns false if there is no token.
 abbrev pub token_begins : ℕ → List Token → Bool
 token_begins place [] = false
 token_begins place (t ∷ tokens) = t.span.start == place
 
--- Returns true if the first comment begins at this place.
+-- Returns true if the first comment begins at this byte offset. Returns false if there is no
+-- comment.
 abbrev pub comment_begins : ℕ → List Span → Bool
 comment_begins place [] = false
 comment_begins place (c ∷ comments) = c.start == place
@@ -45,8 +47,8 @@ pub record AreInOrder (tokens : List Token) (comments : List Span) : Type 0 wher
   pub comments_begin : IsNonDecreasingBy (λ (c : Span). c.start) comments
   pub comments_end : IsNonDecreasingBy (λ (c : Span). c.end) comments
 
--- Holds if the span lies after the first `removed` bytes, and still fits in 32 bits when it is
--- shifted by `added`.
+-- Holds if the span begins after the first `removed` bytes, and its end still fits in 32 bits when
+-- `added` is added to it.
 pub record IsMovable (removed added : ℕ) (span : Span) : Type 0 where
   pub following : removed ≤ span.start
   pub ordered : span.start ≤ span.end
@@ -61,8 +63,8 @@ pub record TakesOne (s t : Scanner) : Type 0 where
   pub tokens : t.tokens.items ≡ s.tokens.items ++ token_at kind (span_from s.at len)
   pub comments : t.comments.items ≡ s.comments.items ++ comment_at kind (span_from s.at len)
 
--- Holds if the scanner `t` results from the scanner `s` by reading tokens and comments. No old
--- token or comment began at the place of one of these that begins after the change.
+-- Holds if the scanner `t` results from the scanner `s` by reading tokens and comments. If one of
+-- these begins after the change, no old token or comment began at the same place in the old text.
 pub record ReadsOn (old : Scanned) (from removed added : ℕ) (s t : Scanner) : Type 0 where
   pub tokens : List Token
   pub comments : List Span
@@ -71,8 +73,9 @@ pub record ReadsOn (old : Scanned) (from removed added : ℕ) (s t : Scanner) : 
   pub tokens_new : All (λ (t : Token). IsNew old from removed added t.span) tokens
   pub comments_new : All (λ (c : Span). IsNew old from removed added c) comments
 
--- Holds if `at` is a place after the change at which the text ends or an old token or comment
--- begins. `tokens` and `comments` are the old ones that begin there or later.
+-- Holds if `at` is a byte offset after the change in the new text, and the text ends there or an
+-- old token or comment begins there. `tokens` and `comments` are the old ones that begin there or
+-- later.
 pub record IsMet (old : Scanned) (end from removed added at : ℕ) (tokens : List Token)
     (comments : List Span) : Type 0 where
   pub following : from + added ≤ at

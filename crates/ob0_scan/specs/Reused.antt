@@ -41,48 +41,50 @@ names_in text tokens = map (λ (t : Token). name_of t.kind (spanned text t.span)
 abbrev pub words_in : List ℕ → List Token → List Word
 words_in text tokens = map (read_in text) tokens
 
--- Returns a span that lies after the change, shifted by `added` less `removed`.
+-- Returns a span that lies after the change, with `added - removed` added to its start and end.
 abbrev pub move_span : ℕ → ℕ → Span → Span
 move_span removed added span =
     record { start = span.start + added - removed; end = span.end + added - removed }
 
--- Returns a token that lies after the change, shifted by `added` less `removed`.
+-- Returns a token that lies after the change, with `added - removed` added to the start and end of
+-- its span.
 abbrev pub moved_token : ℕ → ℕ → Token → Token
 moved_token removed added token =
     record { kind = token.kind; span = move_span removed added token.span }
 
--- Returns the leading tokens that end before a place.
+-- Returns the leading tokens that end before a byte offset.
 abbrev pub tokens_before_change : ℕ → List Token → List Token
 tokens_before_change place tokens = take (prefix_len (λ t. nat_lt t.span.end place) tokens) tokens
 
--- Returns the leading comments that end before a place.
+-- Returns the leading comments that end before a byte offset.
 abbrev pub comments_before_change : ℕ → List Span → List Span
 comments_before_change place comments =
     take (prefix_len (λ c. nat_lt c.end place) comments) comments
 
--- Returns the tokens without the leading ones that begin before a place.
+-- Returns the tokens without the leading ones that begin before a byte offset.
 abbrev pub back_tokens : ℕ → List Token → List Token
 back_tokens place tokens = drop (prefix_len (λ t. nat_lt t.span.start place) tokens) tokens
 
--- Returns the comments without the leading ones that begin before a place.
+-- Returns the comments without the leading ones that begin before a byte offset.
 abbrev pub back_comments : ℕ → List Span → List Span
 back_comments place comments = drop (prefix_len (λ c. nat_lt c.start place) comments) comments
 
--- Holds if no token and no comment of the scan begins at this place.
+-- Holds if no token and no comment of the scan begins at this byte offset.
 pub record NoOldBegins (s : Scanned) (place : ℕ) : Type 0 where
   pub tokens : All (λ (t : Token). t.span.start ≢ place) s.tokens
   pub comments : All (λ (c : Span). c.start ≢ place) s.comments
 
--- Holds if the span begins before the end of the changed bytes, or no old token or comment began at
--- its place.
+-- Holds if the span begins before the end of the changed bytes. Otherwise holds if no old token or
+-- comment began at the same place in the old text.
 abbrev pub IsNew : Scanned → ℕ → ℕ → ℕ → Span → Type 0
 IsNew old from removed added span =
     from + added ≤ span.start → NoOldBegins old (span.start + removed - added)
 
--- Holds if the first tokens and comments of the changed text are the old ones that end before the
--- change. The last are old ones after the change, shifted. Between them are `read` tokens and
--- comments. If one of these begins after the change, no old token or comment began at its place. So
--- the last ones start at the first place at which tokens or comments of both texts begin.
+-- Holds if the tokens and comments of the new text have three parts. The first ones are the old
+-- ones that end before the change. The last ones are the old ones from a place after the change,
+-- with shifted spans. Between them are `read` tokens and comments. If one of these begins after the
+-- change, no old token or comment began at the same place in the old text. So the last ones start
+-- at the first place at which tokens or comments of both texts begin.
 pub record Reuses (old new : Scanned) (from removed added read : ℕ) : Type 0 where
   pub place : ℕ
   pub following : from + removed ≤ place

@@ -7,8 +7,8 @@ use Rattle.ob0_scan.specs.Reused.{kinds, words_in}
 use Rattle.ob0_scan.specs.Scanned.{Scanned}
 
 -- Holds if two parts of the new tokens have the same kinds as before: the first `prefix` tokens,
--- and the last ones, which start at `new_suffix` and started at `old_suffix` before. No token is in
--- both parts.
+-- and the tokens starting at the index `new_suffix`, which started at the index `old_suffix`
+-- before. No token is in both parts. The values of integers may differ.
 pub record HasSameTokens (s : SameTokens) (old new : List Token) : Type 0 where
   pub old_range : s.prefix ≤ s.old_suffix
   pub new_range : s.prefix ≤ s.new_suffix

@@ -2,10 +2,10 @@
 //! after it, by binary search. Replaces the ones between them, and shifts the later spans.
 //!
 //! A scan is in order (`AreInOrder`), so binary search finds the number that the definition counts
-//! (`proofs/Halved`). A part of a `Vec` is changed by a loop over indexes (`for index in
+//! (`proofs/Halved`). The later part of a `Vec` is changed by a loop over indexes (`for index in
 //! first..items.len()`). Its invariant is `ChangedTo`: the items before the index are changed, the
-//! others aren't. After a call with `&mut items[first..]` the proof would have no name for the
-//! list.
+//! others aren't. A call with `&mut items[first..]` isn't used, because after it the proof would
+//! have no name for the list.
 
 ghost use Rattle.std.specs.Prelude.{◌≡◌, ◌+◌, ◌-◌, ◌<◌, ◌≤◌, ◌^◌, ◌||◌, ◌++◌, OnOk, length, map, take, drop, nat_lt, option_copied, string_bytes};
 ghost use Rattle.std.specs.List.{All, prefix_len};
@@ -28,7 +28,7 @@ pub(crate) struct ReplacedRange {
 }
 
 impl ReplacedRange {
-    /// Returns the offset in the old text of a byte of the new text that lies after the change.
+    /// Converts the offset of a byte after the change from the new text to the old text.
     pub(crate) fn old_place(self, place: usize) -> usize
         requires following { self.added ≤ place }
         requires small { place + self.removed < 2 ^ 64 }
@@ -68,7 +68,7 @@ impl ReplacedRange {
     }
 }
 
-/// Consecutive tokens and comments of a text, each in text order.
+/// A range of the tokens of a text, and a range of its comments, each in text order.
 #[derive(Clone, Copy)]
 pub(crate) struct Pieces<'t> {
     pub(crate) tokens: &'t [Token],
@@ -138,7 +138,7 @@ impl<'t> Pieces<'t> {
     }
 }
 
-/// Returns true if the first token begins at a byte offset.
+/// Returns true if the first token begins at a byte offset. Returns false if there is no token.
 fn token_begins(tokens: &[Token], place: usize) -> bool
     ensures { result ≡ token_begins place tokens.now }
 {
@@ -148,7 +148,7 @@ fn token_begins(tokens: &[Token], place: usize) -> bool
     }
 }
 
-/// Returns true if the first comment begins at a byte offset.
+/// Returns true if the first comment begins at a byte offset. Returns false if there is no comment.
 fn comment_begins(comments: &[Span], place: usize) -> bool
     ensures { result ≡ comment_begins place comments.now }
 {

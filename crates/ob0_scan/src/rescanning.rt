@@ -7,8 +7,9 @@
 //! (`specs/Reused`) says which of them are old:
 //! - Before the change: each that ends before it. (One that ends right at the change may continue
 //!   with the inserted text.)
-//! - After the change, moved by `added` less `removed`: each after the first place at which a token
-//!   or comment begins in both texts. That place can't be later than necessary (`IsNew`).
+//! - After the change, shifted by `added - removed` bytes: each that begins at or after the first
+//!   place at which a token or comment begins in both texts. That place can't be later than
+//!   necessary (`IsNew`).
 //!
 //! `alike` says that the tokens have the same kinds as before. `same_names` says that the
 //! identifiers have the same spelling, and `same_words` that all tokens do.
@@ -21,26 +22,26 @@
 //! most once. A scan is in order (`AreInOrder`), so binary search finds the number that the
 //! definition counts (`proofs/Halved`).
 //!
-//! The newly read tokens and comments are placed between the old ones (`IsBetween`). When reading
-//! is complete, the later old ones move in their list and the new ones are inserted before them
-//! (`splice_tokens`, `splice_comments`). So memory holds the tokens of only one text; two lists
-//! would leave holes of their size in the heap. Only the changed bytes of the text are replaced,
-//! and the bytes after them move (`ReplacedRange::replace`). If a change begins or ends inside a
-//! character, the new text is written over the old one.
+//! The newly read tokens and comments are placed between the old ones (`IsBetween`). When
+//! reading is complete, the later old ones move in their list and the new ones are inserted before
+//! them (`splice_tokens`, `splice_comments`). So memory holds the tokens of only one text; two
+//! lists would leave holes of their size in the heap. Only the changed bytes of the text are
+//! replaced, and the bytes after them move (`ReplacedRange::replace`). If a change begins or ends
+//! inside a character, the new text is written over the old one.
 //!
 //! The change needn't begin and end between characters: a lexeme's last byte is ASCII, so the scan
 //! begins and stops at character borders anyway. A fault ends the search for a common place, so the
 //! faults are those of `scan`, each reported once. Spans fit in 32 bits because of the text's
 //! length: `ScanProgress` says so for a scanner's spans (`short`), `IsMovable` for shifted spans.
-//! Callers have to show `IsReplaced`. The law `middle_is_replaced` gives it for texts joined from
-//! parts, and `Difference::between` of `ob0_analysis` for any two texts.
+//! Callers have to show `IsReplaced`. The law `middle_is_replaced` gives it for texts
+//! joined from parts, and `Difference::between` of `ob0_analysis` for any two texts.
 //!
 //! In the proof, `proofs/AtLexemes` gives the places of the tokens and comments of a list of
 //! lexemes. `Fronts` splits the old lexemes before the change. `Reusing` joins old and new lexemes
 //! at two places: a lexeme depends only on its bytes and the next byte, and equal rests have equal
-//! lexemes. `Between` collects the newly read tokens, and `Kept` has the numbers of the reused old
-//! ones. `Named` shows that the tokens before and after have the same spelling. No clause counts
-//! steps, so nothing proves that old tokens aren't scanned again.
+//! lexemes. `Between` collects the newly read tokens, and `Kept` has the numbers of the
+//! reused old ones. `Named` shows that the tokens before and after have the same spelling. No
+//! clause counts steps, so nothing proves that old tokens aren't scanned again.
 
 ghost use Rattle.std.specs.Prelude.{◌≡◌, ℕ, List, [], false, ◌+◌, ◌-◌, ◌<◌, ◌≤◌, true, IfOk, IfErr, OnOk, length, take, drop};
 ghost use Rattle.ob0_scan.specs.declared.lexeme.TokenKind.TheVariants.{Identifier, Integer};
@@ -68,8 +69,9 @@ pub(crate) struct LexemeCounts {
     pub(crate) comments: usize,
 }
 
-/// The newly scanned tokens and comments, and the old ones that they replace: the old ones after
-/// the first `front` and before index `following`.
+/// The newly scanned tokens and comments, and the ranges of old ones that they replace. The old
+/// tokens `front.tokens..following.tokens` and the old comments
+/// `front.comments..following.comments` are replaced.
 #[derive(Drop)]
 pub(crate) struct Between {
     pub(crate) front: LexemeCounts,
@@ -90,7 +92,8 @@ impl Between {
         are_alike(&self.tokens, &old[self.front.tokens..self.following.tokens])
     }
 
-    /// Returns true only if the new identifiers have the same spelling as the old ones that they replace.
+    /// Returns true only if the new identifiers have the same spelling as the old ones that they
+    /// replace.
     fn has_names_of(&self, new_text: &str, old: &Tokens) -> bool
         requires ordered { self.now.front.tokens ≤ self.now.following.tokens }
         requires inside { self.now.following.tokens ≤ length old.now.tokens }
@@ -107,7 +110,8 @@ impl Between {
         )
     }
 
-    /// Returns true only if the new tokens have the same kinds and spelling as the old ones that they replace.
+    /// Returns true only if the new tokens have the same kinds and spelling as the old ones that
+    /// they replace.
     fn has_words_of(&self, new_text: &str, old: &Tokens) -> bool
         requires ordered { self.now.front.tokens ≤ self.now.following.tokens }
         requires inside { self.now.following.tokens ≤ length old.now.tokens }
@@ -147,8 +151,8 @@ fn is_same_word(new_text: &[u8], new: Token, old_text: &[u8], old: Token) -> boo
     new.kind == old.kind && is_same_piece(new_text, new.span, old_text, old.span)
 }
 
-/// Returns true only if the identifiers among the tokens of two texts are at the same indexes and have the same
-/// spellings.
+/// Returns true only if the identifiers among the tokens of two texts are at the same indexes and
+/// have the same spellings.
 fn have_same_names(new_text: &[u8], new: &[Token], old_text: &[u8], old: &[Token]) -> bool
     ensures { result ≡ true → names_in new_text.now new.now ≡ names_in old_text.now old.now }
 {
@@ -163,7 +167,8 @@ fn have_same_names(new_text: &[u8], new: &[Token], old_text: &[u8], old: &[Token
     true
 }
 
-/// Returns true only if two tokens of two texts are identifiers with the same spelling, or neither is an identifier.
+/// Returns true only if two tokens of two texts are identifiers with the same spelling, or neither
+/// is an identifier.
 fn is_same_name(new_text: &[u8], new: Token, old_text: &[u8], old: Token) -> bool
     ensures { result ≡ true → name_of new.kind (spanned new_text.now new.span)
         ≡ name_of old.kind (spanned old_text.now old.span) }
@@ -175,7 +180,7 @@ fn is_same_name(new_text: &[u8], new: Token, old_text: &[u8], old: Token) -> boo
     }
 }
 
-/// Returns true for the kind of an identifier.
+/// Returns true if a token of this kind is an identifier.
 fn is_name(kind: TokenKind) -> bool
     ensures yes { result ≡ true → kind ≡ Identifier }
     ensures no { result ≡ false → (text : List ℕ) → name_of kind text ≡ [] }
@@ -199,7 +204,8 @@ fn is_same_piece(a: &[u8], in_a: Span, b: &[u8], in_b: Span) -> bool
         && a[in_a.start as usize..in_a.end as usize] == b[in_b.start as usize..in_b.end as usize]
 }
 
-/// Returns true only if two lists of tokens have the same kinds, one by one. The values of integers may differ.
+/// Returns true only if two lists of tokens have the same kinds, one by one. The values of integers
+/// may differ.
 fn are_alike(new: &[Token], old: &[Token]) -> bool
     ensures { result ≡ true → kinds new.now ≡ kinds old.now }
 {
@@ -229,7 +235,7 @@ fn is_same_kind(a: TokenKind, b: TokenKind) -> bool
     }
 }
 
-/// Returns true for the kind of an integer.
+/// Returns true if a token of this kind is an integer.
 fn is_integer(kind: TokenKind) -> bool
     ensures { result ≡ true → valueless kind ≡ Integer 0 }
 {
@@ -262,7 +268,7 @@ impl From<AllocError> for NotRescanned {
 /// Returns the tokens and comments of `new_text`, or its faults. `new_text` is the text of `old`
 /// with the `removed` bytes starting at byte `from` replaced by `added` others. The old tokens and
 /// comments before the change are reused. The scan ends at the first place after the change at
-/// which an old token or comment begins.
+/// which an old token or comment begins. The old ones that begin there or later are also reused.
 pub fn rescan(
     alloc: Global,
     old: &Tokens,
@@ -285,9 +291,9 @@ pub fn rescan(
     }
 }
 
-/// Changes the old tokens and comments into those of `new_text`, like `rescan` but without a copy:
-/// the ones before the change aren't moved. If the text has faults, the old tokens are returned
-/// with them. If an allocation fails, the old tokens are lost.
+/// Turns the old tokens and comments into the tokens and comments of `new_text`. Works like
+/// `rescan`, but in place: the old tokens before the change aren't copied. If the new text has
+/// faults, they are returned with the old tokens. If an allocation fails, the old tokens are lost.
 pub fn rescan_in_place(
     alloc: Global,
     old: Tokens,
@@ -344,8 +350,8 @@ pub fn rescan_in_place(
     }
 }
 
-/// Returns the error for a changed text that wasn't scanned. If the text has faults, the old tokens
-/// are returned with them.
+/// Returns the error for a changed text that wasn't scanned. If the text has faults, the error also
+/// has the old tokens.
 fn refuse(
     old: Tokens,
     new_text: &str,
@@ -363,8 +369,8 @@ fn refuse(
     }
 }
 
-/// Scans the part of a changed text that has to be read again. Returns the new tokens and comments
-/// with the range of old ones that they replace.
+/// Scans the part of a changed text that has to be read again. Returns the tokens and comments
+/// found there, with the ranges of old ones that they replace.
 fn scan_again(
     alloc: Global,
     old: &Tokens,
@@ -408,9 +414,9 @@ fn scan_again(
     })
 }
 
-/// Scans to the end of the text, or up to the first place after the change at which an old token or
-/// comment begins. Returns the old ones that begin at that place or later; at the end of the text
-/// there are none.
+/// Scans up to the first place after the change at which an old token or comment begins, or else to
+/// the end of the text. Returns the old tokens and comments that begin at that place or later, none
+/// at the end of the text.
 fn scan_on<'o>(
     scanner: &mut Scanner,
     old: &'o Tokens,

@@ -1,5 +1,5 @@
--- The data about a module's names that is kept when the statements of one body are replaced. It
--- concerns the tokens before that body, and the tokens after it, which have moved.
+-- The data about a module's names that is kept when the statements of one body are replaced: the
+-- data about the tokens before that body, and about the tokens after it, which have moved.
 -- Rule: none; for private contracts: what is known of a module's names, carried over.
 use Rattle.std.specs.Prelude.{◌≡◌, ℕ, ◌+◌, ◌-◌, ◌^◌, min, nat_lt, List, [], ◌∷◌, ◌++◌, Option, Some, None, if◌then◌else◌, is_some, length, take, drop, replicate}
 use Rattle.ob0_scan.specs.declared.tokens.SameTokens.{SameTokens}
@@ -13,16 +13,16 @@ use Rattle.ob0_scope_table.specs.declared.resolved.Bindings.{Bindings}
 use Rattle.ob0_scope.specs.NewBody.{WasBoundElsewhere}
 use Rattle.ob0_scope.specs.declared.carrying.BodyRange.{BodyRange}
 
--- the first identifier of a body so far, and its occurrences
+-- the first identifier of a body, if one has been seen, and the body's occurrences so far
 pub record NamesInBody : Type 0 where
   pub first : Option ℕ
   pub uses : List ℕ
 
--- returns the state before a body's first identifier, with no occurrences
+-- the names of a body in which no identifier has been seen yet
 abbrev pub no_names : NamesInBody
 no_names = record { first = None; uses = [] }
 
--- returns the first identifier if one is known, otherwise the identifier `i`
+-- returns `first` if an identifier of the body has been seen before, otherwise `i`
 abbrev pub first_or : Option ℕ → ℕ → Option ℕ
 first_or first i = if is_some first then first else Some i
 
@@ -46,7 +46,7 @@ before_body range [] = []
 before_body range (i ∷ is) =
     if nat_lt i range.first then i ∷ before_body range is else before_body range is
 
--- returns the new index of a token after a body, at most 2^64 - 1
+-- returns the new index of a token that is after the replaced body; at most 2^64 - 1
 abbrev pub shifted : BodyRange → ℕ → ℕ
 shifted range i = min (i - range.old_closing + range.closing) (2 ^ 64 - 1)
 
@@ -57,8 +57,8 @@ after_body range (i ∷ is) =
     if nat_lt i range.old_closing then after_body range is
     else shifted range i ∷ after_body range is
 
--- returns the tokens of a list with `own`, the tokens in the new body, in place of the tokens in
--- the old body
+-- returns the tokens of a list with their new indexes; `own`, the tokens in the new body, replace
+-- the tokens in the old body
 abbrev pub carried : BodyRange → List ℕ → List ℕ → List ℕ
 carried range tokens own = before_body range tokens ++ (own ++ after_body range tokens)
 
@@ -66,17 +66,20 @@ carried range tokens own = before_body range tokens ++ (own ++ after_body range 
 abbrev pub padded : ℕ → List (Option ℕ) → List (Option ℕ)
 padded n table = take n table ++ replicate (n - length table) None
 
--- returns a table with the ordinals of the tokens before a body and after it, and None in the body
+-- returns a table of ordinals with each entry at its token's new index; the entries of the new body
+-- are None
 abbrev pub carried_table : BodyRange → List (Option ℕ) → List (Option ℕ)
 carried_table range table =
     padded range.closing (take range.first table) ++ drop range.old_closing table
 
--- returns the token that the closing name of a body's block was before the change, at most 2^64 - 1
+-- returns the old index of the closing name after the replaced statements, given its new index; at
+-- most 2^64 - 1
 abbrev pub old_place : SameTokens → ℕ → ℕ
 old_place same closing = min (closing - same.new_suffix + same.old_suffix) (2 ^ 64 - 1)
 
--- Holds if `range` is the range of the statements that replaced others in a module, and `own` has
--- their occurrences. `b` has the bindings of the old module.
+-- Holds if `range` is the range of the new statements in a module in which one body's statements
+-- were replaced. `own` has the occurrences in these statements, and `b` has the bindings of the old
+-- module.
 pub record IsNewBody (m : Parsed) (b : Bindings) (range : BodyRange) (own : List ℕ) : Type 0 where
   pub same : SameTokens
   pub was : WasBoundElsewhere m b same

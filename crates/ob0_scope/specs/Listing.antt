@@ -25,8 +25,8 @@ TokensAreApart from [] = Unit {0}
 TokensAreApart from (t ∷ ts) =
     (from ≤ t.span.start) × ((t.span.start < t.span.end) × TokensAreApart t.span.end ts)
 
--- Returns the indexes of the entries of a table that have the ordinal `d`, without the omitted
--- index. The first entry has the index `i`.
+-- Returns the index of each entry of a table that equals the ordinal `d`, except the index
+-- `omitted`. The first entry has the index `i`.
 abbrev pub tokens_with : Option ℕ → ℕ → ℕ → List (Option ℕ) → List ℕ
 tokens_with omitted d i [] = []
 tokens_with omitted d i (ordinal ∷ ordinals) =
@@ -34,8 +34,8 @@ tokens_with omitted d i (ordinal ∷ ordinals) =
     then i ∷ tokens_with omitted d (i + 1) ordinals
     else tokens_with omitted d (i + 1) ordinals
 
--- returns the tokens from `first` upwards that have the ordinal `d` in a table, without the omitted
--- token
+-- returns the tokens from `first` upwards that have the ordinal `d` in a table, except the token
+-- `omitted`
 abbrev pub tokens_from : Option ℕ → ℕ → ℕ → List (Option ℕ) → List ℕ
 tokens_from omitted d first ordinals = tokens_with omitted d first (drop first ordinals)
 

@@ -1,4 +1,4 @@
--- The names at the places of a module's text, according to the bindings of its identifiers.
+-- The name at a place of a module's text, and the tokens that are bound to a declaration.
 -- Rule: docs/PROTOCOL.md, Requests on documents 3 to 6.
 use Rattle.std.specs.Prelude.{ℕ, Bool, true, false, not, ◌&&◌, ◌||◌, ◌==◌, ◌≡◌, if◌then◌else◌, List, [], ◌∷◌, Option, map, option_map, option_and_then}
 use Rattle.std.specs.List.{filter, find, zip}
@@ -28,12 +28,13 @@ bound_identifiers m =
 abbrev pub identifier_on : Parsed → ℕ → Option BoundIdentifier
 identifier_on m offset = find (λ s. is_on offset (span_at m.source s.0.1)) (bound_identifiers m)
 
--- returns the token of an identifier and the ordinal of its declaration; None if it is unbound
+-- returns the token of an identifier and the ordinal of its declaration; None if the identifier is
+-- unbound
 abbrev pub named_by : BoundIdentifier → Option named.Named
 named_by s = option_map (λ ordinal. record { token = s.0.1; ordinal = ordinal }) (label_ordinal s.1)
 
--- returns the name that contains a byte offset or ends there; None if there is none, or it is a
--- field or the module's name
+-- returns the name that contains a byte offset or ends there; None if there is none, or if it is a
+-- field, the module's name or an unbound name
 abbrev pub name_on : Parsed → ℕ → Option named.Named
 name_on m offset = option_and_then named_by (identifier_on m offset)
 
@@ -45,13 +46,13 @@ is_declaring role.ClosingName = false
 is_declaring role.FieldName = false
 is_declaring role.ModuleName = false
 
--- returns true for an identifier that is bound to `d`; the declaring one counts only if `include`
--- is true
+-- returns true for an identifier that is bound to the declaration with ordinal `d`; the declaring
+-- one counts only if `include` is true
 abbrev pub refers : Bool → ℕ → BoundIdentifier → Bool
 refers include d s = same_label s.1 (declared d) && (include || not (is_declaring s.0.0))
 
--- returns the tokens of the identifiers that are bound to `d`; the declaring one is among them only
--- if `include` is true
+-- returns the tokens of the identifiers that are bound to the declaration with ordinal `d`; the
+-- declaring one is among them only if `include` is true
 abbrev pub tokens_bound : Parsed → ℕ → Bool → List ℕ
 tokens_bound m d include = map (λ s. s.0.1) (filter (refers include d) (bound_identifiers m))
 
@@ -60,7 +61,8 @@ abbrev pub is_among : ℕ → List ℕ → Bool
 is_among i [] = false
 is_among i (x ∷ xs) = i == x || is_among i xs
 
--- Holds if renaming `d` to any name writes this name at these tokens and changes nothing else.
+-- Holds if renaming the declaration with ordinal `d` to any name writes this name at these tokens
+-- and changes nothing else.
 abbrev pub IsRenamedAt : Parsed → ℕ → List ℕ → Type 0
 IsRenamedAt m d tokens =
     (new : Name)

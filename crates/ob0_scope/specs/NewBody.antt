@@ -7,8 +7,8 @@ use Rattle.ob0_scope_table.specs.BodyReplaced.{IsBodyReplaced, Way}
 use Rattle.ob0_scope_table.specs.Resolution.{IsResolution}
 use Rattle.ob0_scope_table.specs.declared.resolved.Bindings.{Bindings}
 
--- holds if `b` has the bindings of some module before the statements of one body were replaced,
--- which gave the module `m`
+-- Holds if `b` has the bindings of an older module, and `m` is that module with the statements of
+-- one body replaced. `s` says which tokens both have in common.
 pub record WasBoundElsewhere (m : Parsed) (b : Bindings) (s : SameTokens) : Type 0 where
   pub old : Parsed
   pub way : Way

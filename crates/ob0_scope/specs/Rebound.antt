@@ -8,8 +8,8 @@ use Rattle.ob0_scope_table.specs.Resolution.{IsResolution}
 use Rattle.ob0_scope_table.specs.declared.resolved.Bindings.{Bindings}
 use Rattle.std.specs.Prelude.{ℕ}
 
--- holds if `b` has the bindings of the module before the tokens from `low` up to `high` changed,
--- inside one body
+-- Holds if only tokens of one body changed, from `low` to before `high`, and `b` has the bindings
+-- of the module before this change.
 pub record WasBound (m : Parsed) (b : Bindings) (low high : ℕ) : Type 0 where
   pub old : Scanned
   pub change : IsBodyChange old m low high

@@ -16,33 +16,34 @@ use Rattle.ob0_scope_table.specs.Resolution.{Resolution, ordinal_in}
 use Rattle.ob0_language_names.specs.Scopes.{Scope, as_label, numbered, predeclared_count, renamed}
 use Rattle.ob0_scope_numbering.specs.Written.{Writing, name_at}
 
--- returns the first declaration in a list that has the name `new` and isn't `d`; None if there is
--- none
+-- returns the ordinal of the first declaration in a list that has the name `new` and isn't `d`;
+-- None if there is none
 abbrev pub other_named : Scope Name → ℕ → Name → Option ℕ
 other_named [] d new = None
 other_named (b ∷ own) d new =
     if same_name b.0 new && not (b.1 == d) then Some b.1 else other_named own d new
 
--- returns another declaration with the name `new` in the first block that declares `d` and has one;
--- None if there is none
+-- returns the ordinal of a declaration with the name `new`, other than `d`, in a block that
+-- declares `d`; None if there is none
 abbrev pub namesake_in : List (Scope Name) → ℕ → Name → Option ℕ
 namesake_in [] d new = None
 namesake_in (own ∷ others) d new =
     option_or (if declares_ordinal own d then other_named own d new else None)
     (namesake_in others d new)
 
--- returns the declaration with the name `new`, other than `d`, in the block of `d`; if there are
--- several, the last one; None if there is none
+-- returns the ordinal of the last declaration with the name `new`, other than `d`, in the block
+-- that declares `d`; None if there is none
 abbrev pub namesake : Tree Name module_text → ℕ → Name → Option ℕ
 namesake m d new = namesake_in (blocks_in predeclared_count [] (module_block m)) d new
 
--- returns the conflict of the definitions that a conflict of the code stands for
+-- converts a conflict of the code to a conflict of the definitions, which doesn't have the ordinal
+-- of the other declaration
 abbrev pub place_of : reported.FirstCapture → Capture
 place_of (reports.Duplicate other) = at_declaration
 place_of (reports.Occurrence k) = at_occurrence k
 
--- returns the ordinal of the other declaration, if a conflict is with another declaration of the
--- block
+-- returns the ordinal of the other declaration if a conflict is with another declaration of the
+-- block, otherwise None
 abbrev pub other_of : Option reported.FirstCapture → Option ℕ
 other_of None = None
 other_of (Some (reports.Duplicate other)) = Some other
@@ -64,7 +65,8 @@ renamed_in r d new =
 abbrev pub IsNowhere : Scanned → Name → Type 0
 IsNowhere source x = (i : ℕ) → same_name (text_at source i) x ≡ false
 
--- Holds if the table of ordinals is the table of the module in which `d` is renamed to `new`.
+-- Holds if the table has, for each identifier, the ordinal of its declaration in the module in
+-- which `d` is renamed to `new`.
 abbrev pub IsRenumbering : Resolution → ℕ → Name → List (Option ℕ) → Type 0
 IsRenumbering r d new ordinals =
     numbered (renamed (named_tree_of r.module_read) d new)

@@ -18,7 +18,7 @@ pub record AreNamedAlike (old new : Scanned) : Type 0 where
   pub same_names : names_in new.text new.tokens ≡ names_in old.text old.tokens
 
 -- The bindings of a valid module are also the bindings of its tree over the tokens of another text.
--- Its tokens must have the same kinds, and its identifiers the same spellings.
+-- That text's tokens must have the same kinds, and its identifiers the same spellings.
 abbrev pub BindingsStay : Type 0
 BindingsStay =
     (old new : Scanned) (tree : ModuleTree) (b : Bindings)
@@ -28,16 +28,17 @@ BindingsStay =
     → b.faults.items ≡ []
     → IsResolution (resolution_by (parsed_by new tree) b)
 
--- holds if `c` equals the bindings `b`, except that its faults are at the same tokens of the text
--- `new`
+-- holds if the bindings `c` are the bindings `b` with each fault moved from the text `old` to the
+-- same tokens of the text `new`
 pub record AreMoved (old new : Scanned) (b c : Bindings) : Type 0 where
   pub ordinals : c.ordinals.items ≡ b.ordinals.items
   pub declarations : c.declarations.items ≡ b.declarations.items
   pub occurrences : c.occurrences.items ≡ b.occurrences.items
   pub faults : c.faults.items ≡ moved_faults old new b.faults.items
 
--- The bindings of a module are also the bindings of its tree over tokens with the same spellings.
--- Only the faults are moved to the same tokens.
+-- The bindings of a module are also the bindings of its tree over another text, if the tokens of
+-- both texts have the same spellings. Only the faults are moved to the same tokens of the other
+-- text.
 abbrev pub BindingsKeepTokens : Type 0
 BindingsKeepTokens =
     (old new : Scanned) (tree : ModuleTree) (b c : Bindings)

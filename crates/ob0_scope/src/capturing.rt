@@ -1,9 +1,9 @@
-//! Finds conflicts of a new name for a declaration.
+//! Finds the first conflict of a new name for a declaration.
 //!
-//! If no token of the text has the new name, the name is free and no walk is needed. Otherwise
-//! another declaration with that name in the same block is searched for, among the tokens of the
-//! blocks. Then the first occurrence is searched for whose ordinal changes if the new name is used.
-//! Each name is examined once. The second walk takes O(n log n).
+//! If no token of the text has the new name, the name is free and no walk is needed. Otherwise the
+//! first walk searches the same block for another declaration with that name, and examines each
+//! name once. The second walk finds the first occurrence whose ordinal changes if the new name is
+//! used. It takes O(n log n).
 
 ghost use Rattle.std.specs.Prelude.{◌≡◌, ◌↔◌, IfOk, None, not, option_map, true};
 ghost use Rattle.std.specs.List.{position_from};
@@ -121,8 +121,8 @@ fn is_bound_alike(a: Option<usize>, b: Option<usize>) -> bool
     }
 }
 
-/// Returns the ordinal of another declaration with the name `new`, in the block of a declaration. If there are several,
-/// it is the last one. Returns None if there is none.
+/// Returns the ordinal of another declaration with the name `new` in the block that declares
+/// `declaration`. If there are several, it is the last one. Returns None if there is none.
 fn namesake(
     alloc: Global,
     names: &Resolved,
@@ -141,8 +141,8 @@ fn namesake(
     sought.block(alloc, Vec::new(alloc), names.module().block())
 }
 
-/// The search for another declaration with a name: the text with the ordinals of its identifiers, the declaration whose
-/// block is searched, and the name.
+/// A search for another declaration with a given name: the text, the ordinal to which each token is
+/// bound, the declaration whose block is searched, and the name.
 #[derive(Drop)]
 struct Sought<'t> {
     tokens: &'t Tokens,
@@ -182,8 +182,9 @@ impl<'t> Sought<'t> {
         text_at(self.tokens, token) == self.new && !self.is_sought(token)
     }
 
-    /// Returns the last declaration that has the sought name, if the declaration whose block is searched is among these
-    /// tokens of a block. Otherwise returns None.
+    /// Returns the ordinal of the last other declaration with the sought name among these tokens of
+    /// a block. Returns None if there is none, or if the declaration whose block is searched isn't
+    /// among them.
     fn among(&self, tokens: &[usize]) -> Option<usize>
         ensures { result ≡ other_among self.now tokens.now }
     {
@@ -198,8 +199,8 @@ impl<'t> Sought<'t> {
         if is_here { found } else { None }
     }
 
-    /// Searches a block and then the blocks inside it. `own` has the tokens of the parameters, which count as declared
-    /// in the block.
+    /// Searches a block, then the blocks inside it, and returns the ordinal that is found, or None.
+    /// `own` has the tokens of the parameters, which count as declared in the block.
     #[cycle(blocks)]
     fn block(&self, alloc: Global, own: Vec<usize>, b: &Block) -> Result<Option<usize>, AllocError>
         ensures { IfOk result
@@ -214,7 +215,8 @@ impl<'t> Sought<'t> {
         Ok(found)
     }
 
-    /// Searches the block of a procedure, with its parameters.
+    /// Searches the block of a procedure, whose parameters count as declared in the block. Returns
+    /// the ordinal that is found, or None.
     #[cycle(blocks)]
     fn procedure(&self, alloc: Global, p: &Procedure) -> Result<Option<usize>, AllocError>
         ensures { IfOk result (λ other. other ≡ found_in_procedure self.now (procedure_of p.now)) }

@@ -12,8 +12,9 @@ use ob0_tree::{Block, Procedure, Role, Statement};
 use std::alloc::{AllocError, Global};
 use std::marker::Model;
 
-/// The range of tokens from a body's first identifier up to, but not including, the closing name of its block.
-/// `old_closing` is the token that the closing name was before the statements were replaced.
+/// The range of tokens from a body's first identifier up to, but not including, the closing name of
+/// its block. `old_closing` is the index that the closing name had before the statements were
+/// replaced.
 #[derive(Clone, Copy)]
 pub(crate) struct BodyRange {
     pub(crate) first: usize,
@@ -72,8 +73,9 @@ impl BodyNames {
     }
 }
 
-/// Returns the body that contains the tokens from `low` upwards: of this block, whose closing name is `own`, or of a
-/// procedure inside it.
+/// Returns the body around the token `low`: in the first procedure whose closing name isn't before
+/// `low`, or this block's own body if there is no such procedure. `own` is this block's closing
+/// name.
 #[cycle(blocks)]
 pub(crate) fn body_in<'t>(inner: &'t Block, own: usize, low: usize) -> ReplacedBody<'t>
     ensures statements { body_of result.statements.now
@@ -92,7 +94,7 @@ pub(crate) fn body_in<'t>(inner: &'t Block, own: usize, low: usize) -> ReplacedB
     }
 }
 
-/// Returns the body that contains the tokens from `low` upwards: of this procedure, or of one inside it.
+/// Returns the body around the token `low`: the body of this procedure, or of one inside it.
 #[cycle(blocks)]
 fn body_inside<'t>(p: &'t Procedure, low: usize) -> ReplacedBody<'t>
     ensures statements { body_of result.statements.now
@@ -103,7 +105,8 @@ fn body_inside<'t>(p: &'t Procedure, low: usize) -> ReplacedBody<'t>
     body_in(&p.block, p.closing, low)
 }
 
-/// Returns the token that the closing name of a body's block was before the change, at most 2^64 - 1.
+/// Returns the old index of the closing name after the replaced statements, given its new index.
+/// A result over 2^64 - 1 becomes 2^64 - 1.
 pub(crate) fn old_place(same: SameTokens, closing: usize) -> usize
     ensures { result ≡ old_place same closing }
 {
@@ -146,8 +149,8 @@ impl BodyRange {
         Ok(())
     }
 
-    /// Returns a list of tokens of the old module. The tokens in the old body are replaced by `own`, the tokens in the
-    /// new body.
+    /// Returns a list of tokens with their new indexes. `own`, the tokens in the new body, replace
+    /// the tokens in the old body.
     pub(crate) fn carry(
         self,
         alloc: Global,
@@ -163,7 +166,8 @@ impl BodyRange {
         Ok(all)
     }
 
-    /// Returns the table of ordinals of the old module, with None at each token of the new body.
+    /// Returns the table of ordinals of the old module with each entry at its token's new index.
+    /// The entries of the new body are None.
     pub(crate) fn carry_table(
         self,
         alloc: Global,

@@ -1,8 +1,7 @@
-//! Reports duplicate declarations and wrong closing names.
+//! Finds the duplicate declarations and wrong closing names of a module.
 //!
-//! In clauses, `Checks` is the list of the faults found so far, to which each check appends its
-//! own. Up to 16 names of a block or record are compared with one another. If there are more, they
-//! are inserted into a set.
+//! `Checks` has the faults found so far, and each check appends its own faults. Up to 16 names of a
+//! block or record are compared with one another. If there are more, they are inserted into a set.
 
 ghost use Rattle.std.specs.Prelude.{◌≡◌, ◌++◌, [], IfOk, OnOk, map, not};
 ghost use Rattle.std.specs.List.{list_any};
@@ -25,10 +24,11 @@ use std::alloc::{AllocError, Global};
 use std::collections::BTreeSet;
 use std::marker::Model;
 
-/// The greatest number of names that are compared with one another instead of using a set.
+/// The greatest number of names that are compared with one another. More names are inserted into a
+/// set.
 const FEW: usize = 16;
 
-/// The faults of declarations that were found so far.
+/// The duplicate declarations and wrong closing names that were found so far.
 #[derive(Drop)]
 struct Checks {
     alloc: Global,
@@ -58,7 +58,7 @@ pub(crate) fn check<'t>(alloc: Global, read: &'t Module<'t>) -> Result<Vec<Fault
 }
 
 /// Returns the duplicate declarations and wrong closing names of a module. `known` must contain such a fault exactly if
-/// the module has one; if it contains none, the module isn't walked.
+/// the module has one. If `known` contains none, the module isn't walked.
 pub(crate) fn check_again<'t>(
     alloc: Global,
     read: &'t Module<'t>,

@@ -12,8 +12,9 @@ use ob0_scope_numbering::{Writing, number};
 use ob0_scope_table::{OrdinalEntry, Resolved};
 use std::alloc::{AllocError, Global};
 
-/// Returns, for each occurrence of a module in text order, the ordinal of the declaration to which
-/// `name` would be bound there. An entry is None if `name` would be unbound.
+/// Returns an entry for each occurrence of a module in text order: the ordinal of the declaration
+/// to which `name` would be bound if it replaced the occurrence. The entry is None if `name` would
+/// be unbound.
 pub fn ordinals_seen(
     alloc: Global,
     names: &Resolved,

@@ -122,9 +122,9 @@ pub fn renamed_tokens(
     tokens_bound(alloc, names, declaration, true)
 }
 
-/// Returns the index of the first identifier that contains a place or ends there, found by binary search. Only the
-/// first token that doesn't end before the place, or the next one, can be it. Returns None if neither is such an
-/// identifier.
+/// Returns the index of the first identifier that contains a place or ends there, found by binary
+/// search. Only the first token that doesn't end before the place, and the token after it, can be
+/// that identifier. Returns None if neither of them is such an identifier.
 fn first_on(tokens: &[Token], offset: usize) -> Option<usize>
     ensures { TokensAreApart 0 tokens.now
         → result ≡ position_from (is_name_on offset) 0 tokens.now }

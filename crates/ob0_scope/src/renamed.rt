@@ -50,7 +50,8 @@ pub(crate) fn renumber(
     Ok(ordinals)
 }
 
-/// Returns the ordinals that a table has at these tokens.
+/// Returns the ordinal that a table has at each of these tokens. An entry is None if the table has
+/// no ordinal at the token.
 pub(crate) fn ordinals_of(
     alloc: Global,
     ordinals: &[OrdinalEntry],

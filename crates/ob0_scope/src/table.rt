@@ -7,7 +7,7 @@ use ob0_scan::{Code, Fault, Tokens};
 use ob0_scope_table::{OrdinalEntry, ordinal_at, token_span};
 use std::alloc::AllocError;
 
-/// Appends a fault `Undeclared` for each occurrence that is unbound in a table.
+/// Appends a fault `Undeclared` for each of these occurrences that has no ordinal in the table.
 pub(crate) fn report_undeclared(
     faults: &mut Vec<Fault>,
     tokens: &Tokens,

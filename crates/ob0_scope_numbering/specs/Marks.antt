@@ -7,7 +7,7 @@ pub record OrdinalMark : Type 0 where
   pub token : ℕ
   pub ordinal : Option ℕ
 
--- returns a table with the ordinal of each mark entered at its token
+-- returns the table after the ordinal of each mark has been written at the mark's token
 abbrev pub with_marks : List (Option ℕ) → List OrdinalMark → List (Option ℕ)
 with_marks table [] = table
 with_marks table (m ∷ ms) = with_marks (slice_set table m.token m.ordinal) ms

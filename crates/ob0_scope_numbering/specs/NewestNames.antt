@@ -6,7 +6,7 @@ use Rattle.ob0_scope_numbering.specs.declared.newest.BoundName.{BoundName}
 use Rattle.ob0_scope_numbering.specs.Keys.{Key, compare_name}
 use Rattle.ob0_language_names.specs.Names.{Name, same_name}
 
--- returns the index of a name's newest binding; None if it has none
+-- returns the index of a name's newest binding; None if the name has no binding
 abbrev pub newest_in : List BoundName → Name → Option ℕ
 newest_in [] x = None
 newest_in (e ∷ es) x = if same_name x e.name.now then e.newest else newest_in es x

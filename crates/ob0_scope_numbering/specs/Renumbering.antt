@@ -16,28 +16,29 @@ abbrev pub first_before : ℕ → List ℕ → List ℕ
 first_before token [] = []
 first_before token (x ∷ xs) = if nat_lt x token then x ∷ first_before token xs else []
 
--- counts the module's declarations before a token as declared, without visiting them; `all` has all
--- declaring tokens
+-- appends the further declarations before a token to the list of declarations, without visiting
+-- them; `all` has the declaring tokens of the whole module
 abbrev pub caught_up : {M : Type 0} → List ℕ → ℕ → Visit M → Visit M
 caught_up all token v =
     record v {
       declarations = v.declarations ++ first_before token (drop (length v.declarations) all);
     }
 
--- counts a declaration, without visiting it
+-- appends a declaration to the list of declarations, without visiting it
 abbrev pub counted : {M : Type 0} → ℕ → Visit M → Visit M
 counted token v = record v { declarations = v.declarations ++ (token ∷ []) }
 
--- makes the name `x` of a procedure visible with the next ordinal, and skips the procedure itself
+-- makes the procedure's name at the token `x` visible with the next ordinal, and skips the
+-- procedure itself
 abbrev pub passed_over : {M : Type 0} → ℕ → Visit M → Visit M
 passed_over x v = visible x (predeclared_count + length v.declarations) v
 
--- `put` adds an identifier's ordinal to the others, and `all` has the module's declaring tokens.
--- The body that is visited again contains the token `low`.
+-- `put` adds the ordinal of the identifier at a token to the ordinals so far. `all` has the
+-- module's declaring tokens. The walk goes to the body that contains the token `low`.
 module _ {M : Type 0} (put : ℕ → Option ℕ → M → M) (all : List ℕ) (low : ℕ) where
   abbrev mutual
-    -- visits a block: its sections, then its statements or the procedure that contains the token
-    -- `low`
+    -- visits a block: its constants, types and variables, and then the procedure that contains the
+    -- token `low`, or the block's statements if there is no such procedure
     pub renumber_block : Tree ℕ block → Visit M → Visit M
     renumber_block (has_body (declares cs ts vs ps) statements) v =
         renumber_procedures ps statements

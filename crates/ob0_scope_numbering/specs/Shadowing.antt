@@ -18,8 +18,8 @@ abbrev pub latest : Name → List Binding → Option ℕ
 latest x [] = None
 latest x (b ∷ bs) = if same_name x b.name.now then Some (length bs) else latest x bs
 
--- holds if each binding has the index of the binding that it hides; the bindings are given newest
--- first
+-- Holds if each binding has the index, counted from the oldest, of the binding that it hides, or
+-- None if it hides none. The bindings are given newest first.
 abbrev pub AreHidden : List Binding → Type 0
 AreHidden [] = Unit {0}
 AreHidden (b ∷ bs) = (b.hidden ≡ latest b.name.now bs) × AreHidden bs
@@ -35,11 +35,11 @@ pub record VisibleNames : Type 0 where
   pub new_name : Name
   pub scope : Scope Name
 
--- returns another scope with the same new name
+-- replaces the scope, and keeps the new name
 abbrev pub with_scope : VisibleNames → Scope Name → VisibleNames
 with_scope v scope = record { new_name = v.new_name; scope = scope }
 
--- holds if each binding has the position of its name
+-- holds if each binding has the position of its name in the list `newest`
 abbrev pub ArePlaced : List BoundName → List Binding → Type 0
 ArePlaced newest [] = Unit {0}
 ArePlaced newest (b ∷ bs) =

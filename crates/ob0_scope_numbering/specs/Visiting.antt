@@ -1,5 +1,5 @@
 -- The walk over a module's identifiers in text order: the state after each part. How the ordinals
--- are collected is left open.
+-- are collected is a parameter (`put`).
 -- Rule: none; for contracts of the walk over identifiers.
 use Rattle.std.specs.Prelude.{ℕ, ◌+◌, ◌-◌, List, [], ◌∷◌, ◌++◌, Option, Some, None, map, length, drop}
 use Rattle.ob0_tree.specs.declared.tree.Role.{Role}
@@ -11,8 +11,9 @@ use Rattle.ob0_language_names.specs.Names.{Name, as_names}
 use Rattle.ob0_language_names.specs.Parts.{names_listed}
 use Rattle.ob0_language_names.specs.Scopes.{Scope, declare_names, ordinal_of, predeclared_count}
 
--- The state of the walk: the spellings of identifiers, the visible names, the declaring tokens, the
--- tokens of the occurrences, and the ordinals of the identifiers so far.
+-- The state of the walk. `writing` has the spellings of all identifiers, and `scope` the visible
+-- names. The other parts are about the identifiers visited so far. `declarations` has the tokens of
+-- declaring names, `uses` the tokens of looked-up names, and `marks` the ordinals of all.
 pub record Visit (M : Type 0) : Type 0 where
   pub writing : Writing
   pub scope : Scope Name
@@ -20,11 +21,12 @@ pub record Visit (M : Type 0) : Type 0 where
   pub uses : List ℕ
   pub marks : M
 
--- makes the name of the declaration with this ordinal visible
+-- makes the name at the token `i` visible as the declaration with this ordinal
 abbrev pub visible : {M : Type 0} → ℕ → ℕ → Visit M → Visit M
 visible i ordinal v = record v { scope = (name_at v.writing i, ordinal) ∷ v.scope }
 
--- makes the names of the declarations visible, starting at the declaration with the index `first`
+-- makes the names of the declarations so far visible, except the first `first`; predeclared names
+-- aren't counted
 abbrev pub visible_from : {M : Type 0} → ℕ → Visit M → Visit M
 visible_from first v =
     record v {
@@ -37,23 +39,24 @@ abbrev pub left_to : {M : Type 0} → ℕ → Visit M → Visit M
 left_to len v = record v { scope = drop (length v.scope - len) v.scope }
 
 -- Returns the state after the heading of a procedure. `own` is the number of declarations before
--- the procedure, and `outside` the number of bindings. The parameters' bindings are replaced by
--- bindings of the procedure and then of its parameters.
+-- the procedure, and `outside` the number of bindings before it. The bindings of the parameters are
+-- removed. Then the procedure and its parameters are bound, in this order.
 abbrev pub after_heading : {M : Type 0} → ℕ → ℕ → Visit M → Visit M
 after_heading own outside v = visible_from own (left_to outside v)
 
--- Returns the state after the block of a procedure with the name `x`. The scope is cut back to its
--- `outside` oldest bindings, and then the procedure is visible.
+-- Returns the state after the block of the procedure whose name is at the token `x`. Only the
+-- `outside` oldest bindings are kept, and then the procedure's name is bound to `ordinal`.
 abbrev pub leave_block : {M : Type 0} → ℕ → ℕ → ℕ → Visit M → Visit M
 leave_block x ordinal outside v = visible x ordinal (left_to outside v)
 
--- Definitions in which `put` adds an identifier's ordinal to the others.
+-- The following definitions are for any `put`, which adds the ordinal of the identifier at
+-- a token to the ordinals so far.
 module _ {M : Type 0} (put : ℕ → Option ℕ → M → M) where
-  -- gives an identifier this ordinal
+  -- gives the identifier at the token `i` this ordinal; None means that it has no ordinal
   abbrev pub marked : ℕ → Option ℕ → Visit M → Visit M
   marked i ordinal v = record v { marks = put i ordinal v.marks }
 
-  -- gives a declaring name the next ordinal
+  -- appends the declaring name at the token `i` to the declarations, and gives it the next ordinal
   abbrev pub numbered_at : ℕ → Visit M → Visit M
   numbered_at i v =
       record v {

@@ -17,8 +17,8 @@ pub record Writing : Type 0 where
   pub declaration : Option ℕ
   pub new : Name
 
--- returns true if the second ordinal is the ordinal of the renamed declaration, which is the first
--- argument
+-- returns true if an identifier's ordinal (the second argument) is the ordinal of the renamed
+-- declaration (the first)
 abbrev pub is_renamed : Option ℕ → Option ℕ → Bool
 is_renamed None ordinal = false
 is_renamed (Some d) ordinal = same_ordinal ordinal d

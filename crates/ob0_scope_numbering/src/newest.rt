@@ -7,9 +7,10 @@
 //! A key of the map is a name preceded by a number made of its last eight bytes. Nearly all comparisons are between two
 //! numbers. If these are equal, the names decide, so no text can make a look-up slow.
 //!
-//! Before the map, a small table of recent names is searched by a few bytes of the name. Its entry is the position that
-//! a name with such bytes had last. That position is only a hint, which is compared with the name, so the proof needs
-//! no fact about the table.
+//! A small table of recent names is searched before the map, by a few bytes of the name. A slot has
+//! the position of the last name with these bytes that was looked up. The position is only a hint:
+//! the name at the position is compared with the sought name. So the proof needs no fact about the
+//! table.
 
 ghost use Rattle.std.specs.Prelude.{◌≡◌, [], IfOk, IfSome, OnErr, OnOk, None, Some};
 ghost use Rattle.ob0_scope_numbering.specs.Keys.{number_of, with_byte, with_bytes};
@@ -34,15 +35,15 @@ fn key_of<'t>(name: &'t str) -> (u64, &'t str)
     (number_of(name.as_bytes()), name)
 }
 
-/// Returns the number before a name, made of its last eight bytes. A long name costs no more than a
-/// short one.
+/// Returns the number that precedes a name in its key. It is made of the name's last eight bytes,
+/// so a long name costs no more than a short one.
 fn number_of(bytes: &[u8]) -> u64
     ensures { result ≡ number_of bytes.now }
 {
     number_of_all(&bytes[bytes.len().saturating_sub(8)..])
 }
 
-/// Returns the number whose digits are these bytes.
+/// Returns the number whose digits to the base 256 are these bytes, modulo 2^64.
 fn number_of_all(bytes: &[u8]) -> u64
     ensures { result ≡ with_bytes bytes.now 0 }
 {
@@ -53,7 +54,7 @@ fn number_of_all(bytes: &[u8]) -> u64
     number
 }
 
-/// Appends a byte to a number as its last digit.
+/// Appends a byte to a number as its last digit to the base 256, modulo 2^64.
 fn with_byte(number: u64, byte: u8) -> u64
     ensures { result ≡ with_byte number byte }
 {
@@ -77,19 +78,19 @@ fn sketch(name: &str) -> u64 {
     ends << 16 | u64::from(bytes[len - 2]) << 8 | u64::from(bytes[len - 3])
 }
 
-/// Returns the slot of a name in the table of recent names. The slot is made of the first bits of a
-/// product, which depend on all bits of the sketch.
+/// Returns the slot of a name in the table of recent names. The slot is the ten highest bits of a
+/// product, which depend on all bits of `sketch`.
 fn slot_of(name: &str) -> usize {
     (sketch(name).wrapping_mul(0x9E37_79B9_7F4A_7C15) >> 54) as usize
 }
 
-/// Returns a table of recent names with position 0 in each slot. An entry counts only if the sought name is at its
-/// position.
+/// Returns a table of recent names with position 0 in each slot. An entry is used only if the
+/// sought name is at its position.
 fn no_recent(alloc: Global) -> Result<Vec<usize>, AllocError> {
     vec![in alloc; 0; RECENT]
 }
 
-/// A name that was bound, with the index of its newest binding, if it still has one.
+/// A name that was bound, with the index of its newest binding, or None if it has no binding now.
 #[derive(Clone, Copy)]
 pub(crate) struct BoundName<'t> {
     name: &'t str,
@@ -141,8 +142,8 @@ impl<'t> Newest<'t> {
         })
     }
 
-    /// Returns the index of the newest binding of the name at the first position. None if it has
-    /// none.
+    /// Returns the index of the newest binding of the name at the first position. Returns None if
+    /// that name has no binding.
     pub(crate) fn first(&self) -> Option<usize>
         ensures { (x : Name) → place_of self.now x ≡ Some 0 → result ≡ newest_in self.now x }
     {
@@ -190,8 +191,8 @@ impl<'t> Newest<'t> {
         }
     }
 
-    /// Looks up the position of a name in the map, and remembers it for the next look-up. None if
-    /// the name isn't in the list.
+    /// Looks up the position of a name in the map, and remembers it for the next look-up. Returns
+    /// None if the name isn't in the list.
     #[cold]
     fn find_by_map(&mut self, slot: usize, name: &'t str) -> Option<usize>
         ensures found { result ≡ place_of self.old name.now }
@@ -219,8 +220,8 @@ impl<'t> Newest<'t> {
         Ok(())
     }
 
-    /// Returns the position of a name, which is added if it has none. If an allocation fails, the
-    /// list is unchanged.
+    /// Returns the position of a name, and adds the name first if it isn't in the list. If an
+    /// allocation fails, the list is unchanged.
     pub(crate) fn place(&mut self, name: &'t str) -> Result<usize, AllocError>
         ensures placed { IfOk result (λ place. place_of self.new name.now ≡ Some place) }
         ensures places { OnOk result (KeepsPlaces self.old self.new) }
@@ -236,7 +237,8 @@ impl<'t> Newest<'t> {
         Ok(place)
     }
 
-    /// Returns the index of the newest binding of the name at a position. None if it has none.
+    /// Returns the index of the newest binding of the name at a position. Returns None if that name
+    /// has no binding.
     pub(crate) fn newest_at(&self, place: usize, name: &'t str) -> Option<usize>
         requires { place_of self.now name.now ≡ Some place }
         ensures { result ≡ newest_in self.now name.now }
@@ -244,7 +246,8 @@ impl<'t> Newest<'t> {
         self.entries[place].newest
     }
 
-    /// Sets the newest binding of the name at a position, which may be None.
+    /// Sets the index of the newest binding of the name at a position. None means that the name has
+    /// no binding.
     pub(crate) fn renew(&mut self, place: usize, name: &'t str, newest: Option<usize>)
         requires { place_of self.old name.now ≡ Some place }
         ensures renewed { IsRenewed self.old self.new name.now newest }
@@ -253,7 +256,7 @@ impl<'t> Newest<'t> {
         self.entries[place] = BoundName { name, newest };
     }
 
-    /// Returns the index of a name's newest binding. None if it has none.
+    /// Returns the index of a name's newest binding. Returns None if the name has no binding.
     pub(crate) fn get(&mut self, name: &'t str) -> Option<usize>
         ensures found { result ≡ newest_in self.old name.now }
         ensures same { self.new ≡ self.old }

@@ -1,24 +1,26 @@
 //! Visits the declarations of a module in text order, and gives each identifier the ordinal of its
 //! declaration.
 //!
-//! Expressions, types and statements declare nothing. The walk of `ob0_tree` visits them, for which
-//! `Numbering` is a `Visitor`. A clause is an equation between whole states: `self.new ≡
+//! Expressions, types and statements declare nothing. The walk of `ob0_tree` visits them, with
+//! `Numbering` as its `Visitor`. Each clause is an equation between whole states: `self.new ≡
 //! visit_constant c self.old`. With such clauses most descents and loops over declarations need no
 //! proof file.
 //!
-//! Names become visible in the order of their ordinals (`show_from`). This works for constants,
-//! groups, and a procedure's heading. After a heading the scope is cut back. Then `show_from` shows
-//! the procedure and its parameters, so that the procedure is below them.
+//! Names become visible in the order of their ordinals (`show_from`). This works for
+//! constants, groups of variables, and a procedure's heading. After a heading, the bindings of the
+//! parameters are removed. Then `show_from` binds the procedure and after it the parameters,
+//! so a parameter with the procedure's name hides the procedure.
 //!
-//! Each identifier's ordinal is written into the table at its token as soon as it is known, even
-//! for fields and the module's name. The definition of the walk (`Visiting`) leaves open how
-//! ordinals are kept. `Tabling` has the table, like the code, and `Marking` a list of marks (token,
-//! ordinal). The contract says that the table results from entering the marks in an empty table. So
-//! all other proofs are about the marks, whose tokens ascend.
+//! Each identifier's ordinal is written into the table at its token as soon as it is known. The
+//! entries of fields and of the module's name are None. The definition of the walk (`Visiting`)
+//! leaves open how ordinals are kept. `Tabling` has the table, like the code, and `Marking` a list
+//! of marks (token, ordinal). The contract says that the table results from entering the marks into
+//! an empty table. So all other proofs are about the marks, which are in the order of their tokens.
 //!
-//! An entry of the table has 32 bits (`OrdinalEntry`). An ordinal above the greatest one counts as
-//! the greatest, so no function of the walk needs a bound. A text has no more tokens than bytes,
-//! and each declaration has a different token. So entries can hold the ordinals of all marks.
+//! An entry of the table has 32 bits (`OrdinalEntry`). An ordinal that is too large for an entry is
+//! stored as the greatest one, so no function of the walk needs a bound. A text has no more tokens
+//! than bytes, and each declaration has a different token. So entries can hold the ordinals of all
+//! marks.
 
 ghost use Rattle.std.specs.Prelude.{◌≡◌, ◌+◌, ◌<◌, ◌^◌, [], OnOk, IfOk, length, Some, None};
 ghost use Rattle.ob0_tree.specs.declared.tree.Role.TheVariants as roles;
@@ -44,8 +46,8 @@ use ob0_tree::{
 use std::alloc::{AllocError, Global};
 use std::marker::Model;
 
-/// The state of the walk inside a module. The table has the ordinal of each identifier so far at
-/// its token.
+/// The state of the walk inside a module. The table has the ordinal of each identifier visited so
+/// far, at the index of its token.
 #[derive(Drop)]
 pub struct Numbering<'t> {
     tokens: &'t Tokens,
@@ -102,7 +104,8 @@ fn ordinal_at_index(index: usize) -> usize
     PREDECLARED + index
 }
 
-/// Returns a scope with the predeclared names, which also knows the new name of a renamed declaration.
+/// Returns a scope in which the predeclared names are bound. It also has the new name of a renamed
+/// declaration, which isn't bound yet.
 fn predeclared_names<'t>(alloc: Global, new: &'t str) -> Result<Visible<'t>, AllocError>
     ensures { IfOk result
         (λ v. v ≡ record { new_name = new.entry.now; scope = predeclared_scope as_names }) }
@@ -151,8 +154,9 @@ fn visit_module<'t>(
     Ok(numbering)
 }
 
-/// Numbers the body that contains the token `low` again, and returns the table. The given table must have the ordinals
-/// of everything else. `all` has the module's declaring tokens.
+/// Looks up the names of the body that contains the token `low` again, and returns the changed
+/// table. The given table must have the ordinals of all other identifiers. `all` has the module's
+/// declaring tokens.
 pub fn number_body(
     alloc: Global,
     read: &Module<'_>,
@@ -256,7 +260,7 @@ impl<'t> Numbering<'t> {
         }
     }
 
-    /// Makes the names of the declarations visible, starting at the declaration with the index `first`.
+    /// Makes the names of the declarations so far visible, except the first `first`.
     fn show_from(&mut self, first: usize) -> Result<(), AllocError>
         ensures { OnOk result (self.new ≡ visible_from first self.old) }
     {
@@ -282,8 +286,8 @@ impl<'t> Numbering<'t> {
         is_renamed(self.declaration, ordinal_at(self.ordinals, token))
     }
 
-    /// Returns the ordinal of the declaration to which the name at a token is bound. None if it is
-    /// unbound.
+    /// Returns the ordinal of the declaration to which the name at a token is bound. Returns None
+    /// if the name is unbound.
     fn ordinal_bound(&mut self, token: usize) -> Option<usize>
         ensures found { result
             ≡ ordinal_of as_names self.old.scope (name_at self.old.writing token) }
@@ -296,7 +300,7 @@ impl<'t> Numbering<'t> {
         }
     }
 
-    /// Marks an identifier as unbound.
+    /// Enters None into the table for an identifier that has no ordinal.
     #[inline(always)]
     fn pass(&mut self, token: usize) -> Result<(), AllocError>
         ensures { OnOk result (self.new ≡ marked token None self.old) }
@@ -305,7 +309,8 @@ impl<'t> Numbering<'t> {
         Ok(())
     }
 
-    /// Looks up a name, and marks it with the ordinal of its declaration or as unbound.
+    /// Looks up the name at a token. Enters the ordinal of its declaration into the table, or None
+    /// if the name is unbound.
     #[inline(always)]
     fn look_up(&mut self, token: usize) -> Result<(), AllocError>
         ensures { OnOk result (self.new ≡ found roles.LookedUp token self.old) }
@@ -398,7 +403,8 @@ impl<'t> Numbering<'t> {
         Ok(())
     }
 
-    /// Visits the parameters of a heading. They are visible to the later sections.
+    /// Visits the parameters of a heading. The parameters of each section are visible to the later
+    /// sections.
     fn heading(&mut self, formals: &Option<Vec<Section>>) -> Result<(), AllocError>
         ensures { OnOk result (self.new ≡ visit_formals (formals_of formals.now) self.old) }
     {
@@ -442,8 +448,8 @@ impl<'t> Numbering<'t> {
         body(self, &b.body)
     }
 
-    /// Counts the module's declarations before a token as declared, without visiting them. `all` has all declaring
-    /// tokens.
+    /// Appends the further declarations before a token to the list of declarations, without
+    /// visiting them. `all` has the declaring tokens of the whole module.
     fn catch_up(&mut self, all: &[usize], token: usize) -> Result<(), AllocError>
         ensures { OnOk result (self.new ≡ caught_up all.now token self.old) }
     {
@@ -457,7 +463,7 @@ impl<'t> Numbering<'t> {
         Ok(())
     }
 
-    /// Counts a declaration, without visiting it.
+    /// Appends a declaration to the list of declarations, without visiting it.
     fn count(&mut self, token: usize) -> Result<(), AllocError>
         ensures { OnOk result (self.new ≡ counted token self.old) }
     {
@@ -465,7 +471,8 @@ impl<'t> Numbering<'t> {
         Ok(())
     }
 
-    /// Makes the name of the next declaration visible, and skips the declaration itself.
+    /// Makes the procedure's name at a token visible with the next ordinal, and skips the procedure
+    /// itself.
     fn pass_over(&mut self, token: usize) -> Result<(), AllocError>
         ensures { OnOk result (self.new ≡ passed_over token self.old) }
     {
@@ -494,7 +501,8 @@ impl<'t> Numbering<'t> {
         self.block_again(&p.block, all, low)
     }
 
-    /// Visits a block again: its sections, and then its statements or the procedure that contains the token `low`.
+    /// Visits a block again: its constants, types and variables, and then the procedure that
+    /// contains the token `low`. If there is no such procedure, visits the block's statements.
     /// `all` has the module's declaring tokens.
     #[cycle(blocks_again)]
     fn block_again(&mut self, inner: &Block, all: &[usize], low: usize) -> Result<(), AllocError>

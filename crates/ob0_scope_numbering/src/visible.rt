@@ -9,8 +9,8 @@ use crate::newest::Newest;
 use std::alloc::{AllocError, Global};
 use std::marker::Model;
 
-/// A binding of a name to an ordinal. `place` is the name's position in the list of names, and `hidden` the index of
-/// the binding that it hides.
+/// A binding of a name to an ordinal. `place` is the name's position in the list of names, and
+/// `hidden` is the index of the binding that it hides, or None.
 #[derive(Drop)]
 pub(crate) struct Binding<'t> {
     name: &'t str,
@@ -40,7 +40,7 @@ impl<'t> Model for Visible<'t> {
 }
 
 impl<'t> Visible<'t> {
-    /// Returns an empty scope with this new name.
+    /// Returns bindings with an empty scope, for a renaming to `new_name`.
     pub(crate) fn new(alloc: Global, new_name: &'t str) -> Result<Visible<'t>, AllocError>
         ensures { IfOk result (λ v. v ≡ record { new_name = new_name.entry.now; scope = [] }) }
     {

@@ -1,7 +1,8 @@
 //! Returns the spellings of a text's identifiers, with a new name for one declaration.
 //!
-//! An identifier has its spelling in the text, or the new name if the table gives it the ordinal of
-//! the renamed declaration. So the same walk gives the numbered tree of the renamed module.
+//! An identifier is spelled as in the text. If the table gives it the ordinal of the renamed
+//! declaration, it has the new name instead. So one walk numbers a module as it is or as it is
+//! after a renaming.
 
 ghost use Rattle.std.specs.Prelude.{◌≡◌};
 ghost use Rattle.ob0_scope_numbering.specs.Written.{as_in, is_renamed};

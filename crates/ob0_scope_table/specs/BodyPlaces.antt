@@ -13,8 +13,8 @@ use Rattle.ob0_scope_table.specs.declared.one_body.BodyPlace.{BodyPlace}
 abbrev pub tree_in : ModuleTree → Tree ℕ module_text
 tree_in t = is_module t.name (block_of t.block) t.closing
 
--- Returns the place of these statements, in a block with this closing name. Returns None if the
--- Bool is false or the statements have no identifier.
+-- Returns the place of a body with these statements, in a block with this closing name. Returns
+-- None if `sought` is false or the statements have no identifier.
 abbrev pub place_if : Bool → Tree ℕ (maybe body) → ℕ → Option BodyPlace
 place_if sought statements closing =
     if sought

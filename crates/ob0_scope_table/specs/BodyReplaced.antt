@@ -10,35 +10,36 @@ use Rattle.ob0_tree.specs.Parsed.{IsParsed, Parsed, tree_of}
 use Rattle.ob0_tree.specs.Tree.{Tree, block, body, declares, declares_procedure, end, has_body, is_module, item, items, mapped, maybe, module_text, more, none, procedure}
 use Rattle.ob0_scope_table.specs.OneBody.{closing_name, is_in_body, is_out}
 
--- A way to a body: the procedure that is entered in each block, from the module inwards, by its
--- number counted from 0. The last block's own body is the one to which the way leads.
+-- A way to a body: the numbers of the procedures to enter, from the module inwards. In each block,
+-- procedures are counted from 0. The way leads to the body of the procedure that is entered last.
+-- An empty way leads to the module's own body.
 abbrev pub Way : Type 0
 Way = List ℕ
 
--- returns the way in procedures that have one more procedure before them
+-- returns the way to the same body after one more procedure is put before a block's procedures
 abbrev pub later : Way → Way
 later [] = []
 later (k ∷ way) = suc k ∷ way
 
--- Returns the way to the body that contains the tokens from `low` upwards.
+-- Returns the way to the body around the token `low`.
 abbrev mutual
-  -- returns the way, in a block, to the body that contains the tokens from `low` upwards
+  -- returns the way from a block to the body around the token `low`
   pub way_in_block : ℕ → Tree ℕ block → Way
   way_in_block low (has_body (declares cs ts vs ps) statements) = way_among low ps
 
   -- Returns the way through the first procedure whose closing name isn't before `low`. If there is
-  -- none, the way is empty.
+  -- no such procedure, the way is empty.
   pub way_among : ℕ → Tree ℕ (items procedure) → Way
   way_among low end = []
   way_among low (more p ps) =
       if nat_lt (closing_name p) low then later (way_among low ps)
       else zero ∷ way_in_procedure low p
 
-  -- returns the way, in a procedure, to the body that contains the tokens from `low` upwards
+  -- returns the way from a procedure to the body around the token `low`
   pub way_in_procedure : ℕ → Tree ℕ (item procedure) → Way
   way_in_procedure low (declares_procedure x fs b closing) = way_in_block low b
 
--- returns the way, in a module, to the body that contains the tokens from `low` upwards
+-- returns the way from a module to the body around the token `low`
 abbrev pub way_to : ℕ → Tree ℕ module_text → Way
 way_to low (is_module x b closing) = way_in_block low b
 
@@ -72,58 +73,59 @@ without way (is_module x b closing) = is_module x (block_without way b) closing
 
 -- Returns the statements to which a way leads, or `none` if it leads to no body.
 abbrev mutual
-  -- returns the statements, in a block, to which a way leads
+  -- returns the statements to which a way leads from a block
   pub body_in : {N : Type 0} → Way → Tree N block → Tree N (maybe body)
   body_in [] (has_body ds statements) = statements
   body_in (k ∷ way) (has_body (declares cs ts vs ps) statements) = body_among k way ps
 
-  -- returns the statements, in procedure `k`, counted from 0, to which a way leads; `none` if there
+  -- returns the statements to which a way leads from procedure `k`, counted from 0; `none` if there
   -- is no such procedure
   pub body_among : {N : Type 0} → ℕ → Way → Tree N (items procedure) → Tree N (maybe body)
   body_among k way end = none
   body_among zero way (more p ps) = body_inside way p
   body_among (suc k) way (more p ps) = body_among k way ps
 
-  -- returns the statements, in a procedure, to which a way leads
+  -- returns the statements to which a way leads from a procedure
   pub body_inside : {N : Type 0} → Way → Tree N (item procedure) → Tree N (maybe body)
   body_inside way (declares_procedure x fs b closing) = body_in way b
 
--- returns the statements, in a module, to which a way leads
+-- returns the statements to which a way leads from a module
 abbrev pub body_at : {N : Type 0} → Way → Tree N module_text → Tree N (maybe body)
 body_at way (is_module x b closing) = body_in way b
 
--- Returns the closing name of the block to whose statements a way leads.
+-- Returns the closing name of the block to which a way leads.
 abbrev mutual
-  -- returns the closing name, in a block that has the closing name `own`, of the block to which a
-  -- way leads
+  -- returns the closing name of the block to which a way leads from a block, whose own closing name
+  -- is `own`
   pub closing_in : {N : Type 0} → Way → N → Tree N block → N
   closing_in [] own b = own
   closing_in (k ∷ way) own (has_body (declares cs ts vs ps) statements) =
       closing_among k way own ps
 
-  -- returns the closing name, in procedure `k`, counted from 0, of the block to which a way leads;
+  -- returns the closing name of the block to which a way leads from procedure `k`, counted from 0;
   -- `own` if there is no such procedure
   pub closing_among : {N : Type 0} → ℕ → Way → N → Tree N (items procedure) → N
   closing_among k way own end = own
   closing_among zero way own (more p ps) = closing_inside way p
   closing_among (suc k) way own (more p ps) = closing_among k way own ps
 
-  -- returns the closing name, in a procedure, of the block to which a way leads
+  -- returns the closing name of the block to which a way leads from a procedure
   pub closing_inside : {N : Type 0} → Way → Tree N (item procedure) → N
   closing_inside way (declares_procedure x fs b closing) = closing_in way closing b
 
--- returns the closing name, in a module, of the block to whose statements a way leads
+-- returns the closing name of the block to which a way leads from a module
 abbrev pub closing_at : {N : Type 0} → Way → Tree N module_text → N
 closing_at way (is_module x b closing) = closing_in way closing b
 
--- returns the new index of a token that a change has kept
+-- returns the new index of a token outside the range that a change replaced
 abbrev pub moved : SameTokens → ℕ → ℕ
 moved s i = if nat_lt i s.prefix then i else s.new_suffix + (i - s.old_suffix)
 
 -- Holds if two modules are the same except for the statements of one body, to which `way` leads. In
--- these statements, the tokens from `prefix` up to `old_suffix` are replaced by the new tokens up
--- to `new_suffix`. All other tokens are moved and have the same spellings. The body's first
--- identifier is before the range in both modules, and its block's closing name after it.
+-- these statements, new tokens from `prefix` to before `new_suffix` replace the old tokens from
+-- `prefix` to before `old_suffix`. All other tokens have the same spellings, and the later ones may
+-- have new indexes. In both modules, the body's first identifier is before the range, and its
+-- block's closing name after it.
 pub record IsBodyReplaced (old new : Parsed) (way : Way) (s : SameTokens) : Type 0 where
   pub old_range : s.prefix ≤ s.old_suffix
   pub new_range : s.prefix ≤ s.new_suffix

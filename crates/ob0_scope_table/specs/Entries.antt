@@ -11,12 +11,12 @@ greatest = 4294967294
 abbrev pub kept : Option ℕ → Option ℕ
 kept ordinal = option_map (λ n. min n greatest) ordinal
 
--- returns the ordinal just before a number; None before 0
+-- returns the ordinal that the number of an entry means: the number minus 1, or None for 0
 abbrev pub ordinal_before : ℕ → Option ℕ
 ordinal_before zero = None
 ordinal_before (suc n) = Some n
 
--- returns the number just after an ordinal; 0 if there is no ordinal
+-- returns the number that an entry has for an optional ordinal: the ordinal plus 1, or 0 for None
 abbrev pub number_after : Option ℕ → ℕ
 number_after None = 0
 number_after (Some n) = suc n

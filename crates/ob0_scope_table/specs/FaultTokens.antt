@@ -10,7 +10,7 @@ use Rattle.ob0_scan.specs.Scanned.{IsScan, Scanned}
 use Rattle.ob0_scope_table.specs.Spans.{span_at}
 use Rattle.ob0_scope_table.specs.declared.fault_tokens.FaultAt.{FaultAt}
 
--- returns the start of the first token, in bytes
+-- returns the start of the first token, in bytes; 0 if there is no token
 abbrev pub first_start : Scanned → ℕ
 first_start source = (span_at source 0).start
 
@@ -22,7 +22,7 @@ pub record AreWrittenAlike (old new : Scanned) : Type 0 where
   pub same_words : words_in new.text new.tokens ≡ words_in old.text old.tokens
   pub same_front : (first_start new == 0) ≡ (first_start old == 0)
 
--- returns the fault from the start of one token to the end of another
+-- returns a fault with its span, from the start of its first token to the end of its last token
 abbrev pub fault_at : Scanned → FaultAt → Fault
 fault_at source f =
     record {
@@ -58,8 +58,8 @@ tokens_of tokens f =
 abbrev pub moved_faults : Scanned → Scanned → List Fault → List Fault
 moved_faults old new faults = map (fault_at new) (map (tokens_of old.tokens) faults)
 
--- holds if the faults `before` and `after` of two texts are at the same tokens, with the same
--- codes, one by one
+-- Holds if the faults `before` of the text `old` match the faults `after` of the text `new`, one by
+-- one. Two faults match if they have the same code and are at the same tokens.
 pub record AreAtSameTokens (old new : Scanned) (before after : List Fault) : Type 0 where
   pub tokens : List FaultAt
   pub in_old : before ≡ map (fault_at old) tokens

@@ -1,5 +1,5 @@
--- A change of tokens inside the statements of one block: its place, and the tokens outside, which
--- stay the same.
+-- A change of tokens inside the statements of one block. The tokens outside the changed range keep
+-- their spellings.
 -- Rule: none; for contracts: what stays where the tokens of one body are written otherwise.
 use Rattle.std.specs.Prelude.{◌≡◌, ℕ, Bool, true, false, ◌&&◌, ◌||◌, nat_le, nat_lt, List, [], ◌∷◌, if◌then◌else◌, slice_get}
 use Rattle.ob0_scan.specs.Reused.{kinds, words_in}
@@ -9,7 +9,8 @@ use Rattle.ob0_tree.specs.Tree.{Tree, block, body, declares, declares_procedure,
 use Rattle.ob0_tree.specs.declared.tree.Role.{Role}
 use Rattle.ob0_tree.specs.declared.tree.Role.TheVariants as role
 
--- returns true for a token before `low`, or at or after `high`
+-- returns true for a token outside the range from `low` up to `high`: before `low`, or not before
+-- `high`
 abbrev pub is_out : ℕ → ℕ → ℕ → Bool
 is_out low high token = nat_lt token low || nat_le high token
 
@@ -25,8 +26,8 @@ begins_by low (x ∷ xs) = nat_le x.1 low
 -- Returns true if the tokens from `low` up to, but not including, `high` are inside the statements
 -- of one block.
 abbrev mutual
-  -- returns true if the tokens from `low` up to `high` are in the statements of a block, or of a
-  -- block inside it
+  -- returns true if the tokens from `low` to before `high` are in the statements of a block, or of
+  -- a block inside it
   pub is_in_block : ℕ → ℕ → Tree ℕ block → Bool
   is_in_block low high (has_body (declares cs ts vs ps) statements) =
       is_in_procedures low high ps statements
@@ -40,18 +41,19 @@ abbrev mutual
       if nat_lt (closing_name p) low then is_in_procedures low high ps statements
       else nat_le high (closing_name p) && is_in_procedure low high p
 
-  -- returns true if the tokens from `low` up to `high` are in the statements of a procedure's
+  -- returns true if the tokens from `low` to before `high` are in the statements of a procedure's
   -- block, or of a block inside it
   pub is_in_procedure : ℕ → ℕ → Tree ℕ (item procedure) → Bool
   is_in_procedure low high (declares_procedure x fs b closing) = is_in_block low high b
 
--- returns true if the tokens from `low` up to `high` are inside the statements of one block of a
--- module
+-- returns true if the tokens from `low` to before `high` are inside the statements of one block of
+-- a module
 abbrev pub is_in_body : ℕ → ℕ → Tree ℕ module_text → Bool
 is_in_body low high (is_module x b closing) = nat_le high closing && is_in_block low high b
 
--- Holds if a module has changed tokens. Their kinds are the same as in `old`. Their spellings are
--- also the same, except in the range from `low` up to `high`, which is inside one body.
+-- Holds if the tokens of the module `m` and of the text `old` have the same kinds, one by one.
+-- Outside the range from `low` to before `high`, they also have the same spellings. This range is
+-- inside one body.
 pub record IsBodyChange (old : Scanned) (m : Parsed) (low high : ℕ) : Type 0 where
   pub old_scan : IsScan old
   pub new_scan : IsScan m.source

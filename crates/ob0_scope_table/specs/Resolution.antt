@@ -19,7 +19,8 @@ use Rattle.ob0_language_names.specs.DeclaredOnce.{declared_once}
 use Rattle.ob0_scope_table.specs.DeclaredTwice.{twice_in}
 use Rattle.ob0_scope_table.specs.Spans as spans
 
--- returns the ordinal in a table at a token, or None if the table has no such token
+-- returns the ordinal that a table has at a token; None if the token has no ordinal or the table
+-- has no such token
 abbrev pub ordinal_in : List (Option ℕ) → ℕ → Option ℕ
 ordinal_in ordinals token = slice_index_or ordinals token None
 
@@ -50,12 +51,12 @@ abbrev pub is_unbound : Label → Bool
 is_unbound (declared k) = false
 is_unbound (as_written x) = true
 
--- returns true for a duplicate declaration or a wrong closing name
+-- returns true for the fault of a duplicate declaration or a wrong closing name
 abbrev pub is_of_declarations : Fault → Bool
 is_of_declarations fault =
     elim (fault.code) [ code.Duplicate ↦ true | code.EndName ↦ true | _ ↦ false ]
 
--- returns true for an undeclared name
+-- returns true for the fault of an undeclared name
 abbrev pub is_of_occurrences : Fault → Bool
 is_of_occurrences fault = elim (fault.code) [ code.Undeclared ↦ true | _ ↦ false ]
 
@@ -64,7 +65,7 @@ is_of_occurrences fault = elim (fault.code) [ code.Undeclared ↦ true | _ ↦ f
 abbrev pub span_at : Scanned → ℕ → Span
 span_at source token = spans.span_at source token
 
--- returns a fault `Undeclared` for each of these occurrences that is unbound in a table
+-- returns a fault `Undeclared` for each of these occurrences that has no ordinal in the table
 abbrev pub undeclared_at : Scanned → List (Option ℕ) → List ℕ → List Fault
 undeclared_at source ordinals [] = []
 undeclared_at source ordinals (token ∷ tokens) =
@@ -72,9 +73,9 @@ undeclared_at source ordinals (token ∷ tokens) =
     else record { code = code.Undeclared; span = span_at source token }
     ∷ undeclared_at source ordinals tokens
 
--- A module with its resolved names. It has the ordinals by token, and the declaring tokens by
--- ordinal, beginning at `predeclared_count`. It also has the tokens of the occurrences in text
--- order, and the faults.
+-- A module with its resolved names. `ordinals` has the ordinal at each token. `declarations` has
+-- the declaring tokens in text order, the first of which has the ordinal `predeclared_count`.
+-- `uses` has the tokens of the occurrences in text order.
 pub record Resolution : Type 0 where
   pub module_read : Parsed
   pub ordinals : List (Option ℕ)
@@ -92,7 +93,8 @@ IsNumbering m ordinals =
 abbrev pub with_ordinal : Labels Name (Option ℕ × Name)
 with_ordinal ordinal x = (ordinal, x)
 
--- returns the ordinal to which the identifier at a token is bound, and its spelling
+-- returns the ordinal to which the identifier at a token is bound (None if it is unbound), and the
+-- identifier's spelling
 abbrev pub bound_at : Scanned → List (Option ℕ) → ℕ → Option ℕ × Name
 bound_at source ordinals token = (ordinal_in ordinals token, text_at source token)
 
@@ -103,8 +105,8 @@ IsBinding m ordinals =
     relabelled as_names with_ordinal (named_tree_of m)
     ≡ mapped (bound_at m.source ordinals) (value_at m.source) (tree_of m)
 
--- returns a fault `Undeclared` for each of these occurrences that is unbound by its label in the
--- second list
+-- returns a fault `Undeclared` for each of these occurrences whose label is an unbound name; an
+-- occurrence and its label have the same index in the two lists
 abbrev pub unbound_at : Scanned → List ℕ → List Label → List Fault
 unbound_at source [] labels = []
 unbound_at source (token ∷ tokens) [] = []
@@ -114,7 +116,7 @@ unbound_at source (token ∷ tokens) (label ∷ labels) =
     ∷ unbound_at source tokens labels
     else unbound_at source tokens labels
 
--- returns the undeclared names of a module, in text order
+-- returns the faults of the undeclared names of a module, in text order
 abbrev pub unbound_in : Parsed → List Fault
 unbound_in m = unbound_at m.source (occurrences (tree_of m)) (bindings (named_tree_of m))
 

@@ -1,4 +1,5 @@
-//! Describes faults by their tokens, so that they can be moved to the same tokens of a text with the same spellings.
+//! Describes faults by the first and the last token of their ranges instead of by bytes. So the
+//! faults of a text can be moved to another text whose tokens have the same spellings.
 
 ghost use Rattle.std.specs.Prelude.{◌≡◌, ◌≤◌, IfOk, length, map, nat_lt};
 ghost use Rattle.std.specs.List.Sorted.{IsNonDecreasingBy, IsPartitionPoint};
@@ -17,7 +18,7 @@ pub struct FaultAt {
     pub last: usize,
 }
 
-/// Returns the tokens at which the faults of a text begin and end.
+/// Returns each fault of a text with the tokens at which it begins and ends.
 pub fn tokens_of_faults(
     alloc: Global,
     tokens: &Tokens,
@@ -32,7 +33,7 @@ pub fn tokens_of_faults(
     Ok(found)
 }
 
-/// Returns the tokens at which a fault begins and ends.
+/// Returns a fault with the tokens at which it begins and ends.
 fn find_tokens(tokens: &Tokens, fault: &Fault) -> FaultAt
     ensures { result ≡ tokens_of tokens.now.tokens fault.now }
 {
@@ -48,7 +49,7 @@ fn find_tokens(tokens: &Tokens, fault: &Fault) -> FaultAt
     }
 }
 
-/// Returns the faults at these tokens of a text.
+/// Returns each of these faults with its span in the text, instead of its first and last token.
 pub fn faults_at_tokens(
     alloc: Global,
     tokens: &Tokens,
@@ -63,7 +64,7 @@ pub fn faults_at_tokens(
     Ok(faults)
 }
 
-/// Returns the fault at these tokens of a text.
+/// Returns a fault with its span, from the start of its first token to the end of its last token.
 fn place_fault(tokens: &Tokens, fault: &FaultAt) -> Fault
     ensures { result ≡ fault_at tokens.now fault.now }
 {

@@ -1,4 +1,4 @@
-//! Finds the body that contains a range of tokens, and whether there is one.
+//! Finds the body that contains a range of tokens, if there is one.
 
 ghost use Rattle.std.specs.Prelude.{◌≡◌};
 ghost use Rattle.ob0_tree.specs.Parsed.{tree_of};
@@ -75,8 +75,8 @@ fn place_in_procedure(p: &Procedure, low: usize, high: usize) -> Option<BodyPlac
     place_in_block(&p.block, p.closing, low, high)
 }
 
-/// Returns the place of these statements, whose block has this closing name. Returns None if they have no identifier,
-/// or their first one is after the token `low`.
+/// Returns the place of a body with these statements, whose block has this closing name. Returns
+/// None if the statements have no identifier, or their first identifier is after the token `low`.
 fn place_of_statements(
     statements: &Option<Vec<Statement>>,
     closing: usize,

@@ -26,8 +26,8 @@ pub struct Bindings {
 
 /// A module in which each name is bound to its declaration. Declarations are identified by
 /// ordinals: 0 to 6 are the predeclared names, and those from 7 upwards are the declarations of the
-/// text, in text order. The properties of its parts are its invariant (`IsResolution`), which the
-/// contract of `module` gives.
+/// text, in text order. The invariant `IsResolution` states that all parts are correct for the
+/// text. The contract of `module` gives this invariant.
 #[derive(Drop)]
 pub struct Resolved<'t> {
     module: &'t Module<'t>,
@@ -54,7 +54,7 @@ impl<'t> Model for Resolved<'t> {
 impl<'t> Resolved<'t> {
     ghost use Rattle.ob0_scope_table.specs.Bindings.{resolution_by};
 
-    /// Joins bindings to their module.
+    /// Joins a module and its bindings, which the result owns.
     pub fn new(module: &'t Module<'t>, bindings: Bindings) -> Resolved<'t>
         requires { IsResolution (resolution_by «module».now bindings) }
         ensures { result ≡ resolution_by «module».now bindings }
@@ -65,7 +65,7 @@ impl<'t> Resolved<'t> {
         }
     }
 
-    /// Joins bindings that are stored elsewhere to their module.
+    /// Joins a module and its bindings, which the result borrows.
     pub fn from_parts(module: &'t Module<'t>, bindings: &'t Bindings) -> Resolved<'t>
         requires { IsResolution (resolution_by «module».now bindings.now) }
         ensures { result ≡ resolution_by «module».now bindings.now }
@@ -130,7 +130,8 @@ impl<'t> Resolved<'t> {
         ordinal_at(&self.bindings().ordinals, token)
     }
 
-    /// Returns the table of ordinals by token.
+    /// Returns the table of ordinals. Its entry at a token's index is the ordinal that `ordinal_at`
+    /// returns for the token.
     pub fn ordinals(&self) -> &[OrdinalEntry]
         ensures { result.now ≡ self.now.ordinals }
     {

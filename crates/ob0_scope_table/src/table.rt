@@ -1,4 +1,4 @@
-//! Reads tables of ordinals by token and spans of tokens, and compares spellings of tokens.
+//! Finds the ordinal and the span of a token, and compares its spelling with a name.
 
 ghost use Rattle.std.specs.Prelude.{◌≡◌};
 ghost use Rattle.ob0_tree.specs.Places.{text_at};
@@ -10,7 +10,8 @@ use crate::ordinal_entry::OrdinalEntry;
 use ob0_scan::{Span, Tokens};
 use ob0_tree::text_at;
 
-/// Returns the ordinal in a table at a token, or None if the table has no such token.
+/// Returns the ordinal that a table has at a token. Returns None if the token has no ordinal or the
+/// table has no such token.
 pub fn ordinal_at(ordinals: &[OrdinalEntry], token: usize) -> Option<usize>
     ensures { result ≡ ordinal_in ordinals.now token }
 {

@@ -1,11 +1,11 @@
--- Defines the exit statuses of a conversation that broke off.
+-- Defines the exit statuses of the program after a fault of `serve`.
 -- Rule: docs/PROTOCOL.md, The program 8.
 use Rattle.std.specs.Prelude.{ℕ}
 use Rattle.ob0_session.specs.declared.serving.ServeFault.{ServeFault}
 use Rattle.ob0_session.specs.declared.serving.ServeFault.TheVariants as fault
 
--- Returns the exit status for a fault: 3 if the stream isn't framed, 4 if a device can't be read or
--- written, 5 if an allocation failed.
+-- Returns the exit status after a fault: 3 if the bytes aren't framed messages, 4 if a device can't
+-- be read or written, 5 if an allocation failed.
 abbrev pub status_of : ServeFault → ℕ
 status_of fault.BadHead = 3
 status_of fault.Truncated = 3

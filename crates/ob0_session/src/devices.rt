@@ -9,7 +9,7 @@ ghost use Rattle.ob0_session.specs.Devices.{ReadCounts, with_read};
 
 use thiserror::Error;
 
-/// The error of a device: a call failed, or a write of some bytes wrote no byte.
+/// The error of a device: a call failed, or a write of at least one byte wrote nothing.
 #[derive(Clone, Copy, Debug, PartialEq, Eq, Error)]
 #[error("the device failed")]
 pub struct DeviceFault;
@@ -19,14 +19,14 @@ pub trait InputDevice {
     // Returns the bytes that are left to read, or None if they aren't known.
     ghost remaining: { Self → Option (List ℕ) };
 
-    // Returns the number of reads, and the length in bytes of the longest buffer that a read was given.
+    // Returns the number of reads, and the length in bytes of the longest buffer passed to a read.
     ghost reads: { Self → ReadCounts };
 
     // Returns true if a call has failed.
     ghost has_failed: { Self → Bool };
 
-    /// Reads some bytes into the buffer and returns their number. It is 0 only at the end of the input or for an empty
-    /// buffer.
+    /// Reads bytes into the buffer, and returns how many. Returns 0 only at the end of the input
+    /// or if the buffer is empty.
     fn read(&mut self, buf: &mut [u8]) -> Result<usize, DeviceFault>
         ensures bound { ReadsAtMost result buf.new }
         ensures bytes { ReadConsumes (remaining self.old) (remaining self.new) result buf.new }
@@ -45,7 +45,8 @@ pub trait OutputDevice {
     // Returns true if a call has failed.
     ghost has_failed: { Self → Bool };
 
-    /// Writes some of the bytes, at least one if there are any, and returns their number.
+    /// Writes a prefix of the bytes, and returns its length. If `buf` isn't empty, writes at least
+    /// one byte.
     fn write(&mut self, buf: &[u8]) -> Result<usize, DeviceFault>
         ensures bound { WritesAtMost result buf.now }
         ensures progress { IfOk result (λ count. buf.now ≢ [] → 0 < count) }
@@ -53,7 +54,7 @@ pub trait OutputDevice {
         ensures noted { has_failed self.new ≡ (has_failed self.old || is_err result) }
         ensures flushed { is_flushed self.new ≡ false };
 
-    /// Flushes all the bytes written. If the flush fails, the device counts as flushed only if it did before.
+    /// Flushes all the bytes written. If the flush fails, `is_flushed` is unchanged.
     fn flush(&mut self) -> Result<(), DeviceFault>
         ensures bytes { Keeps (contents self.old) (contents self.new) }
         ensures noted { has_failed self.new ≡ (has_failed self.old || is_err result) }

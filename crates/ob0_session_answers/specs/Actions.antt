@@ -36,8 +36,8 @@ pub record RequestedActions : Type 0 where
   pub range : Range
   pub only : Option (List (List ℕ))
 
--- Returns the code's request for code actions, in a document of this version, as a request of the
--- definitions.
+-- Returns an `ActionsRequest` of the program, about a document of this version, as the
+-- `RequestedActions` of the definitions.
 abbrev pub actions_requested : ActionsRequest → ℤ → RequestedActions
 actions_requested r version =
     record {
@@ -49,35 +49,36 @@ actions_requested r version =
       only = kinds_seen r.only.now;
     }
 
--- Returns true if inlining is an action of this kind.
+-- Returns true if this kind of actions includes inlining.
 abbrev pub is_of_kind : List ℕ → Bool
 is_of_kind kind =
     bytes_eq kind [] || bytes_eq kind (codes "refactor") || bytes_eq kind (codes "refactor.inline")
 
--- Returns true if all kinds are requested (None), or inlining is of a requested kind.
+-- Returns true if all kinds are requested (None), or if one of the requested kinds includes
+-- inlining.
 abbrev pub allows_inlining : Option (List (List ℕ)) → Bool
 allows_inlining (Some kinds) = list_any is_of_kind kinds
 allows_inlining None = true
 
--- Returns true if the client accepts actions that aren't commands, and inlining is of a requested
--- kind or all kinds are requested.
+-- Returns true if the client accepts actions that aren't commands, and the requested kinds include
+-- inlining. For None, all kinds are requested.
 abbrev pub takes_inlining : Client → Option (List (List ℕ)) → Bool
 takes_inlining client only = client.takes_literal_actions && allows_inlining only
 
--- Returns true if the client accepts actions that aren't commands, and this request allows
--- inlining.
+-- Returns true if the client of this request accepts actions that aren't commands, and the
+-- requested kinds include inlining. For None, all kinds are requested.
 abbrev pub wants_inlining : RequestedActions → Bool
 wants_inlining requested = takes_inlining requested.client requested.only
 
--- Returns the byte offset at which actions apply: the start of the range, or its end if that is
--- before the start.
+-- Returns the byte offset at which actions apply: the start of the range, or its end if the end
+-- comes first.
 abbrev pub actions_offset : Unit → List ℕ → Range → ℕ
 actions_offset unit text range =
     min (offset_of (width_of unit) text range.start) (offset_of (width_of unit) text range.end)
 
 -- ---- the message
 
--- Returns the title of an action.
+-- Returns the title of the action that inlines in this way.
 abbrev pub title : Inlining → List ℕ
 title Here = codes "Inline here"
 title Everywhere = codes "Inline everywhere"
@@ -87,13 +88,14 @@ abbrev pub action_of : RequestedActions → Inlining → List Edit → Data
 action_of requested how edits =
     action_value (workspace_edit requested.client requested.uri requested.version edits) (title how)
 
--- Returns a list of one action that applies these edits; for None, which means that the edits are
--- refused, an empty list
+-- Returns the list of the one action that applies these edits, or an empty list for None, which
+-- means that the edits are refused.
 abbrev pub action_values : RequestedActions → Inlining → Option (Vec Edit Global) → List Data
 action_values requested how (Some edits) = action_of requested how edits.items ∷ []
 action_values requested how None = []
 
--- Returns the JSON array of the offered actions. Inlining at one use precedes inlining everywhere.
+-- Returns the JSON array of the offered actions: inlining at one use, then inlining everywhere. An
+-- action whose edits are None isn't offered.
 abbrev pub actions_value : RequestedActions
     → Option (Vec Edit Global)
     → Option (Vec Edit Global)
@@ -102,8 +104,8 @@ actions_value requested here everywhere =
     array (items_of
     (action_values requested Here here ++ action_values requested Everywhere everywhere))
 
--- Holds if the client requests inlining, the text is a well-typed module, and the value lists the
--- actions offered for it.
+-- Holds if the request includes inlining, the text is a well-typed module, and the value lists the
+-- actions that are offered at the offset `actions_offset` of the request's range.
 pub record ListsInlinings (unit : Unit) (requested : RequestedActions) (text : List ℕ)
     (value : Data) : Type 0 where
   pub here : Option (Vec Edit Global)
@@ -114,8 +116,8 @@ pub record ListsInlinings (unit : Unit) (requested : RequestedActions) (text : L
       everywhere
   pub listed : value ≡ actions_value requested here everywhere
 
--- Holds if the value lists the offered actions. It is empty if the client doesn't request inlining,
--- or if the text isn't a well-typed module.
+-- Holds if the value lists the offered actions. The list is empty if the request doesn't include
+-- inlining, or if the text isn't a well-typed module.
 abbrev pub ListsActions : Unit → RequestedActions → List ℕ → Data → Type 0
 ListsActions unit requested text value =
     ListsInlinings unit requested text value

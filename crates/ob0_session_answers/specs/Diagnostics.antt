@@ -1,4 +1,4 @@
--- Defines the diagnostics of a text: the reported complaints, with positions.
+-- Defines the diagnostics of a text: the complaints that are reported for it, with positions.
 -- Rule: docs/PROTOCOL.md, Publishing 3, JSON shapes 2.
 use Rattle.std.specs.Prelude.{◌≡◌, ℕ, ℤ, List, Some, map}
 use Rattle.ob0_rpc.specs.Writing.{Writes}
@@ -9,7 +9,8 @@ use Rattle.ob0_analysis.specs.Diagnosed.{Complaint, Reports}
 use Rattle.ob0_analysis.specs.Texts.{utf8}
 use Rattle.ob0_session_json.specs.Shapes.{Diagnostic, publication}
 
--- Returns the diagnostic of a complaint, from the position of its start to the position of its end.
+-- Returns the diagnostic that reports a complaint: the complaint's code and message, and the
+-- positions of its start and end.
 abbrev pub diagnostic_of : Unit → List ℕ → Complaint → Diagnostic
 diagnostic_of unit text c = record {
   code = c.code;

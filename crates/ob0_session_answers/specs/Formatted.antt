@@ -14,8 +14,8 @@ use Rattle.ob0_analysis.specs.Texts.{utf8}
 use Rattle.ob0_edits.specs.Layouts.{IsTooLongLaidOut, LaysOut}
 use Rattle.ob0_session_json.specs.Shapes.{edits_value, edit_refused}
 
--- Holds if the message answers a request with this id to format the text: with edits, with the
--- refusal that the formatted text is too long, or with the refusal that the text is ill-typed.
+-- Holds if the message answers a request with this id to format the text. It has edits, or refuses
+-- because the formatted text is too long, or because the text is ill-typed.
 abbrev pub AnswersFormatting : Unit → Data → Indent → List ℕ → Data → Type 0
 AnswersFormatting unit id indent text message =
     ((edits : List Edit)

@@ -27,7 +27,7 @@ pub data NameQuestion : Type 0 where
   references_asked : Bool → NameQuestion
   renaming_asked : NameQuestion
 
--- ---- JSON values, from the unit of positions, the uri and the characters of the text
+-- ---- JSON values (arguments: the unit of positions, the uri, and the text's characters)
 
 -- Returns the JSON value of a span's range.
 abbrev pub range_at : Unit → List ℕ → Span → Data
@@ -42,7 +42,7 @@ location_at unit uri text span = location_in uri (range_of (width_of unit) text 
 abbrev pub hover_at : Unit → List ℕ → HoverText → Data
 hover_at unit text shown = hover_value shown.text (range_at unit text shown.span)
 
--- Returns the value, or null for None.
+-- Returns an optional JSON value, or null for None.
 abbrev pub value_or_null : Option Data → Data
 value_or_null (Some value) = value
 value_or_null None = null
@@ -51,15 +51,16 @@ value_or_null None = null
 abbrev pub offset_in : Unit → List ℕ → At → ℕ
 offset_in unit text at = offset_of (width_of unit) text at.position
 
--- Holds if the value lists the locations of all references and of nothing else, in text order.
--- `include` says whether the declaration is one of them.
+-- Holds if the value lists, in text order, the locations of all references to the name or field at
+-- the position. `include` says whether the list contains the declaration.
 abbrev pub AnswersReferences : Unit → List ℕ → At → Bool → Resolution → Data → Type 0
 AnswersReferences unit text at include names value =
     (spans : List Span)
     × AreReferencesAt names (offset_in unit text at) include spans
     × (value ≡ array (items_of (map (location_at unit at.uri text) spans)))
 
--- Holds if the value answers the question about a well-typed module with these bound names.
+-- Holds if the value answers the question about a well-typed module. `names` is the resolution of
+-- the module's names.
 abbrev pub AnswersIn : Unit → List ℕ → At → NameQuestion → Resolution → Data → Type 0
 AnswersIn unit text at hover_asked names value =
     value
@@ -76,7 +77,8 @@ AnswersIn unit text at renaming_asked names value =
     ≡ value_or_null
     (option_map (range_at unit text) (renamable_at names (offset_in unit text at)))
 
--- Returns the answer for a text that isn't a well-typed module.
+-- Returns the answer for a text that isn't a well-typed module: null, or an empty list for
+-- references.
 abbrev pub no_answer : NameQuestion → Data
 no_answer hover_asked = null
 no_answer definition_asked = null

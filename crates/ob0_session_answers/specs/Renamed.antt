@@ -43,8 +43,9 @@ abbrev pub edits_for_client : RequestedRename → List Edit → Data
 edits_for_client requested edits =
     workspace_edit requested.client requested.at.uri requested.version edits
 
--- Holds if the message answers the request for renaming in a document with this text: with edits,
--- or with a refusal. Positions are counted in this unit.
+-- Holds if the message answers the request for renaming in a document with this text. It has edits,
+-- or refuses the renaming, or refuses because the text is ill-typed. Positions are counted in this
+-- unit.
 abbrev pub AnswersRenaming : Unit → RequestedRename → List ℕ → Data → Type 0
 AnswersRenaming unit requested text message =
     ((edits : List Edit)

@@ -1,9 +1,9 @@
 //! Answers requests for code actions, which inline a constant at one use or everywhere.
 //!
-//! `inline_in` of `ob0_edits` makes the edits. `place_of` compares offsets, so no law about the
-//! order of positions is needed for a swapped range (`actions_offset` is the smaller of two
-//! offsets). The title, the definition and the edits of an action all depend on one `Inlining`
-//! (`Here` or `Everywhere`). To add an action, add an `Inlining` and a line in `title`.
+//! `inline_in` of `ob0_edits` makes the edits. A range may end before its start, so its two offsets
+//! are compared (`place_of`, `actions_offset`). No law about the order of positions is needed. An
+//! action's title, definition and edits all depend on its `Inlining` (`Here` or `Everywhere`). To
+//! add an action, add an `Inlining` and a line in `title`.
 
 ghost use Rattle.std.specs.Prelude.{◌≡◌, IfOk, map, string_bytes};
 ghost use Rattle.std.specs.List.{list_any};
@@ -24,7 +24,7 @@ use ob0_session_json::edits::{CodeAction, WorkspaceEdit};
 use ob0_text::{Edit, Position, Range, TextStore};
 use std::alloc::{AllocError, Global};
 
-/// Returns the start of a range, or its end if that is before the start.
+/// Returns the position at which actions apply: the range's start, or its end if that comes first.
 fn place_of<T: TextStore>(store: &T, range: Range) -> Position
     ensures { offset_of (width_of (T.unit_of store.now)) (T.content store.now) result
         ≡ place_in (T.unit_of store.now) (T.content store.now) range }
@@ -70,16 +70,16 @@ impl<'a, T: TextStore> DocumentRequest<T> for ActionsRequest<'a> {
 }
 
 impl<'a> ActionsRequest<'a> {
-    /// Returns true if the client accepts actions that aren't commands, and inlining is of a requested kind or all
-    /// kinds are requested.
+    /// Returns true if the client accepts actions that aren't commands, and the requested kinds
+    /// include inlining. For None, all kinds are requested.
     fn wants_inlining(&self) -> bool
         ensures { result ≡ wants self.now.client (kinds_seen self.now.only.now) }
     {
         self.client.takes_literal_actions && allows_inlining(self.only)
     }
 
-    /// Returns the answer that lists the offered actions: first inlining at this use, then inlining everywhere. An
-    /// action whose edits are None isn't offered.
+    /// Returns the answer that lists the offered actions: inlining at this use, then inlining
+    /// everywhere. An action whose edits are None isn't offered.
     fn list(&self, alloc: Global, version: i64, found: &Inlinings) -> Result<Vec<u8>, AllocError>
         ensures { IfOk result (λ bytes. Writes (result_message (id_data self.now.id.now)
             (actions_value (actions_requested self.now version)
@@ -120,7 +120,8 @@ impl<'a> ActionsRequest<'a> {
         result_of(alloc, self.id, &actions.as_slice())
     }
 
-    /// Returns the code action that applies these edits to the document at this version. `how` gives its title.
+    /// Returns the code action that applies these edits to this version of the document. `how`
+    /// decides its title.
     fn action<'b>(&'b self, version: i64, how: Inlining, edits: &'b [Edit]) -> CodeAction<'b>
         ensures { action_in result ≡ action_of (actions_requested self.now version) how edits.now }
     {
@@ -144,7 +145,8 @@ fn no_actions(alloc: Global, id: &Id) -> Result<Vec<u8>, AllocError>
     result_of(alloc, id, &none.as_slice())
 }
 
-/// Returns true if all kinds are requested (None), or inlining is of a requested kind.
+/// Returns true if all kinds are requested (None), or if one of the requested kinds includes
+/// inlining.
 fn allows_inlining(only: &Option<Vec<String>>) -> bool
     ensures { result ≡ allows (kinds_seen only.now) }
 {
@@ -154,7 +156,7 @@ fn allows_inlining(only: &Option<Vec<String>>) -> bool
     }
 }
 
-/// Returns true if inlining is an action of one of these kinds.
+/// Returns true if one of these kinds of actions includes inlining.
 fn any_of_kind(kinds: &[String]) -> bool
     ensures { result ≡ list_any of_kind (map string_bytes kinds.now) }
 {
@@ -166,14 +168,14 @@ fn any_of_kind(kinds: &[String]) -> bool
     false
 }
 
-/// Returns true if inlining is an action of this kind.
+/// Returns true if this kind of actions includes inlining.
 fn is_of_kind(kind: &str) -> bool
     ensures { result ≡ of_kind kind.now }
 {
     kind == "" || kind == "refactor" || kind == "refactor.inline"
 }
 
-/// Returns the title of an action.
+/// Returns the title of the action that inlines in this way.
 fn title_of(how: Inlining) -> &'static str
     ensures { result.now ≡ title how }
 {

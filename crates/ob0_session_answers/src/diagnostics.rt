@@ -1,8 +1,8 @@
-//! Makes the diagnostics of a text, and their publication.
+//! Makes the diagnostics of a text, and the message that publishes them.
 //!
 //! The offsets of all starts and ends are sorted, and their positions are found in one pass
-//! (`TextStore::positions`). Each position is then looked up by binary search. If the look-up
-//! fails, the store computes the position, so the proof doesn't need that it succeeds.
+//! (`TextStore::positions`). Each position is then looked up by binary search. If the search finds
+//! nothing, the store computes the position, so no proof is needed that each search succeeds.
 
 ghost use Rattle.std.specs.Prelude.{◌≡◌, List, IfOk, map};
 ghost use Rattle.std.specs.Str.{chars};
@@ -56,7 +56,8 @@ pub fn diagnostics<T: TextStore>(
     all_diagnostics(alloc, store, reported)
 }
 
-/// Returns the diagnostics with their positions, which are found in one pass over the text.
+/// Makes a diagnostic of each diagnosis. One pass over the text finds the positions of all starts
+/// and ends.
 fn all_diagnostics<T: TextStore>(
     alloc: Global,
     store: &T,
@@ -88,8 +89,8 @@ fn offsets_of(alloc: Global, reported: &[Diagnosis]) -> Result<Vec<usize>, Alloc
     Ok(offsets)
 }
 
-/// Returns the diagnostics with their positions, which are looked up in `positions`, the positions of the ascending
-/// byte offsets `offsets`.
+/// Makes a diagnostic of each diagnosis. The positions of its start and end are looked up in
+/// `positions`, which has the positions of the byte offsets `offsets` (in ascending order).
 fn list_diagnostics<T: TextStore>(
     alloc: Global,
     store: &T,
@@ -112,8 +113,8 @@ fn list_diagnostics<T: TextStore>(
     Ok(list)
 }
 
-/// Returns the position of a byte offset. It is looked up in `positions` if the list `offsets` has the offset,
-/// otherwise the store computes it.
+/// Returns the position of a byte offset. If `offsets` contains the offset, the position comes
+/// from `positions`, otherwise the store computes it.
 fn position_at<T: TextStore>(
     store: &T,
     offsets: &[usize],
@@ -130,7 +131,7 @@ fn position_at<T: TextStore>(
     }
 }
 
-/// Returns the diagnostic of a diagnosis at these positions. The message is moved, not copied.
+/// Returns a diagnosis as a diagnostic with this start and end. The message is moved, not copied.
 fn diagnostic(diagnosis: Diagnosis, start: Position, end: Position) -> Diagnostic
     ensures { diagnostic_in result ≡ record {
       code = (complaint_in diagnosis).code;

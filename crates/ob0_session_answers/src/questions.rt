@@ -1,8 +1,8 @@
 //! Answers requests about the name or field at a position: hover, definition, references and
 //! prepareRename.
 //!
-//! Each request is a type that answers from a document (`DocumentRequest`). Its question about the
-//! module is another type, a `Question`.
+//! Each request is a type that answers from a document (`DocumentRequest`). The question that it
+//! asks about the module is a second type (`Question`).
 
 ghost use Rattle.std.specs.Prelude.{◌≡◌, IfOk, option_map, map};
 ghost use Rattle.serde_json.specs.Data.{array};
@@ -206,7 +206,7 @@ impl<'a, T: TextStore> DocumentRequest<T> for PrepareRenameRequest<'a> {
     }
 }
 
-/// Returns the answer with a hover text and its range, or with null for None.
+/// Returns the answer to a hover request: the hover text with its range, or null for None.
 fn hover_or_null<T: TextStore>(
     alloc: Global,
     id: &Id,
@@ -229,7 +229,7 @@ fn hover_or_null<T: TextStore>(
     }
 }
 
-/// Returns the answer with a span's location, or with null for None.
+/// Returns the answer to a definition request: the location of the span, or null for None.
 fn location_or_null<T: TextStore>(
     alloc: Global,
     id: &Id,
@@ -251,7 +251,7 @@ fn location_or_null<T: TextStore>(
     }
 }
 
-/// Returns the answer with a span's range, or with null for None.
+/// Returns the answer to a `prepareRename` request: the range of the span, or null for None.
 fn range_or_null<T: TextStore>(
     alloc: Global,
     id: &Id,
@@ -268,8 +268,8 @@ fn range_or_null<T: TextStore>(
     }
 }
 
-/// Returns the answer that lists spans as locations in a document. If the spans are in text order,
-/// one pass over the text finds their positions.
+/// Returns the answer to a references request: the spans as locations in this document. If the
+/// spans are in text order, one pass over the text finds their positions.
 fn locations<T: TextStore>(
     alloc: Global,
     id: &Id,

@@ -7,9 +7,9 @@ use Rattle.ob0_text.specs.declared.position_types.Unit.{Unit}
 use Rattle.ob0_session_documents.specs.declared.document_requests.RequestOutcome.{RequestOutcome}
 use Rattle.ob0_session_documents.specs.declared.document_requests.RequestOutcome.TheVariants.{Answered, OutOfStep, Unopened}
 
--- Holds if this is the outcome of a request about the document with this uri. If the document is in
+-- Holds if a request about the document with this uri may have this outcome. If the document is in
 -- step, the outcome is a message that answers the request for its version and text. Otherwise the
--- outcome says that the document is out of step or isn't open.
+-- outcome is `OutOfStep`, or `Unopened` if the document isn't open.
 abbrev pub ComesOfRequest : (ℤ → Unit → List ℕ → List ℕ → Type 0)
     → OpenDocuments
     → List ℕ

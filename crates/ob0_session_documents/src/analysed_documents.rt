@@ -1,10 +1,10 @@
 //! Keeps the open documents, and analyses of those that were changed or asked about most recently.
 //!
-//! The model is the model of the documents, so `ServerState` and all promises are the same as
-//! without analyses. The invariant says that each kept analysis is of the current text of its
-//! document (`AreOfTheirTexts` of `specs/KeptAnalyses`). Before a document changes, its analysis is
-//! removed (`still_theirs` of `proofs/OtherDocuments`). Afterwards the analysis of the new text is
-//! added. No texts are compared. One notification causes one analysis, however many changes it has.
+//! Contracts see only the documents, so `ServerState` and all promises are the same as without
+//! analyses. The invariant says that each kept analysis is of the current text of its document
+//! (`AreOfTheirTexts` of `specs/KeptAnalyses`). Before a document changes, its analysis is removed
+//! (`still_theirs` of `proofs/OtherDocuments`). Afterwards the analysis of the new text is added.
+//! No texts are compared. One notification causes one analysis, however many changes it has.
 
 ghost use Rattle.std.specs.Prelude.{◌≡◌, ◌⊎◌, IfSome, IfOk, OnOk, OnErr, is_some, map, string_bytes};
 ghost use Rattle.std.specs.Str.{chars};
@@ -42,7 +42,7 @@ impl<T: TextStore> Model for AnalysedDocuments<T> {
 }
 
 impl<T: TextStore> AnalysedDocuments<T> {
-    /// Returns these documents, with no analysis kept.
+    /// Returns these documents without any kept analysis.
     pub fn new(alloc: Global, documents: Documents<T>) -> AnalysedDocuments<T>
         ensures { result ≡ documents }
     {
@@ -53,7 +53,7 @@ impl<T: TextStore> AnalysedDocuments<T> {
         }
     }
 
-    /// Returns the documents.
+    /// Returns the documents, without the analyses.
     pub fn documents(&self) -> &Documents<T>
         ensures { result.now ≡ self.now }
     {
@@ -112,9 +112,9 @@ impl<T: TextStore> AnalysedDocuments<T> {
         self.documents.did_close(uri)
     }
 
-    /// Answers a request about the document with this uri. If an analysis of its text is kept, that
-    /// one is used; otherwise a new one is made and kept. If the document isn't open or is out of
-    /// step, the outcome says so.
+    /// Answers a request about the document with this uri. A kept analysis of its text is used; if
+    /// there is none, an analysis is made and kept. If the document isn't open or is out of step,
+    /// returns `Unopened` or `OutOfStep`.
     pub fn ask<Q: DocumentRequest<T>>(
         &mut self,
         uri: &str,
@@ -140,8 +140,8 @@ impl<T: TextStore> AnalysedDocuments<T> {
         }
     }
 
-    /// Analyses the text of a document and keeps the result. `before` is the analysis of its previous text, or None; it
-    /// is reused. If the document isn't open or is out of step, nothing happens.
+    /// Analyses the text of a document and keeps the analysis. `before`, the analysis of the
+    /// previous text or None, is reused. Does nothing if the document isn't open or is out of step.
     fn analyse(&mut self, uri: &str, before: Option<Analysis>) -> Result<(), AllocError>
         ensures { self.new ≡ self.old }
     {
@@ -155,7 +155,7 @@ impl<T: TextStore> AnalysedDocuments<T> {
     }
 }
 
-/// Returns the analysis of a text. `before` is the analysis of an earlier text, or None; it is reused.
+/// Returns the analysis of a text. `before`, the analysis of an earlier text or None, is reused.
 fn analysis_after(
     alloc: Global,
     before: Option<Analysis>,

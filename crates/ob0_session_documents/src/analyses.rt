@@ -1,9 +1,9 @@
 //! Keeps the analyses of the documents that were changed or asked about most recently.
 //!
-//! The contracts state only one direction: every analysis that is kept after a call was kept before
+//! The contracts bound only which analyses are kept after a call. Each was kept before
 //! (`KeepsOnly`), was kept before for another document (`KeepsOthers`), or is the added one
-//! (`KeepsAlso`). Code that drops more analyses meets them as well. `put` drops the least recently
-//! used analyses if the total size is too large.
+//! (`KeepsAlso`). So code that drops more analyses also meets the contracts. `put` drops the least
+//! recently used analyses if the total size is too large.
 
 ghost use Rattle.std.specs.Prelude.{◌≡◌, ◌∷◌, ◌≤◌, [], IfSome, IfOk};
 ghost use Rattle.ob0_session_documents.specs.KeptAnalyses.{KeepsAnalysis, KeepsAlso, KeepsOnly, KeepsOthers};
@@ -20,7 +20,7 @@ const MAX_BYTES: usize = 4_198_400;
 /// bounds the number of kept analyses of empty texts.
 const BYTES_PER_ANALYSIS: usize = 1_024;
 
-/// Analyses of texts, by the uris of their documents. An added analysis may be dropped at any time.
+/// The kept analyses, by the uris of their documents. Adding an analysis may drop others.
 #[derive(Drop)]
 pub struct Analyses {
     alloc: Global,
@@ -31,7 +31,7 @@ pub struct Analyses {
 }
 
 impl Analyses {
-    /// Returns an empty collection of analyses.
+    /// Returns a collection without any analysis.
     pub fn new(alloc: Global) -> Analyses
         ensures { (uri : _) (text : _) → KeepsAnalysis result uri text → ⊥ }
     {
@@ -48,7 +48,7 @@ impl Analyses {
         ensures others { KeepsOthers self.old uri.now self.new }
     {
         let by_uri = self.by_uri.as_mut()?;
-        // The proof needs the contract of this call.
+        // This call is here because the proof needs its contract.
         let _count = by_uri.len();
         let analysis = by_uri.pop(uri)?;
         self.bytes = self.bytes.saturating_sub(bytes_of(uri, &analysis));
@@ -81,7 +81,7 @@ impl Analyses {
         self.insert(uri, analysis)
     }
 
-    /// Adds the analysis of a document to the cache, which is made if there is none.
+    /// Adds the analysis of a document to the cache. If there is no cache yet, makes one.
     fn insert(&mut self, uri: &str, analysis: Analysis) -> Result<(), AllocError>
         ensures { KeepsAlso self.old uri.now analysis self.new }
     {
@@ -95,8 +95,8 @@ impl Analyses {
         Ok(())
     }
 
-    /// Adds this many bytes to the total, and drops the least recently used analyses. It stops when the total is within
-    /// the bound or no analysis is left.
+    /// Adds this many bytes to the total. Then drops the least recently used analyses until the
+    /// total is at most [`MAX_BYTES`] or no analysis is left.
     fn free(&mut self, bytes: usize)
         ensures { KeepsOnly self.old self.new }
     {

@@ -1,4 +1,4 @@
--- The code's results as JSON values of the definitions.
+-- Defines what the code's results mean, as JSON values and diagnostics of the definitions.
 -- Rule: none; for contracts: what values of the code mean.
 use Rattle.std.specs.Prelude.{◌≡◌, List, map, string_bytes}
 use Rattle.serde_json.specs.Data.{Data}
@@ -15,7 +15,7 @@ workspace_edit_of e = shapes.workspace_edit e.client e.uri.now e.version e.edits
 abbrev pub action_in : CodeAction → Data
 action_in a = shapes.action_value (workspace_edit_of a.edit) a.title.now
 
--- Returns a diagnostic of the code as a diagnostic of the definitions.
+-- Returns the code's diagnostic as a diagnostic of the definitions.
 abbrev pub diagnostic_in : Diagnostic → shapes.Diagnostic
 diagnostic_in d = record {
   code = d.code.now;
@@ -24,6 +24,6 @@ diagnostic_in d = record {
   end = d.range.end;
 }
 
--- Holds if the diagnostics of the code are these diagnostics of the definitions, in order.
+-- Holds if the code's diagnostics (`list`) are these diagnostics of the definitions, in order.
 abbrev pub DiagnosticsAre : List shapes.Diagnostic → List Diagnostic → Type 0
 DiagnosticsAre ds list = ds ≡ map diagnostic_in list

@@ -12,21 +12,21 @@ pub use Rattle.ob0_rpc.specs.Shapes.{edit_value}
 use Rattle.ob0_rpc.specs.Shapes.{text, whole_number, range_value, error_message, notification_message}
 use Rattle.ob0_rpc.specs.declared.clients.Client.{Client}
 
--- The synchronization of documents, {"change":2,"openClose":true}.
+-- The value of `textDocumentSync`, {"change":2,"openClose":true}. 2 stands for changes of ranges.
 abbrev pub synchronisation : Data
 synchronisation =
     object (member (codes "change") (number (unsigned 2))
     (member (codes "openClose") (boolean true) no_members))
 
--- Returns {"prepareProvider":true} for a client that sends `prepareRename` before it requests a
--- rename, otherwise true.
+-- Returns the value of `renameProvider`: {"prepareProvider":true} for a client that sends
+-- `prepareRename` before it requests a rename, otherwise true.
 abbrev pub rename_provider : Bool → Data
 rename_provider prepares =
     if prepares
     then object (member (codes "prepareProvider") (boolean true) no_members)
     else boolean true
 
--- The kinds of code actions, {"codeActionKinds":["refactor.inline"]}.
+-- The value of `codeActionProvider`, {"codeActionKinds":["refactor.inline"]}.
 abbrev pub action_provider : Data
 action_provider =
     object (member (codes "codeActionKinds")
@@ -42,7 +42,7 @@ last_members client =
 
 -- Returns the members of the capabilities after "definitionProvider":
 -- "documentFormattingProvider":true,"hoverProvider":true, then "positionEncoding":"utf-8" if the
--- client offers that, then the last members.
+-- client offers that, then `last_members`.
 abbrev pub further_members : Client → Members
 further_members client =
     member (codes "documentFormattingProvider") (boolean true)
@@ -52,7 +52,7 @@ further_members client =
     else last_members client))
 
 -- Returns the server's capabilities: "codeActionProvider":{..} if the client accepts actions that
--- aren't commands, then "definitionProvider":true and the further members.
+-- aren't commands, then "definitionProvider":true, then `further_members`.
 abbrev pub server_capabilities : Client → Data
 server_capabilities client =
     let members = member (codes "definitionProvider") (boolean true) (further_members client) in
@@ -75,43 +75,46 @@ pub record Diagnostic : Type 0 where
   pub start : Position
   pub end : Position
 
--- Returns a location from its uri and the JSON value of its range, {"range":R,"uri":u}.
+-- Returns the JSON value of a location, {"range":R,"uri":u}, from its uri and the JSON value of its
+-- range.
 abbrev pub location_value : List ℕ → Data → Data
 location_value uri range =
     object (member (codes "range") range (member (codes "uri") (text uri) no_members))
 
--- Returns the location of a range in the document with this uri.
+-- Returns the JSON value of the location of a range in the document with this uri.
 abbrev pub location_in : List ℕ → Range → Data
 location_in uri range = location_value uri (range_value range.start range.end)
 
--- Returns a text to display, {"kind":"plaintext","value":h}.
+-- Returns the JSON value of a text that is displayed unchanged, {"kind":"plaintext","value":h}.
 abbrev pub plain_text : List ℕ → Data
 plain_text said =
     object (member (codes "kind") (text (codes "plaintext"))
     (member (codes "value") (text said) no_members))
 
--- Returns a hover from its text and the JSON value of its range, {"contents":{..},"range":R}.
+-- Returns the result of a hover request, {"contents":{..},"range":R}, from the hover text and the
+-- JSON value of its range.
 abbrev pub hover_value : List ℕ → Data → Data
 hover_value said range =
     object (member (codes "contents") (plain_text said) (member (codes "range") range no_members))
 
--- Returns a list of edits, `[E,..]`.
+-- Returns the JSON value of a list of edits, `[E,..]`.
 abbrev pub edits_value : List Edit → Data
 edits_value es = array (items_of (map edit_value es))
 
--- Returns a document at a version, {"uri":u,"version":v}.
+-- Returns the JSON value that identifies a version of a document, {"uri":u,"version":v}.
 abbrev pub versioned_document : List ℕ → ℤ → Data
 versioned_document uri version =
     object
     (member (codes "uri") (text uri) (member (codes "version") (whole_number version) no_members))
 
--- Returns the edits of a document at a version, {"edits":[E,..],"textDocument":{..}}.
+-- Returns the JSON value of the edits of one version of a document,
+-- {"edits":[E,..],"textDocument":{..}}.
 abbrev pub document_edit : List ℕ → ℤ → List Edit → Data
 document_edit uri version es =
     object (member (codes "edits") (edits_value es)
     (member (codes "textDocument") (versioned_document uri version) no_members))
 
--- Returns the edits of a document: {"documentChanges":[..]} for a client that accepts it, otherwise
+-- Returns the edits as {"documentChanges":[..]} for a client that accepts this, otherwise as
 -- {"changes":{u:[E,..]}}.
 abbrev pub workspace_edit : Client → List ℕ → ℤ → List Edit → Data
 workspace_edit client uri version es =
@@ -121,14 +124,14 @@ workspace_edit client uri version es =
     else object
     (member (codes "changes") (object (member uri (edits_value es) no_members)) no_members)
 
--- Returns a code action from the JSON value of its edits and its title,
--- {"edit":W,"kind":"refactor.inline","title":t}.
+-- Returns the JSON value of a code action, {"edit":W,"kind":"refactor.inline","title":t}, from the
+-- JSON value of its edits and from its title.
 abbrev pub action_value : Data → List ℕ → Data
 action_value edit title =
     object (member (codes "edit") edit (member (codes "kind") (text (codes "refactor.inline"))
     (member (codes "title") (text title) no_members)))
 
--- Returns the error that refuses a request for edits, with this message.
+-- Returns the message that refuses a request for edits. `said` is the text of its error.
 abbrev pub edit_refused : Data → List ℕ → Data
 edit_refused id said = error_message id (minus 32803) said
 
@@ -140,12 +143,12 @@ diagnostic_value d =
     (member (codes "range") (range_value d.start d.end)
     (member (codes "severity") (number (unsigned 1)) no_members))))
 
--- Returns a list of diagnostics, `[D,..]`.
+-- Returns the JSON value of a list of diagnostics, `[D,..]`.
 abbrev pub diagnostics_value : List Diagnostic → Data
 diagnostics_value ds = array (items_of (map diagnostic_value ds))
 
--- Returns the params of a publication, {"diagnostics":[D,..],"uri":u,"version":v}. After a close
--- the version is None, and `version` is left out.
+-- Returns the params of a publication, {"diagnostics":[D,..],"uri":u,"version":v}. If the version
+-- is None (after a close), there is no member `version`.
 abbrev pub publication_params : List ℕ → Option ℤ → List Diagnostic → Data
 publication_params uri (Some version) ds =
     object (member (codes "diagnostics") (diagnostics_value ds) (member (codes "uri") (text uri)

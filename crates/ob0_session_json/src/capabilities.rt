@@ -9,7 +9,7 @@ ghost use Rattle.ob0_session_json.specs.Shapes.{action_provider, capabilities, f
 use ob0_rpc::{Client, Id, WriteJson, end_object, first_member, next_member, result_of};
 use std::alloc::{AllocError, Global};
 
-/// Returns the answer to `initialize`.
+/// Returns the text of the answer to `initialize` for a client with these capabilities.
 pub fn initialize_answer(alloc: Global, id: &Id, client: Client) -> Result<Vec<u8>, AllocError>
     ensures { IfOk result
         (λ bytes. Writes (result_message (id_data id.now) (capabilities client)) bytes.items) }

@@ -40,7 +40,7 @@ impl<'a> WriteJson for WorkspaceEdit<'a> {
     }
 }
 
-/// The edits of a document at a version.
+/// The edits of one version of a document.
 #[derive(Drop)]
 struct TextDocumentEdit<'a> {
     edits: &'a [Edit],
@@ -58,7 +58,7 @@ impl<'a> WriteJson for TextDocumentEdit<'a> {
     }
 }
 
-/// A document at a version.
+/// One version of a document.
 #[derive(Drop)]
 struct VersionedDocument<'a> {
     uri: &'a str,

@@ -15,10 +15,12 @@ use ob0_rpc::{
 use ob0_text::Range;
 use std::alloc::{AllocError, Global};
 
-/// The number of bytes that a buffer reserves for a location's text before its uri. That text is never longer.
+/// The length in bytes of the free space at the start of a buffer. A location's text before its uri
+/// fits into it, with the comma before that text.
 const PREFIX_CAPACITY: usize = 192;
 
-/// A number of bytes that a location's text before its uri usually fits in. It is used to estimate the room for a list.
+/// An estimate of the length in bytes of a location's text before its uri. It serves to reserve
+/// capacity for a list of locations.
 const TYPICAL_PREFIX: usize = 96;
 
 /// A location: a range of the document with this uri.
@@ -38,7 +40,7 @@ impl<'a> WriteJson for Location<'a> {
     }
 }
 
-/// Several ranges of one document, written as a list of locations.
+/// Ranges of one document, which are written as a list of locations.
 #[derive(Drop)]
 pub struct Locations<'a> {
     pub ranges: &'a [Range],
@@ -75,8 +77,8 @@ fn write_locations(out: &mut Vec<u8>, uri: &str, ranges: &[Range]) -> Result<(),
     Ok(())
 }
 
-/// Returns a buffer in which the text of each location is built. The text after the range is
-/// written once, after 192 bytes of free space for the text before it.
+/// Returns a buffer for the texts of locations, which are built in it one after another. It has 192
+/// bytes of free space, then the text after the range: a comma, the uri and the closing brace.
 fn buffer_for_uri(alloc: Global, uri: &str) -> Result<Vec<u8>, AllocError>
     ensures { IfOk result (λ buffer. EndsInUri uri.now buffer.items) }
 {
@@ -86,8 +88,9 @@ fn buffer_for_uri(alloc: Global, uri: &str) -> Result<Vec<u8>, AllocError>
     Ok(buffer)
 }
 
-/// Writes a comma and the start of a location's text, including its range, right before the text
-/// that follows the range. Returns the index in the buffer at which the comma is.
+/// Writes a comma and the start of a location's text, with its range, into the free space. They end
+/// right before the index 192. The rest of the location's text begins at that index. Returns the
+/// index of the comma.
 fn location_before(buffer: &mut [u8], range: Range) -> usize
     requires { 192 ≤ length buffer.old }
     ensures within { result < 192 }
@@ -100,7 +103,7 @@ fn location_before(buffer: &mut [u8], range: Range) -> usize
     piece_before(buffer, at, b",{\"range\":")
 }
 
-/// The result of a hover: plain text, and the range for which it is displayed.
+/// The result of a hover request: plain text, and the range of the name or field that it describes.
 #[derive(Drop)]
 pub struct HoverResult<'a> {
     pub contents: MarkupContent<'a>,

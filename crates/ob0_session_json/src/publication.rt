@@ -57,7 +57,8 @@ impl<'a> WriteJson for PublishDiagnostics<'a> {
     }
 }
 
-/// Returns the notification that publishes a list of diagnostics.
+/// Returns the notification that publishes the diagnostics of the document with this uri. Its
+/// version is None after a close.
 pub fn publication(
     alloc: Global,
     uri: &str,

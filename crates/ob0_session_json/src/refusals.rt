@@ -9,7 +9,7 @@ use ob0_rpc::{Id, error};
 use ob0_text::EditRefusal;
 use std::alloc::{AllocError, Global};
 
-/// Returns the message that refuses a request for edits, with this text.
+/// Returns the message that refuses a request for edits. `said` is the text of its error.
 pub fn refuse(alloc: Global, id: &Id, said: &str) -> Result<Vec<u8>, AllocError>
     ensures { IfOk result (λ bytes. Writes (edit_refused (id_data id.now) said.now) bytes.items) }
 {

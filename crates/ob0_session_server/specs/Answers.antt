@@ -38,7 +38,7 @@ pub record ServerState : Type 0 where
   -- The documents that the client has open, and the unit in which positions are counted.
   pub held : OpenDocuments
 
--- The capabilities of a client that hasn't announced any.
+-- The capabilities of a client before `initialize`: none.
 abbrev pub no_client : Client
 no_client =
     record {
@@ -54,7 +54,8 @@ start = record { phase = Starting; client = no_client; held = none_open Utf16 }
 
 -- ---- the reply to one message
 
--- The reply to one message: nothing, a message, or diagnostics or an answer that depends on a document's text.
+-- The reply to one message: nothing, a given message, or a message that depends on a document's
+-- text. Such a message has the text's diagnostics, or it answers a request about the text.
 pub data Reply : Type 0 where
   nothing : Reply
   -- Exactly this message.
@@ -78,8 +79,8 @@ pub data Reply : Type 0 where
 abbrev pub Sends : Data → List (List ℕ) → Type 0
 Sends message sent = (bytes : List ℕ) × (sent ≡ bytes ∷ []) × Writes message bytes
 
--- Holds if these contents are this reply: nothing, this message, or one message with the text's diagnostics or with the
--- answer about the text.
+-- Holds if these contents are this reply: no content for `nothing`, otherwise exactly one. That
+-- content is the given message, the text's diagnostics, or the answer about the text.
 abbrev pub SaysReply : Reply → List (List ℕ) → Type 0
 SaysReply nothing sent = sent ≡ []
 SaysReply (says message) sent = Sends message sent
@@ -94,20 +95,20 @@ SaysReply (renames unit requested text) sent =
 SaysReply (offers_actions unit requested text) sent =
     (message : Data) × AnswersActions unit requested text message × Sends message sent
 
--- The reaction to a message: the state after it, and the reply.
+-- The reaction to a message: the state after the message, and the reply.
 pub record Reaction : Type 0 where
   pub after : ServerState
   pub say : Reply
 
--- Returns the reaction that leaves the state unchanged and gives this reply.
+-- Returns the reaction that leaves the state unchanged and sends this reply.
 abbrev pub stays : ServerState → Reply → Reaction
 stays s say = record { after = s; say = say }
 
--- Returns the reaction that moves the lifecycle to this phase and gives this reply.
+-- Returns the reaction that moves the lifecycle to this phase and sends this reply.
 abbrev pub with_phase : Phase → ServerState → Reply → Reaction
 with_phase phase s say = record { after = record s { phase = phase }; say = say }
 
--- Returns the reaction that replaces the documents and gives this reply.
+-- Returns the reaction that replaces the open documents and sends this reply.
 abbrev pub with_documents : OpenDocuments → ServerState → Reply → Reaction
 with_documents held s say = record { after = record s { held = held }; say = say }
 
@@ -115,18 +116,18 @@ with_documents held s say = record { after = record s { held = held }; say = say
 abbrev pub refuses : ServerState → Data → ℤ → List ℕ → Reaction
 refuses s id code said = stays s (says (error_message id code said))
 
--- Returns the reaction to a message that can't be read or whose method isn't known: an error.
+-- Returns the reaction that answers with the error for this fault and leaves the state unchanged.
 abbrev pub refuses_fault : ServerState → Data → RpcFault → Reaction
 refuses_fault s id fault = refuses s id (error_code fault) (error_text fault)
 
 -- ---- requests: first the lifecycle is checked, then the method, then the params
 
--- Returns the state after `initialize`, in which no document is open.
+-- Returns the state after `initialize` from a client with these capabilities. No document is open.
 abbrev pub begins : Client → ServerState
 begins client = record { phase = Running; client = client; held = none_open (unit_for client) }
 
--- Returns the reaction to a request about a document: the reply for its version and text if it is open and in step,
--- otherwise a refusal.
+-- Returns the reaction to a request about a document. If the document is open and in step, `say`
+-- makes the reply from its version and text. Otherwise the reply is a refusal.
 abbrev pub answers_about : ServerState → Data → Option Document → (ℤ → List ℕ → Reply) → Reaction
 answers_about s id (Some (InStep version text)) say = stays s (say version text)
 answers_about s id (Some OutOfStep) say = stays s (says (edit_refused id (codes "out of step")))
@@ -161,7 +162,7 @@ abbrev pub requests_layout : ServerState → Data → List ℕ → Indent → Re
 requests_layout s id uri indent =
     answers_about s id (document_at s.held uri) (λ version. lays_out s.held.unit id indent)
 
--- Returns the reaction to a request of a known method whose params have been read, or couldn't be read.
+-- Returns the reaction to a request that has been read, or to the fault of one that can't be read.
 abbrev pub answer_request : ServerState → Data → Result ClientRequest RpcFault → Reaction
 answer_request s id (Ok (initialize client)) =
     record { after = begins client; say = says (result_message id (capabilities client)) }
@@ -175,12 +176,12 @@ answer_request s id (Ok (code_action uri range only)) = requests_actions s id ur
 answer_request s id (Ok (formatting uri indent)) = requests_layout s id uri indent
 answer_request s id (Err fault) = refuses_fault s id fault
 
--- Returns the reaction to a request while the session runs.
+-- Returns the reaction to a request that the phase allows, by its method and params.
 abbrev pub answer_method : ServerState → Data → List ℕ → Data → Reaction
 answer_method s id method params = answer_request s id (request_by_method method params)
 
--- Returns the reaction to a request in this phase of the lifecycle. After the session's end or a failed allocation
--- nothing is replied.
+-- Returns the reaction to a request in this phase of the lifecycle. After the session's end or a
+-- failed allocation there is no reply.
 abbrev pub react_to_request : Phase → ServerState → Data → List ℕ → Data → Reaction
 react_to_request Starting s id method params =
     if bytes_eq method (codes "initialize") then answer_method s id method params
@@ -203,13 +204,15 @@ end_status phase = 1
 abbrev pub ends : ServerState → Reaction
 ends s = with_phase (Ended (end_status s.phase)) s nothing
 
--- Returns the publication of a document's diagnostics, or nothing if the document isn't open or is out of step.
+-- Returns the reply that publishes a document's diagnostics, or `nothing` if the document isn't
+-- open or is out of step.
 abbrev pub published : Unit → List ℕ → Option Document → Reply
 published unit uri (Some (InStep version text)) = diagnoses unit uri version text
 published unit uri (Some OutOfStep) = nothing
 published unit uri None = nothing
 
--- Returns the reaction that replaces the documents and publishes the diagnostics of the document with this uri.
+-- Returns the reaction that replaces the open documents and publishes the diagnostics of the
+-- document with this uri.
 abbrev pub publish_documents : List ℕ → OpenDocuments → ServerState → Reaction
 publish_documents uri held s =
     with_documents held s (published held.unit uri (document_at held uri))
@@ -238,7 +241,7 @@ react_to_notification phase s method params =
 
 -- ---- messages
 
--- Returns the reaction to a content with this meaning.
+-- Returns the reaction of a server in this state to a content with this meaning.
 abbrev pub react : ServerState → MessageMeaning → Reaction
 react s not_json = refuses_fault s null NotJson
 react s not_a_message = refuses_fault s null NotAMessage
@@ -254,8 +257,8 @@ AnswersGoingOn before content sent after =
     × (let r = react before (meaning json) in (after ≡ r.after) × SaysReply r.say sent)
 
 -- Holds if a server in this phase answers this content with these messages, and `after` is its next
--- state. After its end it sends nothing and its state is unchanged. After a failed allocation
--- nothing is an answer.
+-- state. If the session has ended, nothing is sent and the state is unchanged. In the phase
+-- `Failed` (after a failed allocation) it never holds.
 abbrev pub AnswersInState : Phase → ServerState → List ℕ → List (List ℕ) → ServerState → Type 0
 AnswersInState (Ended status) before content sent after = (sent ≡ []) × (after ≡ before)
 AnswersInState Failed before content sent after = ⊥
@@ -266,8 +269,8 @@ AnswersInState phase before content sent after = AnswersGoingOn before content s
 abbrev pub Answers : ServerState → List ℕ → List (List ℕ) → ServerState → Type 0
 Answers before content sent after = AnswersInState before.phase before content sent after
 
--- Holds if the server replies to this content with the first of the messages, and `Follows` holds
--- for the resulting state and the remaining messages.
+-- Holds if the server may reply to this content with `first`, a prefix of the messages `sent`.
+-- `Follows` must hold for the state after the reply and for the other messages of `sent`.
 pub record AnswersFirst (before : ServerState) (content : List ℕ) (sent : List (List ℕ))
     (Follows : ServerState → List (List ℕ) → Type 0) : Type 0 where
   pub between : ServerState

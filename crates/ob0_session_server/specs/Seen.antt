@@ -1,4 +1,4 @@
--- The code's messages and outcomes as replies and reactions of the definitions.
+-- Relates the code's messages and outcomes to the replies and reactions of the definitions.
 -- Rule: none; for contracts: what values of the code mean.
 use Rattle.std.specs.Prelude.{◌≡◌, ℕ, ℤ, List, Option, Some, None, Vec, option_map, codes}
 use Rattle.std.specs.Option.{option_to_list}
@@ -11,17 +11,17 @@ use Rattle.ob0_session_documents.specs.declared.document_requests.RequestOutcome
 use Rattle.ob0_session_json.specs.Shapes.{edit_refused}
 use Rattle.ob0_session_server.specs.Answers.{ServerState, Reaction, Reply, SaysReply, says}
 
--- Holds if the code sends exactly this reply. None stands for no message.
+-- Holds if the code's message is exactly this reply. None stands for no message.
 abbrev pub SendsReply : Reply → Option (Vec ℕ Global) → Type 0
 SendsReply reply sent = SaysReply reply (option_to_list (option_map (λ v. v.items) sent))
 
--- Holds if the reaction leads to the state `new` and its reply is this message. None stands for no
--- message.
+-- Holds if this message is the reply of the reaction, and `new` is the state after it. None stands
+-- for no message.
 abbrev pub Reacts : Reaction → Option (Vec ℕ Global) → ServerState → Type 0
 Reacts r sent new = (new ≡ r.after) × SendsReply r.say sent
 
--- Holds if the message is the reply for this outcome of a request about a document: the outcome's
--- own message, or a refusal.
+-- Holds if the message is the reply for this outcome of a request about a document. It is the
+-- outcome's message, or a refusal if the document is out of step or isn't open.
 abbrev pub RepliesWith : Data → RequestOutcome → Option (Vec ℕ Global) → Type 0
 RepliesWith id (Answered message) sent = sent ≡ Some message
 RepliesWith id OutOfStep sent = SendsReply (says (edit_refused id (codes "out of step"))) sent

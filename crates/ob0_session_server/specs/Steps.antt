@@ -25,8 +25,8 @@ pub record SessionSteps (before : ServerState) (content : List ℕ) (step : Step
   pub answers : Answers before content (map (λ v. v.items) step.send.items) after
   pub next : step.next ≡ next_after after.phase
 
--- Holds if a step may fail in this way. Memory occurs only before the end, and leaves the session
--- failed. Failed occurs only if the session has failed before, and changes nothing.
+-- Holds if a step may fail with this fault. Memory: the session hasn't ended or failed before, and
+-- has failed now. Failed: the session has failed before, and nothing changes.
 abbrev pub SessionFails : ServerState → SessionFault → ServerState → Type 0
 SessionFails before Memory after =
     IsGoingOn before.phase × (before.phase ≢ phases.Failed) × (after.phase ≡ phases.Failed)

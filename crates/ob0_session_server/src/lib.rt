@@ -1,5 +1,5 @@
-//! The server (docs/PROTOCOL.md). It takes the contents of messages, and returns the contents of
-//! its answers.
+//! The server (docs/PROTOCOL.md): takes the contents of messages, and returns the contents of its
+//! answers.
 #![tactic(auto)]
 
 mod session;

@@ -36,14 +36,14 @@ pub enum Phase {
     Failed,
 }
 
-/// The state after a step: the session continues, or it has ended with an exit status.
+/// Says whether a session continues after a step or has ended with an exit status.
 #[derive(Clone, Copy, Debug, Drop, PartialEq, Eq)]
 pub enum Next {
     Continue,
     End(u8),
 }
 
-/// The result of a step: the contents to send, and whether the session continues.
+/// The result of a step: the contents of the messages to send, and whether the session continues.
 #[derive(Drop)]
 pub struct Step {
     pub send: Vec<Vec<u8>>,
@@ -119,8 +119,8 @@ impl<T: TextStore> Session<T> {
         self.documents.documents()
     }
 
-    /// Reads the content of one message, and returns the answers to it. If an allocation fails, the
-    /// session has failed, and every later step returns `Failed`.
+    /// Reads the content of one message, and returns the messages that answer it. If an allocation
+    /// fails, returns `Memory`, and every later step returns `Failed`.
     pub fn step(&mut self, content: &[u8]) -> Result<Step, SessionFault>
         ensures ok { IfOk result (λ step. SessionSteps self.old content.now step self.new) }
         ensures err { IfErr result (λ fault. SessionFails self.old fault self.new) }
@@ -159,7 +159,7 @@ impl<T: TextStore> Session<T> {
         }
     }
 
-    /// Returns the messages that answer a content: one or none.
+    /// Applies a content, and returns the list of messages that answer it: one or none.
     fn answer(&mut self, content: &[u8]) -> Result<Vec<Vec<u8>>, AllocError>
         ensures { IfOk result
             (λ sent. AnswersGoingOn self.old content.now (map (λ v. v.items) sent.items) self.new) }
@@ -171,7 +171,7 @@ impl<T: TextStore> Session<T> {
         Ok(sent)
     }
 
-    /// Returns the message that answers a content, or None if nothing is answered.
+    /// Applies a content, and returns the message that answers it, or None if there is no answer.
     fn reply(&mut self, content: &[u8]) -> Result<Option<Vec<u8>>, AllocError>
         ensures { IfOk result (λ sent. AnswersGoingOn self.old content.now
             (option_to_list (option_map (λ v. v.items) sent)) self.new) }
@@ -189,8 +189,8 @@ impl<T: TextStore> Session<T> {
         }
     }
 
-    /// Returns the message that refuses a request, or a content that isn't a message, with this error. The id is then
-    /// None.
+    /// Returns the message that refuses a request with this error. The id is None if the refused
+    /// content isn't a message.
     fn refuse(&self, id: Option<&Id>, code: i32, said: &str) -> Result<Option<Vec<u8>>, AllocError>
         ensures { IfOk result (λ sent. Reacts
             (refuses self.now (id_or_null (option_map (λ i. i.now) id.entry)) code said.now) sent
@@ -199,8 +199,8 @@ impl<T: TextStore> Session<T> {
         Ok(Some(error(self.alloc, id, code, said)?))
     }
 
-    /// Returns the message that reports this fault of a message as an error. If the fault is a failed allocation,
-    /// returns that error instead.
+    /// Returns the message that reports this fault of a request or content. If the fault is
+    /// `Memory`, returns the error `AllocError`, and there is no message.
     fn refuse_fault(&self, id: Option<&Id>, fault: RpcFault) -> Result<Option<Vec<u8>>, AllocError>
         ensures { IfOk result (λ sent. (fault ≢ RpcFault.Memory) × Reacts
             (refuses_fault self.now (id_or_null (option_map (λ i. i.now) id.entry)) fault) sent
@@ -212,7 +212,8 @@ impl<T: TextStore> Session<T> {
         Ok(Some(error(self.alloc, id, fault.code(), fault.text())?))
     }
 
-    /// Answers a request as the phase of the lifecycle requires: with its answer or with an error.
+    /// Answers a request, with an error if the phase of the lifecycle doesn't allow it. Returns
+    /// None if the session has ended or an allocation has failed.
     fn reply_to_request(
         &mut self,
         id: &Id,
@@ -233,7 +234,8 @@ impl<T: TextStore> Session<T> {
         }
     }
 
-    /// Answers a request that the phase allows. An unknown method, or params that can't be read, give an error.
+    /// Answers a request that the phase allows. If the method is unknown or the params can't be
+    /// read, the answer is an error.
     fn reply_to_known(
         &mut self,
         id: &Id,
@@ -353,8 +355,8 @@ impl<T: TextStore> Session<T> {
         self.ask(id, uri, &request)
     }
 
-    /// Returns the answer to a request about the document with this uri, or the refusal if that
-    /// document isn't open or is out of step.
+    /// Returns the answer to a request about the document with this uri. If that document isn't
+    /// open or is out of step, returns a refusal.
     fn ask<Q: DocumentRequest<T>>(
         &mut self,
         id: &Id,
@@ -368,7 +370,7 @@ impl<T: TextStore> Session<T> {
         reply_with(self.alloc, id, outcome)
     }
 
-    /// Starts the session for a client with these capabilities. No document is open.
+    /// Starts the session for a client with these capabilities. No document is open after that.
     fn begin(&mut self, client: Client)
         ensures { self.new ≡ begins client }
     {
@@ -377,7 +379,8 @@ impl<T: TextStore> Session<T> {
         self.documents = AnalysedDocuments::new(self.alloc, documents_for(self.alloc, client));
     }
 
-    /// Applies a notification as the phase of the lifecycle requires. Returns the message to send, or None.
+    /// Applies a notification if the phase of the lifecycle allows it. Returns the message to send,
+    /// or None.
     fn react_to_notification(
         &mut self,
         method: &str,
@@ -396,7 +399,8 @@ impl<T: TextStore> Session<T> {
         Ok(None)
     }
 
-    /// Applies a notification while the session runs. Returns the message to send, or None.
+    /// Reads a notification and applies it, while the session runs. Returns the message to send, or
+    /// None.
     fn handle_notification(
         &mut self,
         method: &str,
@@ -421,7 +425,8 @@ impl<T: TextStore> Session<T> {
         };
     }
 
-    /// Applies a notification that has been read. Returns the message to send, or None.
+    /// Applies a notification that has been read, while the session runs. Returns the message to
+    /// send, or None.
     fn apply_notification(
         &mut self,
         note: ClientNotification,
@@ -455,7 +460,7 @@ impl<T: TextStore> Session<T> {
         }
     }
 
-    /// Opens a document, and returns the publication of its diagnostics.
+    /// Opens a document, and returns the message that publishes its diagnostics.
     fn open(&mut self, uri: &str, version: i64, text: String) -> Result<Option<Vec<u8>>, AllocError>
         ensures { IfOk result (λ sent. Reacts
             (apply_notification self.old (opens uri.now version (chars (string_bytes text)))) sent
@@ -465,7 +470,8 @@ impl<T: TextStore> Session<T> {
         self.publish(uri)
     }
 
-    /// Changes a document, and returns the publication of its diagnostics, or None if there is none.
+    /// Changes a document, and returns the message that publishes its diagnostics. Returns None if
+    /// the document isn't open or is out of step.
     fn change(
         &mut self,
         uri: String,
@@ -479,7 +485,8 @@ impl<T: TextStore> Session<T> {
         self.publish(uri.as_str())
     }
 
-    /// Closes a document, and returns the publication that clears its diagnostics, or None if it wasn't open.
+    /// Closes a document, and returns the message that clears its diagnostics. Returns None if the
+    /// document wasn't open.
     fn close(&mut self, uri: &str) -> Result<Option<Vec<u8>>, AllocError>
         ensures { IfOk result
             (λ sent. Reacts (apply_notification self.old (closes uri.now)) sent self.new) }
@@ -491,8 +498,8 @@ impl<T: TextStore> Session<T> {
         Ok(Some(publication(self.alloc, uri, None, none)?))
     }
 
-    /// Returns the publication of a document's diagnostics, or None if the document isn't open or
-    /// is out of step.
+    /// Returns the message that publishes a document's diagnostics, or None if the document isn't
+    /// open or is out of step.
     fn publish(&mut self, uri: &str) -> Result<Option<Vec<u8>>, AllocError>
         ensures same { self.new ≡ self.old }
         ensures says { IfOk result (λ sent. SaysReply
@@ -504,7 +511,8 @@ impl<T: TextStore> Session<T> {
     }
 }
 
-/// Returns the answer to a request with this outcome: its message or a refusal.
+/// Returns the reply for this outcome of a request about a document. It is the outcome's message,
+/// or a refusal if the document is out of step or isn't open.
 fn reply_with(
     alloc: Global,
     id: &Id,
@@ -530,8 +538,8 @@ fn message_of(outcome: RequestOutcome) -> Option<Vec<u8>>
     }
 }
 
-/// Returns documents without any open one. Positions are counted in bytes of UTF-8 if the client
-/// offers that, otherwise in UTF-16 units.
+/// Returns a collection without open documents. Positions are counted in bytes of UTF-8 if the
+/// client offers that, otherwise in UTF-16 units.
 fn documents_for<T: TextStore>(alloc: Global, client: Client) -> Documents<T>
     ensures { result ≡ none_open (unit_for client) }
 {

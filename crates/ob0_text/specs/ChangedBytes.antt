@@ -6,8 +6,8 @@ use Rattle.ob0_text.specs.declared.replaced_bytes.ReplacedBytes.{ReplacedBytes}
 use Rattle.ob0_text.specs.Texts.{byte_len}
 use Rattle.ob0_text.specs.OpenDocuments.{OpenDocuments, document_at, text_of}
 
--- Holds if the new text differs from the old one only in these bytes: before and after them the two
--- are equal. Both texts have fewer than 2^64 bytes.
+-- Holds if the new text differs from the old one only in the replaced bytes `r`. The bytes before
+-- and after `r` are the same in both texts. Both texts have fewer than 2^64 bytes.
 pub record IsChangedAt (old new : List ℕ) (r : ReplacedBytes) : Type 0 where
   pub inside_old : r.from + r.removed ≤ byte_len old
   pub inside_new : r.from + r.added ≤ byte_len new
@@ -17,8 +17,9 @@ pub record IsChangedAt (old new : List ℕ) (r : ReplacedBytes) : Type 0 where
   pub following : drop (r.from + r.removed) (encode_utf8_all old)
       ≡ drop (r.from + r.added) (encode_utf8_all new)
 
--- Holds if these bytes contain all changes of a text. None means that the old text wasn't known, or
--- that the text is unchanged.
+-- Holds if the replaced bytes contain every change from the old text (first argument) to the new
+-- one. If the old text isn't known, they must be None. Otherwise None means that the text is
+-- unchanged.
 abbrev pub Covers : Option (List ℕ) → Option (List ℕ) → Option ReplacedBytes → Type 0
 Covers None new hull = hull ≡ None
 Covers (Some old) new None = new ≡ Some old

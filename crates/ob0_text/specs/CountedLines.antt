@@ -7,8 +7,8 @@ use Rattle.ob0_text.specs.LineStarts.{HasLines, Table}
 use Rattle.ob0_text.specs.Stretches.{IsPieceOfLine}
 use Rattle.ob0_text.specs.Units.{width_of}
 
--- Holds if the table is the text's, and the counted piece consists of characters of one line of the
--- text.
+-- Holds if `table` is the table of the text's lines, and `c` is a piece of one line with the number
+-- of its units.
 pub record AreLinesOf (text : List ℕ) (unit : Unit) (table : Table) (c : CountedPiece) : Type 0 where
   pub lines : HasLines text table
   pub counted : IsPieceOfLine (width_of unit) text c.start c.counted

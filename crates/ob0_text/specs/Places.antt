@@ -1,10 +1,10 @@
--- Defines the invariants of passes over a text, which state the knowledge of a pass at a place
--- about everything after it. There are two. `IsCounted`: the positions of later offsets can be
--- counted from here. `IsSought`: the text before the sought position, and before each later one,
--- can be found in the rest. One lemma for each case shows that a step of a loop preserves the
--- invariant (`PositionSteps`, `PlaceSteps`). So stopping and resuming needs no separate case. A
--- pass towards a position knows nothing about positions between CR and LF, so `IsSought` covers
--- only positions that don't precede the sought one.
+-- Defines the invariants of passes over a text: what a pass at a place knows about the rest of the
+-- text. `IsCounted` says that the position of each later offset can be counted from the place.
+-- `IsSought` says that the offset of the sought position, and of each later position, can be found
+-- in the rest. For each kind of step a lemma shows that the step preserves the invariant
+-- (`PositionSteps`, `PlaceSteps`). So stopping and resuming a pass needs no separate case. A pass
+-- towards a position knows nothing about positions between CR and LF, so `IsSought` covers only
+-- positions at or after the sought one.
 -- Rule: none; for private contracts of passes over a text.
 use Rattle.std.specs.Prelude.{◌≡◌, ℕ, ◌+◌, ◌-◌, ◌<◌, ◌≤◌, ◌⊎◌, if◌then◌else◌, ◌==◌, List, ◌++◌, length, drop}
 use Rattle.std.specs.Str.{IsUtf8, chars}
@@ -16,14 +16,14 @@ use Rattle.ob0_text.specs.Texts.{before, byte_len, position_of}
 abbrev pub at : ℕ → ℕ → Position
 at line character = record { line = line; character = character }
 
--- Returns the position `p` in the whole text, if `p` is counted from the place with this line and
--- character.
+-- Returns the position in the whole text of a position `p` that is counted from the place with this
+-- line and character.
 abbrev pub counted_from : ℕ → ℕ → Position → Position
 counted_from line character p =
     if p.line == 0 then at line (character + p.character) else at (line + p.line) p.character
 
--- Returns the position `p` counted from the place with this line and character. It is the inverse
--- of `counted_from`.
+-- Returns the position `p` of the whole text as it is counted from the place with this line and
+-- character. This is the inverse of `counted_from`.
 abbrev pub left_of : ℕ → ℕ → Position → Position
 left_of line character p =
     if p.line == line then at 0 (p.character - character) else at (p.line - line) p.character
@@ -39,8 +39,9 @@ pub record IsRest (text rest : List ℕ) (offset : ℕ) : Type 0 where
   pub utf8 : IsUtf8 rest
   pub here : length front ≡ offset
 
--- Holds if a pass has reached an offset and has counted its line and character. The position of
--- each later offset can be counted from there.
+-- Holds if a pass at this offset, line and character can count the position of each later offset in
+-- `rest`, the text after the offset. The line and the character are at most the number of bytes
+-- before the offset.
 pub record IsCounted (width : ℕ → ℕ) (text rest : List ℕ) (offset line character : ℕ) : Type 0 where
   pub rest_is : IsRest text rest offset
   pub lines_fit : line + length rest ≤ length text
@@ -50,12 +51,13 @@ pub record IsCounted (width : ℕ → ℕ) (text rest : List ℕ) (offset line c
       → counted_from line character (position_of width (chars rest) (o - offset))
       ≡ position_of width (chars text) o
 
--- Holds if positions of later offsets can be counted from this place.
+-- Holds if the positions of all later offsets can be counted from this place.
 abbrev pub IsPlace : (ℕ → ℕ) → List ℕ → PassState → Type 0
 IsPlace width text p = IsCounted width text (drop p.offset text) p.offset p.line p.character
 
--- Holds if a pass that looks for a position has reached an offset at or before it. The text before
--- that position, and before each later one, can be found in the rest.
+-- Holds if a pass that looks for the position `sought` is at or before it. The offsets of `sought`
+-- and of each later position can be found from this line and character and from `rest`, the text
+-- after the pass's offset.
 pub record IsSought (width : ℕ → ℕ) (text : List ℕ) (sought : Position) (rest : List ℕ)
     (offset line character : ℕ) : Type 0 where
   pub rest_is : IsRest text rest offset
@@ -65,7 +67,8 @@ pub record IsSought (width : ℕ → ℕ) (text : List ℕ) (sought : Position) 
       → offset + byte_len (before width (chars rest) (left_of line character p))
       ≡ byte_len (before width (chars text) p)
 
--- Holds if the position `sought`, and each later one, can be found from this place.
+-- Holds if the offsets of the position `sought`, and of each later position, can be found from this
+-- place.
 abbrev pub IsPlaceBefore : (ℕ → ℕ) → List ℕ → Position → PassState → Type 0
 IsPlaceBefore width text sought p =
     IsSought width text sought (drop p.offset text) p.offset p.line p.character

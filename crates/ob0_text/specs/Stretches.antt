@@ -1,4 +1,5 @@
--- Defines consecutive characters of a line that are counted together.
+-- Defines pieces of a line: consecutive characters other than LF and CR, which are counted
+-- together.
 -- Rule: none; for private contracts of passes over a text.
 use Rattle.std.specs.Prelude.{◌≡◌, ℕ, ◌+◌, ◌-◌, ◌<◌, ◌≤◌, false, ◌||◌, ◌==◌, if◌then◌else◌, nat_lt, nat_le, List, length, take, drop, sum_by}
 use Rattle.std.specs.List.{All}
@@ -10,13 +11,13 @@ use Rattle.ob0_text.specs.Texts.{LF, CR}
 abbrev pub EndsNoLine : ℕ → Type 0
 EndsNoLine c = (c == LF || c == CR) ≡ false
 
--- Returns the UTF-16 units that are counted at a byte: 1 at the first byte of a character, 2 if
--- that character has four bytes, and 0 at any other byte.
+-- Returns the number of UTF-16 units that are counted at a byte of UTF-8: 1 at the first byte of a
+-- character, 2 if that character has four bytes, and 0 at any other byte.
 abbrev pub utf16_units_at : ℕ → ℕ
 utf16_units_at b =
     (if nat_lt b 0x80 || nat_le 0xC0 b then 1 else 0) + (if nat_le 0xF0 b then 1 else 0)
 
--- Holds if no character of the list ends a line, and they have this many units together.
+-- Holds if no character of the list is LF or CR, and their widths add up to `units`.
 pub record AreOfALine (width : ℕ → ℕ) (cs : List ℕ) (units : ℕ) : Type 0 where
   pub of_one : All EndsNoLine cs
   pub counted : sum_by width cs ≡ units

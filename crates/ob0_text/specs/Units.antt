@@ -22,6 +22,6 @@ abbrev pub utf8_where : Bool → unit.Unit
 utf8_where false = Utf16
 utf8_where true = Utf8
 
--- The encoding (`Coded`) of a unit.
+-- The encoding (`Coded`) of a unit, from which the encodings of texts and documents are made.
 abbrev pub unit_code : Coded unit.Unit
 unit_code = code_by Bool coded_bool is_utf8 utf8_where (elim [ Utf16 ↦ refl | Utf8 ↦ refl ])

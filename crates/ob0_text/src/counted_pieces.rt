@@ -1,14 +1,14 @@
-//! Keeps the part of a line that was counted last. The next position is usually near its end, so
-//! counting starts there.
+//! Keeps the part of a line that was counted last. The next position is usually near the end of
+//! this part, so counting starts there.
 //!
 //! `Lines` keeps the counted part of the line of the last change: from the line's start to at most
 //! 64 bytes before the change. The search for the start of the next change begins there: stretches
 //! are removed from the part's end or added to it (`take_off`, `count_on`). So replacing all
-//! occurrences in one long line costs only the text between the changes, in either order. The part
-//! contains only text before the change (`up_to`). Therefore it is valid after the change as well,
-//! whatever lines that makes. `place_after_counted` tests whether a line still starts at the part's
-//! start. Changes that alternate between two places of one long line pass over the text between
-//! them each time.
+//! occurrences in one long line takes time only for the text between the changes, in either order.
+//! The part contains only text before the change (`up_to`). So the part is still valid
+//! after the change, whatever lines the change makes. `place_after_counted` tests whether a line
+//! still starts at the part's start. If changes alternate between two places of one long line, each
+//! change passes over the text between them.
 
 ghost use Rattle.std.specs.Prelude.{◌≡◌, ◌+◌, ◌-◌, ◌<◌, ◌≤◌, ◌++◌, ℕ, List, IfSome, length, take};
 ghost use Rattle.ob0_text.specs.Units.{width_of};
@@ -18,7 +18,7 @@ use crate::position_types::Unit;
 use crate::stretches::{BYTES, Stretch, next_stretch, units_of};
 
 /// Consecutive characters of a line whose units have been counted. They begin at the byte offset
-/// `start`.
+/// `start`. `counted` has their end and the number of their units.
 #[derive(Clone, Copy, Drop)]
 pub struct CountedPiece {
     pub start: usize,
@@ -52,9 +52,9 @@ impl CountedPiece {
     }
 }
 
-/// Returns a counted piece of the text that begins at `start` and has at most `units` units. If the line is long
-/// enough, it has nearly that many. If the piece `last` begins at `start` as well, only the difference between the two
-/// pieces is counted.
+/// Counts a piece of one line that begins at `start` and has at most `units` units. In a long line
+/// the piece has nearly `units` units. If the piece `last` begins at `start` as well, only the
+/// difference between the two pieces is counted.
 pub fn counted_to(text: &str, unit: Unit, start: usize, last: CountedPiece, units: u64) -> Stretch
     requires start { start ≤ length text.now }
     requires last { IsPieceOfLine (width_of unit) text.now last.start last.counted }
@@ -72,7 +72,7 @@ pub fn counted_to(text: &str, unit: Unit, start: usize, last: CountedPiece, unit
     count_on(text, unit, start, nothing, units)
 }
 
-/// Returns a shorter piece: characters are removed from the end until it has at most `units` units.
+/// Returns a shorter piece: stretches are removed from its end until it has at most `units` units.
 fn take_off(text: &str, unit: Unit, start: usize, from: Stretch, units: u64) -> Stretch
     requires start { start ≤ length text.now }
     requires is { IsPieceOfLine (width_of unit) text.now start from }
@@ -118,8 +118,7 @@ fn without_last(text: &str, unit: Unit, start: usize, piece: Stretch) -> Option<
     })
 }
 
-/// Returns a longer piece: the stretches after it are added as long as the sum is at most `units`
-/// units.
+/// Returns a longer piece: stretches after it are added as long as it has at most `units` units.
 fn count_on(text: &str, unit: Unit, start: usize, from: Stretch, units: u64) -> Stretch
     requires few { from.units ≤ units }
     requires is { IsPieceOfLine (width_of unit) text.now start from }

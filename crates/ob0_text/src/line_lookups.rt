@@ -1,16 +1,18 @@
 //! Looks up offsets and positions with the table of a text's lines.
 //!
-//! `starts_before` is a binary search. Its contract covers each split of the table into offsets
-//! below a bound and offsets at or above it: the result is the length of the first part. The loop
-//! keeps this length between its two ends (`in_front`, `not_in_front` in `Halving`). A pass may
-//! begin at the start of any line (`line_counted`, `line_sought` in `LinePlaces`). So correctness
-//! doesn't depend on finding the nearest line; that only saves time.
+//! `starts_before` is a binary search. Its contract covers each split of the table into
+//! offsets below a bound and offsets at or above it: the result is the length of the first part.
+//! The loop keeps this length between `low` and `high` (`in_front`, `not_in_front` in `Halving`). A
+//! pass may begin at the start of any line (`line_counted`, `line_sought` in `LinePlaces`). So the
+//! result is correct whichever line the pass begins at; the nearest line only saves time.
 //!
-//! In a list, each look-up continues at the previous place if the next one follows in the same line
-//! or less than 32 bytes later. Otherwise it starts at the beginning of the line, which the table
-//! gives (`nearest_before`, `place_after`). So places in one line cost only the text between them,
-//! and each other place costs a binary search. In one long line this is a single pass, as in the
-//! plain store. If both ends of a changed range are in one line, one pass finds them (`bounds_in`).
+//! The offsets or positions of a list are looked up in order. A look-up continues at the previous
+//! place if the next one follows in the same line. For offsets, it also does if the next one is
+//! less than 32 bytes later. Otherwise it starts at the beginning of the line, which the table
+//! gives (`nearest_before`, `place_after`). So places in one line take time only for the
+//! text between them, and each other place takes a binary search. For one long line, all look-ups
+//! together are a single pass, as in the plain store `Whole`. If both ends of a changed range are
+//! in one line, one pass finds them (`bounds_in`).
 
 ghost use Rattle.std.specs.Prelude.{◌≡◌, ◌+◌, ◌-◌, ◌<◌, ◌≤◌, IfOk, length, map, min, slice_get, slice_index};
 ghost use Rattle.std.specs.Option.{option_map};
@@ -28,8 +30,8 @@ use crate::passes::{PassState, START, is_from, onward_to_offset, onward_to_posit
 use crate::position_types::{Position, Range, Unit};
 use std::alloc::{AllocError, Global};
 
-/// The number of bytes within which an offset is near: a pass continues to a near offset without a
-/// look-up.
+/// The distance in bytes below which an offset is near: a pass continues to a near offset without a
+/// look-up in the table.
 const NEAR: usize = 32;
 
 /// Returns the byte offset of a position.
@@ -40,8 +42,8 @@ pub fn offset_in(text: &str, table: &LineTable, unit: Unit, position: Position) 
     place_in(text, table, unit, position).offset
 }
 
-/// The byte offsets at which a range starts and ends, and the counted part of the line in which the
-/// range starts.
+/// The byte offsets at which a range starts and ends. `counted` is a part of the line in which the
+/// range starts, with the number of its units.
 #[derive(Clone, Copy, Drop)]
 pub struct Bounds {
     pub start: usize,
@@ -49,9 +51,9 @@ pub struct Bounds {
     pub counted: CountedPiece,
 }
 
-/// Returns the byte offsets of a range's start and end. The search for the start begins at the part
-/// of the line that was counted last (`last`). If the range ends in the line in which it starts,
-/// the search for the end begins at the start.
+/// Returns the byte offsets of a range's start and end. The search for the start begins with
+/// `last`, the part of a line that was counted last. If the range ends in the line in which it
+/// starts, the search for the end begins at the range's start.
 pub fn bounds_in(
     text: &str,
     table: &LineTable,
@@ -80,8 +82,8 @@ pub fn bounds_in(
     }
 }
 
-/// Returns a counted piece with nearly all characters before a position in its line. Counting
-/// begins at the piece that was counted last (`last`).
+/// Counts a piece of the position's line that ends at or shortly before the position. Counting
+/// begins with `last`, the piece that was counted last.
 fn counted_before(
     text: &str,
     table: &LineTable,
@@ -103,8 +105,8 @@ fn counted_before(
     }
 }
 
-/// Returns the place of a position. The search begins after the counted part of the line if that
-/// part is before the position, otherwise at the start of the line.
+/// Returns the place of a position. If the counted part of its line ends at or before the position,
+/// the search begins after that part. Otherwise it begins at the start of the line.
 fn place_after_counted(
     text: &str,
     table: &LineTable,
@@ -175,8 +177,9 @@ pub fn positions_in(
     Ok(positions)
 }
 
-/// Returns the byte offsets of positions, in order. The search for each begins at the previous
-/// place if both positions are in the same line, otherwise at the start of its line.
+/// Returns the byte offsets of positions, in order. The search for a position begins at the
+/// previous place if that is in the same line and not after the position. Otherwise it begins at
+/// the start of the position's line.
 pub fn offsets_in(
     alloc: Global,
     text: &str,
@@ -221,8 +224,9 @@ fn place_after(
     }
 }
 
-/// Returns the place from which an offset is counted: the last place of a pass if that is near or
-/// in the same line, otherwise the start of the offset's line.
+/// Returns the place at which a pass to an offset begins. It is `place`, the last place of the
+/// pass, if that isn't after the offset, and is near it or in its line. Otherwise it is the start
+/// of the offset's line.
 fn nearest_before(text: &str, table: &LineTable, place: PassState, offset: usize) -> PassState
     requires { HasLines text.now table.now }
     ensures place { (unit : Unit) → IsPlace (width_of unit) text.now place
@@ -239,7 +243,7 @@ fn nearest_before(text: &str, table: &LineTable, place: PassState, offset: usize
     start
 }
 
-/// Returns the start of the line that contains a byte offset, by binary search.
+/// Returns the place at which the line of a byte offset starts. The line is found by binary search.
 fn line_before(text: &str, table: &LineTable, offset: usize) -> PassState
     requires { HasLines text.now table.now }
     ensures place { (unit : Unit) → IsPlace (width_of unit) text.now result }

@@ -16,9 +16,9 @@ pub fn starts_of(alloc: Global, text: &str) -> Result<Vec<usize>, AllocError>
     Ok(starts)
 }
 
-/// Returns the offsets, from the start of `new` to its end, at which a line starts if `new`
-/// replaces the bytes `from..to` of the text. The byte before the change and the bytes after it are
-/// considered as well.
+/// Returns the byte offsets at which a line starts after `new` replaces the bytes `from..to` of the
+/// text. The result has only offsets from the start of `new` to its end, both included. It also
+/// depends on the byte before `from` and the bytes after `to`.
 pub fn starts_in_change(
     alloc: Global,
     text: &str,
@@ -56,8 +56,9 @@ fn byte_before(bytes: &[u8], offset: usize) -> u8
     }
 }
 
-/// Appends the offsets before, in and right after `bytes` at which a line starts. `bytes` begins at
-/// the offset `from`, after the byte `before`. The bytes `following` come after `bytes`.
+/// Appends the offsets at which a line starts, from the start of `bytes` to its end, both included.
+/// `bytes` begins at the offset `from`, after the byte `before`. The bytes `following` come after
+/// `bytes`.
 fn add_starts(
     starts: &mut Vec<usize>,
     from: usize,
@@ -85,8 +86,8 @@ fn add_starts(
     Ok(())
 }
 
-/// Returns true if a line starts between the byte `last` and the byte `next` (None at the end of the text). No line
-/// starts between CR and LF.
+/// Returns true if a line starts between the byte `last` and the byte `next`, which is None at the
+/// end of the text. No line starts between CR and LF.
 #[tactic(auto, unfolding(crate::specs::Texts::ends_line, crate::specs::Texts::starts_with_lf))]
 #[inline(always)]
 fn parts_lines(last: u8, next: Option<u8>) -> bool

@@ -1,7 +1,7 @@
 //! Defines the store `Lines`: a text as one `String`, with a table of the offsets at which its
 //! lines start.
 //!
-//! The model is the text and the unit. The invariant says that the table is the text's
+//! The model is the text and the unit. The invariant says that the table belongs to the text
 //! (`HasLines`). Functions over a text and its table implement all of `TextStore`
 //! (`line_lookups.rt`, `line_table.rt`). The session, `serve` and the commands use this store.
 //! Tests compare it with the plain store `Whole`.
@@ -23,7 +23,7 @@ use std::alloc::{AllocError, Global};
 use std::marker::Model;
 
 /// A text with the table of its lines. A look-up takes time only for one line. A change in the line
-/// of the previous change takes time only for the text between the two.
+/// of the previous change takes time only for the text between the two changes.
 #[derive(Drop)]
 pub struct Lines {
     text: String,

@@ -1,16 +1,18 @@
 //! Keeps the table of a text's lines, in two parts.
 //!
 //! Line starts before the last change are kept as offsets. The starts after it are kept as
-//! distances from the text's end, last line first. So the starts after a change keep their
-//! distances (`with_the_end` in `LineTables`). A change costs time for the starts that it adds or
-//! drops, and for the starts between it and the previous change. `move_left` and `move_right` move
-//! the latter; their clauses say that no start changes. Changes that alternate between two distant
-//! places move all starts between them each time.
+//! distances from the text's end, last line first. So a change doesn't alter the distances of the
+//! starts after it (`with_the_end` in `LineTables`). A change takes time for the starts that it
+//! adds or drops, and for the starts between it and the previous change. `move_left` and
+//! `move_right` move these from one part to the other; their clauses say that no start
+//! changes. If changes alternate between two distant places, each change moves all starts between
+//! them.
 //!
-//! `put` allocates all memory first: for the new starts, for both parts of the table, then for the
-//! text. After that no allocation can fail, as the contracts of `reserve` and `extend_from_slice`
-//! say. If an allocation fails while starts are moved, the table is split at another line but is
-//! still the text's. At the end `replace` releases spare memory (`spare_room.rt`).
+//! `put` allocates all memory first: for the new starts, for both parts of the table,
+//! then for the text. After that no allocation can fail, as the contracts of `reserve` and
+//! `extend_from_slice` say. If an allocation fails while starts are moved, the two parts divide the
+//! table at another line, but the table is still the text's. At the end `replace` releases spare
+//! memory (`spare_room.rt`).
 
 ghost use Rattle.std.specs.Prelude.{◌≡◌, ◌+◌, ◌<◌, ◌≤◌, ◌++◌, IfOk, OnOk, OnErr, drop, length, min, slice_index, string_bytes, take};
 ghost use Rattle.std.specs.Str.{IsCharBoundary};
@@ -62,7 +64,7 @@ impl LineTable {
         self.front.len() + self.back.len()
     }
 
-    /// Returns the byte offset at which a line starts. The line is counted from 0.
+    /// Returns the byte offset at which a line starts. Lines are counted from 0.
     pub fn at(&self, line: usize) -> usize
         requires { line < length self.now.starts }
         ensures { result ≡ slice_index self.now.starts line }
@@ -159,8 +161,8 @@ impl LineTable {
     }
 }
 
-/// Moves starts from the front to the back until at most `count` are left in the front. If an
-/// allocation fails, the starts are the same.
+/// Moves starts from the front part to the back part until at most `count` are left in the front.
+/// The starts of the table don't change, even if an allocation fails.
 fn move_left(
     front: &mut Vec<usize>,
     back: &mut Vec<usize>,
@@ -183,8 +185,8 @@ fn move_left(
     Ok(())
 }
 
-/// Moves starts from the back to the front until the front has `count` of them. If an allocation
-/// fails, the starts are the same.
+/// Moves starts from the back part to the front part until the front has `count` of them. The
+/// starts of the table don't change, even if an allocation fails.
 fn move_right(
     front: &mut Vec<usize>,
     back: &mut Vec<usize>,

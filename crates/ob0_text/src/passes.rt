@@ -3,9 +3,9 @@
 //! Both passes first advance by whole stretches of a line. Then the pass towards an offset advances
 //! over ASCII bytes, even across lines (`past_ascii`), because the places of edits are close
 //! together. It decodes only CR and characters outside ASCII. The pass towards a position decodes
-//! each character: in the store of lines, fewer than 64 characters of the line are left. Each pass
-//! preserves one invariant (`IsPlace`, `IsPlaceBefore`). `StretchSteps` proves that a whole stretch
-//! preserves it, from the step over one character.
+//! each character: in the store `Lines` fewer than 64 characters of the line are left. Each pass
+//! preserves one invariant (`IsPlace`, `IsPlaceBefore`). `StretchSteps` proves that a whole
+//! stretch preserves it, from the step over one character.
 
 ghost use Rattle.std.specs.Prelude.{◌≡◌, ◌↔◌, ◌==◌, ◌||◌, ◌+◌, ◌-◌, ◌<◌, ◌≤◌, IfOk, IfSome, IsTrue, None, map};
 ghost use Rattle.std.specs.Str.{IsCharBoundary, chars};
@@ -119,8 +119,8 @@ fn is_line_break(c: char) -> bool
     c == '\n' || c == '\r'
 }
 
-/// Returns true if the character `c` before the text `rest` ends a line. A CR before an LF doesn't, because that LF
-/// does.
+/// Returns true if the character `c` ends a line. `rest` is the text after it. A CR before an LF
+/// doesn't end the line, because the LF does.
 fn ends_line(c: char, rest: &str) -> bool
     ensures { result ≡ ends_line c (chars rest.now) }
 {
@@ -137,8 +137,9 @@ fn width(c: char, unit: Unit) -> u64
     }
 }
 
-/// Returns the last place at or before a byte offset that is not inside a character. The pass
-/// begins at the place `from`.
+/// Advances from the place `from` to a byte offset, and returns the place there. If the offset is
+/// inside a character, the result is the place before that character. If the offset is after the
+/// text's end, it is the end.
 pub fn onward_to_offset(text: &str, unit: Unit, from: PassState, offset: usize) -> PassState
     requires place { IsPlace (width_of unit) text.now from }
     requires following { from.offset ≤ offset }
@@ -155,7 +156,8 @@ pub fn onward_to_offset(text: &str, unit: Unit, from: PassState, offset: usize) 
     place
 }
 
-/// Returns a place nearer to a byte offset, after whole stretches of the line.
+/// Skips stretches of the line, as long as they end at or before a byte offset. Returns the place
+/// after them.
 fn past_stretches_to(text: &str, unit: Unit, from: PassState, offset: usize) -> PassState
     requires place { IsPlace (width_of unit) text.now from }
     requires following { from.offset ≤ offset }
@@ -178,8 +180,8 @@ fn past_stretches_to(text: &str, unit: Unit, from: PassState, offset: usize) -> 
     place
 }
 
-/// Returns a place nearer to a byte offset, after ASCII characters other than CR. They are
-/// recognized by their bytes.
+/// Skips ASCII characters other than CR, as long as they end at or before a byte offset. Returns
+/// the place after them. The characters are recognized by their bytes, without decoding.
 fn past_ascii(text: &str, unit: Unit, from: PassState, offset: usize) -> PassState
     requires place { IsPlace (width_of unit) text.now from }
     requires following { from.offset ≤ offset }
@@ -215,8 +217,8 @@ fn past_ascii(text: &str, unit: Unit, from: PassState, offset: usize) -> PassSta
     }
 }
 
-/// Returns the place after the next character, or None if that place is after the offset or the
-/// text has ended.
+/// Returns the place after the next character. Returns None if that place is after the byte offset,
+/// or if no character follows.
 fn past_char(text: &str, unit: Unit, place: PassState, offset: usize) -> Option<PassState>
     requires place { IsPlace (width_of unit) text.now place }
     requires following { place.offset ≤ offset }
@@ -251,8 +253,8 @@ fn past_char(text: &str, unit: Unit, place: PassState, offset: usize) -> Option<
     })
 }
 
-/// Returns the place of a position. The search begins at the place `from`, which is before the
-/// position.
+/// Advances from the place `from` to a position, and returns the place there. `from` must be at or
+/// before the position.
 pub fn onward_to_position(text: &str, unit: Unit, from: PassState, position: Position) -> PassState
     requires place { IsPlaceBefore (width_of unit) text.now position from }
     ensures place { IsPlaceBefore (width_of unit) text.now position result }
@@ -286,8 +288,8 @@ pub fn onward_to_position(text: &str, unit: Unit, from: PassState, position: Pos
     }
 }
 
-/// Returns a place nearer to a position, after whole stretches of the position's line. If the place
-/// isn't in that line, it is returned unchanged.
+/// Skips stretches of the position's line, as long as they end at or before the position. Returns
+/// the place after them. A place outside that line is returned unchanged.
 fn past_stretches(text: &str, unit: Unit, from: PassState, position: Position) -> PassState
     requires place { IsPlaceBefore (width_of unit) text.now position from }
     ensures place { IsPlaceBefore (width_of unit) text.now position result }
@@ -304,7 +306,7 @@ fn past_stretches(text: &str, unit: Unit, from: PassState, position: Position) -
 }
 
 /// Returns the stretch after a place. Returns None if the place isn't in the position's line, or if
-/// no stretch after it is sure to end at or before the position.
+/// the next stretch might end after the position.
 fn stretch_before(text: &str, unit: Unit, place: PassState, position: Position) -> Option<Stretch>
     requires { IsCharBoundary text.now place.offset }
     ensures is { IfSome result (λ s. IsStretch (width_of unit) text.now place.offset s) }

@@ -1,12 +1,13 @@
 //! Describes which bytes of a text a change has replaced.
 //!
-//! The result for all changes of a notification is one range of bytes that contains them: the text
-//! before and after it is unchanged, byte by byte (`Covers`, `IsChangedAt`). `IsReplaced` of
-//! `ob0_scan` requires this. `replace_at` of a store returns the bytes of one change, and `around`
-//! joins two of these. In the text between the two changes, everything after the later of their
-//! ends is unchanged by both. A change of the whole text replaces all bytes. The contract allows
-//! more bytes than necessary; having few only saves time. If the text wasn't known, the result is
-//! None, since no part of it is known to be unchanged.
+//! All changes of a notification give one range of bytes that contains every change. The text
+//! before and after this range is unchanged, byte by byte (`Covers`, `IsChangedAt`).
+//! `IsReplaced` of `ob0_scan` requires this. `replace_at` of a store returns the bytes of one
+//! change, and `around` joins the bytes of two changes. It compares both ranges in the text
+//! that the first change leaves: the bytes after both ranges are unchanged. A change of the whole
+//! text replaces all bytes. The contract allows more bytes than necessary; a smaller range only
+//! saves time. If the text wasn't known, the result is None, since no part of it is known to be
+//! unchanged.
 
 ghost use Rattle.std.specs.Prelude.{◌≡◌, ℕ, List, Option, is_some};
 ghost use Rattle.ob0_text.specs.ChangedBytes.{Covers, IsChangedAt};
@@ -21,8 +22,8 @@ pub struct ReplacedBytes {
 }
 
 impl ReplacedBytes {
-    /// Returns one change that contains this change and the next one, which was made to the result
-    /// of this change.
+    /// Returns one change that contains both this change and the next one. The next change was made
+    /// to the result of this one.
     pub(crate) fn around(self, next: ReplacedBytes) -> ReplacedBytes
         ensures { (first middle last : List ℕ)
             → IsChangedAt first middle self
@@ -50,7 +51,7 @@ impl ReplacedBytes {
 }
 
 /// Returns one change that contains the changes so far (`hull`) and the next one. Returns None if
-/// the text before them wasn't known, or if there was no change.
+/// the text before all changes wasn't known (`known` is false), or if nothing changed.
 pub(crate) fn extend_hull(
     known: bool,
     hull: Option<ReplacedBytes>,

@@ -1,17 +1,19 @@
 //! Releases spare memory.
 //!
-//! A list keeps its capacity when it gets shorter. `trim_list` and `trim_text` release most of it
-//! once less than a quarter is used. So an open document occupies a few times its own length,
-//! however long it was before. They keep room for twice the length, so a list has to grow or shrink
-//! by its own length before memory is moved again. No clause bounds the capacity, because std's
-//! `shrink_to` keeps it if a smaller block can't be allocated.
+//! A list keeps its capacity when it gets shorter. `trim_list` and `trim_text` release most of the
+//! capacity if the used part and `SPARED` together are less than a quarter of it. So an open
+//! document occupies a few times its own length, however long it was before. Room for twice the
+//! length is kept. So a list has to grow or shrink by its own length before memory is moved again.
+//! No clause bounds the capacity, because std's `shrink_to` keeps it if a smaller block can't be
+//! allocated.
 
 ghost use Rattle.std.specs.Prelude.{◌≡◌, string_bytes};
 
 /// The spare capacity that isn't worth releasing, in entries of a list or bytes of a text.
 const SPARED: usize = 512;
 
-/// Releases most of a list's memory if less than a quarter of it is used.
+/// Releases most of a list's memory if little of it is used (`is_sparse`). Room for twice the
+/// list's length is kept.
 pub(crate) fn trim_list(list: &mut Vec<usize>)
     ensures { list.new.items ≡ list.old.items }
 {
@@ -20,7 +22,8 @@ pub(crate) fn trim_list(list: &mut Vec<usize>)
     }
 }
 
-/// Releases most of a text's memory if less than a quarter of it is used.
+/// Releases most of a text's memory if little of it is used (`is_sparse`). Room for twice the
+/// text's length is kept.
 pub(crate) fn trim_text(text: &mut String)
     ensures { string_bytes text.new ≡ string_bytes text.old }
 {
@@ -29,7 +32,7 @@ pub(crate) fn trim_text(text: &mut String)
     }
 }
 
-/// Returns true if a quarter of a capacity exceeds the used part by more than `SPARED`.
+/// Returns true if a quarter of a capacity is more than the used part and `SPARED` together.
 fn is_sparse(capacity: usize, used: usize) -> bool {
     capacity / 4 > used.saturating_add(SPARED)
 }

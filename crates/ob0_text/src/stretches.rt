@@ -1,11 +1,11 @@
-//! Counts stretches of a line: consecutive characters that are counted together.
+//! Counts stretches of a line: short runs of characters that are counted without decoding them.
 //!
-//! A stretch has at most 64 bytes of whole characters, and no character in it ends a line. Its
-//! characters aren't decoded. One loop counts the bytes that end a line. In UTF-16 another loop
-//! counts the first byte of each character, and counts it twice if the character has four bytes
-//! (`utf16_units_at`). `StretchBytes` proves that the sum is the width of the characters. Both are
-//! loops over an 8-bit number without an early exit, which the compiler vectorizes. It doesn't
-//! vectorize a loop that sets a flag.
+//! A stretch has at most 64 bytes of whole characters, and no character in it is LF or CR. One loop
+//! counts the bytes that are LF or CR. In UTF-16 another loop counts the first byte of each
+//! character, and counts it twice if the character has four bytes (`utf16_units_at`).
+//! `StretchBytes` proves that this sum is the width of the characters. Both loops add to an 8-bit
+//! number and have no early exit, so the compiler vectorizes them. It doesn't vectorize a loop that
+//! sets a flag.
 
 ghost use Rattle.std.specs.Prelude.{◌≡◌, ◌==◌, ◌||◌, ◌+◌, ◌<◌, ◌≤◌, false, IfSome, length, sum_by};
 ghost use Rattle.std.specs.List.{All};
@@ -23,11 +23,11 @@ pub struct Stretch {
     pub units: u64,
 }
 
-/// The greatest number of bytes that are counted together.
+/// The greatest number of bytes in a stretch.
 pub(crate) const BYTES: usize = 64;
 
 /// Returns the stretch of up to 64 bytes that begins at a byte offset. Returns None if fewer than
-/// 64 bytes follow, if `room` is less than 64, or if one of the bytes ends a line.
+/// 64 bytes follow, if `room` is less than 64, or if one of the bytes is LF or CR.
 pub fn next_stretch(text: &str, unit: Unit, from: usize, room: u64) -> Option<Stretch>
     requires { IsCharBoundary text.now from }
     ensures is { IfSome result (λ s. IsStretch (width_of unit) text.now from s) }
@@ -44,7 +44,7 @@ pub fn next_stretch(text: &str, unit: Unit, from: usize, room: u64) -> Option<St
     Some(Stretch { end, units })
 }
 
-/// Returns the number of units of a piece's characters, or None if one of them ends a line.
+/// Returns the number of units of a piece's characters, or None if one of them is LF or CR.
 pub(crate) fn units_of(piece: &str, unit: Unit) -> Option<u64>
     requires { length piece.now ≤ 64 }
     ensures { IfSome result (λ units. AreOfALine (width_of unit) (chars piece.now) units) }
@@ -58,8 +58,8 @@ pub(crate) fn units_of(piece: &str, unit: Unit) -> Option<u64>
     }
 }
 
-/// Returns true if one of these bytes ends a line. It counts them instead of stopping at the first, because the
-/// compiler vectorizes that.
+/// Returns true if one of these bytes is LF or CR. The loop counts them all instead of stopping at
+/// the first, because the compiler vectorizes that.
 fn has_line_break(bytes: &[u8]) -> bool
     requires { length bytes.now ≤ 64 }
     ensures no { result ≡ false → All EndsNoLine bytes.now }
@@ -92,8 +92,8 @@ fn utf16_units(bytes: &[u8]) -> u64
     units as u64
 }
 
-/// Returns 1 for the first byte of a character, 2 if that character has four bytes, and 0 for any
-/// other byte.
+/// Returns the number of UTF-16 units that are counted at a byte: 1 at the first byte of a
+/// character, 2 if that character has four bytes, and 0 at any other byte.
 fn utf16_units_at(byte: u8) -> u8
     ensures { result ≡ utf16_units_at byte }
 {

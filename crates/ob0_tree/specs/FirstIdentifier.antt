@@ -5,12 +5,12 @@ use Rattle.ob0_tree.specs.declared.tree.Role.{Role}
 use Rattle.ob0_tree.specs.declared.tree.Role.TheVariants as role
 use Rattle.ob0_tree.specs.Tree.{Sort, Tree, identifiers}
 
--- Returns the index of the token of the first identifier in the list, or None if the list is empty.
+-- Returns the token index of the first identifier in the list, or None if the list is empty.
 abbrev pub first_of : List (Role × ℕ) → Option ℕ
 first_of [] = None
 first_of (x ∷ xs) = Some x.1
 
--- Returns the index of the token of the first identifier in a part of a module, or None if the part
--- has none.
+-- Returns the token index of the first identifier in a part of a module, or None if the part has no
+-- identifier.
 abbrev pub first_identifier : {s : Sort} → Tree ℕ s → Option ℕ
 first_identifier t = first_of (identifiers role.Declaring t)

@@ -1,4 +1,4 @@
--- Defines the identifiers of a tree as indexes of a text's tokens, and their order.
+-- Defines the token indexes of the identifiers of a tree, and when such indexes ascend.
 -- Rule: none; for contracts: identifiers by their places.
 use Rattle.std.specs.Prelude.{◌≡◌, ℕ, ◌+◌, ◌≤◌, ◌<◌, List, [], ◌∷◌, ◌++◌, map, length}
 use Rattle.std.specs.List.{HoldsAt}
@@ -14,7 +14,7 @@ abbrev pub Ascending : ℕ → List ℕ → ℕ → Type 0
 Ascending low [] high = low ≤ high
 Ascending low (x ∷ xs) high = (low ≤ x) × Ascending (x + 1) xs high
 
--- Returns the identifiers without their roles.
+-- Returns the identifiers of a list without their roles, in the same order.
 abbrev pub names_only : {N : Type 0} → List (Role × N) → List N
 names_only xs = map (λ x. x.1) xs
 
@@ -22,7 +22,7 @@ names_only xs = map (λ x. x.1) xs
 abbrev pub leaves : {N : Type 0} {s : Sort} → Tree N s → List N
 leaves t = names_only (identifiers role.Declaring t)
 
--- Returns a list of the index `i` if the token is an identifier, otherwise an empty list.
+-- Returns a list with only `i` if a token of this kind is an identifier, otherwise an empty list.
 abbrev pub identifier_at : ℕ → TokenKind → List ℕ
 identifier_at i kind.Identifier = i ∷ []
 identifier_at i k = []

@@ -18,7 +18,7 @@ pub record Parsed : Type 0 where
   pub block : Block
   pub closing : ℕ
 
--- Returns the parsed module with this tree, which spells the tokens.
+-- Returns the parsed module with these tokens and comments and this tree.
 abbrev pub parsed_by : Scanned → ModuleTree → Parsed
 parsed_by s t = record { source = s; name = t.name; block = t.block; closing = t.closing }
 
@@ -26,7 +26,7 @@ parsed_by s t = record { source = s; name = t.name; block = t.block; closing = t
 abbrev pub tree_of : Parsed → Tree ℕ module_text
 tree_of m = is_module m.name (block_of m.block) m.closing
 
--- Returns the module's tree, with texts as its names.
+-- Returns the module's tree, with the text of each name and the value of each integer.
 abbrev pub named_tree_of : Parsed → Tree (List ℕ) module_text
 named_tree_of m = named m.source (tree_of m)
 

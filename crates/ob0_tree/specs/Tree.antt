@@ -37,8 +37,8 @@ pub data Item : Type 0 where
   procedure : Item
   body : Item
 
--- The sorts of trees: one part, any number of a part, at most one part, and the other nonterminals
--- of the grammar.
+-- The sorts of trees: one item, a list of items of one kind, an optional item, and the other
+-- nonterminals of the grammar.
 pub data Sort : Type 0 where
   item : Item → Sort
   items : Item → Sort
@@ -121,11 +121,12 @@ pub data Tree (N : Type 0) : Sort → Type 0 where
   has_body : Tree N declarations → Tree N (maybe body) → Tree N block
   is_module : N → Tree N block → N → Tree N module_text
 
--- Returns a list of one token of this kind.
+-- Returns a list of one token: the reserved word or symbol of this kind.
 abbrev pub mark : {N : Type 0} → TokenKind → List (Terminal N)
 mark k = Mark k ∷ []
 
--- Returns the tokens of a tree, with one case for each production of the grammar.
+-- Returns the tokens that a tree spells, in text order. There is one case for each production of
+-- the grammar.
 abbrev pub spell : {N : Type 0} {s : Sort} → Tree N s → List (Terminal N)
 spell none = []
 spell (one t) = spell t
@@ -220,8 +221,9 @@ spell (is_module name b closing) =
     ∷ (spell b
     ++ (Mark (kind.Reserved reserved.End) ∷ Name closing ∷ mark (kind.Symbol symbol.Dot)))
 
--- Returns the greatest number of constructs that are nested in each other. A construct counts if
--- its case of this definition adds 1.
+-- Returns the greatest number of constructs that are nested in each other. Parenthesised and
+-- negated factors, indexes, IF, WHILE and REPEAT, array and record types, and procedures count:
+-- their cases add 1.
 abbrev pub nesting : {N : Type 0} {s : Sort} → Tree N s → ℕ
 nesting none = 0
 nesting (one t) = nesting t
@@ -278,7 +280,7 @@ nesting (begins s) = nesting s
 nesting (has_body ds b) = max (nesting ds) (nesting b)
 nesting (is_module name b closing) = nesting b
 
--- Returns the tree with each name replaced by `f`, and each number by `g`.
+-- Returns the tree with `f` applied to each name and `g` applied to each number.
 abbrev pub mapped : {N M : Type 0} {s : Sort} → (N → M) → (ℕ → ℕ) → Tree N s → Tree M s
 mapped f g none = none
 mapped f g (one t) = one (mapped f g t)

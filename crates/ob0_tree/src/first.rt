@@ -7,8 +7,8 @@ ghost use Rattle.ob0_tree.specs.View.{expression_of, compound_of, simple_of, ter
 
 use crate::tree::{Compound, Elsif, Expression, Factor, If, Simple, Statement, Term};
 
-/// Returns the index of the token of the first identifier in a block's statements, or None if they
-/// have no identifier.
+/// Returns the token index of the first identifier in a block's statements, or None if they have no
+/// identifier.
 pub fn first_identifier(statements: &Option<Vec<Statement>>) -> Option<usize>
     ensures { result ≡ first_identifier (body_of statements.now) }
 {
@@ -18,7 +18,8 @@ pub fn first_identifier(statements: &Option<Vec<Statement>>) -> Option<usize>
     }
 }
 
-/// Returns the token of the first identifier in a sequence of statements, or None if there is none.
+/// Returns the token index of the first identifier in a sequence of statements, or None if there is
+/// none.
 #[cycle(statements)]
 fn sequence(statements: &Vec<Statement>) -> Option<usize>
     ensures { result ≡ first_identifier (sequence_in statements.now) }
@@ -32,7 +33,7 @@ fn sequence(statements: &Vec<Statement>) -> Option<usize>
     None
 }
 
-/// Returns the token of the first identifier in a statement, or None if there is none.
+/// Returns the token index of the first identifier in a statement, or None if there is none.
 #[cycle(statements)]
 fn statement(s: &Statement) -> Option<usize>
     ensures { result ≡ first_identifier (statement_of s.now) }
@@ -59,7 +60,7 @@ fn statement(s: &Statement) -> Option<usize>
     }
 }
 
-/// Returns the token of the first identifier in an IF statement, or None if there is none.
+/// Returns the token index of the first identifier in an IF statement, or None if there is none.
 #[cycle(statements)]
 fn branches(i: &If) -> Option<usize>
     ensures { result ≡ first_identifier (if_of i.now) }
@@ -82,7 +83,8 @@ fn branches(i: &If) -> Option<usize>
     }
 }
 
-/// Returns the token of the first identifier in the ELSIF parts of an IF statement, or None if there is none.
+/// Returns the token index of the first identifier in the ELSIF parts of an IF statement, or None
+/// if there is none.
 #[cycle(statements)]
 fn elsifs(parts: &Vec<Elsif>) -> Option<usize>
     ensures { result ≡ first_identifier (elsifs_in parts.now) }
@@ -100,7 +102,7 @@ fn elsifs(parts: &Vec<Elsif>) -> Option<usize>
     None
 }
 
-/// Returns the token of the first identifier in an expression, or None if there is none.
+/// Returns the token index of the first identifier in an expression, or None if there is none.
 #[cycle(expressions)]
 fn expression(e: &Expression) -> Option<usize>
     ensures { result ≡ first_identifier (expression_of e.now) }
@@ -111,7 +113,8 @@ fn expression(e: &Expression) -> Option<usize>
     }
 }
 
-/// Returns the token of the first identifier in an expression that isn't a single factor, or None if there is none.
+/// Returns the token index of the first identifier in an expression that isn't a single factor, or
+/// None if there is none.
 #[cycle(expressions)]
 fn compound(c: &Compound) -> Option<usize>
     ensures { result ≡ first_identifier (compound_of c.now) }
@@ -126,7 +129,8 @@ fn compound(c: &Compound) -> Option<usize>
     }
 }
 
-/// Returns the token of the first identifier in a simple expression, or None if there is none.
+/// Returns the token index of the first identifier in a simple expression, or None if there is
+/// none.
 #[cycle(expressions)]
 fn simple(s: &Simple) -> Option<usize>
     ensures { result ≡ first_identifier (simple_of s.now) }
@@ -144,7 +148,7 @@ fn simple(s: &Simple) -> Option<usize>
     None
 }
 
-/// Returns the token of the first identifier in a term, or None if there is none.
+/// Returns the token index of the first identifier in a term, or None if there is none.
 #[cycle(expressions)]
 fn term(t: &Term) -> Option<usize>
     ensures { result ≡ first_identifier (term_of t.now) }
@@ -162,7 +166,7 @@ fn term(t: &Term) -> Option<usize>
     None
 }
 
-/// Returns the token of the first identifier in a factor, or None if there is none.
+/// Returns the token index of the first identifier in a factor, or None if there is none.
 #[cycle(expressions)]
 fn factor(f: &Factor) -> Option<usize>
     ensures { result ≡ first_identifier (factor_of f.now) }

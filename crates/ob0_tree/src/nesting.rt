@@ -1,8 +1,8 @@
 //! Computes the nesting of a module's constructs.
 //!
-//! The private functions use saturating addition, so that the recursive functions need no precondition: their clauses
-//! say `capped (nesting ..)`. `Module::nesting` removes the cap, because by its invariant a module has at most 100
-//! levels.
+//! The private functions use saturating addition, so that the recursive functions need no
+//! precondition: their clauses say `capped (nesting ..)`. `Module::nesting` removes the cap,
+//! because by its invariant a module has at most 100 levels.
 
 ghost use Rattle.std.specs.Prelude.{◌≡◌, ◌+◌};
 ghost use Rattle.ob0_tree.specs.Tree.{nesting};
@@ -26,13 +26,13 @@ impl<'t> Module<'t> {
     pub fn nesting(&self) -> u32
         ensures { result ≡ nesting (tree_of self.now) }
     {
-        // The contract of this call gives the proof the module's invariant.
+        // The contract of this call states the module's invariant, which the proof uses.
         let _parsed = self.tokens();
         block(self.block())
     }
 }
 
-/// Returns one level more, at most 2^32 - 1.
+/// Returns the number of levels plus 1, at most 2^32 - 1.
 fn deeper(levels: u32) -> u32
     ensures { result ≡ capped (levels + 1) }
 {
@@ -170,7 +170,7 @@ fn statement(s: &Statement) -> u32
     }
 }
 
-/// Returns the nesting depth of an IF statement, which counts itself, at most 2^32 - 1.
+/// Returns the nesting depth of an IF statement, including its own level, at most 2^32 - 1.
 #[cycle(statements)]
 fn branches(i: &If) -> u32
     ensures { result ≡ capped (nesting (if_of i.now)) }
@@ -207,7 +207,7 @@ fn written_type(t: &WrittenType) -> u32
     }
 }
 
-/// Returns the nesting depth of a record type, which counts itself, at most 2^32 - 1.
+/// Returns the nesting depth of a record type, including its own level, at most 2^32 - 1.
 #[cycle(types)]
 fn record(r: &RecordType) -> u32
     ensures { result ≡ capped (nesting (record_in r.now)) }
@@ -319,7 +319,7 @@ fn block(b: &Block) -> u32
     declared.max(body(&b.body))
 }
 
-/// Returns the nesting depth of a procedure, which counts itself, at most 2^32 - 1.
+/// Returns the nesting depth of a procedure, including its own level, at most 2^32 - 1.
 #[cycle(blocks)]
 fn procedure(p: &Procedure) -> u32
     ensures { result ≡ capped (nesting (procedure_of p.now)) }

@@ -1,9 +1,9 @@
 //! Visits the identifiers of a module in text order, with any `Visitor`.
 //!
-//! After the walk, the `Visitor` is the fold of its ghost member `seen` over the tree's
-//! identifiers. Invariants and answers of the recursive functions take `g` first;
-//! `g.V.Visitor.seen` is the member. A visitor that clauses mention needs a model, because an
-//! equation of a `Vec` would also compare capacities.
+//! A visitor's ghost member `seen` gives the state after one identifier. A walk applies it to each
+//! identifier of the tree, in text order. In proofs, invariants of the recursive functions take `g`
+//! first, and `g.V.Visitor.seen` is the member. A visitor that clauses mention needs a model,
+//! because an equation of a `Vec` would also compare capacities.
 
 #![tactic(auto, using(std::proofs::lemmas::Grind::common_steps, crate::proofs::Visits::visited_append))]
 
@@ -22,7 +22,8 @@ use crate::tree::{
 };
 use std::alloc::AllocError;
 
-/// A state that changes at each identifier of a part of a module. Identifiers are visited in text order.
+/// A state that a walk changes at each identifier of a part of a module. The walk visits the
+/// identifiers in text order.
 pub trait Visitor {
     /// Returns the state after an identifier, given its role, the index of its token and the state
     /// before.

@@ -1,4 +1,4 @@
--- A checked module: its names and its faults.
+-- A checked module: its names, its faults, and the table of its declarations.
 -- Rule: docs/LANGUAGE.md, Types 8, Faults of scopes and types 1.
 use Rattle.std.specs.Prelude.{◌≡◌, ◌≤◌, true, List, [], length, ◌↔◌, IfSome, is_some, Option}
 use Rattle.ob0_scan.specs.Scanned.{max_faults}
@@ -29,7 +29,8 @@ pub record IsChecked (c : CheckedModule) : Type 0 where
   pub few : length c.faults ≤ max_faults
   pub first : AreFirstFaults c.names c.faults
 
--- holds if the module, with these faults and some table of declarations, is a checked module
+-- holds if there is a table of declarations, or None, with which this module and these faults are a
+-- checked module
 abbrev pub AreCheckedFaults : Resolution → List Fault → Type 0
 AreCheckedFaults names faults =
     (known : Option Tables) × IsChecked (record { names = names; faults = faults; known = known })
@@ -45,7 +46,7 @@ pub record AreTypesOf (names : Resolution) (types : ModuleTypes) : Type 0 where
   pub fields : types.faults.items ≡ [] → AreFields names types.fields
   pub faulty : AllPass (is_among types.faulty.items) (faulty_bodies names)
 
--- Holds if a table, if present, has the module's declarations, and it is present if the module is
+-- Holds if the table is None or has the module's declarations. It must not be None if the module is
 -- well-typed.
 pub record IsKnownWhereTyped (names : Resolution) (known : Option Tables) : Type 0 where
   pub holds : IfSome known (HasDeclarations (named_tree_of names.module_read))

@@ -5,6 +5,6 @@ use Rattle.ob0_types_table.specs.Tables.{type_shape}
 use Rattle.ob0_types.specs.declared.checked.Shape as declared
 use Rattle.ob0_language_values.specs.Values.{Shape}
 
--- returns a type of the table as a shape, which includes the shapes of its parts
+-- converts a type of the table to a shape, which includes the shapes of the type's parts
 abbrev pub shape_of : declared.Shape → Shape
 shape_of s = type_shape (shapes_of s.known.now) s.of

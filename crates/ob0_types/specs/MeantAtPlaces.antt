@@ -1,4 +1,4 @@
--- The meanings of the identifiers in a module's text: names, or else fields.
+-- The meaning of an identifier in a module's text: the declaration of a name, or a field.
 -- Rule: docs/PROTOCOL.md, Requests on documents 3 to 6.
 use Rattle.std.specs.Prelude.{⊤, ℕ, Option, Some, None, option_map}
 use Rattle.ob0_scope_table.specs.Resolution.{Resolution}
@@ -18,7 +18,8 @@ name_meant n = record { token = n.token; means = Name n.ordinal }
 abbrev pub field_meant : FieldName → Identified
 field_meant x = record { token = x.token; means = Field x.owner }
 
--- returns the meaning of the name if there is one, otherwise the meaning of the field
+-- returns the identifier of the name with its meaning if there is a name, otherwise the identifier
+-- of the field with its meaning
 abbrev pub meant_by : Option named.Named → Option FieldName → Option Identified
 meant_by (Some n) f = Some (name_meant n)
 meant_by None f = option_map field_meant f

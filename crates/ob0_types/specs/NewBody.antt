@@ -7,8 +7,8 @@ use Rattle.ob0_scope_table.specs.Resolution.{Resolution}
 use Rattle.ob0_types.specs.CheckedModules.{AreTypesOf}
 use Rattle.ob0_types.specs.declared.checked.ModuleTypes.{ModuleTypes}
 
--- Holds if `types` is the result of checking some module before the statements of one body were replaced. All other
--- tokens have the same spelling in the module `r`.
+-- Holds if `types` is the result of checking an old module, and `r` is that module with the
+-- statements of one body replaced. All other tokens have the same spelling in both.
 pub record WereTypesElsewhere (r : Resolution) (types : ModuleTypes) (s : SameTokens) : Type 0 where
   pub old : Resolution
   pub way : Way

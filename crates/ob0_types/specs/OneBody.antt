@@ -18,15 +18,15 @@ pub record OneBody : Type 0 where
   pub closing : ℕ
   pub statements : Tree ℕ (maybe body)
 
--- returns the body that a value of the code stands for
+-- converts a body of the code to a body of the definitions
 abbrev pub body_seen : Body → OneBody
 body_seen b = record { closing = b.closing; statements = body_of b.statements.now }
 
--- Returns the body that contains the tokens from index `low` upwards, if these tokens lie in one
--- body. Otherwise the result is some body of the module.
+-- Returns the body that contains a range of tokens, which starts at index `low`. If the range isn't
+-- in one body, the result may be any body of the module.
 abbrev mutual
-  -- returns the body of a block with closing name `own`, or of a procedure in that block; the
-  -- tokens from index `low` upwards decide which
+  -- returns the body of a block with closing name `own`, or of a procedure in that block; the token
+  -- index `low` decides which
   pub body_in_block : ℕ → ℕ → Tree ℕ block → OneBody
   body_in_block low own (has_body (declares cs ts vs ps) statements) =
       body_among low own ps statements
@@ -41,13 +41,12 @@ abbrev mutual
       then body_among low own ps statements
       else body_in_procedure low p
 
-  -- returns the body of the procedure, or of a procedure inside it; the tokens from index `low`
-  -- upwards decide which
+  -- returns the body of the procedure, or of a procedure inside it; the token index `low` decides
+  -- which
   pub body_in_procedure : ℕ → Tree ℕ (item procedure) → OneBody
   body_in_procedure low (declares_procedure x fs b closing) = body_in_block low closing b
 
--- returns the body of the module, or of a procedure inside it; the tokens from index `low` upwards
--- decide which
+-- returns the body of the module, or of a procedure inside it; the token index `low` decides which
 abbrev pub body_in_module : ℕ → Tree ℕ module_text → OneBody
 body_in_module low (is_module x b closing) = body_in_block low closing b
 
@@ -56,8 +55,9 @@ abbrev pub over_text : Scanned → Parsed → Parsed
 over_text source m =
     record { source = source; name = m.name; block = m.block; closing = m.closing }
 
--- Holds if `types` is the result of checking the module before tokens with indexes from `low` upwards changed. The
--- changed tokens are in one body. All other tokens have the same spellings and bindings as before.
+-- Holds if `types` is the result of checking the module before a change. The changed tokens have
+-- indexes of at least `low` and are in one body. All other tokens have the same spellings and
+-- bindings as before.
 pub record WereTypes (r : Resolution) (types : ModuleTypes) (low : ℕ) : Type 0 where
   pub high : ℕ
   pub old : Scanned

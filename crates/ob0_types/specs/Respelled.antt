@@ -11,7 +11,8 @@ use Rattle.ob0_scope_table.specs.declared.resolved.Bindings.{Bindings}
 use Rattle.ob0_types.specs.CheckedModules.{AreTypesOf}
 use Rattle.ob0_types.specs.declared.checked.ModuleTypes.{ModuleTypes}
 
--- holds if `moved` equals `types`, except that the faults are at the same tokens of the text `new`
+-- holds if `moved` equals `types`, except that the faults are moved from the text `old` to the same
+-- tokens of the text `new`
 pub record AreTypesMoved (old new : Scanned) (types moved : ModuleTypes) : Type 0 where
   pub known : moved.known ≡ types.known
   pub fields : moved.fields ≡ types.fields

@@ -4,9 +4,10 @@
 //! bindings. A `Checked` joins this result to the bindings. `check` makes a `Checked` that owns the result.
 //! `Checked::from_parts` makes one from a result that is kept elsewhere, without allocating.
 //!
-//! Faults are sorted by (start, end, code). The lists of fields are made only for a well-typed module (`known_fields`).
-//! If one body changed, they are made from the lists of the previous text (`fields_again`). The invariant of `Checked`
-//! states that they are the module's fields if it has no fault. So the value of a `Checked` doesn't contain them.
+//! Faults are sorted by (start, end, code). The lists of fields are made only for a well-typed
+//! module (`known_fields`). If one body changed, they are made from the lists of the previous text
+//! (`fields_again`). The invariant of `Checked` states that they are the module's fields if it has
+//! no fault. So the view of a `Checked` doesn't contain them.
 
 ghost use Rattle.ob0_scope_table.specs.Resolution.{is_of_declarations};
 ghost use Rattle.ob0_types.specs.CheckedModules.{AreFieldsWhereTyped, AreTypesOf, IsChecked, IsKnownWhereTyped, checked_by};
@@ -30,8 +31,9 @@ use std::alloc::{AllocError, Global};
 use std::borrow::Cow;
 use std::marker::Model;
 
-/// The greatest number of faulty bodies of the text before for which only some bodies are checked again. If there are
-/// more, all bodies are, because searching a longer list for each body would take as many steps.
+/// The greatest number of faulty bodies with which only the changed body and the faulty bodies are
+/// checked again. If the previous text had more, all bodies are checked, because searching a longer
+/// list for each body would cost as much.
 const MOST_FAULTY: usize = 32;
 
 /// The result of checking a module. If the module is well-typed, `known` has its declarations and `fields` its fields.
@@ -122,9 +124,10 @@ pub fn types_of<'t>(alloc: Global, resolved: &'t Resolved<'t>) -> Result<ModuleT
     types_reported(resolved, report, fields)
 }
 
-/// Returns the result of checking a module after some of its tokens, all within one body, changed. `low` is the index
-/// of the first token that changed, and `before` is the result before the change. Other bodies are checked again only
-/// if they had faults, and only the fields of that body are searched for again.
+/// Returns the result of checking a module of which only tokens in one body have changed. No token
+/// with an index less than `low` has changed, and `before` is the result before the change. Other
+/// bodies are checked again only if they had faults, and only the fields of that body are searched
+/// for again.
 pub fn types_again<'t>(
     alloc: Global,
     resolved: &'t Resolved<'t>,
@@ -232,9 +235,9 @@ fn known_fields<'t>(
     }
 }
 
-/// Returns the fields of a well-typed module after some of its tokens, all within one body, changed. If the module was
-/// valid before, only the fields of that body are searched for again. If the module isn't well-typed now, the result
-/// may be any list.
+/// Returns the fields of a module after a change of tokens in one body only. If the module was
+/// well-typed before, only the fields of that body are searched for again. If it isn't well-typed
+/// now, the result may be any list.
 fn fields_again<'t>(
     alloc: Global,
     resolved: &'t Resolved<'t>,

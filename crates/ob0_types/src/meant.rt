@@ -1,4 +1,4 @@
-//! Finds the meaning of the identifier at a place. It is a name of the module or a field.
+//! Finds the meaning of the identifier at a place: a declaration or a field.
 //!
 //! The code for hover, declarations, occurrences and renaming matches on the result of `meant_at`.
 
@@ -13,9 +13,9 @@ use ob0_scope::name_at;
 /// The meaning of an identifier: a declaration or a field.
 #[derive(Clone, Copy, PartialEq, Eq)]
 pub enum Meant {
-    /// The ordinal of a declaration, which may be predeclared.
+    /// A name of the declaration with this ordinal, which may be predeclared.
     Name(usize),
-    /// The ordinal of the record that declares the field.
+    /// A field of the record with this ordinal.
     Field(usize),
 }
 

@@ -14,16 +14,17 @@ pub(crate) struct Body<'t> {
     pub(crate) statements: &'t Option<Vec<Statement>>,
 }
 
-/// Returns the body that contains the tokens starting at index `low`, if these tokens lie in one body. Otherwise the
-/// result is some body of the module.
+/// Returns the body that contains a range of tokens, which starts at index `low`. If the range
+/// isn't in one body, the result may be any body of the module.
 pub(crate) fn body_from<'t>(read: &'t Module<'t>, low: usize) -> Body<'t>
     ensures { body_seen result ≡ body_in_module low (tree_of read.now) }
 {
     body_in_block(read.block(), read.closing(), low)
 }
 
-/// Returns the body of this block or of a procedure in it: the one that contains the tokens starting at index `low`, if
-/// they lie in one body. `own` is the block's closing name.
+/// Returns the body of this block, or of a procedure in it, that contains a range of tokens
+/// starting at index `low`. If the range isn't in one body, the result may be any of these bodies.
+/// `own` is the block's closing name.
 #[cycle(blocks)]
 fn body_in_block<'t>(b: &'t Block, own: usize, low: usize) -> Body<'t>
     ensures { body_seen result ≡ body_in_block low own (block_of b.now) }
@@ -39,8 +40,8 @@ fn body_in_block<'t>(b: &'t Block, own: usize, low: usize) -> Body<'t>
     }
 }
 
-/// Returns the body of this procedure or of a procedure in it: the one that contains the tokens starting at index
-/// `low`, if they lie in one body.
+/// Returns the body of this procedure, or of a procedure in it, that contains a range of tokens
+/// starting at index `low`. If the range isn't in one body, the result may be any of these bodies.
 #[cycle(blocks)]
 fn body_in_procedure<'t>(p: &'t Procedure, low: usize) -> Body<'t>
     ensures { body_seen result ≡ body_in_procedure low (procedure_of p.now) }

@@ -1,4 +1,5 @@
--- Agreement between the checker's facts at a place and the names and types according to the definitions.
+-- States when the checker's facts at a place agree with the names and types according to the
+-- definitions.
 -- Rule: none; for laws: what is known against what names and types are.
 use Rattle.std.specs.Prelude.{◌≡◌, ℕ, Bool, true, false, List, [], ◌∷◌, ◌++◌, Option, Some, None, option_map, option_and_then, is_some, slice_get}
 use Rattle.ob0_language_names.specs.Names.{Name}
@@ -94,9 +95,9 @@ abbrev pub MeansAlike : {T : Type 0}
 MeansAlike shape None o = ⊥
 MeansAlike shape (Some m) o = MeaningAgrees shape m o
 
--- Holds if the identifier at a token agrees with the label that another tree has in its place. A
--- looked-up name must have a meaning that agrees with the label's object. A field's label must
--- spell the token.
+-- Holds if the identifier at a token agrees with its label in another tree (`label`). A looked-up
+-- name must have a meaning that agrees with the label's object. A field's label must be spelled
+-- like the token. Any other identifier always agrees.
 abbrev pub TokenAgrees : {T N : Type 0}
     → Facts T
     → (T → Option Shape)
@@ -113,7 +114,7 @@ TokenAgrees facts shape label meaning role.Declaring x = Unit {0}
 TokenAgrees facts shape label meaning role.ClosingName x = Unit {0}
 TokenAgrees facts shape label meaning role.ModuleName x = Unit {0}
 
--- holds if each looked-up name has a meaning that agrees with its object, and each field is spelled as in the text
+-- holds if each identifier in the list agrees with its label (`TokenAgrees`)
 abbrev pub TokensAgree : {T N : Type 0}
     → Facts T
     → (T → Option Shape)
@@ -125,7 +126,8 @@ TokensAgree facts shape label meaning [] = Unit {0}
 TokensAgree facts shape label meaning (x ∷ xs) =
     TokenAgrees facts shape label meaning x.0 x.1 × TokensAgree facts shape label meaning xs
 
--- holds if the facts at a place agree with all names in a part of the tree, such as an expression or statements
+-- holds if the types at a place agree with their shapes, and the identifiers in a part of the tree
+-- agree with their labels
 pub record Agrees
     {T N : Type 0} (facts : Facts T) (shape : T → Option Shape) (label : ℕ → N) (meaning : Typed N)
     {s : Sort} (t : Tree ℕ s) : Type 0 where
@@ -163,8 +165,8 @@ FieldsAgree shape (f ∷ fields) no_field_shape = ⊥
 FieldsAgree shape (f ∷ fields) (next_field_shape x s fs) =
     (f.name ≡ x) × (shape f.of ≡ Some s) × FieldsAgree shape fields fs
 
--- holds if the parts of an array or record agree with its shape; `k` is the ordinal of its word
--- ARRAY or RECORD
+-- holds if the parts of an array or record agree with its shape; `k` is the number of words ARRAY
+-- and RECORD in the text before its own
 abbrev pub PartsAgree : (TypeId → Option Shape) → ℕ → PartTypes → Shape → Type 0
 PartsAgree shape k (of_elements n t) s = (u : Shape) × (s ≡ array_shape k n u) × (shape t ≡ Some u)
 PartsAgree shape k (of_fields fields) s =
@@ -177,7 +179,8 @@ pub record MadeAgrees (shape : TypeId → Option Shape) (m : MadeType) (s : Shap
   pub depth : m.size.depth ≡ typing.depth s
 
 -- Holds if each array and record of the second list agrees with its shape in the third list, one by
--- one. Their parts refer to the shapes before them; the first list has the shapes known so far.
+-- one. The first list has the shapes of earlier arrays and records. The parts of an array or record
+-- may only refer to earlier ones.
 abbrev pub EachMade : List Shape → List MadeType → List Shape → Type 0
 EachMade known [] [] = Unit {0}
 EachMade known [] (s ∷ ss) = ⊥

@@ -1,4 +1,5 @@
--- Two texts with the same tree, whose tokens have the same spelling except in the statements of some bodies.
+-- States when two modules have the same tree and the same tokens, except in the statements of
+-- certain bodies.
 -- Rule: none; for contracts: what stays where the names and numbers of some bodies are written otherwise.
 use Rattle.std.specs.Prelude.{◌≡◌, ℕ, Bool, true, false, length}
 use Rattle.ob0_tree.specs.Parsed.{tree_of}

@@ -1,5 +1,6 @@
--- The faults of a module's declarations and bodies, in the order in which they are reported: text order. Each
--- declaration is known after its text.
+-- The faults of a module's declarations and bodies, in the order in which they are reported: text
+-- order. A declaration is known to the text after it; a procedure is known from the end of its
+-- heading, so also in its own block.
 -- Rule: docs/LANGUAGE.md, Faults of scopes and types 2 to 11.
 use Rattle.std.specs.Prelude.{ℕ, Bool, true, false, List, [], ◌++◌, map}
 use Rattle.std.specs.List.{filter}
@@ -16,8 +17,8 @@ use Rattle.ob0_types_check.specs.StatementFaults.{reported_sequence}
 use Rattle.ob0_types_check.specs.TypeFaults.{reported_constant}
 use Rattle.ob0_types_check.specs.WrittenTypeFaults.{reported_type}
 
--- returns the faults of a constant's declaration, with the state after it, in which its name has a
--- meaning
+-- returns the faults of a constant's declaration, and the state after it, in which the constant's
+-- name has a meaning
 unfoldable pub constant_declared : SoFar → Tree ℕ (item constant) → Reported SoFar
 unfolding reported_constant
 constant_declared p (declares_constant x e) = do
@@ -33,7 +34,7 @@ reported_constants p (more c rest) = do
   q ← constant_declared p c
   reported_constants q rest
 
--- returns the faults of a type declaration, with the state after it, in which its name has a
+-- returns the faults of a type declaration, and the state after it, in which the type's name has a
 -- meaning
 unfoldable pub type_declared : SoFar → Tree ℕ (item type_name) → Reported SoFar
 unfolding reported_type
@@ -50,8 +51,8 @@ reported_types p (more d rest) = do
   q ← type_declared p d
   reported_types q rest
 
--- returns the faults of a group of variables with one type, with the state after it, in which they
--- have a meaning
+-- returns the faults of a group of variables with one type, and the state after it, in which the
+-- variables have a meaning
 unfoldable pub variables_declared : SoFar → Tree ℕ (item variable) → Reported SoFar
 unfolding reported_type
 variables_declared p (declares_variable ns t) = do
@@ -67,7 +68,7 @@ reported_variables p (more g rest) = do
   q ← variables_declared p g
   reported_variables q rest
 
--- the parameters of a heading so far, and the state after them
+-- the parameters of a heading found so far, and the state after them
 pub record KnownHeading : Type 0 where
   pub formals : List (KnownFormal TypeId)
   pub following : SoFar
@@ -81,8 +82,8 @@ with_parameters h by_place xs t =
       following = define_all t.following (a_variable t.of) xs;
     }
 
--- Returns the faults of a section of parameters of one type, with the heading that includes them.
--- If the Bool is true, they are VAR parameters.
+-- Returns the faults of a section of parameters of one type, and the heading with these parameters
+-- added. If the Bool is true, the parameters are VAR parameters.
 unfoldable pub reported_parameters : KnownHeading
     → Bool
     → Tree ℕ names
@@ -116,7 +117,8 @@ reported_sections h (more s rest) = do
 abbrev pub after_heading : ℕ → KnownHeading → SoFar
 after_heading x h = define h.following (a_procedure h.formals) x
 
--- returns the faults of a body's statements, with the state before them, which they don't change
+-- returns the faults of a body's statements, with the state, which they don't change; a missing
+-- body has no faults
 unfoldable pub reported_body : SoFar → Tree ℕ (maybe body) → Reported SoFar
 unfolding reported_sequence
 reported_body p none = right p
@@ -126,7 +128,8 @@ reported_body p (one (begins statements)) =
 unfoldable mutual
   unfolding reported_constants reported_types reported_variables reported_sections reported_body
 
-  -- returns the faults of a block: of its constants, types, variables, procedures, and then its statements
+  -- returns the faults of a block, with the state after it; constants come first, then types,
+  -- variables, procedures and statements
   pub reported_block : SoFar → Tree ℕ block → Reported SoFar
   reported_block p (has_body (declares cs ts vs ps) statements) = do
     with_constants ← reported_constants p (section_constants cs)
@@ -135,15 +138,15 @@ unfoldable mutual
     with_procedures ← reported_procedures with_variables ps
     reported_body with_procedures statements
 
-  -- returns the faults of procedures, one after another; each procedure knows the earlier ones and
-  -- itself
+  -- returns the faults of procedures, one after another, with the state after them; each procedure
+  -- can use the earlier ones and itself
   pub reported_procedures : SoFar → Tree ℕ (items procedure) → Reported SoFar
   reported_procedures p end = right p
   reported_procedures p (more d rest) = do
     q ← reported_procedure p d
     reported_procedures q rest
 
-  -- returns the faults of a procedure: of its parameters, and then of its block
+  -- returns the faults of a procedure's parameters and then of its block, with the state after it
   pub reported_procedure : SoFar → Tree ℕ (item procedure) → Reported SoFar
   reported_procedure p (declares_procedure x fs b closing) = do
     h ← reported_sections (record { formals = []; following = p }) (formal_sections fs)

@@ -7,7 +7,8 @@ use Rattle.ob0_scan.specs.Scanned.{Scanned}
 use Rattle.ob0_language_names.specs.Names.{Name}
 use Rattle.ob0_language_values.specs.Values.{Value}
 
--- the form of a type: a scalar, an array with its element type, a record with its fields, or unknown
+-- the form of a type: a scalar, an array with its element type, a record with the type of each
+-- field by name, or unknown
 pub data Form (T : Type 0) : Type 0 where
   a_scalar : Form T
   an_array : T → Form T
@@ -36,8 +37,9 @@ pub data Meaning (T : Type 0) : Type 0 where
   a_variable : T → Meaning T
   a_procedure : List (KnownFormal T) → Meaning T
 
--- The facts at a place of a text. A name is identified by its token. If `only_constants` is true, names may only refer
--- to constants.
+-- The facts at a place of a text: the tokens, the types, and the meaning of the name at each token.
+-- The meaning is None if it isn't known. If `only_constants` is true, names may only refer to
+-- constants.
 pub record Facts (T : Type 0) : Type 0 where
   pub source : Scanned
   pub types : Types T

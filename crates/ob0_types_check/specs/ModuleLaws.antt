@@ -24,9 +24,10 @@ ModulesFit =
     → reported_module r ≡ []
     → fits_over as_names (named_tree_of r.module_read) ≡ true
 
--- Holds if the state after a module agrees with its declarations. Its arrays and records agree with shapes, and each
--- ordinal has the meaning of its declaration. The predeclared names, including the standard procedures, have the
--- ordinals below 7.
+-- Holds if the state after a module agrees with its declarations. The arrays and records of the
+-- state agree with `shapes`. The meaning at each ordinal agrees with the object of the declaration
+-- with this ordinal. The ordinals below 7 are of predeclared names. No other declaration is a
+-- standard procedure.
 pub record KnowsDeclarations (p : SoFar) (m : Tree Name module_text) : Type 0 where
   pub shapes : List Shape
   pub table : TableAgrees p.made shapes

@@ -1,4 +1,4 @@
--- The requirements of operations, names and selectors: their faults and their resulting operands.
+-- The faults and the resulting operands of operations, names and selectors.
 -- Rule: docs/LANGUAGE.md, Types 2, 3, Faults of scopes and types 3, 5.
 use Rattle.std.specs.Prelude.{◌≡◌, ℕ, ◌+◌, ◌-◌, nat_lt, Bool, true, false, ◌||◌, List, [], ◌∷◌, ◌++◌, length, if◌then◌else◌, Option, Some, None, option_and_then, pos}
 use Rattle.ob0_scan.specs.declared.fault.Code.{Code}
@@ -25,7 +25,7 @@ use Rattle.ob0_types_check.specs.Known.{Facts, Form, Meaning, Operand, Reported,
 abbrev pub preceded_by : {A : Type 0} → List Fault → Reported A → Reported A
 preceded_by before t = record { known = t.known; faults = before ++ t.faults }
 
--- returns a result that has no faults
+-- returns the result `x` with an empty list of faults
 abbrev pub right : {A : Type 0} → A → Reported A
 right x = record { known = x; faults = [] }
 
@@ -82,9 +82,9 @@ required facts wanted o = record {
   faults = if fits facts.types o.of wanted then [] else at_operand facts code.TypeMismatch o;
 }
 
--- Requires the type `wanted` of two operands. The left operand is reported if it has another type,
--- otherwise the right one if it has. The result is `wanted` if both have this type, otherwise the
--- unknown type.
+-- Requires the type `wanted` of two operands. The left operand is reported if its type doesn't fit,
+-- otherwise the right operand if its type doesn't fit. The result is `wanted` if both have this
+-- type, otherwise the unknown type.
 abbrev pub required_both : {T : Type 0} → Facts T → T → Operand T → Operand T → Reported T
 required_both facts wanted a b =
     if fits facts.types a.of wanted
@@ -117,8 +117,8 @@ required_by_equality types left =
     if types.same left types.integer then types.integer
     else if types.same left types.unknown then types.unknown else types.boolean
 
--- Returns the type that a relation requires of both operands, given the left operand's type. It is
--- INTEGER except for `=` and `#`.
+-- Returns the type that a relation requires of both operands, given the left operand's type. For
+-- all relations except `=` and `#` the result is INTEGER.
 abbrev pub required_by_relation : {T : Type 0} → Types T → Relation → T → T
 required_by_relation types relation.Equal left = required_by_equality types left
 required_by_relation types relation.NotEqual left = required_by_equality types left
@@ -212,8 +212,8 @@ enclosed facts o =
       last = token_after facts.source o.last;
     }
 
--- Returns the operand of a name with this type at a token. It may be a place. The name is a
--- variable's, or has no known meaning.
+-- Returns the operand of a name with this type at a token. The name is a variable's or has no known
+-- meaning, so the operand counts as a place.
 abbrev pub a_name : {T : Type 0} → T → ℕ → Operand T
 a_name of token = record { of = of; value = None; is_place = true; first = token; last = token }
 
@@ -258,7 +258,8 @@ abbrev pub part_of : {T : Type 0} → Operand T → T → ℕ → Operand T
 part_of o of last =
     record { of = of; value = None; is_place = o.is_place; first = o.first; last = last }
 
--- returns the type of a record's field with the name at a token; reports `NoField` if there is none
+-- returns the type of a record's field; for None, reports `NoField` at the field's name and returns
+-- the unknown type
 abbrev pub found_field : {T : Type 0} → Facts T → ℕ → Option T → Reported T
 found_field facts token None =
     record { known = facts.types.unknown; faults = at_token facts code.NoField token }
@@ -285,8 +286,8 @@ field_selected facts o token = do
   right (part_of o t token)
 
 -- Returns the type of an element, given the index's operand, the index's type `of`, and the form of
--- the indexed type. It is unknown if the index isn't INTEGER. If the indexed type is known and not
--- an array, `NotArray` is reported at the `[`.
+-- the indexed type. The result is unknown if the index isn't INTEGER. If the indexed type is known
+-- and not an array, `NotArray` is reported at the `[`.
 abbrev pub element_in : {T : Type 0} → Facts T → Operand T → T → Form T → Reported T
 element_in facts i of (an_array t) =
     right (if facts.types.same of facts.types.integer then t else facts.types.unknown)

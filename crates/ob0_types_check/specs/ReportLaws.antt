@@ -20,8 +20,9 @@ abbrev pub meaning_here : {N : Type 0} → Bool → Typed N → Typed N
 meaning_here true meaning = constants_only meaning
 meaning_here false meaning = meaning
 
--- Holds if an operand has the type of its expression, and the value that the expression has as a
--- constant. A value has the operand's type.
+-- Holds if an operand has the type of its expression, and its value, or None if the expression
+-- isn't constant or its evaluation fails. A value must have the operand's type. If the operand is a
+-- place, the expression must be a variable with its selectors.
 pub record OperandFits
     {T N P : Type 0} (shape : T → Option Shape) (meaning : Meanings N Shape P) (o : Operand T)
     (e : Tree N expression) : Type 0 where
@@ -42,7 +43,7 @@ ExpressionsFit N =
     → OperandFits (shape_in shapes) (meaning_here only_constants meaning)
     (reported_expression (facts_at p only_constants) e).known (mapped label (value_at p.source) e)
 
--- holds if the reported value of a constant's right side is its value, which is a scalar
+-- holds if a constant's right side has a value, which is a scalar and the reported value
 pub record ConstantFits
     {N : Type 0} (meaning : Typed N) (reported : Option Value) (e : Tree N expression)
     : Type 0 where

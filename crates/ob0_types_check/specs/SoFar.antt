@@ -28,14 +28,17 @@ pub data PartTypes : Type 0 where
   of_elements : ℕ → TypeId → PartTypes
   of_fields : List FieldSoFar → PartTypes
 
--- an array or record: the ordinal of its word ARRAY or RECORD, its parts and its size
+-- an array or record: its ordinal, which is the number of words ARRAY and RECORD in the text before
+-- its own, its parts and its size
 pub record MadeType : Type 0 where
   pub ordinal : ℕ
   pub parts : PartTypes
   pub size : Size
 
--- The declarations found so far, by ordinal, and the arrays and records found so far. Types refer to arrays and records
--- by their indexes in the list. A declaration later in the text has no meaning yet.
+-- The state of a walk over declarations. `ordinals` has the ordinal of each identifier's
+-- declaration, by token. `declared` has the meaning of each declaration, by ordinal, or None if it
+-- isn't found yet. `made` has the arrays and records found so far. Types refer to them by their
+-- indexes in this list.
 pub record SoFar : Type 0 where
   pub source : Scanned
   pub ordinals : List (Option ℕ)
@@ -51,12 +54,12 @@ same_type (type.Array i) (type.Array j) = i == j
 same_type (type.Record i) (type.Record j) = i == j
 same_type _ _ = false
 
--- returns the element type in an array's parts; unknown for the parts of a record
+-- returns the type of an array's elements, given its parts; for a record's parts, the unknown type
 abbrev pub elements_in : PartTypes → TypeId
 elements_in (of_elements n t) = t
 elements_in (of_fields fields) = type.Unknown
 
--- returns the type of an array's elements; unknown if there is no array
+-- returns the type of an array's elements; the unknown type if there is no array
 abbrev pub elements_at : Option MadeType → TypeId
 elements_at None = type.Unknown
 elements_at (Some m) = elements_in m.parts
@@ -66,7 +69,8 @@ abbrev pub first_field : List FieldSoFar → Name → Option TypeId
 first_field [] x = None
 first_field (f ∷ fields) x = if same_name x f.name then Some f.of else first_field fields x
 
--- returns the type of a field in a record's parts; None if there is none
+-- returns the type of a field in a record's parts; None if the record has no such field, and for
+-- the parts of an array
 abbrev pub field_type_in : PartTypes → Name → Option TypeId
 field_type_in (of_elements n t) x = None
 field_type_in (of_fields fields) x = first_field fields x
@@ -110,7 +114,8 @@ facts_at p only_constants =
       only_constants = only_constants;
     }
 
--- returns the state in which the declaration with this ordinal has this meaning; without an ordinal it is unchanged
+-- returns the state in which the declaration with this ordinal has this meaning; for None, returns
+-- the state unchanged
 abbrev pub with_declared : SoFar → Meaning TypeId → Option ℕ → SoFar
 with_declared p m None = p
 with_declared p m (Some k) =
@@ -134,11 +139,11 @@ define_all p m (x ∷ xs) = define_all (define p m x) m xs
 abbrev pub one_scalar : Size
 one_scalar = record { scalars = 1; depth = 0 }
 
--- returns the size of an unknown type, or of no parts
+-- returns the size of an unknown type, or of an empty list of fields: no scalars and depth 0
 abbrev pub no_scalar : Size
 no_scalar = record { scalars = 0; depth = 0 }
 
--- returns the size of an array or record in the list; a missing one counts as one scalar
+-- returns the size of an array or record; for None, the size of one scalar
 abbrev pub size_made : Option MadeType → Size
 size_made None = one_scalar
 size_made (Some m) = m.size

@@ -1,4 +1,5 @@
--- The report of a module's declarations and of only some of its bodies, and the list of bodies that have faults.
+-- The report of a module if only its declarations and certain bodies are walked, and the list of
+-- the walked bodies that have faults.
 -- Rule: docs/LANGUAGE.md, Faults of scopes and types 2 to 11; what is reported where one body changed.
 use Rattle.std.specs.Prelude.{◌≡◌, ℕ, Bool, true, false, ◌||◌, List, [], ◌∷◌, ◌++◌, MatchOption, nat_eq}
 use Rattle.std.specs.List.{list_any}
@@ -28,8 +29,9 @@ abbrev pub with_faulty : List Fault → ℕ → List ℕ → List ℕ
 with_faulty [] own faulty = faulty
 with_faulty (fault ∷ faults) own faulty = faulty ++ own ∷ []
 
--- If the Bool is true, reports the faults of a body. If there are any, appends its block's closing
--- name `own` to the faulty ones. Otherwise reports nothing and changes nothing.
+-- If the Bool is true, returns the faults of a body. If there are any, appends `own`, the closing
+-- name of the body's block, to the faulty bodies. If the Bool is false, returns no fault and
+-- changes nothing.
 abbrev pub body_if : Bool → ℕ → Walked → Tree ℕ (maybe body) → Reported Walked
 body_if false own w statements = right w
 body_if true own w statements =
@@ -56,16 +58,16 @@ unfoldable mutual
         procedures_with wanted (record { so_far = with_variables; faulty = w.faulty }) ps
     body_if (wanted own) own with_procedures statements
 
-  -- returns the faults of procedures, one after another; the bodies are included whose closing
-  -- names pass `wanted`
+  -- returns the faults of procedures, one after another; a body is walked only if its closing name
+  -- passes `wanted`
   pub procedures_with : (ℕ → Bool) → Walked → Tree ℕ (items procedure) → Reported Walked
   procedures_with wanted w end = right w
   procedures_with wanted w (more d rest) = do
     v ← procedure_with wanted w d
     procedures_with wanted v rest
 
-  -- returns the faults of a procedure's parameters, and then of its block; the bodies are included
-  -- whose closing names pass `wanted`
+  -- returns the faults of a procedure's parameters, and then of its block; a body is walked only if
+  -- its closing name passes `wanted`
   pub procedure_with : (ℕ → Bool) → Walked → Tree ℕ (item procedure) → Reported Walked
   procedure_with wanted w (declares_procedure x fs b closing) = do
     h ← reported_sections (record { formals = []; following = w.so_far }) (formal_sections fs)
@@ -78,7 +80,7 @@ module_with wanted r =
     block_with wanted r.module_read.closing (record { so_far = at_first r; faulty = [] })
     (module_block (tree_of r.module_read))
 
--- the test that every closing name passes
+-- returns true for every closing name
 abbrev pub every : ℕ → Bool
 every closing = true
 
@@ -99,8 +101,8 @@ AllPass test (closing ∷ others) = (test closing ≡ true) × AllPass test othe
 abbrev pub wants : Wanted → ℕ → Bool
 wants w closing = w.every || is_among w.these.now closing
 
--- Holds if the module has an older version whose faulty bodies are all wanted. Except in the
--- statements of wanted bodies, both versions are alike.
+-- Holds if the module has an older version whose faulty bodies are all wanted, and both versions
+-- are alike except in the statements of wanted bodies.
 pub record WereFaulty (wanted : ℕ → Bool) (r : Resolution) : Type 0 where
   pub old : Resolution
   pub resolved : IsResolution old
@@ -117,14 +119,14 @@ SomeBodiesReported =
     → module_with wanted r ≡ module_with every r
 
 -- Holds if a report has the faults of the module `r` and the closing names of its bodies with
--- faults. Exactly if there are no faults, it has the objects of all declarations.
+-- faults. It has the objects of all declarations exactly if there are no faults.
 pub record IsReportOf (r : Resolution) (report : Report) : Type 0 where
   pub faults : report.faults.items ≡ reported_module r
   pub known : MatchOption report.known (reported_module r ≡ [] → ⊥)
       (λ t. (reported_module r ≡ []) × HasDeclarations (named_tree_of r.module_read) t)
   pub faulty : report.faulty.items ≡ faulty_bodies r
 
--- returns the state of the code's walk, with these faulty bodies, as a state of the definitions
+-- converts the state of the code's walk, with these faulty bodies, to a state of the definitions
 abbrev pub walked_in : Supposed → List ℕ → Walked
 walked_in s faulty = record { so_far = so_far_in s; faulty = faulty }
 

@@ -32,11 +32,12 @@ target_by_meaning facts token (Some (a_procedure fs)) =
     record { known = facts.types.unknown; faults = at_token facts code.WrongKind token }
 target_by_meaning facts token None = right facts.types.unknown
 
--- returns the type of the name at a token that is assigned to, and its fault
+-- returns the type of the assigned name at a token, with its fault if it isn't a variable's or
+-- parameter's
 abbrev pub target_meaning : {T : Type 0} → Facts T → ℕ → Reported T
 target_meaning facts token = target_by_meaning facts token (facts.object_for token)
 
--- returns the faults of an assignment's target with its selectors, and its operand
+-- returns the operand of an assignment's target, and the faults of the target's name and selectors
 unfoldable pub reported_target : {T : Type 0}
     → Facts T
     → ℕ
@@ -56,8 +57,8 @@ abbrev pub reported_assignment : {T : Type 0}
     → List Fault
 reported_assignment facts target e = target.faults ++ reported_required facts target.known.of e
 
--- Requires of an argument the type of its parameter. For a VAR parameter the argument must also be
--- a variable with its selectors; otherwise only `NotVariable` is reported.
+-- Requires that an argument has the type of its parameter. For a VAR parameter, it must also be a
+-- variable with its selectors. If it isn't, only `NotVariable` is reported.
 abbrev pub passed : {T : Type 0} → Facts T → KnownFormal T → Operand T → Reported T
 passed facts f o =
     if f.by_place && not o.is_place
@@ -145,7 +146,8 @@ unfoldable mutual
   reported_statements facts (more (then_statement a) rest) =
       reported_statement facts a ++ reported_statements facts rest
 
-  -- returns the faults of the ELSIF parts: for each its condition's, and then its statements'
+  -- returns the faults of the ELSIF parts, one after another: first the faults of a part's
+  -- condition, and then of its statements
   pub reported_elsifs : {T : Type 0} → Facts T → Tree ℕ (items elsif_part) → List Fault
   reported_elsifs facts end = []
   reported_elsifs facts (more (elsif_branch e statements) rest) =

@@ -1,4 +1,5 @@
--- The state of the code's reporting walk as a state of the definitions.
+-- Converts the state of the code's walk (`Supposed`) and its parts to values of the
+-- definitions.
 -- Rule: none; for contracts: what the reporting walk knows.
 use Rattle.std.specs.Prelude.{◌≡◌, ℕ, ◌-◌, ◌^◌, Bool, List, map, ◌++◌, min, slice_get, slice_index_or, slice_set, string_bytes, Option, Some, None, option_and_then, option_map}
 use Rattle.ob0_scan.specs.declared.fault.Fault.{Fault}
@@ -48,7 +49,8 @@ form_in composites (type.Array i) = an_array (elements_of (slice_get composites 
 form_in composites (type.Record i) = a_record (field_of (slice_get composites i))
 form_in composites type.Unknown = unknown_form
 
--- returns the code's types, with its list of arrays and records, as a representation of types
+-- returns the code's types as a representation of types (`Types`), given the code's list of arrays
+-- and records
 abbrev pub known_types : List TypeEntry → Types TypeId
 known_types composites =
     record {
@@ -59,11 +61,11 @@ known_types composites =
       form = form_in composites;
     }
 
--- returns a formal parameter of the code as a formal parameter of the definitions
+-- converts a formal parameter of the code to a formal parameter of the definitions
 abbrev pub formal_of : formal.Formal → KnownFormal TypeId
 formal_of f = record { by_place = f.by_place; of = f.of }
 
--- returns the meaning of a declaration in the code as a meaning of the definitions
+-- converts the meaning of a declaration from the code to the definitions
 abbrev pub known_meaning : meaning.Meaning → Meaning TypeId
 known_meaning (declared.Named t) = a_type t
 known_meaning (declared.Constant v) = a_constant (option_map scalar_value v)
@@ -86,7 +88,7 @@ facts_in s only_constants = record {
   only_constants = only_constants;
 }
 
--- returns an operand of the code as an operand of the definitions
+-- converts an operand of the code to an operand of the definitions
 abbrev pub operand_of : operand.Operand → Operand TypeId
 operand_of o =
     record {
@@ -97,15 +99,15 @@ operand_of o =
       last = o.last;
     }
 
--- returns a size of the code as a size of the definitions
+-- converts a size of the code to a size of the definitions
 abbrev pub size_of : code_size.Size → Size
 size_of z = record { scalars = z.scalars; depth = z.depth }
 
--- returns the fields of the code as fields of the definitions
+-- converts fields of the code to fields of the definitions
 abbrev pub fields_in : List Field → List FieldSoFar
 fields_in fields = map (λ f. record { name = string_bytes f.name; of = f.of }) fields
 
--- returns an array or record of the code as an array or record of the definitions
+-- converts an array or record of the code to an array or record of the definitions
 abbrev pub made_type_of : TypeEntry → MadeType
 made_type_of (made.Array a) =
     record {
@@ -120,7 +122,7 @@ made_type_of (made.Record r) =
       size = record { scalars = r.scalars; depth = r.depth };
     }
 
--- returns the state of the code's walk as a state of the definitions
+-- converts the state of the code's walk to a state of the definitions
 abbrev pub so_far_in : Supposed → SoFar
 so_far_in s = record {
   source = s.resolved.now.module_read.source;
@@ -129,7 +131,8 @@ so_far_in s = record {
   made = map made_type_of s.composites.items;
 }
 
--- returns the parameters of a heading and the state after them, from values of the code
+-- converts the parameters of a heading, and the state after them, from values of the code to values
+-- of the definitions
 abbrev pub heading_in : Supposed → List formal.Formal → KnownHeading
 heading_in s formals = record { formals = map formal_of formals; following = so_far_in s }
 
@@ -137,22 +140,23 @@ heading_in s formals = record { formals = map formal_of formals; following = so_
 abbrev pub counted : Size → Size
 counted z = record { scalars = min z.scalars (2 ^ 64 - 1); depth = min z.depth (2 ^ 64 - 1) }
 
--- holds if the code's state `now` has the fields `g` and their size, capped at 2^64 - 1, and `s` is
--- the state after them
+-- holds if `now` has the fields of `g` and their size, capped at 2^64 - 1, and `s` is the code's
+-- state after these fields
 pub record IsGathered (g : Gathered) (s : Supposed) (now : gathering.Gathered) : Type 0 where
   pub fields : fields_in now.fields.items ≡ g.fields
   pub size : size_of now.size ≡ counted g.size
   pub following : so_far_in s ≡ g.following
 
--- holds if the code has gathered the fields of `t`, and has appended the faults of `t` to the
--- faults `before`
+-- holds if the code has found the fields of `t` (`gathered`), and `after` is `before` followed by
+-- the faults of `t`
 pub record Gathers
     (before after : List Fault) (s : Supposed) (gathered : gathering.Gathered)
     (t : Reported Gathered) : Type 0 where
   pub reported : after ≡ before ++ t.faults
   pub now : IsGathered t.known s gathered
 
--- returns the object of a declaration in the code's table; a faulty constant has no value
+-- returns the object of a declaration in the code's table; a constant without a value becomes
+-- `FaultyConstant`
 abbrev pub table_object : meaning.Meaning → object.Object
 table_object (declared.Named t) = kind.Named t
 table_object (declared.Constant (Some v)) = kind.Constant v

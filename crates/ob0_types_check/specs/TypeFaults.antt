@@ -1,4 +1,4 @@
--- The faults of constants and array lengths, and their values.
+-- The faults and values of constants and array lengths, and the faults and types of type names.
 -- Rule: docs/LANGUAGE.md, Faults of scopes and types 4, 6, `ConstFault`, `ArrayLength`.
 use Rattle.std.specs.Prelude.{ℕ, Option, Some, None, if◌then◌else◌}
 use Rattle.ob0_scan.specs.declared.fault.Code.TheVariants as code
@@ -26,8 +26,8 @@ type_meant facts token None = right facts.types.unknown
 abbrev pub type_named : {T : Type 0} → Facts T → ℕ → Reported T
 type_named facts token = type_meant facts token (facts.object_for token)
 
--- returns the value of a constant expression with the operand `o`; reports `ConstFault` at the
--- whole expression for None
+-- returns the value of a constant expression if there is one; for None, reports `ConstFault` at the
+-- operand `o`
 abbrev pub valued : {T : Type 0} → Facts T → Operand T → Option Value → Reported (Option Value)
 valued facts o None = record { known = None; faults = at_operand facts code.ConstFault o }
 valued facts o (Some v) = right (Some v)
@@ -46,8 +46,8 @@ unfoldable pub reported_constant : {T : Type 0}
 unfolding reported_expression
 reported_constant facts e = reported_expression facts e >>= operand_value facts
 
--- returns the length of an array; for None, `ArrayLength` is reported, because the length isn't
--- from 1 to 65,536
+-- returns the length of an array if there is one; for None, reports `ArrayLength` at the operand
+-- `o`
 abbrev pub in_bounds : {T : Type 0} → Facts T → Operand T → Option ℕ → Reported (Option ℕ)
 in_bounds facts o None = record { known = None; faults = at_operand facts code.ArrayLength o }
 in_bounds facts o (Some n) = right (Some n)
@@ -58,8 +58,9 @@ abbrev pub length_given : {T : Type 0} → Facts T → Operand T → Option Valu
 length_given facts o None = record { known = None; faults = at_operand facts code.ConstFault o }
 length_given facts o (Some v) = in_bounds facts o (array_length v)
 
--- returns the length of an array, given the operand of its length expression, with the faults of
--- this operand
+-- Returns the length of an array, given the operand of its length expression. Returns None if the
+-- operand isn't INTEGER, has no value or isn't a valid length. Each of these is reported, unless
+-- the operand's type is unknown.
 abbrev pub length_of : {T : Type 0} → Facts T → Operand T → Reported (Option ℕ)
 length_of facts o = do
   t ← required facts facts.types.integer o

@@ -17,14 +17,15 @@ use Rattle.ob0_types_check.specs.TypeFaults.{length_of, type_named}
 abbrev pub array_size : ℕ → Size → Size
 array_size n z = record { scalars = z.scalars * n; depth = z.depth + 1 }
 
--- Returns the ordinal of the next word ARRAY or RECORD. Each word makes one type, and inner types are made first. So,
--- if nothing is reported, the ordinal is the number of types made before plus the number of words around it.
+-- Returns the ordinal of the next word ARRAY or RECORD, that is, the number of such words before
+-- it. Each word makes one type, and inner types are made first. So, if nothing is reported, the
+-- ordinal is the number of types made so far plus `around`, the number of words around it.
 abbrev pub ordinal_here : ℕ → SoFar → ℕ
 ordinal_here around p = length p.made + around
 
 -- Makes an array type, given the ordinal of its word, the operand and value of its length, and its
 -- element type. If the length has a fault (None), the array's type is unknown, although its element
--- type has been checked. The word ARRAY is before the length.
+-- type has been checked. The word ARRAY is the token before the length.
 abbrev pub array_made : ℕ → Operand TypeId → Option ℕ → TypedAfter → Reported TypedAfter
 array_made ordinal o None element =
     right (record { of = type.Unknown; following = element.following })
@@ -39,7 +40,6 @@ pub record Gathered : Type 0 where
   pub following : SoFar
 
 -- returns the state before the first field of a record, with no fields and no scalars
--- returns the state with no fields yet
 abbrev pub nothing_gathered : SoFar → Gathered
 nothing_gathered p = record { fields = []; size = no_scalar; following = p }
 
@@ -48,8 +48,7 @@ abbrev pub beside : Size → Size → Size
 beside z w = record { scalars = z.scalars + w.scalars; depth = max z.depth w.depth }
 
 -- Returns the fields so far with one more field of this type added, whose name is at the token. The
--- size of its type is added to the size.
--- adds a field with this type
+-- size of its type is added to the total size.
 abbrev pub with_name : TypeId → Gathered → ℕ → Gathered
 with_name t g token =
     record {
@@ -59,14 +58,12 @@ with_name t g token =
     }
 
 -- Returns the fields so far with a field of this type added for each of these name tokens.
--- adds a field with this type for each of these names
 abbrev pub with_field_names : TypeId → Gathered → List ℕ → Gathered
 with_field_names t g [] = g
 with_field_names t g (x ∷ xs) = with_field_names t (with_name t g x) xs
 
--- Returns the fields so far with the fields of one group added, given the group's name tokens, and
--- its type with the state after it.
--- adds the fields of one group, with the type that was read
+-- Returns the fields so far with the fields of one group added. The arguments are the fields so
+-- far, the group's name tokens, and the group's type with the state after it.
 abbrev pub gathered_after : Gathered → List ℕ → TypedAfter → Gathered
 gathered_after g xs t =
     with_field_names t.of (record { fields = g.fields; size = g.size; following = t.following }) xs
@@ -80,22 +77,21 @@ abbrev pub first_name : Tree ℕ names → ℕ
 first_name (listed x rest) = x
 
 -- Returns the token before a group of fields, which is RECORD or a semicolon. `following` is the
--- token between this group and the next one, and only matters if the group is empty.
--- returns the token before a group of fields; `following` is the token before the next group
+-- token between this group and the next one. It is used only if the group is empty.
 abbrev pub word_before : Tree ℕ fields → ℕ → ℕ
 word_before (some_fields ns t) following = token_before (first_name ns)
 word_before no_fields following = token_before following
 
--- Returns the token of the word RECORD. It precedes the first field's name and one semicolon for each group without
--- fields before that name. For a record without fields the result is 0. This is never reported, because such a record
--- is never too large.
+-- Returns the token before these groups of fields. For all groups of a record, it is the word
+-- RECORD. Between this token and the first field's name there are only semicolons, one for each
+-- empty group. Without any field the result is 0, but a record without fields is never too large,
+-- so nothing is reported there.
 abbrev pub record_word : Tree ℕ (items further_fields) → ℕ
 record_word end = 0
 record_word (more (then_fields g) rest) = word_before g (record_word rest)
 
 -- Makes a record type of the gathered fields, or reports `TypeTooLarge` at the token RECORD
 -- (`word`). `ordinal` is the ordinal of that word.
--- makes a new record type, or reports `TypeTooLarge`
 abbrev pub record_made : ℕ → ℕ → Gathered → Reported TypedAfter
 record_made word ordinal g = make g.following word ordinal (of_fields g.fields) (record_size g.size)
 

@@ -65,7 +65,8 @@ pub fn no_fault_in_targets()
     ensures { NoFaultInTargets Name }
 {}
 
-/// Proves that no fault is reported for well-typed statements.
+/// Proves that no fault is reported for well-typed statements if each word ARRAY and RECORD makes
+/// only one type.
 pub fn no_fault_in_statements()
     ensures { NoFaultInStatements Name }
 {}
@@ -80,8 +81,9 @@ pub fn no_fault_in_modules()
     ensures { NoFaultInModules }
 {}
 
-/// Proves that walking only some bodies gives the same report as walking all of them. The walked bodies must include
-/// every body whose tokens changed and every body that had a fault before the change.
+/// Proves that walking only certain bodies gives the same report as walking all of them. The walked
+/// bodies must include every body whose tokens changed and every body that had a fault before the
+/// change.
 pub fn some_bodies_reported()
     ensures { SomeBodiesReported }
 {}

@@ -7,28 +7,31 @@
 //! fit has a fault (`modules_fit`), and a well-typed module has none (`no_fault_in_modules`). If a module has no
 //! faults, the walk has found every declaration (`declarations_known`).
 //!
-//! The definitions give the faults of each production, in order, with codes and spans. They also give the result of the
-//! production, for example the type of an expression. A `Reported` is such a result with its faults. Its `>>=` puts the
-//! faults of one step before the faults of the next. Statements have faults but no result. A function that returns a
-//! value has one clause, `ReportsAfter before after x t`. An operand carries its value if it is constant. So one walk
-//! over an expression finds its type, its value, whether it can be a place, and its first and last token.
+//! The definitions give the faults of each production, in order, with codes and spans. They also
+//! give the result of the production, for example the type of an expression. A `Reported` is such a
+//! result with its faults. Its `>>=` puts the faults of one step before the faults of the next.
+//! Statements have faults but no result. A function that returns a value has one clause,
+//! `ReportsAfter before after x t`. It states that the function returns the result `x` of `t` and
+//! appends the faults of `t`. An operand carries its value if it is constant. So one walk over an
+//! expression finds its type, its value, whether it can be a place, and its first and last token.
 //!
 //! The definitions work over any representation of types that has an unknown type (`Types`). One is
 //! the code's `TypeId` with its table (`known_types`). Another is `Option Shape`, with None for
 //! unknown, which needs no table.
 //!
-//! Written types, declarations and blocks are reported with a state, `SoFar`. It has the meanings
-//! of the declarations, by ordinal, and the parts of arrays and records, by their places.
+//! The faults of written types, declarations and blocks depend on a state, `SoFar`. It has the
+//! meanings of the declarations, by ordinal, and a list of the arrays and records with their parts.
 //! `so_far_in` views the code's `Supposed` as such a state, so the definitions of expressions and
 //! statements don't mention `Supposed`. `Supposed` and the list of faults are separate values.
 //! Expressions and statements take `&self` and the list; declarations take a `Reporter`, which has
 //! both.
 //!
-//! The definitions' trees don't contain the words ARRAY and RECORD, so the code doesn't use its own
-//! tree for them either. ARRAY is the token before its length. RECORD is the token before the name
-//! of its first field, less a semicolon for each group without fields before that name
-//! (`record_word`). Every token has neighbours: at the end of the text `token_after` returns the
-//! same token. Every fault has a place: `span_at` gives the start of the text if there is no token.
+//! The trees of the definitions don't contain the tokens ARRAY and RECORD. So definitions and code
+//! find these tokens in the same way. ARRAY is the token before its length. Between RECORD and the
+//! name of its first field there are only semicolons, one for each group without fields before that
+//! name (`record_word`). Every token has neighbours: at the end of the text `token_after` returns
+//! the same token. Every fault has a place: `span_at` gives the start of the text if there is no
+//! token.
 //!
 //! A body declares nothing. So if only the tokens of one body changed, the facts at every other
 //! place are unchanged. Any other body that had no faults still has none (`some_bodies_reported`).
@@ -70,7 +73,8 @@ use ob0_scope_table::Resolved;
 use ob0_types_table::DeclarationTable;
 use std::alloc::{AllocError, Global};
 
-/// The report of a module: its faults, or its declarations if there is no fault.
+/// The report of a module: its faults or, if it has none, its declarations. It also has the bodies
+/// in which a fault of types is reported.
 #[derive(Drop)]
 pub struct Report {
     /// The undeclared names in text order, and then the faults of types.
@@ -89,7 +93,7 @@ struct Wanted<'b> {
 }
 
 impl<'b> Wanted<'b> {
-    /// Returns true if the body with this closing name is to be walked.
+    /// Returns true if the body of the block with this closing name is to be walked.
     fn wants(&self, closing: usize) -> bool
         ensures { result ≡ wants self.now closing }
     {
@@ -97,8 +101,9 @@ impl<'b> Wanted<'b> {
     }
 }
 
-/// Returns the undeclared names of a module in text order, then its faults of types. If there are none, the report has
-/// the declarations. Duplicate declarations and wrong closing names aren't reported here.
+/// Returns the report of a module: its undeclared names in text order and then its faults of types.
+/// If there are none, the report has the declarations. Duplicate declarations and wrong closing
+/// names aren't reported here.
 pub fn report_faults<'t>(alloc: Global, resolved: &'t Resolved<'t>) -> Result<Report, AllocError>
     ensures { IfOk result (IsReportOf resolved.now) }
 {

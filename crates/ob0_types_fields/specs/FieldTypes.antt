@@ -1,4 +1,5 @@
--- The type of each ARRAY and RECORD of a module, and the field of an identifier with its type.
+-- The type that each ARRAY and RECORD of a module constructs, and the field that an identifier
+-- belongs to, with its type.
 -- Rule: docs/LANGUAGE.md, Types 1 (each ARRAY and RECORD is a type of its own);
 -- docs/PROTOCOL.md, Requests on documents 4.
 use Rattle.std.specs.Prelude.{◌≡◌, ℕ, true, is_some, List, [], ◌∷◌, ◌++◌, get_or, Option, None, option_and_then, option_map}
@@ -24,8 +25,9 @@ abbrev pub first_listed : {N : Type 0} → Tree N names → N
 first_listed (listed x rest) = x
 
 -- Returns the types that the words ARRAY and RECORD of a tree construct, in text order, with None
--- for an unknown type. The second argument is the type that the tree denotes or is a part of. Names
--- that are declared together have the same type.
+-- for an unknown type. `m` has the meanings of names. If the tree is a written type, `t` is the
+-- type that it denotes. If it is a group of fields, `t` is the record's type. Otherwise `t` isn't
+-- used. Names that are declared together have the same type, so only the first is looked up.
 abbrev pub constructed : {N P : Type 0} {s : Sort}
     → Meanings N Shape P
     → Option Shape
@@ -59,7 +61,8 @@ constructed m t (has_body ds b) = constructed m t ds
 constructed m t (is_module name b closing) = constructed m t b
 constructed m t other = []
 
--- returns the type that the ARRAY or RECORD with ordinal `k` constructs, according to the objects of declarations
+-- returns the type that the ARRAY or RECORD with ordinal `k` constructs, given the objects of
+-- declarations; None if the type is unknown or there is no such word
 abbrev pub constructed_by : (ℕ → Option (Object Shape Signature))
     → Resolution
     → ℕ
@@ -67,19 +70,19 @@ abbrev pub constructed_by : (ℕ → Option (Object Shape Signature))
 constructed_by objects r k =
     get_or (constructed (token_objects objects r) None (tree_of r.module_read)) k None
 
--- a field of a type, with the field's own type
+-- the place of a field in its record, with the shape of the field's type
 pub record TypedField : Type 0 where
   pub field : FieldOf
   pub shape : Shape
 
--- returns the field with this name in a type, with its own type; None if there is no such field
+-- returns the field with this name in a record type, with the field's type; None if there is none
 abbrev pub typed_field_named : Shape → Name → Option TypedField
 typed_field_named s x =
     option_and_then (λ f. option_map (λ t. record { field = f; shape = t }) (field_type s x))
     (field_selected s x)
 
--- returns the field that an identifier belongs to, with its type; it is looked up in the RECORD
--- that declares it, given the objects of declarations
+-- returns the field that an identifier belongs to, with the field's type, given the objects of
+-- declarations; the field is looked up in its RECORD; None if it isn't found
 abbrev pub typed_field_by : (ℕ → Option (Object Shape Signature))
     → Resolution
     → FieldName
@@ -88,12 +91,12 @@ typed_field_by objects r x =
     option_and_then (λ s. typed_field_named s (text_at r.module_read.source x.token))
     (constructed_by objects r x.owner)
 
--- returns the field that an identifier of a module belongs to, with its type; None if it isn't
--- found
+-- returns the field that an identifier of a module belongs to, with the field's type; None if the
+-- field isn't found
 abbrev pub typed_field : Resolution → FieldName → Option TypedField
 typed_field r x = typed_field_by (declared_object (named_tree_of r.module_read)) r x
 
--- For each field identifier of a well-typed module, the search finds the field and its type.
+-- For each field identifier of a well-typed module, the field and its type are found.
 abbrev pub FieldsTyped : Type 0
 FieldsTyped =
     (r : Resolution) → IsResolution r → WellTyped (named_tree_of r.module_read)

@@ -1,5 +1,5 @@
--- The identifiers of one field: the identifier that declares it, and the identifiers that select it. The names of these
--- trees are tokens.
+-- The identifiers of fields: those that declare a field in a record, and those that select one. The
+-- trees in this file have the index of a token for each name.
 -- Rule: docs/PROTOCOL.md, Requests on documents 4 to 6.
 use Rattle.std.specs.Prelude.{◌≡◌, ℕ, ◌+◌, ◌==◌, ◌&&◌, Bool, true, not, is_some, List, [], ◌∷◌, ◌++◌, length, map, Option, Some, None, if◌then◌else◌}
 use Rattle.std.specs.List.{All, list_any, position_from}
@@ -24,11 +24,12 @@ use Rattle.ob0_language_fields.specs.Renaming.{field_renamed, is_duplicate_field
 abbrev pub field_identifiers : Resolution → List FieldName
 field_identifiers r = fields_among (owned_tokens r)
 
--- returns true if the identifier belongs to the field `x` of the record with ordinal `k`
+-- returns true if an identifier belongs to the field `x` of the record with ordinal `k`
 abbrev pub is_field : Scanned → ℕ → Name → FieldName → Bool
 is_field source k x found = (found.owner == k) && same_name (text_at source found.token) x
 
--- returns the tokens of the field `x` of the record with ordinal `k` in a list of identifiers
+-- returns the tokens of those identifiers in a list that belong to the field `x` of the record with
+-- ordinal `k`
 abbrev pub tokens_among : Scanned → ℕ → Name → List FieldName → List ℕ
 tokens_among source k x [] = []
 tokens_among source k x (found ∷ rest) =
@@ -36,25 +37,28 @@ tokens_among source k x (found ∷ rest) =
     then found.token ∷ tokens_among source k x rest
     else tokens_among source k x rest
 
--- returns all tokens of the field `x` of the record with ordinal `k`
+-- returns the tokens of all identifiers in a module that belong to the field `x` of the record with
+-- ordinal `k`
 abbrev pub field_tokens : Resolution → ℕ → Name → List ℕ
 field_tokens r k x = tokens_among r.module_read.source k x (field_identifiers r)
 
--- returns the first identifier in the list that contains a byte offset or ends there
+-- returns the first identifier in the list that contains a byte offset or ends there; None if there
+-- is none
 abbrev pub field_on : Scanned → ℕ → List FieldName → Option FieldName
 field_on source offset [] = None
 field_on source offset (x ∷ xs) =
     if is_on offset (span_at source x.token) then Some x else field_on source offset xs
 
--- returns the tokens of identifiers
+-- returns the token of each identifier
 abbrev pub tokens_of : List FieldName → List ℕ
 tokens_of xs = map (λ x. x.token) xs
 
--- Holds if the tokens of the identifiers are tokens of the text, in strictly ascending order.
+-- Holds if all identifiers are tokens of the text, in strictly ascending order.
 abbrev pub AreInTextOrder : Scanned → List FieldName → Type 0
 AreInTextOrder source xs = Ascending 0 (tokens_of xs) (length source.tokens)
 
--- returns the identifier of a field that contains a byte offset or ends there
+-- returns the first field identifier of a module that contains a byte offset or ends there; None if
+-- there is none
 abbrev pub field_at : Resolution → ℕ → Option FieldName
 field_at r offset = field_on r.module_read.source offset (field_identifiers r)
 
@@ -90,17 +94,19 @@ abbrev pub first : List ℕ → Option ℕ
 first [] = None
 first (token ∷ tokens) = Some token
 
--- returns the token that declares the field `x` of the record with ordinal `k`
+-- returns the token that declares the field `x` of the record with ordinal `k`; None if the record
+-- has no such field
 abbrev pub declaring_field : Parsed → ℕ → Name → Option ℕ
 declaring_field m k x = first (tokens_among m.source k x (declared_fields m))
 
--- returns the tokens of the fields of the record with ordinal `k` in a list
+-- returns the tokens of those identifiers in a list that belong to the record with ordinal `k`
 abbrev pub record_tokens : ℕ → List FieldName → List ℕ
 record_tokens k [] = []
 record_tokens k (found ∷ rest) =
     if found.owner == k then found.token ∷ record_tokens k rest else record_tokens k rest
 
--- returns the position of the field `x` among the fields of the record with ordinal `k`, counted from 0
+-- returns the position of the field `x` among the fields that the record with ordinal `k` declares,
+-- counted from 0; None if the record has no such field
 abbrev pub field_place : Parsed → ℕ → Name → Option ℕ
 field_place m k x =
     position_from (λ token. same_name (text_at m.source token) x) 0
@@ -108,8 +114,8 @@ field_place m k x =
 
 -- ---- laws
 
--- Renaming the field `f` of the record with ordinal `k` in a well-typed module changes the names at the tokens of that
--- field to `new`. Nothing else changes.
+-- Renaming the field `f` of the record with ordinal `k` in a well-typed module gives the name `new`
+-- to the identifiers at the field's tokens. All other names are unchanged.
 abbrev pub RenamedAtTokens : Type 0
 RenamedAtTokens =
     (r : Resolution) (k : ℕ) (f new : Name)
@@ -120,16 +126,16 @@ RenamedAtTokens =
     then new
     else text_at r.module_read.source i) (value_at r.module_read.source) (tree_of r.module_read)
 
--- A record has another field with the new name exactly if two conditions hold: the new name differs from the old one,
--- and a token declares a field of the record with the new name.
+-- The new name `new` for the field `f` of a record is a duplicate exactly if two conditions hold:
+-- `new` differs from `f`, and a token declares a field `new` of the record.
 abbrev pub DuplicateByToken : Type 0
 DuplicateByToken =
     (m : Parsed) (k : ℕ) (f new : Name)
     → is_duplicate_field (named_tree_of m) k f new
     ≡ (not (same_name new f) && is_some (declaring_field m k new))
 
--- Some token declares the field that each identifier of a well-typed module belongs to, in that
--- identifier's record.
+-- Each field identifier of a well-typed module has a declaration: there is a token that declares a
+-- field with the same name in the same record.
 abbrev pub FieldsDeclared : Type 0
 FieldsDeclared =
     (r : Resolution) → IsResolution r → WellTyped (named_tree_of r.module_read)
@@ -137,8 +143,8 @@ FieldsDeclared =
     (λ x. is_some (declaring_field r.module_read x.owner (text_at r.module_read.source x.token))
     ≡ true) (field_identifiers r)
 
--- returns the tokens of the identifiers that the grammar has in the places of fields: declared in a
--- record, or selected
+-- returns the tokens of the identifiers that have the role of a field name: they declare a field in
+-- a record, or they select one
 abbrev pub written_fields : List (Role × ℕ) → List ℕ
 written_fields [] = []
 written_fields ((role.FieldName, token) ∷ rest) = token ∷ written_fields rest
@@ -147,8 +153,8 @@ written_fields ((role.LookedUp, token) ∷ rest) = written_fields rest
 written_fields ((role.ClosingName, token) ∷ rest) = written_fields rest
 written_fields ((role.ModuleName, token) ∷ rest) = written_fields rest
 
--- The fields of a well-typed module are exactly the identifiers that the grammar has in the places
--- of fields, in text order.
+-- The field identifiers of a well-typed module are exactly the identifiers that have the role of a
+-- field name by the grammar, in text order.
 abbrev pub FieldsListed : Type 0
 FieldsListed =
     (r : Resolution) → IsResolution r → WellTyped (named_tree_of r.module_read)

@@ -1,4 +1,4 @@
--- The lists of a module's fields, which are kept with the module.
+-- The lists of a module's field identifiers, before and after a change of the text.
 -- Rule: none; for contracts: fields in lists.
 use Rattle.std.specs.Prelude.{◌≡◌, ◌==◌, ◌+◌, ◌-◌, ◌^◌, ℕ, List, [], ◌∷◌, ◌++◌, length, min, nat_le, nat_lt, set, if◌then◌else◌}
 use Rattle.std.specs.List.{filter}
@@ -22,7 +22,7 @@ pub record Listed : Type 0 where
 abbrev pub if_declared : List FieldName → List FieldName → List FieldName
 if_declared declared all = if length declared == 0 then [] else all
 
--- returns the lists that the code's walks make, given the table with the object of each declaration
+-- returns the lists that the code's walks make, given the table of the module's declarations
 abbrev pub listed_by : Tables → Resolution → Listed
 listed_by t r = record {
   declared = declared_fields r.module_read;
@@ -31,18 +31,19 @@ listed_by t r = record {
       (marked_module (token_objects (declared_in t) r) (tree_of r.module_read));
 }
 
--- holds if the two lists have the fields that the module declares, and all identifiers of its
--- fields
+-- holds if `declared` has the module's identifiers that declare a field, and `all` has all its
+-- field identifiers
 abbrev pub AreFields : Resolution → Listed → Type 0
 AreFields r f = (f.declared ≡ declared_fields r.module_read) × (f.all ≡ field_identifiers r)
 
--- returns a list whose items starting at index `k` are overwritten by other items
+-- returns the first list after its items from index `k` onwards are overwritten by the items of the
+-- second list
 abbrev pub written_over : List FieldName → ℕ → List FieldName → List FieldName
 written_over xs k [] = xs
 written_over xs k (y ∷ ys) = written_over (set xs k y) (k + 1) ys
 
--- Holds if `all` consists of `before`, some old fields and `after`, and its tokens ascend. The old
--- fields are at the same tokens as the fields in `others`.
+-- Holds if `all` consists of `before`, then old fields at the same tokens as the fields in
+-- `others`, and then `after`. The tokens of `all` must be in strictly ascending order.
 pub record HasOthersWithin (all before others after : List FieldName) : Type 0 where
   pub old : List FieldName
   pub top : ℕ
@@ -58,11 +59,12 @@ fields_before token xs = filter (λ x. nat_lt x.token token) xs
 abbrev pub fields_from : ℕ → List FieldName → List FieldName
 fields_from token xs = filter (λ x. nat_le token x.token) xs
 
--- returns the new index of a token after a change, if the change kept this token; at most 2^64 - 1
+-- Returns a token's index after a change, given its index before. The change must have kept this
+-- token. The result is at most 2^64 - 1.
 abbrev pub place_now : SameTokens → ℕ → ℕ
 place_now s i = min (moved s i) (2 ^ 64 - 1)
 
--- returns a field's identifier with the new index of its token
+-- returns a field identifier with the index that its token has after a change
 abbrev pub field_now : SameTokens → FieldName → FieldName
 field_now s x = record { token = place_now s x.token; owner = x.owner }
 

@@ -1,5 +1,6 @@
--- The identifiers of a text, in text order, each with its owner: the ordinal of its record if it is a field's. The
--- names of these trees are tokens.
+-- The identifiers of a text, in text order, each with its owner. The owner of a field identifier is
+-- the ordinal of the field's record; any other identifier has none. The trees in this file have the
+-- index of a token for each name.
 -- Rule: docs/LANGUAGE.md, Scopes 7.
 use Rattle.std.specs.Prelude.{◌≡◌, ℕ, suc, ◌+◌, List, [], ◌∷◌, ◌++◌, map, Some, None, Option, option_and_then, option_map, length, replicate, set}
 use Rattle.ob0_tree.specs.declared.tree.Role.{Role}
@@ -20,16 +21,16 @@ use Rattle.ob0_language_values.specs.Values.{Shape, integer_shape}
 use Rattle.ob0_types_fields.specs.declared.field_name.FieldName.{FieldName}
 use Rattle.ob0_types_fields.specs.Owners.{AreOwners}
 
--- returns identifiers with None as the owner of each
+-- returns the tokens of these identifiers, each without an owner
 abbrev pub unowned_among : List (Role × ℕ) → List (ℕ × Option ℕ)
 unowned_among xs = map (λ x. (x.1, None)) xs
 
--- returns the identifiers of a part of the tree that has no fields, with None as the owner of each
+-- returns the identifiers of a tree that has no fields, each without an owner
 abbrev pub unowned : {s : Sort} → Tree ℕ s → List (ℕ × Option ℕ)
 unowned t = unowned_among (identifiers role.Declaring t)
 
--- returns the type of a designator after one more selector, given the type `s` before it; None if
--- it has no type
+-- returns the type of a designator after one more selector, given the type `s` before this
+-- selector; None if the selector doesn't fit the type
 abbrev pub after_selector : {P : Type 0} {i : Item}
     → Meanings ℕ Shape P
     → Option Shape
@@ -39,14 +40,14 @@ after_selector m s (field x) = option_and_then (λ t. field_type t (m.written x)
 after_selector m s (index e) = option_and_then (λ t. element_type t integer_shape) s
 after_selector m s _ = s
 
--- returns the ordinal of the record whose field the name `x` selects, given the type before the
--- selector; None if there is none
+-- returns the ordinal of the record in which the name `x` selects a field, given the type before
+-- the selector; None if that type has no such field
 abbrev pub owner : Option Shape → Name → Option ℕ
 owner None x = None
 owner (Some s) x = option_map (λ f. f.ordinal) (field_selected s x)
 
--- Returns the identifiers of a statement or a part of one, with their owners. The second argument
--- is the type before the selectors, if the part is a list of selectors.
+-- Returns the identifiers of a statement or a part of a statement, with their owners. If the part
+-- is a selector or a list of selectors, `s` is the type before it.
 abbrev pub owned : {P : Type 0} {s : Sort}
     → Meanings ℕ Shape P
     → Option Shape
@@ -86,18 +87,19 @@ owned m s (else_branch a) = owned m None a
 owned m s (begins a) = owned m None a
 owned m s t = unowned t
 
--- Returns the identifiers of a type with their owners. `k` is the ordinal of the first ARRAY or RECORD of the part, and
--- `r` the ordinal of the group's record.
+-- Returns the identifiers of a type with their owners. `k` is the ordinal of the first ARRAY or
+-- RECORD of the part, and `r` is the ordinal of the record that a group belongs to.
 abbrev mutual
-  -- returns the identifiers of a written type: its name, or the identifiers in an array's length and elements, or in a
-  -- record's groups
+  -- returns the identifiers of a written type: its name, the identifiers in an array's length and
+  -- element type, or the identifiers in a record's groups of fields
   pub owned_type : ℕ → Tree ℕ written_type → List (ℕ × Option ℕ)
   owned_type k (named_type x) = (x, None) ∷ []
   owned_type k (array_type e t) = unowned e ++ owned_type (suc k) t
   owned_type k (record_type g rest) =
       owned_group k (suc k) g ++ owned_groups k (suc k + group_constructors g) rest
 
-  -- returns the fields of a group, which belong to the record `r`, and the identifiers of their type
+  -- returns the identifiers of a group of fields: the names of the fields, whose owner is `r`, and
+  -- the identifiers of their type
   pub owned_group : ℕ → ℕ → Tree ℕ fields → List (ℕ × Option ℕ)
   owned_group r k no_fields = []
   owned_group r k (some_fields ns t) = map (λ x. (x, Some r)) (names_listed ns) ++ owned_type k t
@@ -155,7 +157,7 @@ owned_formals k (one no_formals) = []
 owned_formals k (one (some_formals f fs)) =
     owned_section k f ++ owned_sections (k + constructors (section_type f)) fs
 
--- Returns the identifiers of a block, of its procedures and of a procedure with their owners. `k` is the ordinal of the
+-- Returns the identifiers of a block or of procedures, with their owners. `k` is the ordinal of the
 -- first ARRAY or RECORD of the part.
 abbrev mutual
   -- returns the identifiers of a block: of its declarations, and then of its statements
@@ -188,15 +190,15 @@ abbrev mutual
       ++ (owned_block m (after_formals k (declares_procedure x fs b closing)) b
       ++ ((closing, None) ∷ [])))
 
--- returns the identifiers of a module, each with the ordinal of its record if it is a field's
+-- returns the identifiers of a module with their owners
 abbrev pub owned_module : {P : Type 0}
     → Meanings ℕ Shape P
     → Tree ℕ module_text
     → List (ℕ × Option ℕ)
 owned_module m (is_module x b closing) = (x, None) ∷ (owned_block m 0 b ++ ((closing, None) ∷ []))
 
--- Returns the meanings of names; each name is given by its token. `objects` gives the object of
--- each ordinal. A token that isn't bound has no object.
+-- Returns the meanings of the names in a resolved module; a name is given by its token. `objects`
+-- has the object of each ordinal. A token that isn't bound has no object.
 abbrev pub token_objects : (ℕ → Option (Object Shape Signature))
     → Resolution
     → Meanings ℕ Shape Signature
@@ -207,7 +209,7 @@ token_objects objects r =
       written = λ token. text_at r.module_read.source token;
     }
 
--- returns the identifiers of a resolved module, each with the ordinal of its record if it is a field's
+-- returns the identifiers of a resolved module with their owners
 abbrev pub owned_tokens : Resolution → List (ℕ × Option ℕ)
 owned_tokens r =
     owned_module (token_objects (declared_object (named_tree_of r.module_read)) r)
@@ -218,9 +220,9 @@ abbrev pub HasOwners : (ℕ → Option ℕ) → List (ℕ × Option ℕ) → Typ
 HasOwners table [] = Unit {0}
 HasOwners table (x ∷ xs) = (table x.0 ≡ x.1) × HasOwners table xs
 
--- A table that has the listed owners at the tokens of a well-typed module has the owners of all its
--- fields. The reason is that at each place the environment gives a name the object of its
--- declaration.
+-- Suppose that a table has, for each identifier of a well-typed module, the owner that the list
+-- `owned_tokens` has. Then it has the owners of all fields of the module (`AreOwners`).
+-- The reason is that a name has, at each place, the object of its declaration.
 abbrev pub OwnersByDeclaration : Type 0
 OwnersByDeclaration =
     (r : Resolution) (owners : List (Option ℕ))
@@ -229,19 +231,19 @@ OwnersByDeclaration =
     → HasOwners (ordinal_in owners) (owned_tokens r)
     → AreOwners r.module_read owners
 
--- returns the identifiers in a list that have an owner, which are the fields
+-- returns the identifiers in a list that have an owner; these are the field identifiers
 abbrev pub fields_among : List (ℕ × Option ℕ) → List FieldName
 fields_among [] = []
 fields_among ((x, None) ∷ xs) = fields_among xs
 fields_among ((x, Some k) ∷ xs) = record { token = x; owner = k } ∷ fields_among xs
 
--- returns the table with the owners of these fields entered at their tokens
+-- returns the table after the owner of each of these fields is entered at the field's token
 abbrev pub with_fields_at : List (Option ℕ) → List FieldName → List (Option ℕ)
 with_fields_at table [] = table
 with_fields_at table (f ∷ fs) = with_fields_at (set table f.token (Some f.owner)) fs
 
--- Entering the fields of a well-typed module in the empty table gives a table with the owners of
--- all its fields. The empty table has one entry per token.
+-- If the field identifiers of a well-typed module are entered in a table without owners, the table
+-- has the owners of all fields of this module. It has one entry for each token.
 abbrev pub OwnersOfFields : Type 0
 OwnersOfFields =
     (r : Resolution)
@@ -250,16 +252,17 @@ OwnersOfFields =
     → AreOwners r.module_read (with_fields_at (replicate (length r.module_read.source.tokens) None)
     (fields_among (owned_tokens r)))
 
--- ---- the fields without the other identifiers, computed as the code's walk finds them
+-- ---- only the field identifiers, computed as by the code's walk
 
--- returns a list of one field if the identifier at token `x` has an owner, otherwise an empty list
+-- returns a list of one field identifier if the identifier at token `x` has an owner, otherwise an
+-- empty list
 abbrev pub marked_field : ℕ → Option ℕ → List FieldName
 marked_field x None = []
 marked_field x (Some k) = record { token = x; owner = k } ∷ []
 
 -- Returns the fields that statements select.
 abbrev mutual
-  -- returns the fields in a statement or a part of one, in text order
+  -- returns the fields in a statement or a part of a statement, in text order
   pub marked_tree : {P : Type 0} {s : Sort} → Meanings ℕ Shape P → Tree ℕ s → List FieldName
   marked_tree m none = []
   marked_tree m (one a) = marked_tree m a
@@ -294,7 +297,8 @@ abbrev mutual
   marked_tree m (begins a) = marked_tree m a
   marked_tree m t = []
 
-  -- returns the fields that a designator's selectors select, one after another, from a value of type `s`
+  -- returns the fields in a designator's selectors, in text order; `s` is the type before the first
+  -- selector
   pub marked_path : {P : Type 0}
       → Meanings ℕ Shape P
       → Option Shape
@@ -307,12 +311,12 @@ abbrev mutual
   marked_path m s (more (index e) rest) =
       marked_tree m e ++ marked_path m (option_and_then (λ t. element_type t integer_shape) s) rest
 
--- returns the fields of the record `r` that the names at some tokens declare
+-- returns the fields of the record `r` that the names at these tokens declare
 abbrev pub marked_names : ℕ → List ℕ → List FieldName
 marked_names r xs = map (λ x. record { token = x; owner = r }) xs
 
--- Returns the fields that a written type declares. `k` is the ordinal of the first ARRAY or RECORD of the part, and `r`
--- the ordinal of the group's record.
+-- Returns the fields that a written type declares. `k` is the ordinal of the first ARRAY or RECORD
+-- of the part, and `r` is the ordinal of the record that a group belongs to.
 abbrev mutual
   -- returns the fields that a written type declares; an array's length declares none
   pub marked_type : ℕ → Tree ℕ written_type → List FieldName
@@ -385,11 +389,11 @@ abbrev mutual
       marked_sections k (formal_sections fs)
       ++ marked_block m (after_formals k (declares_procedure x fs b closing)) b
 
--- returns the fields of a module
+-- returns the fields that a module declares and selects
 abbrev pub marked_module : {P : Type 0} → Meanings ℕ Shape P → Tree ℕ module_text → List FieldName
 marked_module m (is_module x b closing) = marked_block m 0 b
 
--- The walk finds exactly the identifiers of a module that have an owner.
+-- The code's walk finds exactly the identifiers of a module that have an owner.
 abbrev pub MarkedFields : Type 0
 MarkedFields =
     (r : Resolution)

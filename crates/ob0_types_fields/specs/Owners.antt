@@ -1,4 +1,4 @@
--- Tables with the record of each field identifier of a text, by token.
+-- Tables that give the record of each field identifier of a text, by the identifier's token.
 -- Rule: none; for contracts: which record a field's token belongs to.
 use Rattle.std.specs.Prelude.{◌≡◌, ℕ, Bool, ◌&&◌, List, Option, Some, None, if◌then◌else◌}
 use Rattle.ob0_scan.specs.Scanned.{Scanned}
@@ -11,14 +11,15 @@ use Rattle.ob0_language_names.specs.Scopes.{same_ordinal}
 use Rattle.ob0_language_fields.specs.Fields.{FieldNames, refielded}
 use Rattle.ob0_language_fields.specs.Renaming.{field_renamed}
 
--- Returns the name that `l` gives to a field of the record with ordinal `k`. If the record isn't
--- known, the name is unchanged.
+-- Returns the new name of a field: `l k x` for the field `x` of the record with ordinal `k`. If the
+-- record isn't known, the name is unchanged.
 abbrev pub of_records : (ℕ → Name → Name) → FieldNames
 of_records l None x = x
 of_records l (Some k) x = l k x
 
--- Holds if the table has, at each token that declares or selects a field, the ordinal of the field's record. This means
--- that rewriting the fields of the module, in any way, is the same as rewriting each token according to the table.
+-- Holds if the table has, at each token that declares or selects a field, the ordinal of the
+-- field's record. This is stated by renaming: for any new names `l` of fields, renaming the fields
+-- of the module is the same as renaming each token according to the table.
 abbrev pub AreOwners : Parsed → List (Option ℕ) → Type 0
 AreOwners m owners =
     (l : ℕ → Name → Name)
@@ -31,8 +32,8 @@ abbrev pub is_of_field : Scanned → List (Option ℕ) → ℕ → Name → ℕ 
 is_of_field source owners r f i =
     same_ordinal (ordinal_in owners i) r && same_name (text_at source i) f
 
--- Renaming a field changes exactly the names at the field's tokens, given a table with the record
--- of each field token.
+-- Renaming the field `f` of the record `r` gives the name `new` to the identifiers at the field's
+-- tokens and changes nothing else. The field's tokens are given by a table of owners.
 abbrev pub RenamedByToken : Type 0
 RenamedByToken =
     (m : Parsed) (owners : List (Option ℕ)) (r : ℕ) (f new : Name) → AreOwners m owners

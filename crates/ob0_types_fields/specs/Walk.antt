@@ -1,4 +1,4 @@
--- Definitions for the contracts of the walk that finds the fields of a module.
+-- Definitions for the contracts of the walk that collects the fields of a module.
 -- Rule: none; for private contracts of a walk.
 use Rattle.std.specs.Prelude.{ℕ, List, Option}
 use Rattle.ob0_tree.specs.Tree.{Tree, field, index, item, selector}
@@ -22,8 +22,8 @@ meaning_in w = token_objects (declared_in w.known.now) w.resolved.now
 abbrev pub record_shape_in : Owning → RecordShape → Shape
 record_shape_in w r = made_shape (shapes_of w.known.now) (made.Record r)
 
--- returns the fields that one selector selects, given the type `s` before it; an index has the
--- fields of its expression
+-- returns the fields in one selector, given the type `s` before the selector: the field that it
+-- selects, or the fields in an index's expression
 abbrev pub marked_at : {P : Type 0}
     → Meanings ℕ Shape P
     → Option Shape

@@ -13,7 +13,7 @@ use ob0_tree::{
 };
 use std::alloc::AllocError;
 
-/// Appends a field for each of the listed names. `owner` is the ordinal of their record.
+/// Appends a field for each of the listed names. They belong to the record with ordinal `owner`.
 fn names(found: &mut FieldTokens, owner: usize, listed: &Names) -> Result<(), AllocError>
     ensures { IfOk result (λ _. found.new.items
         ≡ found.old.items ++ marked_names owner (names_listed (names_of listed.now))) }
@@ -27,8 +27,9 @@ fn names(found: &mut FieldTokens, owner: usize, listed: &Names) -> Result<(), Al
     Ok(())
 }
 
-/// Returns the ordinal of the next word ARRAY or RECORD, which is the number of such words so far, and adds 1 to that
-/// number. Returns an error if the sum doesn't fit 64 bits. No text is long enough for that.
+/// Returns the ordinal of the next word ARRAY or RECORD, and then adds 1 to `made`. The ordinal is
+/// `made`, the number of such words so far. Returns an error if the sum doesn't fit 64 bits; no
+/// text is long enough for that.
 fn next_ordinal(made: &mut usize) -> Result<usize, AllocError>
     ensures { MatchResult result (λ n. (n ≡ made.old) × (made.new ≡ made.old + 1))
         (λ _. 2 ^ 64 ≤ made.old + 1) }
@@ -43,8 +44,8 @@ fn next_ordinal(made: &mut usize) -> Result<usize, AllocError>
     }
 }
 
-/// Appends the fields that a written type declares. `made` is the number of words ARRAY and RECORD before the type, and
-/// then after it.
+/// Appends the fields that a written type declares. `made` counts the words ARRAY and RECORD before
+/// the type. The words in the type are added to it.
 #[cycle(types)]
 pub(crate) fn written_type(
     found: &mut FieldTokens,
@@ -66,8 +67,8 @@ pub(crate) fn written_type(
     }
 }
 
-/// Appends the fields that a record type declares, including the fields of records inside it. `made` is the number of
-/// words ARRAY and RECORD before the type, and then after it.
+/// Appends the fields that a record type declares, including the fields of records inside it.
+/// `made` counts the words ARRAY and RECORD before the type. The words in the type are added to it.
 #[cycle(types)]
 fn record(found: &mut FieldTokens, made: &mut usize, r: &RecordType) -> Result<(), AllocError>
     ensures found { IfOk result (λ _. found.new.items
@@ -82,8 +83,9 @@ fn record(found: &mut FieldTokens, made: &mut usize, r: &RecordType) -> Result<(
     Ok(())
 }
 
-/// Appends the fields of one group, and the fields that the group's type declares. `owner` is the ordinal of the
-/// record.
+/// Appends the fields of one group, and the fields that the group's type declares. `owner` is the
+/// ordinal of the group's record. `made` counts the words ARRAY and RECORD before the group. The
+/// words in the group are added to it.
 #[cycle(types)]
 fn fields(
     found: &mut FieldTokens,
@@ -106,8 +108,8 @@ fn fields(
     }
 }
 
-/// Appends the fields that the TYPE section of a block declares. `made` is the number of words ARRAY and RECORD before
-/// the section, and then after it.
+/// Appends the fields that the TYPE section of a block declares. `made` counts the words ARRAY and
+/// RECORD before the section. The words in the section are added to it.
 pub(crate) fn types(
     found: &mut FieldTokens,
     made: &mut usize,
@@ -128,8 +130,8 @@ pub(crate) fn types(
     Ok(())
 }
 
-/// Appends the fields that the VAR section of a block declares. `made` is the number of words ARRAY and RECORD before
-/// the section, and then after it.
+/// Appends the fields that the VAR section of a block declares. `made` counts the words ARRAY and
+/// RECORD before the section. The words in the section are added to it.
 pub(crate) fn variables(
     found: &mut FieldTokens,
     made: &mut usize,
@@ -151,8 +153,8 @@ pub(crate) fn variables(
     Ok(())
 }
 
-/// Appends the fields that formal parameters declare. `made` is the number of words ARRAY and RECORD before the
-/// parameters, and then after them.
+/// Appends the fields that formal parameters declare. `made` counts the words ARRAY and RECORD
+/// before the parameters. The words in the parameters are added to it.
 pub(crate) fn formals(
     found: &mut FieldTokens,
     made: &mut usize,

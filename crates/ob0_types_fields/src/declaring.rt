@@ -10,8 +10,8 @@ use crate::field_name::FieldTokens;
 use ob0_tree::{Block, Procedure};
 use std::alloc::AllocError;
 
-/// Appends the fields that a block and its procedures declare. `made` is the number of words ARRAY and RECORD before
-/// the block, and then after it.
+/// Appends the fields that a block and its procedures declare. `made` counts the words ARRAY and
+/// RECORD before the block. The words in the block are added to it.
 #[cycle(blocks)]
 pub(crate) fn block(found: &mut FieldTokens, made: &mut usize, b: &Block) -> Result<(), AllocError>
     ensures found { IfOk result (λ _. found.new.items
@@ -27,8 +27,8 @@ pub(crate) fn block(found: &mut FieldTokens, made: &mut usize, b: &Block) -> Res
     Ok(())
 }
 
-/// Appends the fields that a procedure declares in its parameters and its block. `made` is the number of words ARRAY
-/// and RECORD before the procedure, and then after it.
+/// Appends the fields that a procedure declares in its parameters and its block. `made` counts the
+/// words ARRAY and RECORD before the procedure. The words in the procedure are added to it.
 #[cycle(blocks)]
 fn procedure(found: &mut FieldTokens, made: &mut usize, p: &Procedure) -> Result<(), AllocError>
     ensures found { IfOk result (λ _. found.new.items

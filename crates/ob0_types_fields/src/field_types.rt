@@ -1,10 +1,14 @@
 //! Finds the field of an identifier, with the field's type, in the RECORD that declares the field.
 //!
-//! The types of fields aren't stored. The list of fields has the ordinal of each field's record, so the type is looked
-//! up in that RECORD (`typed_field`). The walk visits the text's declarations together with their objects, and counts
-//! the words ARRAY and RECORD (`constructed`). It evaluates no array length again, and its contracts don't depend on
-//! the ordinals in the checker's table. Each function takes a search and returns the search after its part (`Search`).
-//! So all contracts have the same form (`after_all`). When the type is found, the remaining procedures are skipped.
+//! The types of fields aren't stored. The list of fields has the ordinal of each field's record,
+//! and the type is looked up in the RECORD with this ordinal (`typed_field`). To find that RECORD,
+//! a walk visits the module's declarations and counts the words ARRAY and RECORD (`constructed`).
+//! It takes the types of declared names from the table, so no array length is evaluated again. Its
+//! contracts don't depend on the ordinals in the table.
+//!
+//! Each function of the walk takes the state of the search and returns the state after its part of
+//! the module (`Search`). So all their contracts have the same form (`after_all`). When the type is
+//! found, the remaining procedures are skipped.
 
 ghost use Rattle.std.specs.Prelude.{◌≡◌, List, None, option_and_then, option_map};
 ghost use Rattle.ob0_tree.specs.View.{block_of, fields_of, formals_of, procedure_of, record_in, section_of, type_of, types_of, variables_of};
@@ -30,8 +34,9 @@ pub struct TypedField {
     pub of: TypeId,
 }
 
-/// Returns the field of an identifier and its type. The field is looked up in the RECORD that declares it, using the
-/// table of declarations. Returns None if that RECORD or the field isn't found.
+/// Returns the field that an identifier belongs to, with the field's type. The field is looked up
+/// in its RECORD, using the table of declarations. Returns None if that RECORD or the field isn't
+/// found.
 pub fn typed_field<'a, 't>(
     known: &'a DeclarationTable,
     resolved: &'a Resolved<'t>,
@@ -47,8 +52,8 @@ pub fn typed_field<'a, 't>(
     Some(TypedField { field, of })
 }
 
-/// Returns the type that the ARRAY or RECORD with this ordinal constructs. Returns None if there is no such word or its
-/// type is unknown.
+/// Returns the type that the ARRAY or RECORD with this ordinal constructs. Returns None if the
+/// module has no such word or its type is unknown.
 fn constructed_type<'a, 't>(
     known: &'a DeclarationTable,
     resolved: &'a Resolved<'t>,
@@ -64,7 +69,7 @@ fn constructed_type<'a, 't>(
     }
 }
 
-/// The state of the search for an ARRAY or RECORD with some ordinal.
+/// The state of the search for the ARRAY or RECORD with a given ordinal.
 #[derive(Clone, Copy)]
 enum Search {
     /// The number of words ARRAY and RECORD still to skip.
@@ -94,7 +99,7 @@ impl Search {
     }
 }
 
-/// A module with the table of its declarations.
+/// The module in which an ARRAY or RECORD is searched, with the table of its declarations.
 #[derive(Clone, Copy)]
 struct ConstructorWalk<'a, 't> {
     known: &'a DeclarationTable,
@@ -102,8 +107,8 @@ struct ConstructorWalk<'a, 't> {
 }
 
 impl<'a, 't> ConstructorWalk<'a, 't> {
-    /// Returns the type of the type, variable or parameter that the name at a token declares. Returns None if the name
-    /// declares something else.
+    /// Returns the type of the declaration whose name is at a token: a type, a variable, a
+    /// parameter or a constant. Returns None for any other declaration.
     fn declared_type(&self, token: usize) -> Option<TypeId>
         ensures { type_in self.now result
             ≡ type_declared ((meanings_in self.now).object_for token) }
@@ -112,7 +117,7 @@ impl<'a, 't> ConstructorWalk<'a, 't> {
         self.known.declared_type(ordinal)
     }
 
-    /// Returns the type of the elements of an array type. Returns None if the type isn't an array.
+    /// Returns the element type of an array type. Returns None if the type isn't an array.
     fn element(&self, of: Option<TypeId>) -> Option<TypeId>
         ensures { type_in self.now result
             ≡ option_and_then (λ a. element_type a integer_shape) (type_in self.now of) }
@@ -120,7 +125,8 @@ impl<'a, 't> ConstructorWalk<'a, 't> {
         self.known.element(of?)
     }
 
-    /// Returns the type of the field whose name is at a token. Returns None if the type is no record with such a field.
+    /// Returns the type of the field that has the name at token `name` in the record type `of`.
+    /// Returns None if `of` is no record type with such a field.
     fn field(&self, of: Option<TypeId>, name: usize) -> Option<TypeId>
         ensures { type_in self.now result
             ≡ option_and_then (λ r. field_type r ((meanings_in self.now).written name))

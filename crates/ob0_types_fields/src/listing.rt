@@ -1,20 +1,22 @@
 //! Lists of the fields of a module, and look-ups in these lists.
 //!
-//! `check` of `ob0_types` makes the lists once for each module. It walks the declarations first. If no field is
-//! declared, the walk over the whole module is skipped, because every selected field is declared (`fields_declared`).
-//! So a module without RECORD costs only the walk over its declarations. The laws require `IsResolution` and
-//! `WellTyped`.
+//! `check` of `ob0_types` makes the lists once for each module. It walks the declarations first. If
+//! no field is declared, the walk over the whole module is skipped, because every selected field is
+//! declared (`fields_declared`). So a module without RECORD costs only the walk over its
+//! declarations. The laws about fields require that the module is well-typed.
 //!
-//! If the tokens of one body changed, its fields are found again and replace the old ones at the same tokens
-//! (`FieldList::with_body`). No other field moves. The reason is that the fields of a well-typed module are all
-//! identifiers in the places of fields (`fields_listed`).
+//! If tokens of one body changed, but not their kinds, the body's fields are found again
+//! (`FieldList::with_body`). They are at the same tokens as before, because the grammar
+//! determines which identifiers are fields (`fields_listed`). So each replaces an old one,
+//! and no other field moves.
 //!
-//! If the statements of one body were replaced, perhaps by a different number of tokens, the fields before that body
-//! are kept. The fields after it are moved to the new positions of their tokens. The body's own fields are found again
-//! (`FieldList::with_new_body`).
+//! If the statements of one body were replaced, perhaps by a different number of tokens, the body's
+//! fields are also found again (`FieldList::with_new_body`). The fields before the body are kept.
+//! The fields after it are moved to the new indexes of their tokens.
 //!
-//! A list doesn't hold its text. A token that the text doesn't have gets the empty span at the text's start. So the
-//! clause of `FieldList::at` has a premise (`AreInTextOrder`), which a module's fields satisfy (`fields_ascend`).
+//! A list doesn't contain its text, so it may be used with another text. A token that a text
+//! doesn't have gets the empty span at the text's start. So the clause of `FieldList::at` has a
+//! premise (`AreInTextOrder`), which a module's fields satisfy (`fields_ascend`).
 
 ghost use Rattle.std.specs.Prelude.{◌≡◌, ◌++◌, List, [], false, true, map, nat_lt, IfOk, OnOk};
 ghost use Rattle.std.specs.List.{position_from};
@@ -40,7 +42,7 @@ use ob0_types_table::DeclarationTable;
 use std::alloc::{AllocError, Global};
 use std::marker::Model;
 
-/// The identifiers of fields in a module, in text order: the declaring identifiers, and all identifiers.
+/// The field identifiers of a module, in text order: those that declare a field, and all of them.
 #[derive(Drop)]
 pub struct FieldList {
     declared: FieldTokens,
@@ -66,8 +68,8 @@ impl FieldList {
         }
     }
 
-    /// Returns the lists of a module's fields, using the table of its declarations. If no field is declared, the search
-    /// for selected fields is skipped.
+    /// Returns the lists of a module's fields, using the table of its declarations. If no field is
+    /// declared, both lists are empty, and the search for selected fields is skipped.
     pub fn of<'a, 't>(
         alloc: Global,
         known: &'a DeclarationTable,
@@ -80,8 +82,9 @@ impl FieldList {
         Ok(FieldList { declared, all })
     }
 
-    /// Returns the lists after the tokens in the statements of one body changed, but not their number. The fields that
-    /// these statements select are found again and replace the old ones at their tokens.
+    /// Returns the lists for a text in which tokens of one body's statements have changed, but not
+    /// the number of tokens. The fields that these statements select are found again and replace
+    /// the old fields at the same tokens.
     pub fn with_body<'a, 't>(
         self,
         alloc: Global,
@@ -105,9 +108,11 @@ impl FieldList {
         Ok(FieldList { declared, all })
     }
 
-    /// Returns the lists after the statements of one body were replaced. `place` is the place of the new body. Fields
-    /// before the body's first identifier are kept, and fields from the block's closing name onwards are moved. The
-    /// fields in the new statements are found. Token indexes are at most 2^64 - 1.
+    /// Returns the lists for a text in which the statements of one body were replaced. `place` is
+    /// the place of the new body, and `same` has the unchanged tokens. Fields before the body's
+    /// first identifier are kept. Fields from the block's closing name onwards are moved to the new
+    /// indexes of their tokens, which are at most 2^64 - 1. The fields in the new statements are
+    /// found by a walk.
     pub fn with_new_body<'a, 't>(
         self,
         alloc: Global,
@@ -134,8 +139,8 @@ impl FieldList {
         Ok(FieldList { declared, all })
     }
 
-    /// Returns the field identifier at a place, as a byte offset. The place may be within the identifier or at its end.
-    /// `tokens` must be the tokens of the text that has these fields. Returns None if there is no such identifier.
+    /// Returns the field identifier that contains a byte offset or ends there. Returns None if
+    /// there is none. `tokens` must be the tokens of the text that has these fields.
     pub fn at(&self, tokens: &Tokens, offset: usize) -> Option<FieldName>
         ensures { AreInTextOrder tokens.now self.now.all
             → result ≡ field_on tokens.now offset self.now.all }
@@ -143,8 +148,8 @@ impl FieldList {
         field_on(tokens, offset, &self.all)
     }
 
-    /// Returns the tokens of the field with this name in a record, in text order. These are the declaring identifier
-    /// and all identifiers that select the field. `owner` is the ordinal of the record.
+    /// Returns the tokens of the field `name` of the record with ordinal `owner`, in text order.
+    /// These are the identifier that declares the field and the identifiers that select it.
     pub fn tokens(
         &self,
         alloc: Global,
@@ -158,16 +163,16 @@ impl FieldList {
         tokens_among(alloc, tokens, &self.all, owner, name)
     }
 
-    /// Returns the token that declares the field with this name in the record with ordinal `owner`. Returns None if the
-    /// record has no such field.
+    /// Returns the token that declares the field `name` of the record with ordinal `owner`. Returns
+    /// None if the record has no such field.
     pub fn declaring(&self, tokens: &Tokens, owner: usize, name: &str) -> Option<usize>
         ensures { result ≡ first (tokens_among tokens.now owner name.now self.now.declared) }
     {
         first_among(tokens, &self.declared, owner, name)
     }
 
-    /// Returns the position of the field with this name among the fields of a record, counted from 0. `owner` is the
-    /// ordinal of the record. Returns None if the record has no such field.
+    /// Returns the position, counted from 0, of the field `name` among the fields of the record
+    /// with ordinal `owner`. Returns None if the record has no such field.
     pub fn place(&self, tokens: &Tokens, owner: usize, name: &str) -> Option<usize>
         ensures { result
             ≡ position_from (λ token. same_name (text_at tokens.now token) name.now) 0
@@ -177,7 +182,8 @@ impl FieldList {
     }
 }
 
-/// Replaces a run of fields in a list by `found`. The replaced fields are at the same tokens as the fields in `found`.
+/// Replaces fields of a list by the fields in `found`, if both are at the same tokens and the
+/// replaced fields follow each other in the list.
 fn write_at_tokens(all: &mut FieldTokens, found: &[FieldName])
     ensures { (before after : List FieldName) → HasOthersWithin all.old.items before found.now after
         → all.new.items ≡ before ++ (found.now ++ after) }
@@ -191,7 +197,8 @@ fn write_at_tokens(all: &mut FieldTokens, found: &[FieldName])
     }
 }
 
-/// Returns the number of fields in a list whose tokens come before a token.
+/// Returns the number of fields whose tokens come before a token, in a list that is sorted by
+/// token.
 fn count_before(all: &[FieldName], token: usize) -> usize
     ensures { IsNonDecreasingBy (λ x. x.token) all.now
         → IsPartitionPoint (λ x. nat_lt x.token token ≡ true)
@@ -200,8 +207,8 @@ fn count_before(all: &[FieldName], token: usize) -> usize
     all.partition_point(|field| field.token < token)
 }
 
-/// Overwrites the fields of a list by other fields, starting at the index `start`. Fields that would lie after the end
-/// of the list are ignored.
+/// Overwrites fields of a list by the fields in `found`, starting at the index `start`. Fields that
+/// would lie after the end of the list are ignored.
 fn write_over(all: &mut FieldTokens, start: usize, found: &[FieldName])
     ensures { all.new.items ≡ written_over all.old.items start found.now }
 {
@@ -214,7 +221,8 @@ fn write_over(all: &mut FieldTokens, start: usize, found: &[FieldName])
     }
 }
 
-/// Returns the new index of a token after a change, if the change kept this token. The index is at most 2^64 - 1.
+/// Returns a token's index after a change, given its index before. The change must have kept this
+/// token. The result is at most 2^64 - 1.
 fn place_now(token: usize, same: SameTokens) -> usize
     ensures { result ≡ place_now same token }
 {
@@ -227,8 +235,8 @@ fn place_now(token: usize, same: SameTokens) -> usize
     }
 }
 
-/// Returns the old index of a token that lies after the changed tokens, given its new index. The result is at most 2^64
-/// - 1.
+/// Returns the old index of a token that lies after the changed tokens, given its new index. The
+/// result is at most 2^64 - 1.
 fn place_before(token: usize, same: SameTokens) -> usize
     ensures { result ≡ place_before same token }
 {
@@ -281,7 +289,8 @@ fn declared_fields(alloc: Global, resolved: &Resolved<'_>) -> Result<FieldTokens
     Ok(found)
 }
 
-/// Returns all fields of the module, or none if `declared` is empty. In that case the walk over the module is skipped.
+/// Returns all field identifiers of the module. If `declared` is empty, returns an empty list
+/// without a walk over the module.
 fn all_fields<'a, 't>(
     alloc: Global,
     known: &'a DeclarationTable,
@@ -300,7 +309,7 @@ fn all_fields<'a, 't>(
     }
 }
 
-/// Returns all fields of a module, in text order.
+/// Walks a module and returns all its field identifiers, in text order.
 fn found_fields<'a, 't>(
     alloc: Global,
     known: &'a DeclarationTable,

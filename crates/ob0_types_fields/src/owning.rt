@@ -1,10 +1,13 @@
-//! Walks a module to find its fields: the identifiers that declare them in records, and the identifiers that select
-//! them.
+//! Walks a module to collect its field identifiers: those that declare a field in a record, and
+//! those that select one.
 //!
-//! One loop visits the selectors of a designator and carries the type so far. It also visits the indexes, so all fields
-//! are found in text order. Constants and array lengths aren't visited. Parts that select nothing are skipped quickly.
-//! An expression with a single factor is treated as that factor. The type of a designator without selectors isn't
-//! looked up. A selected name is looked up once, for its type.
+//! One loop visits the selectors of a designator, from left to right, and carries the type of the
+//! designator so far. It also visits the expressions of indexes, so fields are found in text order.
+//! Constants and array lengths aren't visited, because they select no fields.
+//!
+//! Little work is done for parts that select nothing. An expression with a single factor is treated
+//! as that factor. The type of a designator without selectors isn't looked up. A selected name is
+//! looked up once, for its type.
 
 ghost use Rattle.std.specs.Prelude.{◌≡◌, ◌++◌, ◌+◌, IfOk, Some, option_and_then, option_map};
 ghost use Rattle.ob0_tree.specs.View.{expression_of, compound_of, simple_of, term_of, factor_of, designator_of, selector_of, assignment_of, call_of, arguments_in, statement_of, if_of, elsifs_in, sequence_in, body_of, block_of, procedure_of};
@@ -26,7 +29,7 @@ use ob0_tree::{
 use ob0_types_table::{DeclarationTable, Object, Parts, RecordShape, TypeId, scalar_type};
 use std::alloc::AllocError;
 
-/// A module with the table of its declarations.
+/// The module whose fields are collected, with the table of its declarations.
 #[derive(Clone, Copy)]
 pub(crate) struct Owning<'a, 't> {
     pub(crate) known: &'a DeclarationTable,
@@ -35,7 +38,7 @@ pub(crate) struct Owning<'a, 't> {
 
 impl<'a, 't> Owning<'a, 't> {
     /// Returns the type of the variable, parameter or constant that the name at a token is bound to. Returns None if
-    /// the name is unbound or is bound to something else.
+    /// the name is unbound, or is bound to a constant with a fault or to something else.
     fn value_type(&self, token: usize) -> Option<TypeId>
         ensures { option_map (type_shape (shapes_of self.now.known.now)) result
             ≡ object_type ((meaning_in self.now).object_for token) }
@@ -108,7 +111,7 @@ impl<'a, 't> Owning<'a, 't> {
         }
     }
 
-    /// Returns the type of the elements of an array type. Returns None if the type isn't an array.
+    /// Returns the element type of an array type. Returns None if the type isn't an array.
     fn element(&self, base: Option<TypeId>) -> Option<TypeId>
         ensures { option_map (type_shape (shapes_of self.now.known.now)) result
             ≡ option_and_then (λ z. element_type z integer_shape)
@@ -196,8 +199,9 @@ impl<'a, 't> Owning<'a, 't> {
         Ok(())
     }
 
-    /// Appends the fields that one selector of a designator selects, and returns the type of the designator up to and
-    /// including this selector. `base` is the type before it.
+    /// Appends the fields of one selector: the field that it selects, or the fields in its index.
+    /// Returns the type of the designator up to and including this selector. `base` is the type
+    /// before it.
     #[cycle(expressions)]
     fn selector(
         &self,
@@ -331,8 +335,9 @@ impl<'a, 't> Owning<'a, 't> {
         }
     }
 
-    /// Appends the fields of a block: those that its declarations and procedures declare and select, and then those
-    /// that its statements select. `made` is the number of words ARRAY and RECORD before the block, and then after it.
+    /// Appends the fields of a block: first the fields of its declarations and procedures, then the
+    /// fields that its statements select. `made` counts the words ARRAY and RECORD before the
+    /// block. The words in the block are added to it.
     #[cycle(blocks)]
     pub(crate) fn block(
         &self,
@@ -354,8 +359,8 @@ impl<'a, 't> Owning<'a, 't> {
         self.body(found, &b.body)
     }
 
-    /// Appends the fields that a procedure declares and selects. `made` is the number of words ARRAY and RECORD before
-    /// the procedure, and then after it.
+    /// Appends the fields that a procedure declares and selects. `made` counts the words ARRAY and
+    /// RECORD before the procedure. The words in the procedure are added to it.
     #[cycle(blocks)]
     fn procedure(
         &self,

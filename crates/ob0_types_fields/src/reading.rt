@@ -1,4 +1,4 @@
-//! Look-ups in a list of fields.
+//! Look-ups in a list of field identifiers: by place, and by record and name.
 
 ghost use Rattle.std.specs.Prelude.{◌≡◌, ◌≤◌, IfOk, None, Some, false, if◌then◌else◌, length, nat_lt, true};
 ghost use Rattle.std.specs.List.{position_from};
@@ -14,8 +14,9 @@ use ob0_scan::{Span, Tokens};
 use ob0_scope_table::{is_written, token_span};
 use std::alloc::{AllocError, Global};
 
-/// Returns the first identifier that contains a byte offset or ends there. It is found by binary search: only the first
-/// identifier that doesn't end before the offset can be the result. Returns None if there is no such identifier.
+/// Returns the first identifier that contains a byte offset or ends there, or None if there is
+/// none. The search is binary, because only the first identifier that doesn't end before the offset
+/// can be the result. The identifiers must be in text order.
 pub(crate) fn field_on(tokens: &Tokens, offset: usize, found: &[FieldName]) -> Option<FieldName>
     ensures { AreInTextOrder tokens.now found.now → result ≡ field_on tokens.now offset found.now }
 {
@@ -27,7 +28,8 @@ pub(crate) fn field_on(tokens: &Tokens, offset: usize, found: &[FieldName]) -> O
     }
 }
 
-/// Returns the number of identifiers in the list that end before a byte offset.
+/// Returns the number of identifiers that end before a byte offset, if the list is sorted by the
+/// ends of its identifiers.
 fn ended_before(tokens: &Tokens, offset: usize, found: &[FieldName]) -> usize
     ensures bound { result ≤ length found.now }
     ensures point { IsNonDecreasingBy (λ x. (span_at tokens.now x.token).end) found.now
@@ -37,7 +39,7 @@ fn ended_before(tokens: &Tokens, offset: usize, found: &[FieldName]) -> usize
     found.partition_point(|field| (token_span(tokens, field.token).end as usize) < offset)
 }
 
-/// Returns an identifier if it contains a place or ends there, otherwise None.
+/// Returns an identifier if it contains a byte offset or ends there, otherwise None.
 fn if_on(tokens: &Tokens, offset: usize, field: FieldName) -> Option<FieldName>
     ensures { result ≡ (if is_on offset (span_at tokens.now field.token) then Some field else None) }
 {
@@ -55,8 +57,9 @@ fn is_on(offset: usize, span: Span) -> bool
     span.start as usize <= offset && offset <= span.end as usize
 }
 
-/// Returns the position of the field with this name among the fields of the record with ordinal `owner`, counted from
-/// 0. Returns None if the record has no such field.
+/// Returns the position, counted from 0, of the field `name` among the fields in the list that
+/// belong to the record with ordinal `owner`. Returns None if that record has no field with this
+/// name.
 pub(crate) fn place_among(
     tokens: &Tokens,
     fields: &[FieldName],
@@ -79,7 +82,8 @@ pub(crate) fn place_among(
     None
 }
 
-/// Returns the tokens in a list of the field with this name in the record with ordinal `owner`.
+/// Returns the tokens, in list order, of the identifiers that belong to the field `name` of the
+/// record with ordinal `owner`.
 pub(crate) fn tokens_among(
     alloc: Global,
     tokens: &Tokens,
@@ -99,8 +103,8 @@ pub(crate) fn tokens_among(
     Ok(found)
 }
 
-/// Returns the first token in a list of the field with this name in the record with ordinal `owner`. Returns None if
-/// there is none.
+/// Returns the token of the first identifier in the list that belongs to the field `name` of the
+/// record with ordinal `owner`. Returns None if there is none.
 pub(crate) fn first_among(
     tokens: &Tokens,
     fields: &[FieldName],
@@ -117,7 +121,7 @@ pub(crate) fn first_among(
     None
 }
 
-/// Returns true if the field identifier has this name and belongs to the record with ordinal `owner`.
+/// Returns true if the identifier has this name and belongs to the record with ordinal `owner`.
 fn is_field(tokens: &Tokens, field: FieldName, owner: usize, name: &str) -> bool
     ensures { result ≡ is_field tokens.now owner name.now field }
 {

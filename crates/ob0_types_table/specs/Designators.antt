@@ -1,4 +1,5 @@
--- Designators and lists of expressions in trees with labels, and expressions that are only a designator.
+-- Finds the designator of a factor, term or expression that is only a designator. Converts
+-- expressions to trees with labels.
 -- Rule: none; for contracts: trees with labels.
 use Rattle.std.specs.Prelude.{ℕ, List, map, Some, None, Option}
 use Rattle.ob0_tree.specs.Tree.{Tree, designator, end, expression, factor, items, product, selector, simple, sum, term}
@@ -34,6 +35,6 @@ abbrev pub designator_of_simple : {N : Type 0}
 designator_of_simple (sum None t end) = designator_of_term t
 designator_of_simple _ = None
 
--- returns these expressions in order, as trees with labels
+-- returns the trees of these expressions, in order, with the label of each name
 abbrev pub all_in_labels : Resolution → List Expression → List (Tree Label expression)
 all_in_labels r es = map (λ e. in_labels r (expression_of e)) es

@@ -1,4 +1,4 @@
--- The index of a record's fields: the first field of each name.
+-- The map that has, for each name, the first field of a record with this name.
 -- Rule: none; for contracts: the index of a record's fields.
 use Rattle.std.specs.Prelude.{◌≡◌, ℕ, suc, List, [], ◌∷◌, Option, Some, None, String, string_bytes, if◌then◌else◌}
 use Rattle.std.specs.declared.alloc.Global.{Global}
@@ -8,7 +8,8 @@ use Rattle.ob0_types_table.specs.declared.field_table.FirstOfName.{FirstOfName}
 use Rattle.ob0_types_table.specs.declared.known.Field.{Field}
 use Rattle.ob0_types_table.specs.declared.types.TypeId.{TypeId}
 
--- returns the first field with a name; its position is its index in the list plus `k`
+-- returns the first field in a list with the name `x`; its position is its index in the list plus
+-- `k`
 abbrev pub first_from : ℕ → List Field → Name → Option FirstOfName
 first_from k [] x = None
 first_from k (f ∷ fs) x =
@@ -16,7 +17,7 @@ first_from k (f ∷ fs) x =
     then Some (record { place = k; of = f.of })
     else first_from (suc k) fs x
 
--- returns the type of the first field with a name; None if there is none
+-- returns the type of the first field with the name `x`; None if there is none
 abbrev pub first_field_type : List Field → Name → Option TypeId
 first_field_type [] x = None
 first_field_type (f ∷ fs) x =

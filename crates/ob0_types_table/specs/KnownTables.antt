@@ -1,4 +1,4 @@
--- The table of a module: the shapes of its types, and the objects of its declarations.
+-- The table of a module: its arrays and records, and the objects of its declarations.
 -- Rule: none; for contracts of the table of types and declarations.
 use Rattle.std.specs.Prelude.{ℕ, List, [], None, Option, option_and_then, slice_index_or}
 use Rattle.ob0_language_values.specs.Values.{Shape}
@@ -8,12 +8,13 @@ use Rattle.ob0_language_types.specs.Expressions.{Object}
 use Rattle.ob0_types_table.specs.Tables.{object_in, shapes_from}
 use Rattle.ob0_language_types.specs.WellTyped.{Signature}
 
--- the entries of the arrays and records, and the object of each ordinal
+-- a table: the entries of the arrays and records, and the object of each declaration, by ordinal;
+-- None if it has no object
 pub record Tables : Type 0 where
   pub shapes : List code.TypeEntry
   pub objects : List (Option declaration.Object)
 
--- returns the shapes of the table's entries, each made from earlier ones
+-- returns the shapes of the table's entries, in order; each entry refers only to earlier ones
 abbrev pub shapes_of : Tables → List Shape
 shapes_of t = shapes_from [] t.shapes
 

@@ -6,14 +6,16 @@ use Rattle.ob0_tree.specs.declared.tree.MultiplyOperator.{MultiplyOperator}
 use Rattle.ob0_language_types.specs.Typing.{given_value}
 use Rattle.ob0_language_values.specs.Values.{Value, add, add_is_settled, multiply, multiply_is_settled}
 
--- returns the value of `+`, `-` or OR with the left operand's value `x`; if `x` settles an OR, the
--- right operand needs no value
+-- Returns the value of `+`, `-` or OR with the left operand's value `x`. Returns None if the
+-- operation has no result or the right operand has no value. If `x` already decides an OR, the
+-- right operand needs no value.
 abbrev pub sum_value : AddOperator → Option Value → Value → Option Value
 sum_value o right x =
     cond (add_is_settled o x) (Some x) (option_and_then (λ y. given_value (add o x y)) right)
 
--- returns the value of `*`, DIV, MOD or `&` with the left operand's value `x`; if `x` settles an
--- `&`, the right operand needs no value
+-- Returns the value of `*`, DIV, MOD or `&` with the left operand's value `x`. Returns None if the
+-- operation has no result or the right operand has no value. If `x` already decides an `&`, the
+-- right operand needs no value.
 abbrev pub product_value : MultiplyOperator → Option Value → Value → Option Value
 product_value o right x =
     cond (multiply_is_settled o x) (Some x)

@@ -19,7 +19,8 @@ parts_shape shapes (parts.Array a) = made_shape shapes (made.Array a)
 parts_shape shapes (parts.Record r) = made_shape shapes (made.Record r.now)
 parts_shape shapes parts.Faulty = no_shape
 
--- holds if an array or a record comes with the number of scalars and the depth of its shape
+-- holds if the parts of an array or a record have the number of scalars and the depth of its shape;
+-- always holds for other types
 abbrev pub PartsAreCounted : List Shape → Parts → Type 0
 PartsAreCounted shapes parts.Integer = Unit {0}
 PartsAreCounted shapes parts.Boolean = Unit {0}

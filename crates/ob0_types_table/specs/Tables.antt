@@ -1,4 +1,5 @@
--- The views of the checker's tables in contracts: types, shapes and declarations.
+-- The meaning of the checker's table in contracts: its types as shapes, and its declarations as
+-- objects.
 -- Rule: none; for contracts: what the checker's tables mean.
 use Rattle.std.specs.Prelude.{◌≡◌, ℕ, ◌<◌, Bool, true, false, List, [], ◌∷◌, ◌++◌, map, length, slice_index_or, All, Some, None, Option, string_bytes}
 use Rattle.ob0_language_values.specs.Scalars.{scalar_value}
@@ -18,22 +19,22 @@ use Rattle.ob0_language_types.specs.Expressions.{Object, Standard, a_constant, a
 use Rattle.ob0_language_types.specs.Typing.{depth, scalars}
 use Rattle.ob0_language_types.specs.WellTyped.{Formal, Mode, Signature, by_place, by_value}
 
--- The shape of a faulty type. No ARRAY or RECORD has its ordinal, because a text has fewer such words than bytes. So it
--- isn't the shape of any type of a module.
+-- Returns the shape of a faulty type: a record whose ordinal is the greatest length of a text. A
+-- text has fewer words ARRAY and RECORD than that, so no type of a module has this shape.
 abbrev pub no_shape : Shape
 no_shape = record_shape max_text no_field_shape
 
--- returns an array's shape; for any other shape, the shape of a faulty type
+-- returns a shape if it is an array's, otherwise the shape of a faulty type
 abbrev pub only_array : Shape → Shape
 only_array (array_shape k n s) = array_shape k n s
 only_array _ = no_shape
 
--- returns a record's shape; for any other shape, the shape of a faulty type
+-- returns a shape if it is a record's, otherwise the shape of a faulty type
 abbrev pub only_record : Shape → Shape
 only_record (record_shape k fs) = record_shape k fs
 only_record _ = no_shape
 
--- returns the shape of a type, given the shapes of the arrays and records in order
+-- returns the shape of a type, given the shapes of the table's entries
 abbrev pub type_shape : List Shape → TypeId → Shape
 type_shape shapes type.Integer = integer_shape
 type_shape shapes type.Boolean = boolean_shape
@@ -41,7 +42,8 @@ type_shape shapes (type.Array i) = only_array (slice_index_or shapes i no_shape)
 type_shape shapes (type.Record i) = only_record (slice_index_or shapes i no_shape)
 type_shape shapes type.Unknown = no_shape
 
--- returns the shapes of a record's fields, in order, given the shapes of the arrays and records
+-- returns the names and shapes of a record's fields, in order, given the shapes of the table's
+-- entries
 abbrev pub fields_shape : List Shape → List Field → FieldShapes
 fields_shape shapes [] = no_field_shape
 fields_shape shapes (f ∷ fs) =
@@ -52,24 +54,25 @@ abbrev pub made_shape : List Shape → code.TypeEntry → Shape
 made_shape shapes (made.Array a) = array_shape a.ordinal a.length (type_shape shapes a.element)
 made_shape shapes (made.Record r) = record_shape r.ordinal (fields_shape shapes r.fields)
 
--- returns the type of an entry at index `place` of the table; no two entries have the same type
+-- returns the type of an entry that has the index `place` in the table
 abbrev pub type_at : code.TypeEntry → ℕ → TypeId
 type_at (made.Array a) place = type.Array place
 type_at (made.Record r) place = type.Record place
 
--- returns the shapes `known`, followed by the shapes of these entries, each made from earlier ones
+-- returns the shapes `known`, followed by the shapes of these entries; each entry may refer only to
+-- entries before it
 abbrev pub shapes_from : List Shape → List code.TypeEntry → List Shape
 shapes_from known [] = known
 shapes_from known (m ∷ ms) = shapes_from (known ++ made_shape known m ∷ []) ms
 
--- holds if a type is INTEGER, BOOLEAN, unknown, or one of the first `n` entries of the table
+-- holds if the type refers to no entry of the table, or to one of the first `n` entries
 abbrev pub IsTypeMade : ℕ → TypeId → Type 0
 IsTypeMade n (type.Array i) = i < n
 IsTypeMade n (type.Record i) = i < n
 IsTypeMade n _ = Unit {0}
 
--- holds if the types of an array's elements or a record's fields are only among the first `n`
--- entries of the table
+-- holds if the element type of an array, or the type of each field of a record, refers to no entry
+-- except the first `n`
 abbrev pub PartsAreMade : ℕ → code.TypeEntry → Type 0
 PartsAreMade n (made.Array a) = IsTypeMade n a.element
 PartsAreMade n (made.Record r) = All (λ f. IsTypeMade n f.of) r.fields
@@ -79,35 +82,36 @@ abbrev pub CountsParts : code.TypeEntry → Shape → Type 0
 CountsParts (made.Array a) s = (a.scalars ≡ scalars s) × (a.depth ≡ depth s)
 CountsParts (made.Record r) s = (r.scalars ≡ scalars s) × (r.depth ≡ depth s)
 
--- holds if the parts of an entry are among the entries with the shapes `shapes`, and it has the
--- size of its shape
+-- holds if an entry refers only to the entries before it, which have the shapes `shapes`, and has
+-- the number of scalars and the depth of its shape
 pub record IsEntry (shapes : List Shape) (m : code.TypeEntry) : Type 0 where
   pub parts : PartsAreMade (length shapes) m
   pub counted : CountsParts m (made_shape shapes m)
 
--- holds if each entry is made from earlier ones; the entries before the list have the shapes
--- `known`
+-- holds if each entry of the list refers only to earlier ones and has the size of its shape;
+-- `known` has the shapes of the entries before the list
 abbrev pub AreEntriesInOrder : List Shape → List code.TypeEntry → Type 0
 AreEntriesInOrder known [] = Unit {0}
 AreEntriesInOrder known (m ∷ ms) =
     IsEntry known m × AreEntriesInOrder (known ++ made_shape known m ∷ []) ms
 
--- returns the mode in which a parameter is passed
+-- returns the mode of a parameter: by place if the Bool is true, otherwise by value
 abbrev pub mode_of : Bool → Mode
 mode_of true = by_place
 mode_of false = by_value
 
--- returns a formal parameter of the table as a formal parameter of the definitions
+-- converts a formal parameter of the table to a formal parameter of the definitions
 abbrev pub formal_in : List Shape → formal.Formal → Formal
 formal_in shapes f = record { mode = mode_of f.by_place; shape = type_shape shapes f.of }
 
--- returns a standard procedure of the code as a standard procedure of the definitions
+-- converts a standard procedure of the code to a standard procedure of the definitions
 abbrev pub standard_of : standard.Standard → Standard
 standard_of standards.Read = reads
 standard_of standards.Write = writes
 standard_of standards.WriteLn = writes_line
 
--- returns the object of a declaration; None for a constant with a fault
+-- converts an object of the table to an object of the definitions; returns None for a constant with
+-- a fault
 abbrev pub object_in : List Shape → declaration.Object → Option (Object Shape Signature)
 object_in shapes (kind.Named t) = Some (a_type (type_shape shapes t))
 object_in shapes (kind.Constant v) = Some (a_constant (scalar_value v))

@@ -1,4 +1,5 @@
-//! Recognizes expressions that are only a designator. Only such an expression can be a VAR argument.
+//! Recognizes expressions that consist of only a designator. No other expression can be a VAR
+//! argument.
 
 ghost use Rattle.std.specs.Prelude.{◌≡◌, option_map};
 ghost use Rattle.ob0_tree.specs.View.{compound_of, expression_of, factor_of, simple_of, term_of};

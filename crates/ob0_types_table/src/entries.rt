@@ -7,8 +7,8 @@ use crate::known::TypeEntry;
 use crate::types::TypeId;
 use std::alloc::AllocError;
 
-/// Appends the entry of an ARRAY or RECORD, and returns its type, which differs from the types of all other entries. If
-/// the allocation fails, the table is unchanged.
+/// Appends the entry of an ARRAY or RECORD and returns the entry's type. No other entry has the
+/// same type. If the allocation fails, the table is unchanged.
 pub fn add_entry(entries: &mut Vec<TypeEntry>, entry: TypeEntry) -> Result<TypeId, AllocError>
     ensures made { IfOk result (λ of. of ≡ type_at entry (length entries.old.items)) }
     ensures added { OnOk result (entries.new.items ≡ entries.old.items ++ entry ∷ []) }
@@ -19,7 +19,7 @@ pub fn add_entry(entries: &mut Vec<TypeEntry>, entry: TypeEntry) -> Result<TypeI
     Ok(of)
 }
 
-/// Returns the type of an array or record whose entry has this index in the table.
+/// Returns the type of an entry that has the index `place` in the table.
 fn type_at(entry: &TypeEntry, place: usize) -> TypeId
     ensures { result ≡ type_at entry.now place }
 {

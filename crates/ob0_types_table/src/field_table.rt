@@ -1,7 +1,7 @@
 //! The fields of a record, found by name in logarithmic time.
 //!
-//! In contracts, the value of a table is only the list of fields. The map is an index of that list, which is an
-//! invariant (`IsIndex`); it isn't part of the table's value.
+//! In contracts, the value of a table is only the list of its fields. The map isn't part of this
+//! value: by the table's invariant it has, for each name, the first field in the list (`IsIndex`).
 
 ghost use Rattle.std.specs.Prelude.{◌≡◌, List, IfOk, option_map};
 ghost use Rattle.ob0_language_values.specs.Values as shape;
@@ -16,7 +16,8 @@ use std::alloc::{AllocError, Global};
 use std::collections::BTreeMap;
 use std::marker::Model;
 
-/// The position of the first field with some name, counted from 0, and its type.
+/// The first field of a record with a given name: its position in the record, counted from 0, and
+/// its type.
 #[derive(Clone, Copy)]
 struct FirstOfName {
     place: usize,
@@ -43,8 +44,8 @@ impl Model for FieldTable {
     ghost invariant = { λ t. IsIndex t.first_of t.fields.items };
 }
 
-/// Returns a map from each name to the first field with this name. The map is filled starting at the last field, so
-/// that the first field with a name remains.
+/// Returns a map from each name to the first field with this name. The map is filled starting at
+/// the last field, so that an earlier field replaces a later one with the same name.
 fn first_of(alloc: Global, fields: &[Field]) -> Result<BTreeMap<String, FirstOfName>, AllocError>
     ensures { IfOk result (λ m. IsIndex m fields.now) }
 {

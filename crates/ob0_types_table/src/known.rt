@@ -1,9 +1,10 @@
-//! The table of a valid module: the shapes of its types, and the objects of its declarations.
+//! The table of a valid module: its arrays and records, and the objects of its declarations.
 //!
-//! A type refers to an entry of the table by its index. The entry of an ARRAY or RECORD refers only to earlier entries
-//! (`AreEntriesInOrder`). `shapes_of` computes the shapes of the entries, starting at the first. The value of a
-//! `DeclarationTable` is its two lists of entries, as the code has them. The shapes are functions of this value,
-//! because the definitions' `Shape` isn't a type of the code.
+//! A type refers to the entry of an array or record by the entry's index. An entry refers only to
+//! earlier entries (`AreEntriesInOrder`), so `shapes_of` can compute the shapes of the entries from
+//! first to last. In contracts, the value of a `DeclarationTable` is its two lists. The shapes
+//! aren't part of this value but functions of it, because the definitions' `Shape` isn't a type of
+//! the code.
 
 ghost use Rattle.std.specs.Prelude.{◌≡◌, List, option_map};
 ghost use Rattle.ob0_language_values.specs.Values as shape;
@@ -18,7 +19,7 @@ use std::marker::Model;
 /// The greatest length of an array, and also the greatest number of scalars in a type.
 pub const MAX_SCALARS: usize = 65536;
 
-/// The greatest depth to which arrays and records may be nested. A named type counts as if it were written out.
+/// The greatest depth of nested arrays and records. A named type counts as if it were written out.
 pub const MAX_DEPTH: usize = 100;
 
 /// A field of a record, with its name and type.
@@ -28,15 +29,16 @@ pub struct Field {
     pub of: TypeId,
 }
 
-/// The place of a field: the ordinal of its record among the words ARRAY and RECORD of the text, and its position among
-/// the record's fields. Both are counted from 0.
+/// Identifies a field: `ordinal` is the ordinal of its record among the words ARRAY and RECORD of
+/// the text, and `index` is its position among the record's fields. Both are counted from 0.
 #[derive(Clone, Copy, PartialEq, Eq)]
 pub struct FieldOf {
     pub ordinal: usize,
     pub index: usize,
 }
 
-/// The type `ARRAY length OF element`, made by the word ARRAY with this ordinal in the text.
+/// The type `ARRAY length OF element`. `ordinal` is the number of words ARRAY and RECORD in the
+/// text before this one. `scalars` and `depth` are the size of the whole type.
 #[derive(Clone, Copy)]
 pub struct ArrayShape {
     pub ordinal: usize,
@@ -46,7 +48,8 @@ pub struct ArrayShape {
     pub depth: usize,
 }
 
-/// The type `RECORD fields END`, made by the word RECORD with this ordinal in the text.
+/// The type `RECORD fields END`. `ordinal` is the number of words ARRAY and RECORD in the text
+/// before this one. `scalars` and `depth` are the size of the whole type.
 #[derive(Drop)]
 pub struct RecordShape {
     pub ordinal: usize,
@@ -55,14 +58,14 @@ pub struct RecordShape {
     pub depth: usize,
 }
 
-/// The entry of an array or record, which a word ARRAY or RECORD of the text makes.
+/// An entry of the table: the array or record that a word ARRAY or RECORD of the text makes.
 #[derive(Drop)]
 pub enum TypeEntry {
     Array(ArrayShape),
     Record(RecordShape),
 }
 
-/// A formal parameter: its type, and whether it is passed by its place (VAR) or by its value.
+/// A formal parameter: its type, and whether it is passed by place (VAR) or by value.
 #[derive(Clone, Copy)]
 pub struct Formal {
     pub by_place: bool,
@@ -80,7 +83,7 @@ pub enum Standard {
 /// The meaning of a declared name.
 #[derive(Drop)]
 pub enum Object {
-    /// The name of this type.
+    /// A type.
     Named(TypeId),
     Constant(Scalar),
     /// A constant whose right side has a fault.
@@ -90,7 +93,8 @@ pub enum Object {
     Standard(Standard),
 }
 
-/// The types, each made from earlier ones, and the object of each declaration by its ordinal.
+/// The arrays and records of a module, each of which refers only to earlier ones, and the object of
+/// each declaration, by its ordinal.
 #[derive(Drop)]
 pub struct DeclarationTable {
     shapes: Vec<TypeEntry>,
@@ -98,7 +102,8 @@ pub struct DeclarationTable {
 }
 
 impl RecordShape {
-    /// Returns the place of the first field with this name. Returns None if there is none.
+    /// Returns the first field with this name: the ordinal of this record, and the field's
+    /// position. Returns None if there is no such field.
     fn field(&self, name: &str) -> Option<FieldOf>
         ensures { (shapes : List shape.Shape)
             → result
@@ -143,14 +148,14 @@ impl DeclarationTable {
         DeclarationTable { shapes, objects }
     }
 
-    /// Returns the number of the table's entries for ordinals.
+    /// Returns the length of the list of objects, which has one item for each ordinal.
     pub fn count(&self) -> usize
         ensures { result ≡ length self.now.objects }
     {
         self.objects.len()
     }
 
-    /// Returns the entries of the arrays and records, in order. Each is made from earlier ones.
+    /// Returns the entries of the arrays and records. Each refers only to earlier ones.
     pub fn shapes(&self) -> &[TypeEntry]
         ensures { result.now ≡ self.now.shapes }
     {
@@ -202,7 +207,7 @@ impl DeclarationTable {
         }
     }
 
-    /// Returns the entry with this index in the table. Returns None if there is none.
+    /// Returns the entry of the array or record with this index. Returns None if there is none.
     pub(crate) fn entry(&self, place: usize) -> Option<&TypeEntry>
         ensures found { option_map (λ m. m.now) result ≡ slice_get self.now.shapes place }
         ensures shape { MatchOption result
@@ -218,7 +223,7 @@ impl DeclarationTable {
         }
     }
 
-    /// Returns the type of the elements of an array type. Returns None if the type isn't an array.
+    /// Returns the element type of an array type. Returns None if the type isn't an array.
     pub fn element(&self, base: TypeId) -> Option<TypeId>
         ensures { option_map (type_shape (shapes_of self.now)) result
             ≡ element_type (type_shape (shapes_of self.now) base) integer_shape }
@@ -253,8 +258,8 @@ impl DeclarationTable {
         }
     }
 
-    /// Returns the place of the first field with this name in a record type. Returns None if the type is no record with
-    /// such a field.
+    /// Returns the first field with this name in a record type: the record's ordinal, and the
+    /// field's position. Returns None if the type is no record with such a field.
     pub fn field(&self, base: TypeId, name: &str) -> Option<FieldOf>
         ensures { result ≡ field_selected (type_shape (shapes_of self.now) base) name.now }
     {

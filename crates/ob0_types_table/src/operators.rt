@@ -1,5 +1,5 @@
-//! Operations on the values of constants. An operand may lack a value. If the left operand of OR or `&` settles the
-//! result, that is the result, even if the right operand has no value.
+//! Operations on the values of constants. An operand may have no value. If the left operand of OR
+//! or `&` already decides the result, the right operand needs no value.
 
 ghost use Rattle.std.specs.Prelude.{◌≡◌, Some, option_and_then, option_map};
 ghost use Rattle.ob0_language_values.specs.Scalars.{scalar_value};
@@ -14,8 +14,8 @@ use ob0_language_values::scalar::{
 };
 use ob0_tree::{AddOperator, MultiplyOperator, Relation, Sign};
 
-/// Returns the truth value of a relation. Returns None if an operand has no value or the relation doesn't apply to
-/// them.
+/// Returns the truth value of a relation. Returns None if an operand has no value or the relation
+/// doesn't apply to the operands.
 pub fn value_of_relation(
     relation: Relation,
     left: Option<Scalar>,
@@ -34,8 +34,8 @@ pub fn value_of_relation(
     }
 }
 
-/// Returns the value of a first term with its optional sign. Returns None if the term has no value or the operation has
-/// none, for example because it overflows.
+/// Returns the value of an operand with an optional sign before it. Returns None if the operand has
+/// no value or the sign can't be applied, for example because of an overflow.
 pub fn with_sign(sign: Option<Sign>, operand: Option<Scalar>) -> Option<Scalar>
     ensures { option_map scalar_value result
         ≡ option_and_then (λ x. given_value (values.apply_sign sign x))
@@ -58,8 +58,8 @@ pub fn complement(operand: Option<Scalar>) -> Option<Scalar>
     }
 }
 
-/// Returns the value of a sum, a difference or an OR. Returns None if the operation has no value, for example because
-/// an operand it needs has none or it overflows.
+/// Returns the value of a sum, a difference or an OR. Returns None if a needed operand has no
+/// value, or if the operation has no result, for example because it overflows.
 pub fn value_of_sum(
     operator: AddOperator,
     left: Option<Scalar>,
@@ -83,8 +83,8 @@ pub fn value_of_sum(
     }
 }
 
-/// Returns the value of a product, a quotient, a remainder or an `&`. Returns None if the operation has no value, for
-/// example because an operand it needs has none or it overflows.
+/// Returns the value of a product, a quotient, a remainder or an `&`. Returns None if a needed
+/// operand has no value, or if the operation has no result, for example because it overflows.
 pub fn value_of_product(
     operator: MultiplyOperator,
     left: Option<Scalar>,

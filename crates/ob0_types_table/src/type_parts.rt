@@ -1,9 +1,10 @@
 //! Types with their parts.
 //!
-//! An array or a record comes with the number of scalars and the depth of its shape (`PartsAreCounted`). The parts of a
-//! `TypeId` are `Faulty` exactly if it isn't one of the module's types (`is_known_type`). A faulty type also has a
-//! shape (`no_shape`), with an ordinal that no ARRAY or RECORD of a text has. So no clause about shapes allows a type
-//! of a module to be returned as `Unknown`.
+//! An array or a record comes with the number of scalars and the depth of its shape
+//! (`PartsAreCounted`). The parts of a `TypeId` are `Faulty` exactly if it isn't one of the
+//! module's types (`is_known_type`). A faulty type also has a shape (`no_shape`), but with an
+//! ordinal that no ARRAY or RECORD of a text has. So a function whose contract states the shape of
+//! its result can't return `Unknown` for a type of a module.
 
 ghost use Rattle.std.specs.Prelude.{◌≡◌};
 ghost use Rattle.ob0_types_table.specs.Parts.{PartsAreCounted, has_parts, is_known_type, parts_shape};
@@ -13,7 +14,7 @@ ghost use Rattle.ob0_types_table.specs.Tables.{type_shape};
 use crate::known::{ArrayShape, DeclarationTable, RecordShape, TypeEntry};
 use crate::types::TypeId;
 
-/// A type with its parts. The shape of a faulty type is a record without fields.
+/// A type with its parts. `Faulty` stands for a type that isn't one of the module's types.
 #[derive(Clone, Copy)]
 pub enum Parts<'k> {
     Integer,

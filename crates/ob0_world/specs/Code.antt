@@ -12,7 +12,7 @@ use Rattle.ob0_world_rules.specs.ClientAndServer.{Applied, Made}
 use Rattle.ob0_world_rules.specs.Editing.{open_document, change_document, close_document, ask_about, apply, discard}
 use Rattle.ob0_world_rules.specs.Happens.{Event, does, serve, take_message}
 
--- returns the event that a value of the code means
+-- returns the event for a value of the code's type `Event`
 abbrev pub event_of : event.Event → Event
 event_of (event.TheVariants.OpenDoc uri text) =
     does (open_document (string_bytes uri) (chars (string_bytes text)))
@@ -25,7 +25,7 @@ event_of event.TheVariants.Take = take_message
 event_of (event.TheVariants.Apply k) = does (apply k)
 event_of (event.TheVariants.Discard k) = does (discard k)
 
--- returns the publication that a value of the code means
+-- returns the publication for a value of the code's type `Made`
 abbrev pub publication_of : made.Made → Made
 publication_of m =
     record {
@@ -35,7 +35,7 @@ publication_of m =
       empty = m.empty;
     }
 
--- returns the bytes of each content
+-- returns contents as lists of bytes
 abbrev pub bytes : List (Vec ℕ Global) → List (List ℕ)
 bytes contents = map (λ v. v.items) contents
 

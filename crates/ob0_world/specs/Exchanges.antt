@@ -42,8 +42,8 @@ pub data Id : Type 0 where
   number_id : ℕ → Id
   text_id : List ℕ → Id
 
--- Returns the id that a JSON value means. None if it is neither a whole number that isn't negative
--- nor a text.
+-- Returns the id that a JSON value means. None if the value is neither a text nor a whole number of
+-- at least 0.
 abbrev pub id_read : Data → Option Id
 id_read (number (unsigned n)) = Some (number_id n)
 id_read (number (negative z)) = None
@@ -61,23 +61,24 @@ same_id (number_id n) (text_id t) = false
 same_id (text_id s) (number_id m) = false
 same_id (text_id s) (text_id t) = bytes_eq s t
 
--- a request that the editor sent: its id, and the number of its ask if it is one
+-- the id of a request that the editor sent, and the number of the ask; None if the request isn't an
+-- ask
 pub record SentId : Type 0 where
   pub id : Id
   pub ask : Option ℕ
 
--- Finds the first request with this id, and returns the number of its ask: `Some None` if it isn't
--- an ask. None if no request has this id.
+-- Finds the first request with this id, and returns the number of its ask in `Some`: `Some None` if
+-- the request isn't an ask. None if no request has this id.
 abbrev pub sent_with : List SentId → Id → Option (Option ℕ)
 sent_with [] id = None
 sent_with (s ∷ sent) id = if same_id s.id id then Some s.ask else sent_with sent id
 
--- Returns the number of the ask with this id. None if there is none.
+-- Returns the number of the ask whose id this JSON value is. None if no ask has this id.
 abbrev pub ask_with : List SentId → Data → Option ℕ
 ask_with sent id = option_and_then (λ ask. ask) (option_and_then (sent_with sent) (id_read id))
 
--- holds if each ask that is sent gets an id that no request had before, and `new` are the ids after
--- that
+-- Holds if each ask among the sent messages gets an id that no earlier request has. `new` are the
+-- `ids` followed by these new ids.
 abbrev pub NamesAsks : List SentId → List ToServer → List SentId → Type 0
 NamesAsks ids [] new = new ≡ ids
 NamesAsks ids (notifies note ∷ sent) new = NamesAsks ids sent new
@@ -86,7 +87,8 @@ NamesAsks ids (requests k uri ask ∷ sent) new =
     × (sent_with ids id ≡ None)
     × NamesAsks (ids ++ record { id = id; ask = Some k } ∷ []) sent new
 
--- returns the ids after a request that isn't an ask; without a valid id nothing is added
+-- adds an id to the ids, for a request that isn't an ask; if the id isn't valid (None), nothing is
+-- added
 abbrev pub with_other : List SentId → Option Id → List SentId
 with_other ids None = ids
 with_other ids (Some id) = ids ++ record { id = id; ask = None } ∷ []
@@ -98,8 +100,8 @@ IsOtherId ids (Some id) = sent_with ids id ≡ Some None
 
 -- ---- an editor and a session
 
--- An editor and a session with the contents that pass between them. It also has the ids of the
--- requests that the editor sent, the documents that it announced and the edits that it applied.
+-- An editor and a session with the contents between them; the ids of the requests that the editor
+-- sent, the documents that it announced, and the edits that it applied.
 pub record Exchange : Type 0 where
   pub editor : Editor
   pub ids : List SentId
@@ -108,7 +110,8 @@ pub record Exchange : Type 0 where
   pub applied : List Applied
 
 -- States that the session was initialized by a client that counts positions in this unit. No
--- document is open and nothing waits. The ids that were used until now may be used again.
+-- document is open and no content waits. The list of used ids is empty, so earlier ids may be used
+-- again.
 pub record BeginsExchange (unit : Unit) (x : Exchange) : Type 0 where
   pub client : Client
   pub counts : unit_for client ≡ unit
@@ -132,8 +135,8 @@ pub record BeginsExchange (unit : Unit) (x : Exchange) : Type 0 where
 
 -- ---- other messages
 
--- Holds if a request changes nothing. That is a question, a request for edits that the editor
--- drops, or a request that the server doesn't know or can't read.
+-- Holds if the request changes nothing in the session: it is neither `initialize` nor `shutdown`. A
+-- request for edits is among them, because the session only answers it.
 abbrev pub IsQuestion : Result ClientRequest RpcFault → Type 0
 IsQuestion (Ok (asked.initialize client)) = ⊥
 IsQuestion (Ok asked.shutdown) = ⊥
@@ -146,9 +149,9 @@ IsQuestion (Ok (asked.code_action uri range only)) = ⊤
 IsQuestion (Ok (asked.formatting uri indent)) = ⊤
 IsQuestion (Err fault) = ⊤
 
--- Holds if a message opens, changes and closes no document, and requests no edit that is applied.
--- That is a request that changes nothing, a notification that the server ignores, a response, or JSON
--- that is no message, which the server refuses.
+-- Holds if the message is outside the model: it opens, changes and closes no document, and requests
+-- no edit that is applied. It is a request that changes nothing, a notification that the server
+-- ignores, a response, or JSON that is no message, which the server refuses.
 abbrev pub IsOtherMessage : List SentId → MessageMeaning → Type 0
 IsOtherMessage ids not_json = ⊥
 IsOtherMessage ids not_a_message = ⊤
@@ -159,7 +162,7 @@ IsOtherMessage ids (request id method params) =
     × IsOtherId ids (id_read id)
 IsOtherMessage ids (notice method params) = note_of method params ≡ other
 
--- holds if a content is such another message (`IsOtherMessage`)
+-- holds if the content is a message outside the model (`IsOtherMessage`)
 abbrev pub IsOther : List SentId → List ℕ → Type 0
 IsOther ids content =
     (json : Data) × ReadsContent content (Some json) × IsOtherMessage ids (meaning_of json)
@@ -171,7 +174,8 @@ abbrev pub IsNotAfter : Position → Position → Type 0
 IsNotAfter p q = (p.line < q.line) ⊎ ((p.line ≡ q.line) × (p.character ≤ q.character))
 
 -- States that the content is a request for code actions, with this id. Its range begins at this
--- position and doesn't end before it. It is for all kinds, or for some that include inlining.
+-- position and doesn't end before it. The request is for all kinds of actions, or for kinds that
+-- include inlining.
 pub record IsActionsRequest (id : Data) (uri : List ℕ) (position : Position) (content : List ℕ)
     : Type 0 where
   pub json : Data
@@ -227,7 +231,8 @@ SaysToSession client ids requested (requests k uri ask) content =
     × IsAskWithId ids requested id k uri ask
     × TakesEdits client ask
 
--- holds if each content is its message to the session; a `None` stands for another message
+-- Holds if there are as many contents as messages, and the n-th content is the n-th message to the
+-- session. `None` stands for a message outside the model.
 abbrev pub EachSays : Client
     → List SentId
     → List SentAsk
@@ -246,17 +251,19 @@ EachSays client ids requested (None ∷ messages) [] = ⊥
 
 -- ---- what may happen
 
--- Returns the message that the editor reads in a content. None if it reads none.
+-- Returns the message to the editor in a content. None if it has no such message. The ask of an
+-- answer is found by the ids.
 abbrev pub read_by : List SentId → List SentAsk → List ℕ → Option ToEditor
 read_by ids requested content = read_so (ask_with ids) requested content
 
--- Returns the editor after it has read a message. The editor keeps an answer with edits to one of
--- its asks, and nothing else.
+-- Returns the editor after it has read this message. For None the editor is unchanged. The editor
+-- keeps an answer with edits to one of its asks, and nothing else.
 abbrev pub reads_meaning : Editor → Option ToEditor → Editor
 reads_meaning e None = e
 reads_meaning e (Some message) = reads e message
 
--- holds if the editor gets the first content that waits for it; if none waits, nothing changes
+-- Holds if the editor gets the first content that waits for it, and reads the message in it. If
+-- none waits, nothing changes.
 abbrev pub GetsOne : List (List ℕ) → Exchange → Exchange → Type 0
 GetsOne [] old new = new ≡ old
 GetsOne (content ∷ rest) old new =
@@ -311,13 +318,14 @@ ExchangeLeads old (turn ∷ turns) new =
 
 -- ---- the law
 
--- holds if the editor reads no message in the content, whatever it requests later
+-- holds if the editor reads no message in the content, whatever requests it sends later
 abbrev pub BringsNothing : List SentId → List ℕ → Type 0
 BringsNothing ids content =
     (later : List SentId) (requested : List SentAsk)
     → read_by (ids ++ later) requested content ≡ None
 
--- holds if the editor reads its message in each content; for a `None` it reads no message
+-- Holds if there are as many contents as messages, and the editor reads the n-th message in the
+-- n-th content. For `None` it reads no message.
 abbrev pub EachMeans : List SentId
     → List SentAsk
     → List (Option ToEditor)
@@ -332,10 +340,10 @@ EachMeans ids requested [] (content ∷ contents) = ⊥
 EachMeans ids requested (Some m ∷ messages) [] = ⊥
 EachMeans ids requested (None ∷ messages) [] = ⊥
 
--- States that an exchange follows the model of every editor, turn by turn. Its editor has the
--- documents and answers of the model's editor, and its session has the documents of the model's
--- server. Its unread contents are the model's unread messages. So each guarantee about every editor
--- holds here.
+-- States that the same turns lead the model (`EditorAndServer`) to a state that matches this
+-- exchange. The editors are the same, and the session has the documents of the model's server. The
+-- unread contents are the model's unread messages. So the model's guarantees hold here
+-- (`HoldsWithEditor`).
 pub record IsOfTheModel (unit : Unit) (turns : List Turn) (x : Exchange) : Type 0 where
   pub model : EditorAndServer
   pub leads : MayLead (nothing_yet unit) turns model
@@ -352,6 +360,7 @@ pub record IsOfTheModel (unit : Unit) (turns : List Turn) (x : Exchange) : Type 
       x.wire.session
 
 -- states that every exchange of a session and an editor that keeps ob0's rules follows the model
+-- (`IsOfTheModel`)
 abbrev pub EveryExchangeIsOfTheModel : Type 0
 EveryExchangeIsOfTheModel =
     (unit : Unit) (begin now : Exchange) (turns : List Turn)
@@ -391,7 +400,8 @@ pub record Published : Type 0 where
   pub version : ℤ
   pub empty : Bool
 
--- returns the message in a list if it is a list of diagnostics with a version, else an empty list
+-- returns a list of the publication if the message publishes diagnostics with a version, otherwise
+-- an empty list
 abbrev pub with_version : Option ToEditor → List Published
 with_version (Some (publishes uri (Some version) empty)) =
     record { uri = uri; version = version; empty = empty } ∷ []

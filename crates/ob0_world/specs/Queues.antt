@@ -1,11 +1,10 @@
--- Defines the meaning of the client and server that the code stores: the view, the invariant, and
--- the clauses of private functions. No contract of a public function mentions these.
--- The messages of a queue are a function of its contents (`all_heard`, `all_understood`). The
--- invariant states that each content is a message, and a content keeps its meaning when more is
--- requested (`Waiting`).
--- `IsRunning` states that the session serves this editor: by the editor's `initialize`, its client
--- accepts edits with document versions, and literal code actions. So a WorkspaceEdit is always
--- written as `documentChanges`.
+-- Defines which client and server of the model the stored ones mean, the invariant of the stored
+-- ones, and the clauses of private functions. No contract of a public function mentions these. The
+-- messages of a queue are a function of its contents (`all_heard`,
+-- `all_understood`). The invariant states that each content is a message. A content keeps
+-- its meaning when more is requested (`proofs/Waiting`). `IsRunning` states that the session
+-- serves this editor. By the editor's `initialize`, its client accepts edits with document
+-- versions, and literal code actions. So a WorkspaceEdit is always written as `documentChanges`.
 -- Rule: none; for contracts: contents that wait, and what they say.
 use Rattle.std.specs.Prelude.{◌≡◌, ◌≤◌, ◌⊎◌, ℕ, ℤ, List, [], ◌∷◌, ◌++◌, map, length, All, Bool, true, Option, Some, None, Vec, option_and_then, filter_map}
 use Rattle.std.specs.declared.alloc.Global.{Global}
@@ -31,40 +30,41 @@ use Rattle.ob0_world.specs.Worlds.{Wire, Connection}
 abbrev pub Contents : Type 0
 Contents = List (Vec ℕ Global)
 
--- returns the messages to the server in these contents, if these asks were sent
+-- returns the messages to the server in these contents, which are read with this list of sent asks
 abbrev pub all_heard : List SentAsk → Contents → List ToServer
 all_heard requested contents = filter_map (heard requested) (bytes contents)
 
--- returns the messages to the editor in these contents, if these asks were sent
+-- returns the messages to the editor in these contents, which are read with this list of sent asks
 abbrev pub all_understood : List SentAsk → Contents → List ToEditor
 all_understood requested contents = filter_map (understood requested) (bytes contents)
 
--- holds if a content is a message to the server
+-- holds if the content is a message to the server, given the list of sent asks
 abbrev pub IsHeard : List SentAsk → Vec ℕ Global → Type 0
 IsHeard requested content = (m : ToServer) × SaysToServer requested m content.items
 
--- holds if a content is a message to the editor
+-- holds if the content is a message to the editor, given the list of sent asks
 abbrev pub IsUnderstood : List SentAsk → Vec ℕ Global → Type 0
 IsUnderstood requested content = (m : ToEditor) × (understood requested content.items ≡ Some m)
 
 -- ---- the session
 
--- Holds if a session has begun with this editor and hasn't ended. The session then writes a
--- workspace's edits with document versions, and offers literal code actions.
+-- Holds if the session is running, and its client accepts edits with document versions and literal
+-- code actions, as the model's editor does. Such a session writes a WorkspaceEdit with versions,
+-- and offers literal code actions.
 abbrev pub IsRunning : ServerState → Type 0
 IsRunning s =
     (s.phase ≡ Running)
     × (s.client.takes_document_changes ≡ true)
     × (s.client.takes_literal_actions ≡ true)
 
--- holds if the session runs with this editor, or has failed
+-- holds if the session is running with such a client (`IsRunning`), or has failed
 abbrev pub IsRunningOrFailed : ServerState → Type 0
 IsRunningOrFailed s = IsRunning s ⊎ (s.phase ≡ Failed)
 
 -- ---- publications
 
--- Returns the publication with its document's present text, for which it was made. None if the
--- document is out of step.
+-- Returns the publication with these parts and the text of this document, for which it was made.
+-- None if the document is out of step.
 abbrev pub made_of_document : List ℕ → ℤ → Bool → Document → Option Made
 made_of_document uri version empty (InStep held text) =
     Some (record { uri = uri; version = version; text = text; empty = empty })
@@ -78,15 +78,16 @@ made_for held (publishes uri (Some version) empty) =
 made_for held (publishes uri None empty) = None
 made_for held (answers k edits) = None
 
--- Returns the publication that the first message is, if it is one with a version. A server replies
--- with one message at most.
+-- Returns the first message as a publication (`made_for`). None if there is no
+-- message, or if it isn't such a publication. A server replies with at most one message.
 abbrev pub made_first : OpenDocuments → List ToEditor → Option Made
 made_first held [] = None
 made_first held (m ∷ ms) = made_for held m
 
 -- ---- the whole
 
--- states that the contents that wait are messages, and that the session runs or has failed
+-- states that the waiting contents are messages, and that the session is running (`IsRunning`)
+-- or has failed
 pub record Sound (requested : List SentAsk) (to_server to_editor : Contents)
     (session : ServerState) : Type 0 where
   pub heard_all : All (IsHeard requested) to_server
@@ -140,7 +141,8 @@ connection_from e to_server session to_editor applied made taken got =
 
 -- ---- what a world keeps
 
--- states that the editor's numbers of openings and asks, and its versions, are at most n
+-- states that the editor's numbers of openings and asks, and the versions of its open documents,
+-- are at most n
 pub record Within (n : ℕ) (e : Editor) : Type 0 where
   pub openings : e.openings ≤ n
   pub asks : length e.requested ≤ n
@@ -152,19 +154,21 @@ IsReached w = (unit : Unit) × (events : List Event) × Course (start unit) even
 
 -- ---- the steps of the server's event
 
--- Returns the first of these contents as a publication. None if it isn't one with a version.
+-- Returns the first of these contents as a publication (`made_for`). None if there is
+-- no content, or if it isn't such a publication.
 abbrev pub made_sent : OpenDocuments → List SentAsk → Contents → Option Made
 made_sent held requested [] = None
 made_sent held requested (content ∷ contents) =
     option_and_then (made_for held) (understood requested content.items)
 
--- holds if a content, if there is one, was put at the end of the queue and was reported as sent
+-- Holds if the content was put at the end of the queue and is reported as sent. For None, holds if
+-- the queue is unchanged and the report is that nothing happened.
 abbrev pub IsSent : Contents → Option (Vec ℕ Global) → seen.Seen → Contents → Type 0
 IsSent old None seen new = (seen_of seen ≡ nothing) × (new ≡ old)
 IsSent old (Some content) seen new = (seen_of seen ≡ sent) × (new ≡ old ++ content ∷ [])
 
--- holds if the first waiting content, if there is one, was moved to the end of those that the
--- editor has got
+-- Holds if the first waiting content was moved to the end of the contents that the editor has got.
+-- If no content waits, holds if nothing has changed.
 abbrev pub MovesFirst : Contents → Contents → Contents → Contents → Type 0
 MovesFirst [] got waiting' got' = (waiting' ≡ []) × (got' ≡ got)
 MovesFirst (content ∷ rest) got waiting' got' =

@@ -40,13 +40,14 @@ act_seen e (apply k) =
     else nothing
 act_seen e (discard k) = if is_some (kept_answer k e.answers) then drops k else nothing
 
--- returns the report on the server's event: the number of messages that it sent, if a message
--- waited for it
+-- Returns the report on the server's event. If a message waited for the server, the report is the
+-- number of messages that it sent, by which the editor's queue grew from `before` to `after`.
 abbrev pub served_seen : List ToServer → List ToEditor → List ToEditor → Seen
 served_seen [] before after = nothing
 served_seen (message ∷ rest) before after = served (length after - length before)
 
--- returns the report on the message that the editor has read, if one waited for it
+-- returns the report on the first message of the queue, which the editor takes; for an empty queue,
+-- the report is that nothing happened
 abbrev pub taken_seen : List ToEditor → Seen
 taken_seen [] = nothing
 taken_seen (publishes uri version empty ∷ rest) = published uri empty
@@ -62,7 +63,7 @@ event_seen old take_message new = taken_seen old.to_editor
 abbrev pub Shows : ClientAndServer → Event → Seen → ClientAndServer → Type 0
 Shows old event seen new = Happens old event new × (seen ≡ event_seen old event new)
 
--- returns the report that a value of the code means
+-- returns the report for a value of the code's type `Seen`
 abbrev pub seen_of : seen.Seen → Seen
 seen_of seen.TheVariants.Nothing = nothing
 seen_of seen.TheVariants.Sent = sent

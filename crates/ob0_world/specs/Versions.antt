@@ -1,6 +1,6 @@
--- Defines the versions that answers mention, and a client that compares them.
--- A client doesn't number openings. A version is enough, because an answer mentions the document
--- that was asked about with the version that it had then.
+-- Defines the versions that answers mention, and a client that compares versions. A client doesn't
+-- number openings. A version is enough, because an answer mentions the document that was asked
+-- about, with the document's version at that time.
 -- Rule: none; laws of client and server, on LSP 3.17, OptionalVersionedTextDocumentIdentifier.
 use Rattle.std.specs.Prelude.{◌≡◌, ◌⊎◌, ⊤, ℕ, ℤ, List, [], ◌∷◌, All, Bool, Option, Some, None, option_and_then, option_map, if◌then◌else◌, codes}
 use Rattle.serde_json.specs.Data.{Data}
@@ -27,13 +27,15 @@ identified d =
     (option_and_then as_integer (option_and_then as_number (get (codes "version") d))))
     (text_member (codes "uri") d)
 
--- Returns the uri and the version of the first document of a WorkspaceEdit. None if there is none.
+-- Returns the uri and the version of the first document of a WorkspaceEdit. None if there is no
+-- document, or its uri or version is missing.
 abbrev pub named_by_edit : Data → Option (List ℕ × ℤ)
 named_by_edit edit =
     option_and_then identified (option_and_then (get (codes "textDocument"))
     (option_and_then (at 0) (get (codes "documentChanges") edit)))
 
--- Returns the WorkspaceEdit of the action with this title. None if there is none.
+-- Returns the WorkspaceEdit of the action with this title. None if there is no such action, or it
+-- has no edit.
 abbrev pub edit_of_action : List ℕ → Data → Option Data
 edit_of_action title value =
     option_and_then (get (codes "edit")) (option_and_then (titled_action title) (as_array value))
@@ -60,15 +62,15 @@ IsLayout (inline_here position) = ⊥
 IsLayout (inline_all position) = ⊥
 IsLayout (format indent) = ⊤
 
--- Holds if an answer with edits mentions the document that was asked about, with the version that
--- it had then. An answer to a formatting needn't mention it.
+-- Holds if the answer mentions the document that was asked about, with the document's version at
+-- that time. An answer without edits and an answer to a formatting needn't mention it.
 abbrev pub NamesAsked : SentAsk → Data → Type 0
 NamesAsked a answer =
     (named_in a.ask answer ≡ Some (a.uri, a.version))
     ⊎ ((edits_for a.uri a.ask answer ≡ []) ⊎ IsLayout a.ask)
 
--- holds if the content has no number as its id, or answers the request with that number as
--- `NamesAsked` says
+-- Holds if the content has no number as its id, or it answers the request with that number and
+-- `NamesAsked` holds for the two.
 abbrev pub NamesItsAsk : List SentAsk → List ℕ → Type 0
 NamesItsAsk requested content =
     (answer : Data) (k : ℕ)
@@ -76,8 +78,9 @@ NamesItsAsk requested content =
     → option_and_then request_number (get (codes "id") answer) ≡ Some k
     → (a : SentAsk) × (request_numbered requested k ≡ Some a) × NamesAsked a answer
 
--- States that `NamesItsAsk` holds of each content that waits for the editor, whatever happened.
--- (The editor gets only contents that have waited.)
+-- States that `NamesItsAsk` holds for each content that waits for the editor, after any
+-- list of events. The editor gets only contents that have waited, so it holds for all contents that
+-- the editor gets.
 abbrev pub VersionsAreNamed : Type 0
 VersionsAreNamed =
     (unit : Unit) (begin : Connection) (events : List Event) (now : Connection)
@@ -91,9 +94,9 @@ VersionsAreNamed =
 abbrev pub has_version : ℤ → Open → Bool
 has_version version d = same_version d.version version
 
--- Returns the result for a client that compares the uri and the version in an answer. It makes the
--- edits in the document that is open under this uri. None if no such document has this version, or
--- if two edits share a character.
+-- Returns the result of applying an answer's edits in a client that compares the uri and the
+-- version in the answer. The edits are made in the open document with this uri. None if no open
+-- document has this uri and this version, or if two edits share a character.
 abbrev pub applies_by_version : Editor → List ℕ → ℤ → List Replacement → Option Done
 applies_by_version e uri version edits =
     option_and_then
@@ -103,13 +106,12 @@ applies_by_version e uri version edits =
     (if has_version version d then edited e.unit d.text edits else None))
     (open_at e uri)
 
--- holds if the document hasn't been opened again since the request: it is closed, or still in that
--- opening
+-- holds if the request's document is closed now, or has the same opening as at the request
 abbrev pub IsNotReopened : Editor → SentAsk → Type 0
 IsNotReopened e a = (d : Open) → open_at e a.uri ≡ Some d → d.opening ≡ a.opening
 
--- States that a client that compares the version in an answer makes the same of its edits as the
--- model's editor. The document mustn't have been opened again.
+-- States that a client that compares the version in an answer, and the model's editor, get the same
+-- result when they apply its edits. The document mustn't have been opened again.
 abbrev pub VersionsSuffice : Type 0
 VersionsSuffice =
     (e : Editor) (k : ℕ) (a : SentAsk) (edits : List Replacement)

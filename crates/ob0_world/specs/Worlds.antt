@@ -1,4 +1,5 @@
--- Defines client and server as the code stores them, and the results of a list of events.
+-- Defines the connection of an editor and a session, the world with its steps, and the results of a
+-- list of events.
 -- Rule: none; for contracts of `World`: a list of events, step by step.
 use Rattle.std.specs.Prelude.{◌≡◌, ◌<◌, ◌+◌, ◌++◌, ◌⊎◌, ⊤, ℕ, List, [], ◌∷◌, map, take, length, Bool, true, false, Option, Some}
 use Rattle.std.specs.Option.{option_to_list}
@@ -22,15 +23,15 @@ use Rattle.ob0_world.specs.declared.played.Played as played
 
 -- ---- the session, and the contents between it and the editor
 
--- The session that is the server, and the contents of all messages between it and the editor.
+-- the session that serves the editor, and the contents of all messages between the two
 pub record Wire : Type 0 where
   pub session : ServerState
-  -- the contents that the editor has written: first those that the session has taken, then those
-  -- that wait
+  -- the contents that the editor has written: those that the session has taken (`taken`), and those
+  -- that still wait (`to_server`)
   pub taken : List (List ℕ)
   pub to_server : List (List ℕ)
-  -- the contents that the session has sent: first those that the editor has got, then those that
-  -- wait
+  -- the contents that the session has sent: those that the editor has got (`got`), and those that
+  -- still wait (`to_editor`)
   pub got : List (List ℕ)
   pub to_editor : List (List ℕ)
 
@@ -56,8 +57,9 @@ pub record Begins (unit : Unit) (w : Connection) : Type 0 where
         to_editor = [];
       }
 
--- holds if the session takes the first content that waits for it, if there is one, and its replies
--- wait for the editor
+-- Holds if the session takes the first content that waits for it, and the session's replies are
+-- added to the contents that wait for the editor. If no content waits for the session, nothing
+-- changes.
 abbrev pub TakesFirst : List (List ℕ) → Wire → Wire → Type 0
 TakesFirst [] old new = new ≡ old
 TakesFirst (content ∷ rest) old new =
@@ -70,20 +72,21 @@ TakesFirst (content ∷ rest) old new =
       to_editor = old.to_editor ++ sent;
     })
 
--- holds if the editor gets the first content that waits for it, if there is one
+-- Holds if the editor gets the first content that waits for it. If none waits, nothing changes.
 abbrev pub GetsFirst : List (List ℕ) → Wire → Wire → Type 0
 GetsFirst [] old new = new ≡ old
 GetsFirst (content ∷ rest) old new =
     new ≡ record old { got = old.got ++ content ∷ []; to_editor = rest }
 
--- holds if the editor writes at most one content, which waits for the session after the others
+-- holds if the editor writes at most one content, which joins the end of the queue to the session
 abbrev pub WritesContent : Wire → Wire → Type 0
 WritesContent old new =
     (content : Option (List ℕ))
     × (new ≡ record old { to_server = old.to_server ++ option_to_list content })
 
--- Holds if an event moves the contents so. Only the server's event changes the session. No waiting
--- content is lost, changed or moved to another place in its queue.
+-- Holds if this event changes the session and the contents from `old` to `new`. Only the server's
+-- event changes the session. No waiting content is lost, changed or moved to another place in its
+-- queue.
 abbrev pub MovesWire : Event → Wire → Wire → Type 0
 MovesWire (does act) old new = WritesContent old new
 MovesWire serve old new = TakesFirst old.to_server old new
@@ -105,8 +108,8 @@ pub record IsTied (w : Connection) : Type 0 where
       ≡ map Some w.model.to_editor
   pub documents : w.model.held ≡ w.wire.session.held
 
--- States that one event happens in the model, and that the session and the contents move
--- accordingly.
+-- States that one event happens in the model and changes the session and the contents
+-- (`MovesWire`), and that the waiting contents are the model's messages after it (`IsTied`).
 pub record ConnectionStep (old : Connection) (event : Event) (new : Connection) : Type 0 where
   pub happens : Happens old.model event new.model
   pub moves : MovesWire event old.wire new.wire
@@ -120,19 +123,20 @@ ConnectionCourse old (event ∷ events) new =
 
 -- ---- lists of events
 
--- holds if these are the applied edits and the publications in this state
+-- holds if the code returns the applied edits and the publications of this state
 abbrev pub HasCome : ClientAndServer → played.Played → Type 0
 HasCome w p = (all_applied p ≡ w.applied) × (all_made p ≡ w.made)
 
--- holds if these are the contents that were exchanged, and those that wait for the editor
+-- holds if the code returns the contents that were taken by each side, and those that wait for the
+-- editor
 abbrev pub HasPassed : Wire → played.Played → Type 0
 HasPassed w p =
     (bytes p.taken.items ≡ w.taken)
     × (bytes p.got.items ≡ w.got)
     × (bytes p.unread.items ≡ w.to_editor)
 
--- States the headline of a list of events, with the edits and publications that the code returns.
--- In these events a session, from its beginning, took and sent the contents that the code returns.
+-- States the headline for a list of events and the edits and publications that the code returns. In
+-- these events a session, from its start, took and sent the contents that the code returns.
 pub record Plays (unit : Unit) (events : List event.Event) (p : played.Played) : Type 0 where
   pub headline : Headline unit (map event_of events) (all_applied p) (all_made p)
   pub begin : Connection
@@ -153,8 +157,8 @@ pub record PlaysNothing (unit : Unit) (fault : PlayFault) : Type 0 where
   pub got : fault.played.got.items ≡ []
   pub unread : fault.played.unread.items ≡ []
 
--- Holds if fewer than all events were played, as many as the fault counts, and `Plays` holds of
--- them. It also holds if the code returns nothing.
+-- Holds if only the first events were played, as many as the fault counts, and `Plays` holds for
+-- them. It also holds if the code returns nothing (`PlaysNothing`).
 abbrev pub PlaysBefore : Unit → List event.Event → PlayFault → Type 0
 PlaysBefore unit events fault =
     ((fault.steps < length events) × Plays unit (take fault.steps events) fault.played)
@@ -183,7 +187,8 @@ pub record MakesStep (old : World) (event : Event) (seen : Seen) (new : World) :
   pub counted : new.steps ≡ old.steps + 1
   pub goes_on : new.ended ≡ false
 
--- Holds if a world that hasn't ended makes the step. An ended world makes none.
+-- Holds if the world makes this step. The first argument is true if the world had ended before. An
+-- ended world makes no step.
 abbrev pub StepsFrom : Bool → World → Event → Seen → World → Type 0
 StepsFrom false old event seen new = MakesStep old event seen new
 StepsFrom true old event seen new = ⊥
@@ -192,7 +197,8 @@ StepsFrom true old event seen new = ⊥
 abbrev pub WorldSteps : World → Event → Seen → World → Type 0
 WorldSteps old event seen new = StepsFrom old.ended old event seen new
 
--- states that the results and the exchanged contents are those before the step
+-- states that the results, the exchanged contents and the contents that wait for the editor are
+-- unchanged
 pub record SameHistory (old new : Connection) : Type 0 where
   pub applied : new.model.applied ≡ old.model.applied
   pub made : new.model.made ≡ old.model.made
@@ -200,9 +206,9 @@ pub record SameHistory (old new : Connection) : Type 0 where
   pub got : new.wire.got ≡ old.wire.got
   pub unread : new.wire.to_editor ≡ old.wire.to_editor
 
--- Holds if a step fails in one of two ways. `Memory` isn't counted and ends the world, which keeps
--- its results and the exchanged contents. `Ended` is returned at each step of an ended world, which
--- doesn't change.
+-- Holds if a step fails with this fault. The first argument is true if the world had ended. A step
+-- that fails with `Memory` isn't counted and ends the world, which keeps its results and the
+-- exchanged contents. Each step of an ended world fails with `Ended` and changes nothing.
 abbrev pub FailsFrom : Bool → World → WorldFault → World → Type 0
 FailsFrom false old Memory new =
     SameHistory old.connection new.connection × (new.steps ≡ old.steps) × (new.ended ≡ true)

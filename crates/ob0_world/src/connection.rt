@@ -1,4 +1,4 @@
-//! Connects an editor and a session by two queues, and makes each event happen.
+//! Connects an editor and a session by two queues, and performs the events.
 ghost use Rattle.std.specs.Prelude.{◌≡◌, ◌<◌, IfOk, OnErr, OnOk, map, option_map, option_and_then, string_bytes};
 ghost use Rattle.std.specs.Str.{chars};
 ghost use Rattle.std.specs.Vec.{vec_capacity, vec_len};
@@ -26,7 +26,8 @@ use std::alloc::{AllocError, Global};
 use std::collections::VecDeque;
 use std::marker::Model;
 
-/// An editor and a session, the contents that wait for each, the contents that have passed, and the results so far.
+/// An editor and a session, with the contents that wait for each, the contents that each has taken,
+/// and the results so far.
 #[derive(Drop)]
 pub struct Connection<T: TextStore> {
     alloc: Global,
@@ -61,8 +62,8 @@ impl<T: TextStore> Model for Connection<T> {
 }
 
 impl<T: TextStore> Connection<T> {
-    /// Returns an editor without documents and a session that the editor has initialized. Both count positions in this
-    /// unit.
+    /// Returns a connection of an editor without documents and a session that this editor has
+    /// initialized. Both count positions in this unit.
     pub fn new(alloc: Global, unit: Unit) -> Result<Connection<T>, AllocError>
         ensures { IfOk result (Begins unit) }
     {
@@ -84,8 +85,8 @@ impl<T: TextStore> Connection<T> {
         })
     }
 
-    /// Does nothing. Its contract is a law: the contents that wait are the messages of the model. It is called only for
-    /// that.
+    /// Does nothing, and is called only for its contract, which is a law: the waiting contents are
+    /// the messages of the model.
     pub(crate) fn contents_say_messages(&self)
         ensures { IsTied self.now }
     {
@@ -107,8 +108,8 @@ impl<T: TextStore> Connection<T> {
         }
     }
 
-    /// Makes an event happen and reports it. If an allocation fails, the results and the exchanged contents are
-    /// unchanged.
+    /// Makes an event happen and reports it. If an allocation fails, the results and the exchanged
+    /// contents are unchanged.
     pub fn make(&mut self, event: &Event) -> Result<Seen, AllocError>
         requires { AreFew self.old.model.editor }
         ensures ok { IfOk result
@@ -172,8 +173,8 @@ impl<T: TextStore> Connection<T> {
         send(&mut self.to_server, content)
     }
 
-    /// Lets the session take the first content that waits, and queues its replies for the editor. A publication with a
-    /// version is recorded with the text that its document has then.
+    /// Lets the session take the first content that waits, and queues its replies for the editor. A
+    /// publication with a version is recorded with the text that its document has at this time.
     fn serve(&mut self) -> Result<Seen, AllocError>
         ensures ok { IfOk result
             (λ seen. Shows self.old.model events.serve (seen_of seen) self.new.model) }
@@ -263,7 +264,8 @@ impl<T: TextStore> Connection<T> {
     }
 }
 
-/// Moves the first content of a queue, if there is one, to the end of `got`, which must have room for it.
+/// Moves the first content of a queue, if there is one, to the end of `got`, which must have room
+/// for it.
 fn move_first(waiting: &mut VecDeque<Vec<u8>>, got: &mut Vec<Vec<u8>>)
     requires { vec_len got.old < vec_capacity got.old }
     ensures { MovesFirst waiting.old.items got.old.items waiting.new.items got.new.items }
@@ -273,7 +275,8 @@ fn move_first(waiting: &mut VecDeque<Vec<u8>>, got: &mut Vec<Vec<u8>>)
     }
 }
 
-/// Queues a content if there is one, and reports whether it was sent. If the allocation fails, the queue is unchanged.
+/// Queues a content if there is one, and reports whether it was sent. If the allocation fails, the
+/// queue is unchanged.
 fn send(queue: &mut VecDeque<Vec<u8>>, content: Option<Vec<u8>>) -> Result<Seen, AllocError>
     ensures ok { IfOk result (λ seen. IsSent queue.old.items content seen queue.new.items) }
     ensures err { OnErr result (queue.new.items ≡ queue.old.items) }
@@ -287,7 +290,8 @@ fn send(queue: &mut VecDeque<Vec<u8>>, content: Option<Vec<u8>>) -> Result<Seen,
     }
 }
 
-/// Gives the session a content, and returns its replies. If an allocation fails, the session has failed for good.
+/// Gives the session a content, and returns its replies. If an allocation fails, the session has
+/// failed for good.
 fn answer<T: TextStore>(
     session: &mut Session<T>,
     content: &[u8],
@@ -305,7 +309,9 @@ fn answer<T: TextStore>(
     }
 }
 
-/// Returns the publication with a version that the first of these contents is, if it is one.
+/// Returns the first of these contents as a publication, with the present text of its document.
+/// None if there is no content, if the first isn't a publication with a version, or if the document
+/// isn't open or is out of step.
 fn first_made<T: TextStore>(
     alloc: Global,
     editor: &Editor,
@@ -350,7 +356,8 @@ fn made_of_content<T: TextStore>(
     }
 }
 
-/// Returns the publication with the present text of its document. None if that document isn't open or is out of step.
+/// Returns a publication with these parts and the present text of its document. None if that
+/// document isn't open or is out of step.
 fn made_with<T: TextStore>(
     alloc: Global,
     documents: &Documents<T>,

@@ -1,9 +1,9 @@
-//! The events of a client and a server, and the report on each event.
+//! Defines the events of an editor and a server, and the report on each event.
 
 use ob0_text::Change;
 use ob0_world_editor::Ask;
 
-/// One event of the client or the server.
+/// An event: the editor acts, or the server or the editor takes a message.
 #[derive(Debug, Drop)]
 pub enum Event {
     /// The editor opens a document, with version 1. If it is open already, nothing happens.
@@ -11,19 +11,19 @@ pub enum Event {
     /// The editor makes these changes in order, each in the result of the one before.
     ChangeDoc { uri: String, changes: Vec<Change> },
     CloseDoc { uri: String },
-    /// The editor sends this ask about a document. Asks that are sent get numbers from 1.
+    /// The editor sends this ask about a document. The asks that are sent are numbered from 1.
     Ask { uri: String, ask: Ask },
     /// The server takes one message and sends its replies.
     Serve,
     /// The editor takes one message.
     Take,
-    /// The editor applies the answer to ask `k`, if it has one.
+    /// The editor applies the answer to ask `k`, if it has this answer.
     Apply { k: u64 },
-    /// The editor discards the answer to ask `k`, if it has one.
+    /// The editor discards the answer to ask `k`, if it has this answer.
     Discard { k: u64 },
 }
 
-/// The report on an event.
+/// The report on an event, which `World::step` returns.
 #[derive(Debug, Drop)]
 pub enum Seen {
     /// Nothing happened.

@@ -1,4 +1,4 @@
-//! The faults of a world: an allocation fails.
+//! The faults of a world. Each comes from a failed allocation.
 
 use crate::played::Played;
 use thiserror::Error;
@@ -12,8 +12,8 @@ pub enum WorldFault {
     Ended,
 }
 
-/// The fault of `play` and `play_in`: an allocation failed. `steps` events were made before that, and `played` has
-/// their results.
+/// The fault of `play` and `play_in`: an allocation failed. `steps` events were made before the
+/// failure, and `played` has their results.
 #[derive(Debug, Drop, Error)]
 #[error("out of memory")]
 pub struct PlayFault {

@@ -1,5 +1,5 @@
-//! An editor and the server, with a queue of messages in each direction. A list of events is played from the start. In
-//! whatever order the events come, each edit that the editor applies keeps the run of the module.
+//! Plays lists of events of an editor and a session, with a queue of messages in each direction.
+//! Whatever the order of the events, each edit that the editor applies keeps the run of the module.
 #![tactic(auto)]
 
 mod connection;

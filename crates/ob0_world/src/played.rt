@@ -1,9 +1,10 @@
-//! The results of a list of events.
+//! Defines the results of playing a list of events.
 
 use ob0_world_editor::Applied;
 use std::collections::VecDeque;
 
-/// A publication with a version, the text that it was made for, and whether its list of diagnostics is empty.
+/// A publication with a version, the text that it was made for, and whether its list of diagnostics
+/// is empty.
 #[derive(Debug, Drop)]
 pub struct Made {
     pub uri: String,
@@ -12,7 +13,8 @@ pub struct Made {
     pub empty: bool,
 }
 
-/// All applied edits, all publications with a version, and the contents of all messages, each in order.
+/// All applied edits, all publications with a version, and the contents of all messages, each in
+/// order.
 #[derive(Debug, Drop)]
 pub struct Played {
     pub applied: Vec<Applied>,

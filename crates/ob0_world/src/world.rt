@@ -1,15 +1,18 @@
 //! Plays lists of events with an editor and a session.
 //!
-//! A `Connection` has two parts. Its model is a client and a server by the rules (`ClientAndServer`): documents and
-//! messages. Its `Wire` is the session and all contents, those taken and those that wait, in each direction.
+//! A `Connection` has two parts. Its model is a client and a server by the rules
+//! (`ClientAndServer`), with documents and messages. Its `Wire` is the session and all contents,
+//! those taken and those that wait, in each direction.
 //!
-//! `MovesWire` states what each event does to the session and the contents, and `IsTied` joins the two parts.
-//! (`Connection::contents_say_messages` is called only for its contract.) The contract of a step is by cases of the
-//! world before it (`WorldSteps`, `WorldFails`).
+//! `MovesWire` states what each event does to the session and the contents, and `IsTied` joins the
+//! two parts. (`Connection::contents_say_messages` is called only for its contract.) The contract
+//! of a step distinguishes whether the world had ended before the step (`WorldSteps`,
+//! `WorldFails`).
 //!
-//! `Plays` states the headline, and the connection's course (`ConnectionCourse`) from a session that has begun
-//! (`Begins`). The code returns the contents that passed. So even a body without a session would have to return the
-//! contents of a conversation.
+//! `Plays` states the headline, and that the events are a course of the connection
+//! (`ConnectionCourse`) that starts with an initialized session (`Begins`). The code returns the
+//! exchanged contents. So even a body without a session would have to return the contents of a
+//! conversation.
 ghost use Rattle.std.specs.Prelude.{◌≡◌, ◌<◌, ◌-◌, ◌^◌, [], length, IfOk, OnOk, IfErr};
 ghost use Rattle.ob0_text.specs.declared.position_types.Unit.TheVariants.{Utf16};
 ghost use Rattle.ob0_world_rules.specs.Headline.{Holds};
@@ -56,8 +59,9 @@ impl<T: TextStore> Model for World<T> {
 }
 
 impl<T: TextStore> World<T> {
-    /// Returns a world in which no document is open and no message waits. The editor has initialized the session, as a
-    /// client that accepts edits with document versions and literal code actions. Both count positions in UTF-16 units.
+    /// Returns a world in which no document is open and no message waits. The editor has
+    /// initialized the session, as a client that accepts edits with document versions and literal
+    /// code actions. Both count positions in UTF-16 units.
     pub fn new(alloc: Global) -> Result<World<T>, WorldFault>
         ensures start { IfOk result (IsNew Utf16) }
         ensures err { IfErr result (λ fault. fault ≡ Memory) }
@@ -65,7 +69,8 @@ impl<T: TextStore> World<T> {
         World::new_in(alloc, Unit::Utf16)
     }
 
-    /// Returns a world in which no document is open and no message waits. Both sides count positions in this unit.
+    /// Returns a world in which no document is open and no message waits. Both sides count
+    /// positions in this unit.
     pub fn new_in(alloc: Global, unit: Unit) -> Result<World<T>, WorldFault>
         ensures start { IfOk result (IsNew unit) }
         ensures err { IfErr result (λ fault. fault ≡ Memory) }
@@ -87,8 +92,9 @@ impl<T: TextStore> World<T> {
         self.steps
     }
 
-    /// Makes one event happen and reports it. The server's event is one `Session::step` on the first content that
-    /// waits. If an allocation fails, the world ends: each later step returns `Ended`.
+    /// Makes one event happen and reports it. The server's event is one `Session::step` on the
+    /// first content that waits. If an allocation fails, the world ends: each later step returns
+    /// `Ended`.
     pub fn step(&mut self, event: &Event) -> Result<Seen, WorldFault>
         requires few { self.old.steps < 2 ^ 63 - 1 }
         ensures ok { IfOk result
@@ -113,7 +119,8 @@ impl<T: TextStore> World<T> {
         }
     }
 
-    /// Returns the applied edits, the publications and the contents that passed, up to the last step that returned Ok.
+    /// Returns the applied edits, the publications and the exchanged contents, up to the last step
+    /// that returned Ok.
     pub fn into_played(self) -> Played
         ensures come { HasCome self.connection.model result }
         ensures passed { HasPassed self.connection.wire result }
@@ -132,13 +139,14 @@ impl<T: TextStore> World<T> {
 
     /// Plays a list of events from the start, with positions in this unit.
     ///
-    /// In every interleaving of an editor and the server, each edit that the editor applies to a well-typed document
-    /// leaves a well-typed module with the same run: the same output and end for every input and every bound on calls
-    /// and loop turns; and an open document's latest diagnostics are empty exactly when the text they were made for is a
+    /// In every interleaving of an editor and the server, each edit that the editor applies to a
+    /// well-typed document leaves a well-typed module with the same run. The same run means the
+    /// same output and end, for every input and every bound on calls and loop iterations. An open
+    /// document's latest diagnostics are empty exactly when the text they were made for is a
     /// well-typed module.
     ///
-    /// The editor is the model's. The law `every_exchange_holds` states the same for every editor that keeps ob0's
-    /// rules.
+    /// The editor is the model's. The law `every_exchange_holds` states the same for every
+    /// editor that keeps ob0's rules.
     pub fn play_in(alloc: Global, unit: Unit, events: &[Event]) -> Result<Played, PlayFault>
         requires few { length events.now < 2 ^ 63 - 1 }
         ensures ok { IfOk result (λ played. Plays unit events.now played) }

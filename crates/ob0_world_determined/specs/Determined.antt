@@ -16,11 +16,12 @@ use Rattle.ob0_session.specs.declared.serving.ServeFault.TheVariants.{BadHead, T
 
 -- ---- diagnostics
 
--- holds if two readings of a module have the same tokens, and the same tree over them
+-- holds if two parsed modules have the same tokens and the same tree
 abbrev pub AreOneModule : Parsed → Parsed → Type 0
 AreOneModule m n = (m.source ≡ n.source) × (tree_of m ≡ tree_of n)
 
--- states that two tables of ordinals of one module have the same ordinal, or none, at each token
+-- States that two resolutions of the same module agree at each token. Both give the token the
+-- ordinal of the same declaration, or both give it none.
 abbrev pub OneTable : Type 0
 OneTable =
     (r q : Resolution) → IsResolution r → IsResolution q
@@ -35,7 +36,7 @@ OneDiagnosis =
 
 -- ---- replies
 
--- states that a reply determines the contents that are sent for it
+-- states that a reply determines the contents that the session sends for it
 abbrev pub OneReply : Type 0
 OneReply =
     (reply : Reply) (sent other : List (List ℕ))
@@ -58,18 +59,19 @@ OneConversation =
 
 -- ---- bytes
 
--- holds if `serve` may return this result after it has read and written these bytes, whatever its
--- devices did
+-- Holds if `serve` may return this result after it has read the bytes `taken` and written the bytes
+-- `put`. The reader and the writer may have failed or not.
 abbrev pub MayServe : Result ℕ ServeFault → List ℕ → List ℕ → Type 0
 MayServe result taken put =
     (reader_failed : Bool) × (writer_failed : Bool)
     × Serves result taken put ⊤ ⊤ reader_failed writer_failed ⊤
 
--- holds if a result is neither `Memory` nor `Write`
+-- holds if the result is neither `Memory` nor `Write`, so that all output has been written
 abbrev pub IsWritten : Result ℕ ServeFault → Type 0
 IsWritten result = (result ≢ Err Memory) × (result ≢ Err Write)
 
--- holds if the bytes read led to the result: an `exit`, the end of the input, or a bad head
+-- holds if the bytes that were read decide the result: it comes from an `exit`, the end of the
+-- input, or a bad head
 abbrev pub IsOfBytes : Result ℕ ServeFault → Type 0
 IsOfBytes (Ok status) = ⊤
 IsOfBytes (Err BadHead) = ⊤
@@ -79,7 +81,7 @@ IsOfBytes (Err TooManyReads) = ⊥
 IsOfBytes (Err Write) = ⊥
 IsOfBytes (Err Memory) = ⊥
 
--- holds if an `exit` or a bad head came, after which later bytes make no difference
+-- holds if the result comes from an `exit` or a bad head, so that later bytes make no difference
 abbrev pub IsDecided : Result ℕ ServeFault → List ℕ → List ℕ → Type 0
 IsDecided (Ok status) taken put = EndsWith status taken put
 IsDecided (Err BadHead) taken put = ⊤
@@ -89,9 +91,11 @@ IsDecided (Err TooManyReads) taken put = ⊥
 IsDecided (Err Write) taken put = ⊥
 IsDecided (Err Memory) taken put = ⊥
 
--- States that the output for the first bytes of an input is a prefix of the output for more of it.
--- The call for more must return neither `Memory` nor `Write`. If the first call returns neither of
--- them, the outputs are equal for the same input, and after an `exit` or a bad head.
+-- States how the outputs of two calls of `serve` are related if the first call's input is a prefix
+-- of the second call's input. If the second call returns neither `Memory` nor `Write`, the first
+-- call's output is a prefix of the second call's output. Suppose that the first call also returns
+-- neither of them. Then the outputs are equal if the inputs are equal, or if an `exit` or a bad
+-- head ended the first call.
 abbrev pub OneOutput : Type 0
 OneOutput =
     (taken more put all : List ℕ) (result end : Result ℕ ServeFault) → IsWritten end
@@ -99,9 +103,9 @@ OneOutput =
     → (unwritten : List ℕ) × (all ≡ put ++ unwritten)
     × (IsWritten result → IsDecided result taken put ⊎ (more ≡ []) → unwritten ≡ [])
 
--- States that the result is the same for the same bytes. It is also the same for more of the input,
--- if an `exit` or a bad head came. The results `Read`, `TooManyReads`, `Write` and `Memory` are
--- excepted.
+-- States that two calls of `serve` return the same result for the same bytes. If an `exit` or a bad
+-- head ended the first call, the input of the second may have further bytes. The law excludes calls
+-- that return `Read`, `TooManyReads`, `Write` or `Memory`.
 abbrev pub OneResult : Type 0
 OneResult =
     (taken more put all : List ℕ) (result end : Result ℕ ServeFault)
@@ -109,7 +113,8 @@ OneResult =
     → MayServe result taken put → MayServe end (taken ++ more) all
     → IsDecided result taken put ⊎ (more ≡ []) → result ≡ end
 
--- states that it can't be that no list of contents fits a stream
+-- States that each list of bytes can be split into a list of contents and a rest (`Frames`). The
+-- formula is a double negation.
 abbrev pub AListFits : Type 0
 AListFits =
     (bytes : List ℕ)
@@ -117,9 +122,9 @@ AListFits =
 
 -- ---- a conversation, as bytes
 
--- States that `serve` writes the frames of a conversation, unless it returns `Memory` or `Write`.
--- Fed with the frames of the contents that a session took, it writes the frames of the contents
--- that the session sent. Each content taken has at most `max_content` bytes.
+-- Supposes that the input of `serve` is the frames of the contents that a session took. States that
+-- the output of `serve` is the frames of the contents that the session sent. This holds unless
+-- `serve` returns `Memory` or `Write`. Each content taken has at most `max_content` bytes.
 abbrev pub ConversationIsServed : Type 0
 ConversationIsServed =
     (taken sent : List (List ℕ)) (after : ServerState)
@@ -129,9 +134,10 @@ ConversationIsServed =
     → MayServe result (flat_map frame taken) put
     → put ≡ flat_map frame sent
 
--- States that `serve`, fed with a longer input that begins with these frames, writes the frames of
--- the conversation first. This holds unless it returns `Memory` or `Write`. Each content taken has
--- at most `max_content` bytes.
+-- Supposes that the input of `serve` begins with the frames of the contents that a session took.
+-- States that the output of `serve` begins with the frames of the contents that the session sent.
+-- This holds unless `serve` returns `Memory` or `Write`. Each content taken has at most
+-- `max_content` bytes.
 abbrev pub ConversationIsServedFirst : Type 0
 ConversationIsServedFirst =
     (taken sent : List (List ℕ)) (after : ServerState)
@@ -141,8 +147,10 @@ ConversationIsServedFirst =
     → MayServe result (flat_map frame taken ++ more) put
     → (later : List ℕ) × (put ≡ flat_map frame sent ++ later)
 
--- States that for a longer input that begins with the frames of a conversation that ended `serve` writes
--- the frames of what was sent and no byte more, and returns the status with which it ended.
+-- Supposes that the input of `serve` is the frames of the contents of a conversation that ended,
+-- followed by any bytes. States that `serve` writes the frames of the contents that the session
+-- sent, and no more, and returns the status with which the conversation ended. This holds unless
+-- `serve` returns `Memory` or `Write`. Each content taken has at most `max_content` bytes.
 abbrev pub EndedConversationIsServed : Type 0
 EndedConversationIsServed =
     (taken sent : List (List ℕ)) (after : ServerState) (status : ℕ)

@@ -1,4 +1,4 @@
--- States the headline in bytes, for `serve` and an editor that keeps ob0's rules.
+-- States the guarantees of `serve` for every editor that keeps ob0's rules, in bytes.
 -- Rule: docs/PROMISES.md, Client and server.
 use Rattle.std.specs.Prelude.{◌≡◌, ◌≤◌, ◌++◌, ℕ, List, [], ◌∷◌, length, All, Result, Ok}
 use Rattle.std.specs.List.{flat_map}
@@ -13,23 +13,24 @@ use Rattle.ob0_session_server.specs.Answers.{ServerState, Conversation}
 use Rattle.ob0_world.specs.Exchanges.{Exchange, BeginsExchange, ExchangeLeads, IsShutdown, IsExit, HoldsOfExchange}
 use Rattle.ob0_world_determined.specs.Determined.{MayServe, IsWritten}
 
--- Relates an exchange of a session and an editor that keeps ob0's rules to the bytes that `serve`
--- writes.
+-- States the guarantees for an exchange of a session and an editor that keeps ob0's rules, and for
+-- the bytes that `serve` writes for it.
 pub record ServedExchange (begin now : Exchange) : Type 0 where
   pub holds : HoldsOfExchange begin now
-  -- Fed with the frames of the taken contents, `serve` writes the frames of the sent contents.
-  -- Excepted are the results `Memory` and `Write`, and contents longer than `max_content`.
+  -- If `serve` is fed with the frames of the contents that the session took, it writes the frames
+  -- of the contents that the session sent. This holds unless it returns `Memory` or `Write`, or a
+  -- content is longer than `max_content`.
   pub written : All (λ content. length content ≤ max_content) now.wire.taken
       → (put : List ℕ) (result : Result ℕ ServeFault) → IsWritten result
       → MayServe result (flat_map frame now.wire.taken) put
       → put ≡ flat_map frame (now.wire.got ++ now.wire.to_editor)
-  -- for a longer input `serve` writes the same frames first
+  -- If more bytes follow the frames in the input, `serve` writes the same frames first.
   pub written_first : All (λ content. length content ≤ max_content) now.wire.taken
       → (more put : List ℕ) (result : Result ℕ ServeFault) → IsWritten result
       → MayServe result (flat_map frame now.wire.taken ++ more) put
       → (later : List ℕ) × (put ≡ flat_map frame (now.wire.got ++ now.wire.to_editor) ++ later)
   -- If the session then takes `shutdown` and `exit`, `serve` also writes the frame of the answer to
-  -- `shutdown`, and returns 0, whatever comes next.
+  -- `shutdown`, and returns 0. Any bytes may follow these frames in the input.
   pub ended : (id : Data) (shutdown exit : List ℕ) → IsShutdown id shutdown → IsExit exit
       → (sent : List (List ℕ)) (end : ServerState)
       → Conversation now.wire.session (shutdown ∷ exit ∷ []) sent end
@@ -37,13 +38,14 @@ pub record ServedExchange (begin now : Exchange) : Type 0 where
       → (more put : List ℕ) (result : Result ℕ ServeFault) → IsWritten result
       → MayServe result (flat_map frame (now.wire.taken ++ shutdown ∷ exit ∷ []) ++ more) put
       → (put ≡ flat_map frame ((now.wire.got ++ now.wire.to_editor) ++ sent)) × (result ≡ Ok 0)
-  -- If `serve` returns `Memory`, it has answered the first contents that it read. If these are the
-  -- contents that the session took, it has written the same frames.
+  -- If `serve` returns `Memory`, it has answered a prefix of the contents (`PrefixServed`). If this
+  -- prefix is the contents that the session took, `serve` has written the same frames.
   pub in_part : (taken put : List ℕ) (part : PrefixServed taken put)
       → part.answered ≡ now.wire.taken
       → put ≡ flat_map frame (now.wire.got ++ now.wire.to_editor)
 
--- states that `ServedExchange` holds with every editor that keeps ob0's rules, and every session
+-- states that `ServedExchange` holds for each exchange of a session with an editor that keeps ob0's
+-- rules
 abbrev pub EveryExchangeIsServed : Type 0
 EveryExchangeIsServed =
     (unit : Unit) (begin now : Exchange) (turns : List Turn)

@@ -1,4 +1,5 @@
-//! States the laws of the definitions that contracts cite.
+//! Proves that the server's input determines its output, and that `serve` writes the frames of a
+//! conversation.
 ghost use Rattle.ob0_world_determined.specs.Determined.{AListFits, ConversationIsServed, ConversationIsServedFirst, EndedConversationIsServed, OneAnswer, OneConversation, OneDiagnosis, OneOutput, OneReply, OneResult, OneTable};
 ghost use Rattle.ob0_world_determined.specs.Exchanged.{EveryExchangeIsServed};
 
@@ -7,7 +8,8 @@ use ob0_frame::laws::{feeding_is_determined, nothing_is_fed, written_is_read};
 use ob0_scan::laws::{one_report, one_scan};
 use ob0_world::laws::every_exchange_holds;
 
-/// Proves that two tables of ordinals of one module have the same ordinal, or none, at each token.
+/// Proves that two resolutions of the same module agree at each token. Both give the token the
+/// ordinal of the same declaration, or both give it none.
 pub fn one_table()
     ensures { OneTable }
 {}
@@ -22,7 +24,7 @@ pub fn one_diagnosis()
     one_refusal();
 }
 
-/// Proves that a reply determines the contents that are sent for it.
+/// Proves that a reply determines the contents that the session sends for it.
 pub fn one_reply()
     ensures { OneReply }
 {
@@ -44,9 +46,11 @@ pub fn one_conversation()
     one_answer();
 }
 
-/// Proves that the output for the first bytes of an input is a prefix of the output for more of it. The call for more
-/// must return neither `Memory` nor `Write`. If the first call returns neither of them, the outputs are equal for the
-/// same input, and after an `exit` or a bad head. So it makes no difference how an input is cut into pieces.
+/// Proves how the outputs of two calls of `serve` are related if the first call's input is a prefix
+/// of the second call's input. If the second call returns neither `Memory` nor `Write`, the first
+/// call's output is a prefix of the second call's output. Suppose that the first call also returns
+/// neither of them. Then the outputs are equal if the inputs are equal, or if an `exit` or a bad
+/// head ended the first call. So it makes no difference how an input is cut into pieces.
 pub fn one_output()
     ensures { OneOutput }
 {
@@ -54,8 +58,9 @@ pub fn one_output()
     feeding_is_determined();
 }
 
-/// Proves that `serve` returns the same result for the same bytes. It also does for more of the input, if an `exit` or
-/// a bad head came. The results `Read`, `TooManyReads`, `Write` and `Memory` are excepted.
+/// Proves that two calls of `serve` return the same result for the same bytes. If an `exit` or a
+/// bad head ended the first call, the input of the second may have further bytes. The law excludes
+/// calls that return `Read`, `TooManyReads`, `Write` or `Memory`.
 pub fn one_result()
     ensures { OneResult }
 {
@@ -63,15 +68,15 @@ pub fn one_result()
     feeding_is_determined();
 }
 
-/// Proves that a stream can't be without a list of contents. So a law about all its lists of contents is about at least
-/// one.
+/// Proves that each list of bytes can be split into a list of contents and a rest. So a law about
+/// every such split of the bytes isn't vacuous.
 pub fn a_list_fits()
     ensures { AListFits }
 {}
 
-/// Proves that `serve` writes the frames of a conversation, unless it returns `Memory` or `Write`. Fed with the frames
-/// of the contents that a session took, it writes the frames of the contents that the session sent. Each content taken
-/// has at most `max_content` bytes.
+/// Supposes that the input of `serve` is the frames of the contents that a session took. Proves
+/// that the output of `serve` is the frames of the contents that the session sent. This holds
+/// unless `serve` returns `Memory` or `Write`. Each content taken has at most `max_content` bytes.
 pub fn a_conversation_is_served()
     ensures { ConversationIsServed }
 {
@@ -81,9 +86,10 @@ pub fn a_conversation_is_served()
     written_is_read();
 }
 
-/// Proves that `serve`, fed with a longer input, writes the frames of a conversation first. The input begins with the
-/// frames of the contents that the session took, each of at most `max_content` bytes. This holds unless `serve` returns
-/// `Memory` or `Write`.
+/// Supposes that the input of `serve` begins with the frames of the contents that a session took.
+/// Proves that the output of `serve` begins with the frames of the contents that the session sent.
+/// This holds unless `serve` returns `Memory` or `Write`. Each content taken has at most
+/// `max_content` bytes.
 pub fn a_conversation_is_served_first()
     ensures { ConversationIsServedFirst }
 {
@@ -93,9 +99,10 @@ pub fn a_conversation_is_served_first()
     written_is_read();
 }
 
-/// States that `serve`, fed with a longer input that begins with the frames of a conversation that ended, writes the
-/// frames of the contents that the session sent, and no more. It returns the status with which the conversation ended.
-/// This holds unless `serve` returns `Memory` or `Write`.
+/// Supposes that the input of `serve` is the frames of the contents of a conversation that ended,
+/// followed by any bytes. Proves that `serve` writes the frames of the contents that the session
+/// sent, and no more, and returns the status with which the conversation ended. This holds unless
+/// `serve` returns `Memory` or `Write`. Each content taken has at most `max_content` bytes.
 pub fn an_ended_conversation_is_served()
     ensures { EndedConversationIsServed }
 {
@@ -105,10 +112,12 @@ pub fn an_ended_conversation_is_served()
     written_is_read();
 }
 
-/// Proves the headline for `serve` and every editor that keeps ob0's rules. The guarantees of `HoldsOfExchange` hold.
-/// Fed with the frames of the contents that the session took, `serve` writes the frames of the contents that it sent.
-/// This holds unless `serve` returns `Memory` or `Write`, and if no content taken has more than `max_content` bytes. If
-/// it returns `Memory`, it has written the frames of the replies to the contents that it answered.
+/// Proves the guarantees of `serve` for every editor that keeps ob0's rules. Each exchange of the
+/// editor with a session has the guarantees of `HoldsOfExchange`. Suppose that `serve` is fed with
+/// the frames of the contents that the session took, each of at most `max_content` bytes. Then
+/// `serve` writes the frames of the contents that the session sent, unless it returns `Memory` or
+/// `Write`. If it returns `Memory` after it has answered exactly these contents, it has written the
+/// same frames.
 pub fn every_exchange_is_served()
     ensures { EveryExchangeIsServed }
 {

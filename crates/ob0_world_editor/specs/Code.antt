@@ -11,14 +11,14 @@ use Rattle.ob0_world_rules.specs.Edited.{replacements}
 use Rattle.ob0_world_rules.specs.Asks.{Ask, rename, inline_here, inline_all, format}
 use Rattle.ob0_world_rules.specs.ClientAndServer.{SentAsk, Answer, Applied, ToEditor, publishes, answers}
 
--- returns the ask that a value of the code means
+-- returns the ask for a value of the code's type `Ask`
 abbrev pub ask_of : ask.Ask → Ask
 ask_of (ask.TheVariants.Rename position name) = rename position (string_bytes name)
 ask_of (ask.TheVariants.InlineHere position) = inline_here position
 ask_of (ask.TheVariants.InlineAll position) = inline_all position
 ask_of (ask.TheVariants.Format indent) = format indent
 
--- returns the sent request that a value of the code means
+-- returns the sent request for a value of the code's type `SentAsk`
 abbrev pub requested_of : requested.SentAsk → SentAsk
 requested_of a =
     record {
@@ -29,17 +29,17 @@ requested_of a =
       version = pos a.version;
     }
 
--- returns the answer that a value of the code means
+-- returns the answer for a value of the code's type `HeldAnswer`
 abbrev pub answer_of : answer.HeldAnswer → Answer
 answer_of a = record { number = a.number; edits = replacements a.edits.items }
 
--- returns the message to the editor that a value of the code means
+-- returns the message to the editor for a value of the code's type `Message`
 abbrev pub message_of : message.Message → ToEditor
 message_of (message.TheVariants.Published uri version empty) =
     publishes (string_bytes uri) version empty
 message_of (message.TheVariants.Answered number edits) = answers number (replacements edits.items)
 
--- returns the applied edit that a value of the code means
+-- returns the applied edit for a value of the code's type `Applied`
 abbrev pub applied_of : applied.Applied → Applied
 applied_of a =
     record {

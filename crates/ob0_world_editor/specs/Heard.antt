@@ -1,4 +1,5 @@
--- Defines the message to the server in a content, in the terms in which the server reads it.
+-- Defines the message to the server in a content, by the definitions with which the server reads
+-- contents.
 -- Rule: docs/PROTOCOL.md, Contents, JSON shapes 4.
 use Rattle.std.specs.Prelude.{◌≡◌, ⊤, ℕ, List, Option, Some, None, Ok, option_and_then, option_map, if◌then◌else◌}
 use Rattle.std.specs.Str.{is_utf8}
@@ -16,7 +17,7 @@ use Rattle.ob0_world_editor.specs.Shapes.{method_of, empty_at}
 
 -- ---- as a function: the message in a content, in which an ask is known by its number
 
--- Returns the number that a request has as its id. None if its id isn't a whole number that isn't
+-- Returns the number that a request has as its id. None if the id isn't a whole number, or is
 -- negative.
 abbrev pub request_number : Data → Option ℕ
 request_number (number (unsigned k)) = Some k
@@ -29,7 +30,7 @@ request_number (array ds) = None
 request_number (object ms) = None
 
 -- Returns the message to the server that a notification means. None for `exit`, for an unreadable
--- one without a uri, and for one that the server ignores.
+-- notification without a uri, and for a notification that the server ignores.
 abbrev pub notification_read : Notification → Option ToServer
 notification_read exits = None
 notification_read (opens uri version text) = Some (notifies (Opened uri version text))
@@ -39,7 +40,7 @@ notification_read (unreadable (Some uri)) = Some (notifies (Lost uri))
 notification_read (unreadable None) = None
 notification_read other = None
 
--- Returns the request with this number, as the editor sent it. None if there is none.
+-- Returns the request with this number as a message to the server. None if there is none.
 abbrev pub request_read : List SentAsk → ℕ → Option ToServer
 request_read requested k = option_map (λ a. requests k a.uri a.ask) (request_numbered requested k)
 
@@ -52,8 +53,8 @@ message_read requested not_json = None
 message_read requested not_a_message = None
 message_read requested response = None
 
--- Returns the message to the server in a content, if these asks were sent. None if it is no such
--- message.
+-- Returns the message to the server in a content, given the list of sent asks. None if the content
+-- isn't such a message.
 unfoldable pub heard : List SentAsk → List ℕ → Option ToServer
 heard requested content =
     if is_utf8 content
@@ -62,21 +63,21 @@ heard requested content =
 
 -- ---- as the server reads it
 
--- returns the notification for this event, as the server reads it
+-- returns the notification that the server reads for this event
 abbrev pub sent_as : DocumentEvent → Notification
 sent_as (Opened uri version text) = opens uri version text
 sent_as (Changed uri version all) = changes uri version all
 sent_as (Lost uri) = unreadable (Some uri)
 sent_as (Closed uri) = closes uri
 
--- returns the request for this ask, as the server reads it
+-- returns the request that the server reads for this ask about the document with this uri
 abbrev pub call_for : List ℕ → Ask → wire.ClientRequest
 call_for uri (rename position name) = wire.rename (record { uri = uri; position = position }) name
 call_for uri (inline_here position) = wire.code_action uri (empty_at position) None
 call_for uri (inline_all position) = wire.code_action uri (empty_at position) None
 call_for uri (format indent) = wire.formatting uri (indent_read indent)
 
--- holds if the event's version, if it has one, fits into a signed number of 64 bits
+-- holds if the event has no version, or its version fits into a signed number of 64 bits
 abbrev pub HasVersion : DocumentEvent → Type 0
 HasVersion (Opened uri version text) = as_i64 (of_integer version) ≡ Some version
 HasVersion (Changed uri version all) = as_i64 (of_integer version) ≡ Some version

@@ -1,5 +1,5 @@
--- Defines the messages that an editor writes, as JSON values (LSP 3.17).
--- Members are in byte order of their names.
+-- Defines the messages that an editor writes, as JSON values (LSP 3.17). The comments show the
+-- JSON. Members are in the order of the bytes of their names.
 -- Rule: LSP 3.17, notifications and requests of a client; docs/PROTOCOL.md, JSON shapes 4.
 use Rattle.std.specs.Prelude.{ℕ, List, true, false, Bool, Option, Some, None, codes, string_bytes}
 use Rattle.serde_json.specs.Data.{Data, boolean, number, array, object, unsigned, no_items, member, no_members}
@@ -12,7 +12,7 @@ use Rattle.ob0_text.specs.declared.edits.Indent.TheVariants.{Tab, Spaces}
 use Rattle.ob0_rpc.specs.Shapes.{text, json_rpc, position_value, range_value}
 use Rattle.ob0_world_rules.specs.Asks.{Ask, rename, inline_here, inline_all, format}
 
--- {"id":k,"jsonrpc":"2.0","method":M,"params":P}
+-- returns a request with the number k as its id: {"id":k,"jsonrpc":"2.0","method":M,"params":P}
 abbrev pub request_message : ℕ → List ℕ → Data → Data
 request_message k method params =
     object (member (codes "id") (number (unsigned k)) (member (codes "jsonrpc") json_rpc
@@ -20,6 +20,7 @@ request_message k method params =
 
 -- ---- notifications
 
+-- Returns a document that is opened:
 -- {"languageId":"oberon-0","text":t,"uri":u,"version":v}
 abbrev pub opened_value : List ℕ → ℕ → List ℕ → Data
 opened_value uri version contents =
@@ -28,12 +29,12 @@ opened_value uri version contents =
     (member (codes "uri") (text uri)
     (member (codes "version") (number (unsigned version)) no_members))))
 
--- {"textDocument":{..}}, for an opened document
+-- returns the params of `textDocument/didOpen`: {"textDocument":{..}}
 abbrev pub open_params : List ℕ → ℕ → List ℕ → Data
 open_params uri version contents =
     object (member (codes "textDocument") (opened_value uri version contents) no_members)
 
--- {"range":R,"text":t}; if the whole text changes, without `range`
+-- returns a change: {"range":R,"text":t}, or {"text":t} if the whole text is replaced
 abbrev pub change_object : Option Range → List ℕ → Data
 change_object (Some range) new =
     object (member (codes "range") (range_value range.start range.end)
@@ -44,29 +45,30 @@ change_object None new = object (member (codes "text") (text new) no_members)
 abbrev pub change_value : Change → Data
 change_value c = change_object c.range (string_bytes c.text)
 
--- {"uri":u,"version":v}
+-- returns a document's identifier with a version: {"uri":u,"version":v}
 abbrev pub versioned_value : List ℕ → ℕ → Data
 versioned_value uri version =
     object (member (codes "uri") (text uri)
     (member (codes "version") (number (unsigned version)) no_members))
 
+-- Returns the params of `textDocument/didChange`:
 -- {"contentChanges":[C,..],"textDocument":{"uri":u,"version":v}}
 abbrev pub change_params : List ℕ → ℕ → List Data → Data
 change_params uri version changes =
     object (member (codes "contentChanges") (array (items_of changes))
     (member (codes "textDocument") (versioned_value uri version) no_members))
 
--- {"uri":u}
+-- returns a document's identifier: {"uri":u}
 abbrev pub document_value : List ℕ → Data
 document_value uri = object (member (codes "uri") (text uri) no_members)
 
--- {"textDocument":{"uri":u}}
+-- returns the params of `textDocument/didClose`: {"textDocument":{"uri":u}}
 abbrev pub close_params : List ℕ → Data
 close_params uri = object (member (codes "textDocument") (document_value uri) no_members)
 
 -- ---- asks
 
--- {"newName":n,"position":P,"textDocument":{"uri":u}}
+-- returns the params of a rename: {"newName":n,"position":P,"textDocument":{"uri":u}}
 abbrev pub rename_params : List ℕ → Position → List ℕ → Data
 rename_params uri position name =
     object (member (codes "newName") (text name) (member (codes "position")
@@ -76,10 +78,11 @@ rename_params uri position name =
 abbrev pub empty_at : Position → Range
 empty_at position = record { start = position; end = position }
 
--- {"diagnostics":[]}
+-- the context of a request for code actions: {"diagnostics":[]}
 abbrev pub diagnostics_of_none : Data
 diagnostics_of_none = object (member (codes "diagnostics") (array no_items) no_members)
 
+-- Returns the params of a request for the code actions at a position:
 -- {"context":{"diagnostics":[]},"range":R,"textDocument":{"uri":u}}
 abbrev pub actions_params : List ℕ → Position → Data
 actions_params uri position =
@@ -87,18 +90,18 @@ actions_params uri position =
     (member (codes "range") (range_value position position)
     (member (codes "textDocument") (document_value uri) no_members)))
 
--- {"insertSpaces":b,"tabSize":n}
+-- returns formatting options: {"insertSpaces":b,"tabSize":n}
 abbrev pub options_by : Bool → ℕ → Data
 options_by spaces size =
     object (member (codes "insertSpaces") (boolean spaces)
     (member (codes "tabSize") (number (unsigned size)) no_members))
 
--- returns formatting options as a JSON value
+-- returns the formatting options for an indent, as a JSON value
 abbrev pub options_value : Indent → Data
 options_value Tab = options_by false 1
 options_value (Spaces n) = options_by true n
 
--- {"options":{..},"textDocument":{"uri":u}}
+-- returns the params of a formatting request: {"options":{..},"textDocument":{"uri":u}}
 abbrev pub formatting_params : List ℕ → Indent → Data
 formatting_params uri indent =
     object (member (codes "options") (options_value indent)

@@ -1,5 +1,5 @@
--- Defines the message to the editor in a content. It is a publication, or the answer to a request,
--- which is read according to the request.
+-- Defines the message to the editor in a content. The message is a publication or an answer. An
+-- answer is read according to its request.
 -- Rule: docs/PROTOCOL.md, JSON shapes 2.
 use Rattle.std.specs.Prelude.{ℕ, ℤ, List, [], ◌∷◌, Bool, true, false, Option, Some, None, is_some, option_and_then, option_map, unwrap_or, if◌then◌else◌, codes}
 use Rattle.std.specs.Str.{bytes_eq, chars, is_utf8}
@@ -15,7 +15,7 @@ use Rattle.ob0_world_editor.specs.Heard.{request_number}
 
 -- ---- publications
 
--- true if a text exists and is this one
+-- true if the found text exists and equals the given text
 abbrev pub is_text : List ℕ → Option (List ℕ) → Bool
 is_text text (Some found) = bytes_eq found text
 is_text text None = false
@@ -56,15 +56,17 @@ abbrev pub edits_in : Items → Option (List Replacement)
 edits_in no_items = Some []
 edits_in (item d ds) = option_and_then (λ e. option_map (λ es. e ∷ es) (edits_in ds)) (edit_in d)
 
--- Returns the list of edits of a document in a WorkspaceEdit, or None. If there are
--- `documentChanges`, it has the edits of the first. Otherwise `changes` has the edits of each uri.
+-- Returns the list of edits of the document with this uri in a WorkspaceEdit. If `documentChanges`
+-- exist (the third argument), the list is in the first of them. Otherwise it is in `changes`, under
+-- the uri. None if there is no such list.
 abbrev pub document_items : List ℕ → Data → Option Data → Option Items
 document_items uri edit (Some documents) =
     option_and_then as_array (option_and_then (get (codes "edits")) (at 0 documents))
 document_items uri edit None =
     option_and_then as_array (option_and_then (get uri) (get (codes "changes") edit))
 
--- the same by the members of the WorkspaceEdit
+-- Returns the list of edits of the document with this uri in a WorkspaceEdit. None if there is no
+-- such list.
 abbrev pub workspace_items : List ℕ → Data → Option Items
 workspace_items uri edit = document_items uri edit (get (codes "documentChanges") edit)
 
@@ -74,22 +76,24 @@ titled_action title no_items = None
 titled_action title (item d ds) =
     if is_text title (text_member (codes "title") d) then Some d else titled_action title ds
 
--- Returns the list of edits of the first action with this title. None if there is none.
+-- Returns the list of edits of the document with this uri in the first action with this title. None
+-- if there is no such list.
 abbrev pub action_items : List ℕ → List ℕ → Data → Option Items
 action_items title uri value =
     option_and_then (workspace_items uri)
     (option_and_then (get (codes "edit")) (option_and_then (titled_action title) (as_array value)))
 
--- Returns the list of edits in the result of an ask, or None. The result of a rename is a
--- WorkspaceEdit. An inlining has a list of actions, one of which has the title that was asked for.
--- A formatting has a list of edits.
+-- Returns the list of edits in the result of an ask, or None if there is none. The result of a
+-- rename is a WorkspaceEdit. The result of an inlining is a list of actions, of which the ask
+-- selects one by its title. The result of a formatting is the list of edits.
 abbrev pub items_for : List ℕ → Ask → Data → Option Items
 items_for uri (rename position name) value = workspace_items uri value
 items_for uri (inline_here position) value = action_items (codes "Inline here") uri value
 items_for uri (inline_all position) value = action_items (codes "Inline everywhere") uri value
 items_for uri (format indent) value = as_array value
 
--- Returns the edits of an answer. A refusal, null and edits that can't be read give an empty list.
+-- Returns the edits of an answer. The list is empty for a refusal, for null, and if an edit can't
+-- be read.
 abbrev pub edits_for : List ℕ → Ask → Data → List Replacement
 edits_for uri ask answer =
     unwrap_or
@@ -124,13 +128,14 @@ value_read number_of requested d =
     if is_some (get (codes "method") d)
     then notice_understood d else answer_read number_of requested d
 
--- Returns the message to the editor in a content, if these asks were sent. `number_of` finds an
+-- Returns the message to the editor in a content, given the list of sent asks. `number_of` finds an
 -- ask's number from the id of its answer.
 unfoldable pub read_so : (Data → Option ℕ) → List SentAsk → List ℕ → Option ToEditor
 read_so number_of requested content =
     if is_utf8 content
     then option_and_then (value_read number_of requested) (read content) else None
 
--- returns the message to the editor in a content, if each ask has its number as its id
+-- returns the message to the editor in a content, for an editor that uses each ask's number as the
+-- request's id
 abbrev pub understood : List SentAsk → List ℕ → Option ToEditor
 understood requested content = read_so request_number requested content

@@ -1,4 +1,4 @@
-//! The result of applying an answer.
+//! Defines applied edits, and the result of applying an answer.
 ghost use Rattle.std.specs.Prelude.{◌≡◌, IfOk, string_bytes};
 ghost use Rattle.std.specs.Str.{chars};
 ghost use Rattle.ob0_world_editor.specs.Code.{applied_of};
@@ -18,14 +18,14 @@ pub struct Applied {
 pub enum Applying {
     /// The editor has no answer with this number.
     NotHeld,
-    /// The answer was discarded: its document isn't the one that was asked about any more, or two edits share a
-    /// character.
+    /// The answer was discarded: its document has been changed, closed or reopened since the
+    /// request, or two edits share a character.
     Dropped,
-    /// The edits were made. The content is the notification that tells the server.
+    /// The edits were made. The content is the notification of the new text for the server.
     Made { applied: Applied, content: Vec<u8> },
 }
 
-/// Returns an applied edit with copies of the uri and the text before. `after` is the text after it.
+/// Returns the record of an applied edit, with copies of the uri and of the text before it.
 pub fn applied_edit(
     alloc: Global,
     uri: &str,

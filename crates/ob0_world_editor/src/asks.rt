@@ -1,4 +1,4 @@
-//! The requests of an editor whose answers it may apply.
+//! Defines the asks: the requests whose answers an editor may apply.
 ghost use Rattle.std.specs.Prelude.{◌≡◌, IfOk};
 ghost use Rattle.ob0_world_editor.specs.Code.{ask_of};
 

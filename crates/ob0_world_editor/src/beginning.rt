@@ -10,8 +10,9 @@ use ob0_rpc::{OneMember, WriteJson, content_of};
 use ob0_text::Unit;
 use std::alloc::{AllocError, Global};
 
-/// Returns the request that begins a conversation, as the content of a message. The client accepts edits with document
-/// versions, and literal code actions. It offers UTF-8 if the editor counts positions in bytes of UTF-8.
+/// Returns the content of the request `initialize`, which begins a conversation. The client
+/// declares that it accepts edits with document versions and literal code actions. It offers UTF-8
+/// if the editor counts positions in bytes of UTF-8.
 pub fn initialize(alloc: Global, unit: Unit) -> Result<Vec<u8>, AllocError>
     ensures { IfOk result (λ content. ReadsContent content.items (Some (initialize_message unit))) }
 {

@@ -1,4 +1,4 @@
-//! The documents that are open in the editor.
+//! Stores the documents that are open in the editor.
 ghost use Rattle.std.specs.Prelude.{◌≡◌, pos, IfOk, OnErr, OnOk};
 ghost use Rattle.std.specs.Option.{option_map};
 ghost use Rattle.std.specs.Str.{chars};
@@ -72,7 +72,8 @@ impl OpenDocuments {
         self.by_uri.get(uri)
     }
 
-    /// Opens a document, or replaces an open one. If an allocation fails, the documents are unchanged.
+    /// Opens a document, or replaces an open one. If an allocation fails, the documents are
+    /// unchanged.
     pub fn put(&mut self, alloc: Global, uri: &str, document: Open) -> Result<(), AllocError>
         ensures ok { OnOk result
             (self.new ≡ map_of.insert self.old uri.now (open_document document)) }

@@ -1,11 +1,13 @@
-//! Models an editor that talks to a server: its documents, its requests and the answers that it has.
+//! Models an editor that talks to a server: its documents, its requests and the answers that it
+//! has.
 //!
-//! An error leaves the editor unchanged. Contents and copies are made first, inserting into the map is the last step
-//! that can fail, and the count of openings rises after it. Only `apply` removes its answer first, so an error leaves
-//! the editor without that answer.
+//! If a call returns an error, the editor is unchanged. Contents and copies are made first, the
+//! insertion into the map is the last step that can fail, and the number of openings is increased
+//! after it. The exception is `apply`, which first removes the answer. So after an error in `apply`
+//! the editor no longer has that answer.
 //!
-//! A document's text is a `String`. A text store is made for each change or edit, so the editor needs no invariant on
-//! units.
+//! A document's text is a `String`, and a text store is made for each change or edit. So the editor
+//! needs no invariant about the units of its stores.
 ghost use Rattle.std.specs.Prelude.{◌≡◌, IfOk, OnOk, OnErr, map, option_map, is_some, ◌<◌, ◌-◌, ◌^◌, pos, string_bytes};
 ghost use Rattle.std.specs.Str.{chars};
 ghost use Rattle.ob0_text.specs.OpenDocuments.{change_in_text};
@@ -28,7 +30,7 @@ use ob0_text::{Change, Edit, Unit, Whole};
 use std::alloc::{AllocError, Global};
 use std::marker::Model;
 
-/// A request that was sent, with the state that its document had then.
+/// A request that was sent, with the document's uri, text, opening and version at that time.
 #[derive(Drop)]
 pub struct SentAsk {
     pub ask: Ask,
@@ -45,7 +47,8 @@ pub struct HeldAnswer {
     pub edits: Vec<Edit>,
 }
 
-/// A document's new text (`applied.after`), with its new version and its opening.
+/// An applied edit (`applied.after` is the new text of the document), with the document's new
+/// version and its opening.
 #[derive(Drop)]
 struct Rewritten {
     applied: Applied,
@@ -53,7 +56,8 @@ struct Rewritten {
     opening: u64,
 }
 
-/// An editor, which counts positions in its unit.
+/// An editor: its open documents, the requests that it has sent, and the answers that it has. It
+/// counts positions in `unit`.
 #[derive(Drop)]
 pub struct Editor {
     alloc: Global,
@@ -99,8 +103,8 @@ impl Editor {
         }
     }
 
-    /// Opens a document, and returns the content of the notification. None if the document is open already. On an error
-    /// the editor is unchanged.
+    /// Opens a document, and returns the content of the notification. None if the document is open
+    /// already. On an error the editor is unchanged.
     pub fn open(&mut self, uri: &str, text: &str) -> Result<Option<Vec<u8>>, AllocError>
         requires { AreFew self.old }
         ensures ok { IfOk result (λ content. Acts
@@ -118,8 +122,8 @@ impl Editor {
         Ok(Some(content))
     }
 
-    /// Changes a document, and returns the content of the notification. None if the document isn't open. On an error
-    /// the editor is unchanged.
+    /// Changes a document, and returns the content of the notification. None if the document isn't
+    /// open. On an error the editor is unchanged.
     pub fn change(&mut self, uri: &str, changes: &[Change]) -> Result<Option<Vec<u8>>, AllocError>
         requires { AreFew self.old }
         ensures ok { IfOk result (λ content. Acts
@@ -143,8 +147,8 @@ impl Editor {
         Ok(Some(content))
     }
 
-    /// Closes a document, and returns the content of the notification. None if the document isn't open. On an error the
-    /// editor is unchanged.
+    /// Closes a document, and returns the content of the notification. None if the document isn't
+    /// open. On an error the editor is unchanged.
     pub fn close(&mut self, uri: &str) -> Result<Option<Vec<u8>>, AllocError>
         ensures ok { IfOk result
             (λ content. Acts (done_by self.old (close_document uri.now)) content self.new) }
@@ -158,8 +162,8 @@ impl Editor {
         Ok(Some(content))
     }
 
-    /// Asks about a document, and returns the content of the request. None if the document isn't open. On an error the
-    /// editor is unchanged.
+    /// Asks about a document, and returns the content of the request. None if the document isn't
+    /// open. On an error the editor is unchanged.
     pub fn ask(&mut self, uri: &str, ask: &Ask) -> Result<Option<Vec<u8>>, AllocError>
         requires { AreFew self.old }
         ensures ok { IfOk result (λ content. Acts
@@ -176,7 +180,8 @@ impl Editor {
         Ok(Some(content))
     }
 
-    /// Reads a content of the server, and changes nothing. None if it isn't a message for this editor.
+    /// Returns the message in a content that the server has sent. None if the content is no message
+    /// for this editor.
     pub fn read(&self, content: &[u8]) -> Result<Option<Message>, AllocError>
         ensures { IfOk result
             (λ found. option_map message_of found ≡ understood self.now.requested content.now) }
@@ -184,7 +189,8 @@ impl Editor {
         read_message(self.alloc, self.requested.as_slice(), content)
     }
 
-    /// Keeps an answer if it has edits, and returns whether it has any. On an error the editor is unchanged.
+    /// Keeps an answer if it has edits, and returns true if it has. On an error the editor is
+    /// unchanged.
     pub fn keep(&mut self, number: u64, edits: Vec<Edit>) -> Result<bool, AllocError>
         ensures kept { OnOk result
             (self.new ≡ reads self.old (answers number (replacements edits.items))) }
@@ -198,9 +204,10 @@ impl Editor {
         Ok(true)
     }
 
-    /// Makes the edits of answer `k`, and returns the applied edit with the content of the notification. If the
-    /// document's opening or version has changed since the request, or two edits share a character, nothing is made. In
-    /// every case, also on an error, the editor no longer has the answer.
+    /// Makes the edits of answer `k`, and returns the applied edit with the content of the
+    /// notification. If the document's opening or version has changed since the request, or two
+    /// edits share a character, no edit is made. The editor no longer has the answer after the
+    /// call, even after an error.
     pub fn apply(&mut self, k: u64) -> Result<Applying, AllocError>
         requires { AreFew self.old }
         ensures ok { IfOk result (λ applying. ComesOf (done_by self.old (apply k))
@@ -218,7 +225,7 @@ impl Editor {
         }
     }
 
-    /// Discards answer `k`, and returns whether the editor had it.
+    /// Discards answer `k`, and returns true if the editor had it.
     pub fn discard(&mut self, k: u64) -> bool
         ensures held { result ≡ is_some (kept_answer k self.old.answers) }
         ensures after { self.new ≡ without_answer self.old k }
@@ -236,8 +243,9 @@ impl Editor {
         Some(answer.edits)
     }
 
-    /// Returns the new text of the document of request `k`, with these edits made. None if its opening or version has
-    /// changed since the request, or if two edits share a character.
+    /// Returns the new text of the document of request `k`, with these edits made. None if there is
+    /// no such document, if its opening or version has changed since the request, or if two edits
+    /// share a character.
     fn rewrite(&self, k: u64, edits: &[Edit]) -> Result<Option<Rewritten>, AllocError>
         requires { AreFew self.now }
         ensures { IfOk result (λ rewritten.
@@ -255,7 +263,8 @@ impl Editor {
         self.rewrite_document(requested.uri.as_str(), document, edits)
     }
 
-    /// Returns the new text of a document, with these edits made. None if two edits share a character.
+    /// Returns the new text of a document, with these edits made. None if two edits share a
+    /// character.
     fn rewrite_document(
         &self,
         uri: &str,
@@ -281,8 +290,8 @@ impl Editor {
         }))
     }
 
-    /// Stores a document's new text, and returns the applied edit with the content of the notification. On an error the
-    /// editor is unchanged.
+    /// Stores a document's new text, and returns the applied edit with the content of the
+    /// notification. On an error the editor is unchanged.
     fn make(&mut self, rewritten: Rewritten) -> Result<Applying, AllocError>
         requires { rewritten.version < 2 ^ 63 }
         ensures ok { IfOk result (λ applying. IsAppliedAs self.old rewritten applying self.new) }
@@ -295,8 +304,8 @@ impl Editor {
         })
     }
 
-    /// Stores a copy of a document's new text, and returns the content of the notification. On an error the editor is
-    /// unchanged.
+    /// Stores a copy of a document's new text, and returns the content of the notification. On an
+    /// error the editor is unchanged.
     fn take_text(&mut self, rewritten: &Rewritten) -> Result<Vec<u8>, AllocError>
         requires { rewritten.now.version < 2 ^ 63 }
         ensures ok { IfOk result
@@ -313,7 +322,8 @@ impl Editor {
     }
 }
 
-/// Returns a request about a document, with copies of the ask, the uri and the document's present state.
+/// Returns a request about a document, with copies of the ask, the uri and the document's present
+/// state.
 fn sent_ask(alloc: Global, ask: &Ask, uri: &str, document: &Open) -> Result<SentAsk, AllocError>
     ensures { IfOk result (λ sent. requested_of sent ≡ record {
       ask = ask_of ask.now;

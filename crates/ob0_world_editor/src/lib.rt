@@ -1,5 +1,5 @@
-//! A model of an LSP client: its documents, its requests, the messages that it writes, and how it reads a server's
-//! messages.
+//! Models an LSP client: its documents, its requests, the messages that it writes, and the server's
+//! messages that it reads.
 #![tactic(auto)]
 
 mod applied;

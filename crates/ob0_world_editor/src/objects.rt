@@ -1,10 +1,12 @@
-//! Writes JSON objects of two and three members. Names of members are written unescaped, so they must need no escape.
+//! Writes JSON objects of two and three members. The names of members are written without escapes,
+//! so they mustn't contain a character that needs one.
 //!
-//! The editor's messages are types that write themselves. An object with one member is a `OneMember`. One with two or
-//! three members is written by one call of a function here, and its proof applies `object_of` to that call's clause.
+//! The editor's messages are types that write themselves. An object with one member is a
+//! `OneMember`. An object with two or three members is written by one call of a function of
+//! this file. The proof of the writer applies `object_of` to the clause of that call.
 //!
-//! A `?` costs most of a check. So no `write` has one, except for objects with four members and for the list of
-//! changes.
+//! Each `?` makes the proof much slower. So a `write` has none, except for objects with four
+//! members and for the list of changes.
 ghost use Rattle.std.specs.Prelude.{OnOk};
 ghost use Rattle.serde_json.specs.Data.{member, no_members};
 ghost use Rattle.ob0_rpc.specs.Appending.{AppendsMembers};
@@ -12,7 +14,7 @@ ghost use Rattle.ob0_rpc.specs.Appending.{AppendsMembers};
 use ob0_rpc::{WriteJson, end_object, first_member, next_member};
 use std::alloc::AllocError;
 
-/// Writes an object of two members.
+/// Appends a JSON object of two members to `out`.
 pub fn two_members<A: WriteJson, B: WriteJson>(
     out: &mut Vec<u8>,
     name: &str,
@@ -29,7 +31,7 @@ pub fn two_members<A: WriteJson, B: WriteJson>(
     end_object(out)
 }
 
-/// Writes an object of three members.
+/// Appends a JSON object of three members to `out`.
 pub fn three_members<A: WriteJson, B: WriteJson, C: WriteJson>(
     out: &mut Vec<u8>,
     name: &str,

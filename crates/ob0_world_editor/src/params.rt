@@ -1,4 +1,5 @@
-//! The JSON values of an editor's messages (LSP 3.17), as types that write themselves.
+//! Defines types for the JSON values of an editor's messages (LSP 3.17). Each value writes itself
+//! as JSON.
 ghost use Rattle.std.specs.Prelude.{◌≡◌, false, Some, None, OnOk, codes, map};
 ghost use Rattle.serde_json.specs.Data.{array, member, no_members, object};
 ghost use Rattle.serde_json.specs.View.{items_of};
@@ -13,7 +14,7 @@ use ob0_rpc::{
 use ob0_text::{Change, Indent, Position, Range};
 use std::alloc::AllocError;
 
-/// A JSON-RPC request.
+/// A JSON-RPC request. `I` is the type of its id.
 #[derive(Drop)]
 pub struct Request<'a, I, P> {
     pub id: I,
@@ -107,7 +108,7 @@ impl<'a> WriteJson for ContentChange<'a> {
     }
 }
 
-/// The changes of a document, in order.
+/// The changes of a document, in order, as a JSON array.
 #[derive(Drop)]
 pub struct ContentChanges<'a> {
     pub changes: &'a [Change],
@@ -137,7 +138,8 @@ fn write_changes(out: &mut Vec<u8>, changes: &[Change]) -> Result<(), AllocError
     Ok(())
 }
 
-/// The params of a `textDocument/didChange`: the changes, and the version that they make.
+/// The params of a `textDocument/didChange`: the changes, and the document with its version after
+/// them.
 #[derive(Drop)]
 pub struct DidChangeParams<'a, C> {
     pub changes: C,
@@ -216,7 +218,7 @@ impl<'a> WriteJson for CodeActionParams<'a> {
     }
 }
 
-/// The width of a level of indentation, as formatting options.
+/// The formatting options for one level of indentation: spaces or tabs, and how many spaces.
 #[derive(Drop)]
 pub struct FormattingOptions {
     pub insert_spaces: bool,

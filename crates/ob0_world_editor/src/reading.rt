@@ -1,4 +1,4 @@
-//! Reads a server's messages.
+//! Reads the server's messages: publications, and answers to asks.
 ghost use Rattle.std.specs.Prelude.{◌≡◌, IfOk, codes, option_map, option_and_then, map};
 ghost use Rattle.serde_json.specs.Find.{get, as_number, as_i64, as_array};
 ghost use Rattle.serde_json.specs.View.{view, items_view};
@@ -16,7 +16,7 @@ use ob0_text::Edit;
 use serde_json::Value;
 use std::alloc::{AllocError, Global};
 
-/// A message of a server.
+/// A message of the server that the editor uses: a publication, or the answer to an ask.
 #[derive(Drop)]
 pub enum Message {
     Published {
@@ -31,7 +31,8 @@ pub enum Message {
     },
 }
 
-/// Reads a content, if these asks were sent. None if it is neither a publication nor the answer to one of the asks.
+/// Returns the message in a content, given the list of sent asks. None if it is neither a
+/// publication nor the answer to one of these asks.
 pub fn read_message(
     alloc: Global,
     requested: &[SentAsk],
@@ -158,8 +159,8 @@ pub fn numbered_ask(requested: &[SentAsk], number: u64) -> Option<&SentAsk>
     }
 }
 
-/// Returns the edits in the answer to an ask about this document. The list is empty if the answer has no edits that can
-/// be read.
+/// Returns the edits in the answer to an ask about this document. The list is empty if the answer
+/// has no edits, or if one of them can't be read.
 fn read_edits(alloc: Global, uri: &str, ask: &Ask, answer: &Value) -> Result<Vec<Edit>, AllocError>
     ensures { IfOk result
         (λ edits. replacements edits.items
@@ -195,8 +196,9 @@ fn answered_values<'v>(uri: &str, ask: &Ask, answer: &'v Value) -> Option<&'v Ve
     }
 }
 
-/// Returns the list of edits of this document in a WorkspaceEdit. If there are `documentChanges`, it has the edits of
-/// the first. Otherwise `changes` has the edits of each uri. None if there is none.
+/// Returns the list of edits of this document in a WorkspaceEdit. If the WorkspaceEdit has
+/// `documentChanges`, the list is in the first of them. Otherwise it is in `changes`, under the
+/// uri. None if there is no such list.
 fn workspace_values<'v>(edit: &'v Value, uri: &str) -> Option<&'v Vec<Value>>
     ensures { option_map (λ v. items_view v.now.items) result
         ≡ workspace_items uri.now (view edit.now) }
@@ -207,7 +209,8 @@ fn workspace_values<'v>(edit: &'v Value, uri: &str) -> Option<&'v Vec<Value>>
     }
 }
 
-/// Returns the list of edits of this document in the first action with this title. None if there is none.
+/// Returns the list of edits of this document in the first action with this title. None if there is
+/// no such list.
 fn action_values<'v>(actions: &'v Value, title: &str, uri: &str) -> Option<&'v Vec<Value>>
     ensures { option_map (λ v. items_view v.now.items) result
         ≡ action_items title.now uri.now (view actions.now) }
@@ -240,7 +243,7 @@ fn has_text(value: &Value, name: &str, text: &str) -> bool
 
 // ---- edits
 
-/// Reads all edits of a list. None if one of them can't be read.
+/// Returns all edits of a list of JSON values. None if one of them can't be read.
 fn edits_of(alloc: Global, values: &[Value]) -> Result<Option<Vec<Edit>>, AllocError>
     ensures { IfOk result (λ found. option_map (λ edits. replacements edits.items) found
         ≡ edits_in (items_view values.now)) }

@@ -9,7 +9,8 @@ ghost use Rattle.ob0_world_rules.specs.Edited.{replacements};
 use ob0_text::{Change, Edit, PatchFault, TextStore, Unit, patch};
 use std::alloc::{AllocError, Global};
 
-/// Returns the text after changes, each made in the result of the one before. Positions count in this unit.
+/// Returns the text after these changes, each made in the result of the one before. Positions are
+/// counted in this unit.
 pub fn apply_changes<T: TextStore>(
     alloc: Global,
     unit: Unit,

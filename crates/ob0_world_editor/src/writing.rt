@@ -29,7 +29,7 @@ pub fn did_open(alloc: Global, uri: &str, version: u64, text: &str) -> Result<Ve
     notify(alloc, "textDocument/didOpen", &OneMember { key, value })
 }
 
-/// Returns the content of the notification that a document was changed by these changes.
+/// Returns the content of the notification that these changes were made in a document.
 pub fn did_change(
     alloc: Global,
     uri: &str,
@@ -49,7 +49,8 @@ pub fn did_change(
     )
 }
 
-/// Returns the content of the notification that a document was changed to this whole text.
+/// Returns the content of the notification that the whole text of a document was replaced by this
+/// text.
 pub fn did_rewrite(
     alloc: Global,
     uri: &str,
@@ -79,8 +80,8 @@ pub fn did_close(alloc: Global, uri: &str) -> Result<Vec<u8>, AllocError>
     notify(alloc, "textDocument/didClose", &OneMember { key, value })
 }
 
-/// Returns the content of the request for an ask about a document. Both ways of inlining request the code actions at
-/// their position.
+/// Returns the content of the request for an ask about a document. Both ways of inlining request
+/// the code actions at their position.
 pub fn request(alloc: Global, number: u64, uri: &str, ask: &Ask) -> Result<Vec<u8>, AllocError>
     ensures { IfOk result (λ content. IsRequest number uri.now (ask_of ask.now) content.items) }
 {

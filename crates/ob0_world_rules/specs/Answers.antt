@@ -22,15 +22,16 @@ use Rattle.ob0_world_rules.specs.Asks.{Ask, rename, inline_here, inline_all, for
 abbrev pub place_at : Unit → List ℕ → Position → ℕ
 place_at unit text position = offset_of (width_of unit) text position
 
--- holds if these edits inline the constant that is named at a position, here or everywhere
+-- Holds if these edits inline the constant whose name is at this position: only there, or
+-- everywhere.
 abbrev pub InlinesAt : Inlining → Unit → List ℕ → Position → List Edit → Type 0
 InlinesAt how unit text position edits =
     (found : Vec Edit Global)
     × InlinesIn how unit text (place_at unit text position) found
     × (edits ≡ found.items)
 
--- Holds if these edits are the requested ones. They write the new name, inline a constant here or
--- everywhere, or format the text.
+-- Holds if these edits do what the ask requests: rename, inline a constant here or everywhere, or
+-- format the text.
 abbrev pub GivesEdits : Unit → List ℕ → Ask → List Edit → Type 0
 GivesEdits unit text (rename position name) edits = RenamesIn unit text position name edits
 GivesEdits unit text (inline_here position) edits = InlinesAt Here unit text position edits
@@ -48,15 +49,15 @@ Refuses unit text (inline_all position) =
     IsNotInlinedIn Everywhere unit text (place_at unit text position)
 Refuses unit text (format indent) = IsTooLongLaidOut (indent_read indent) text
 
--- Holds if this is the answer about a text. It has the requested edits, or no edits if the request
--- is refused or the text isn't a well-typed module.
+-- Holds if `given` is an answer to the ask about this text. It has the requested edits, or no edits
+-- if the request is refused or the text isn't a well-typed module.
 abbrev pub AnswersFor : Unit → List ℕ → Ask → List Replacement → Type 0
 AnswersFor unit text ask given =
     ((edits : List Edit) × GivesEdits unit text ask edits × (given ≡ replacements edits))
     ⊎ ((Refuses unit text ask ⊎ ¬ WellTypedText text) × (given ≡ []))
 
--- Holds if this is the answer about a document. It has no edits if the document isn't open or is
--- out of step.
+-- Holds if `given` is an answer to the ask about this document. It has no edits if the document
+-- isn't open or is out of step.
 abbrev pub IsAnswer : Unit → Option Document → Ask → List Replacement → Type 0
 IsAnswer unit (Some (InStep version text)) ask given = AnswersFor unit text ask given
 IsAnswer unit (Some OutOfStep) ask given = given ≡ []

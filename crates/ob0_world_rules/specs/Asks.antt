@@ -10,13 +10,14 @@ use Rattle.ob0_text.specs.Indents.{level_spaces}
 pub data Ask : Type 0 where
   -- renames the declaration or field named at this position; the bytes are the new name
   rename : Position → List ℕ → Ask
-  -- replaces the constant's use at this position, or all its uses, by its value
+  -- `inline_here` replaces the constant's use at this position by its value; `inline_all` replaces
+  -- all uses and removes the declaration
   inline_here : Position → Ask
   inline_all : Position → Ask
   format : Indent → Ask
 
--- Returns the indent that is used. A count of spaces is brought into the range that a level may
--- have.
+-- Returns the indent that the server uses. A count of spaces outside the allowed range is replaced
+-- by the nearest allowed one (`level_spaces`).
 abbrev pub indent_read : Indent → Indent
 indent_read Tab = Tab
 indent_read (Spaces n) = Spaces (level_spaces n)

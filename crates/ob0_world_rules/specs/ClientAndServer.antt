@@ -11,7 +11,7 @@ use Rattle.ob0_world_rules.specs.Asks.{Ask}
 
 -- ---- the editor
 
--- a document that is open in the editor; each opening has its own number
+-- a document that is open in the editor: its version, its text, and the number of its opening
 pub record Open : Type 0 where
   pub version : ℤ
   pub text : List ℕ
@@ -21,8 +21,7 @@ pub record Open : Type 0 where
 abbrev pub EditorDocuments : Type 0
 EditorDocuments = map_of.FinMap (slice_cmp nat_cmp) Open
 
--- a request that was sent, with its document and that document's text, opening and version at that
--- time
+-- a request that was sent: the ask, and the document's uri, text, opening and version at that time
 pub record SentAsk : Type 0 where
   pub ask : Ask
   pub uri : List ℕ
@@ -51,12 +50,12 @@ abbrev pub new_editor : Unit → Editor
 new_editor unit =
     record { unit = unit; documents = map_of.empty; openings = 0; requested = []; answers = [] }
 
--- returns the request with this number, counted from 1
+-- returns the request with this number, counted from 1; None if there is no such request
 abbrev pub request_numbered : List SentAsk → ℕ → Option SentAsk
 request_numbered requested zero = None
 request_numbered requested (suc k) = slice_get requested k
 
--- returns the open document with this uri
+-- returns the open document with this uri; None if it isn't open
 abbrev pub open_at : Editor → List ℕ → Option Open
 open_at e uri = map_of.get e.documents uri
 

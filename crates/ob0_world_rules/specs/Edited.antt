@@ -1,4 +1,4 @@
--- Defines the text that results when edits and changes are made in a text.
+-- Defines the text after edits or changes.
 -- Rule: LSP 3.17, TextEdit[].
 use Rattle.std.specs.Prelude.{◌≡◌, ℕ, List, map, fold, Option, None, string_bytes}
 use Rattle.std.specs.Str.{chars}
@@ -14,11 +14,11 @@ pub record Replacement : Type 0 where
   pub range : Range
   pub text : List ℕ
 
--- returns an edit of the code as a replacement, with the characters of its text
+-- returns the replacement for an edit of the code's type `Edit`
 abbrev pub replacement_of : Edit → Replacement
 replacement_of e = record { range = e.range; text = chars (string_bytes e.text) }
 
--- returns edits of the code as replacements
+-- returns the replacements for edits of the code's type `Edit`
 abbrev pub replacements : List Edit → List Replacement
 replacements edits = map replacement_of edits
 
@@ -31,14 +31,16 @@ edited unit text edits =
 abbrev pub whole_text : List ℕ → TextChange
 whole_text text = record { range = None; text = text }
 
--- Returns a text after changes, of which each applies to the result of the one before. None if one
--- of them can't be made.
+-- Returns the text after these changes, each made in the result of the one before. None means that
+-- the text isn't known: a change of a range leaves it unknown, a change of the whole text makes it
+-- known.
 abbrev pub after_changes : Unit → Option (List ℕ) → List TextChange → Option (List ℕ)
 after_changes unit text changes = fold (changed_text unit) text changes
 
 -- ---- the law
 
--- states that edits of the code, made as replacements, give the text that they patch
+-- states that making edits of the code as replacements (`edited`) gives the same text as patching
+-- with them (`patched`)
 abbrev pub EditsArePatched : Type 0
 EditsArePatched =
     (unit : Unit) (text : List ℕ) (edits : List Edit)

@@ -8,37 +8,38 @@ use Rattle.ob0_world_rules.specs.Edited.{Replacement, edited, whole_text, after_
 use Rattle.ob0_world_rules.specs.Asks.{Ask}
 use Rattle.ob0_world_rules.specs.ClientAndServer.{Open, SentAsk, Answer, Editor, request_numbered, open_at, ToServer, notifies, requests, ToEditor, publishes, answers, Applied}
 
--- an act of the editor
+-- an act of the editor: about a document, or about an answer that the editor has
 pub data Act : Type 0 where
   -- the uri and the text
   open_document : List ℕ → List ℕ → Act
   change_document : List ℕ → List TextChange → Act
   close_document : List ℕ → Act
   ask_about : List ℕ → Ask → Act
-  -- applies the answer with this number, or discards it
+  -- `apply` applies the answer with this number, `discard` discards it
   apply : ℕ → Act
   discard : ℕ → Act
 
--- the result of an act: the editor, the messages that it sends, and the edits that it applied
+-- the result of an act: the editor after it, the messages that are sent, and the edits that are
+-- applied
 pub record Done : Type 0 where
   pub editor : Editor
   pub sent : List ToServer
   pub applied : List Applied
 
--- returns the result of an act that changes, sends and applies nothing
+-- returns the result of an act that sends and applies nothing and leads to this editor
 abbrev pub stays : Editor → Done
 stays e = record { editor = e; sent = []; applied = [] }
 
--- returns the result of an act that sends one message
+-- returns the result of an act that sends one message and leads to this editor
 abbrev pub sends : Editor → ToServer → List Applied → Done
 sends e message applied = record { editor = e; sent = message ∷ []; applied = applied }
 
--- returns the number that a version is. 0 if it is negative.
+-- returns a version as a natural number: 0 if the version is negative
 abbrev pub counted : ℤ → ℕ
 counted (pos n) = n
 counted (negsuc n) = 0
 
--- returns the version that this editor gives a document after one with this version
+-- returns the version that follows this one: greater by 1, or 1 after a negative version
 abbrev pub next_version : ℤ → ℤ
 next_version version = pos (counted version + 1)
 
@@ -56,8 +57,8 @@ opens e uri text =
     sends (record e { documents = map_of.insert e.documents uri d; openings = e.openings + 1 })
     (notifies (Opened uri (pos 1) text)) []
 
--- returns the result of giving an open document this text and the next version; the changes are
--- sent
+-- returns the result of giving an open document this text and the next version, and sending the
+-- changes
 abbrev pub rewrites : Editor → List ℕ → Open → List ℕ → List TextChange → List Applied → Done
 rewrites e uri d text how applied =
     let new : Open = record d { version = next_version d.version; text = text } in
@@ -69,7 +70,8 @@ abbrev pub closes : Editor → List ℕ → Done
 closes e uri =
     sends (record e { documents = map_of.remove e.documents uri }) (notifies (Closed uri)) []
 
--- returns the result of a request about an open document, sent with the next number
+-- returns the result of asking about an open document: the request is stored and sent with the next
+-- number
 abbrev pub asks : Editor → List ℕ → Ask → Open → Done
 asks e uri ask d =
     let a : SentAsk = record {
@@ -87,7 +89,7 @@ abbrev pub kept_answer : ℕ → List Answer → Option (List Replacement)
 kept_answer k [] = None
 kept_answer k (a ∷ rest) = if a.number == k then Some a.edits else kept_answer k rest
 
--- returns the answers without the one that `kept_answer` finds
+-- returns the answers without the first one with this number
 abbrev pub all_but : ℕ → List Answer → List Answer
 all_but k [] = []
 all_but k (a ∷ rest) = if a.number == k then rest else a ∷ all_but k rest
@@ -96,13 +98,13 @@ all_but k (a ∷ rest) = if a.number == k then rest else a ∷ all_but k rest
 abbrev pub without_answer : Editor → ℕ → Editor
 without_answer e k = record e { answers = all_but k e.answers }
 
--- returns the document if its opening and version are those at the time of the request
+-- returns the document if its opening and version are the same as in the request, otherwise None
 abbrev pub if_same : SentAsk → Open → Option Open
 if_same a d = if d.opening == a.opening && same_version d.version a.version then Some d else None
 
--- Returns the result of making the edits that answer request k in the document of that request.
--- None if there is no such document, if its opening or version has changed, or if two edits share a
--- character.
+-- Returns the result of making the edits of an answer to request k in the document of the request.
+-- None if there is no such request, if the document isn't open, if its opening or version has
+-- changed, or if two edits share a character.
 abbrev pub applies : Editor → ℕ → List Replacement → Option Done
 applies e k edits = do
   a ← request_numbered e.requested k
@@ -111,9 +113,8 @@ applies e k edits = do
   let made : Applied = record { uri = a.uri; before = d.text; after = text }
   Some (rewrites e a.uri d text (whole_text text ∷ []) (made ∷ []))
 
--- Returns the result of an act. Nothing happens on opening an open document, or on changing,
--- closing or asking about a document that isn't open. `apply` and `discard` remove the answer in
--- any case.
+-- Returns the result of an act. To open an open document, or to change, close or ask about a
+-- document that isn't open, does nothing. `apply` and `discard` always remove the answer.
 abbrev pub done_by : Editor → Act → Done
 done_by e (open_document uri text) =
     if is_some (open_at e uri) then stays e else opens e uri text

@@ -10,13 +10,13 @@ use Rattle.ob0_world_rules.specs.ClientAndServer.{Open, SentAsk, Editor, request
 use Rattle.ob0_world_rules.specs.Editing.{Done, stays, sends, closes, asks, kept_answer, without_answer}
 use Rattle.ob0_world_rules.specs.MadeInOrder.{Announced}
 
--- a document's next version and text, and the changes sent to the server for it
+-- a revision of a document: its next version and text, and the changes that are sent to the server
 pub record Revision : Type 0 where
   pub version : ℤ
   pub text : List ℕ
   pub how : List TextChange
 
--- a move of the editor
+-- a move of the editor: like an `Act`, but with any version, and with revisions as changes
 pub data Move : Type 0 where
   -- the uri, the version and the text
   to_open : List ℕ → ℤ → List ℕ → Move
@@ -24,8 +24,8 @@ pub data Move : Type 0 where
   to_revise : List ℕ → List Revision → Move
   to_close : List ℕ → Move
   to_ask : List ℕ → Ask → Move
-  -- makes the edits of the answer with this number, sent like any other changes, or drops the
-  -- answer
+  -- `to_apply` makes the edits of the answer with this number, and sends them as revisions;
+  -- `to_drop` discards the answer
   to_apply : ℕ → List Revision → Move
   to_drop : ℕ → Move
 
@@ -39,9 +39,9 @@ revised d r = record d { version = r.version; text = r.text }
 abbrev pub with_document : Editor → List ℕ → Open → Editor
 with_document e uri d = record e { documents = map_of.insert e.documents uri d }
 
--- Holds if the open document is revised by one revision after another, and if these documents are
--- announced. The changes of each revision, ranges or whole texts in the agreed unit, make its text
--- of the text before. A revision may have any version.
+-- Holds if these revisions of an open document, made in order, lead from editor `e` to `new` and
+-- announce these documents. The changes of each revision turn the text before the revision into the
+-- text after it. Their positions count in the agreed unit. A revision may have any version.
 abbrev pub Revises : Editor → List ℕ → List Revision → Editor → List Announced → Type 0
 Revises e uri [] new announced = (new ≡ e) × (announced ≡ [])
 Revises e uri (r ∷ more) new announced =
@@ -52,7 +52,7 @@ Revises e uri (r ∷ more) new announced =
     × Revises (with_document e uri (revised d r)) uri more new later
     × (announced ≡ record { uri = uri; document = revised d r } ∷ later)
 
--- returns the notifications that send these revisions to the server
+-- returns one notification for each of these revisions
 abbrev pub told : List ℕ → List Revision → List ToServer
 told uri revisions = map (λ r. notifies (Changed uri r.version r.how)) revisions
 
@@ -64,9 +64,9 @@ changes_of (r ∷ more) = r.how ++ changes_of more
 -- ---- answers
 
 -- States that the edits of answer k are made in the document that was asked about, all at once. The
--- document still has the text that was asked about. The first changes that are sent make the edited
--- text. The other changes are the user's next ones, which an editor may send together with the
--- edits.
+-- document still has the text that it had when the request was sent. The first changes that are
+-- sent make the edited text. The rest are later changes of the user, which an editor may send
+-- together with the edits.
 pub record AppliesAnswer (e : Editor) (k : ℕ) (revisions : List Revision) (done : Done)
     (announced : List Announced) : Type 0 where
   pub edits : List Replacement

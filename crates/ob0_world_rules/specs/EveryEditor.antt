@@ -14,8 +14,8 @@ use Rattle.ob0_world_rules.specs.Editors.{Move, May}
 
 -- ---- an editor and the server
 
--- An editor and the server. Their queues may contain other messages (`None`): requests that change
--- nothing, such as a hover, the answers to them, and notifications that the server ignores.
+-- An editor and the server. Their queues may contain messages outside the model (`None`): requests
+-- that change nothing, such as a hover, their answers, and notifications that the server ignores.
 pub record EditorAndServer : Type 0 where
   pub editor : Editor
   pub to_server : List (Option ToServer)
@@ -40,19 +40,20 @@ nothing_yet unit =
       made = [];
     }
 
--- returns the messages of a queue, except the other messages
+-- returns the messages of a queue without those outside the model (`None`)
 abbrev pub without_others : {A : Type 0} → List (Option A) → List A
 without_others [] = []
 without_others (None ∷ queue) = without_others queue
 without_others (Some message ∷ queue) = message ∷ without_others queue
 
--- returns the notifications of a queue, that is the messages that open, change or close documents
+-- returns the notifications of a queue, which open, change or close documents, and leaves out the
+-- requests
 abbrev pub notes_among : List ToServer → List ToServer
 notes_among [] = []
 notes_among (notifies note ∷ queue) = notifies note ∷ notes_among queue
 notes_among (requests k uri ask ∷ queue) = notes_among queue
 
--- returns the state as a client and a server of the model, without the other messages and the
+-- returns the state as a `ClientAndServer`, without the messages outside the model and the
 -- announced documents
 abbrev pub as_model : EditorAndServer → ClientAndServer
 as_model w =
@@ -67,18 +68,19 @@ as_model w =
 
 -- ---- what may happen
 
--- a turn
+-- a turn: the editor makes a move or sends a message outside the model, or the server or the editor
+-- takes a message
 pub data Turn : Type 0 where
   -- the editor makes a move
   editor_does : Move → Turn
-  -- the editor sends one of the other messages (`None`)
+  -- the editor sends a message outside the model (`None`)
   editor_says : Turn
   -- the server takes one message and sends its replies
   server_takes : Turn
   -- the editor takes one message
   editor_takes : Turn
 
--- returns the state after a move of the editor, by which these documents are announced
+-- returns the state after a move of the editor that announces these documents
 abbrev pub after_move : EditorAndServer → Done → List Announced → EditorAndServer
 after_move w done announced =
     record w {
@@ -88,8 +90,8 @@ after_move w done announced =
       applied = w.applied ++ done.applied;
     }
 
--- Holds if the server takes the first message that waits for it. If that is one of the other
--- messages, no document changes, and all replies are other messages.
+-- Holds if the server takes the first message that waits for it, and sends its replies. If that
+-- message is outside the model, no document changes, and all replies are outside the model.
 abbrev pub TakesNext : EditorAndServer → List (Option ToServer) → EditorAndServer → Type 0
 TakesNext w [] new = new ≡ w
 TakesNext w (None ∷ rest) new =
@@ -108,14 +110,15 @@ TakesNext w (Some message ∷ rest) new =
       made = w.made ++ made;
     })
 
--- returns the state after the editor has taken the first message that waits for it
+-- returns the state after the editor has taken the first message that waits for it; unchanged if no
+-- message waits
 abbrev pub after_one : EditorAndServer → List (Option ToEditor) → EditorAndServer
 after_one w [] = w
 after_one w (None ∷ rest) = record w { to_editor = rest }
 after_one w (Some message ∷ rest) =
     record w { editor = reads w.editor message; to_editor = rest }
 
--- holds if this turn may lead from w to `new`
+-- holds if this turn can lead from `w` to `new`
 abbrev pub MayHappen : EditorAndServer → Turn → EditorAndServer → Type 0
 MayHappen w (editor_does move) new =
     (done : Done)
@@ -126,7 +129,7 @@ MayHappen w editor_says new = new ≡ record w { to_server = w.to_server ++ None
 MayHappen w server_takes new = TakesNext w w.to_server new
 MayHappen w editor_takes new = new ≡ after_one w w.to_editor
 
--- holds if these turns, one after another, may lead from w to `new`
+-- holds if these turns, one after another, can lead from `w` to `new`
 abbrev pub MayLead : EditorAndServer → List Turn → EditorAndServer → Type 0
 MayLead w [] new = new ≡ w
 MayLead w (turn ∷ turns) new =
@@ -137,12 +140,13 @@ MayLead w (turn ∷ turns) new =
 -- states the guarantees for a state to which turns lead
 pub record HoldsWithEditor (w : EditorAndServer) : Type 0 where
   -- Each applied edit keeps the run. Each list of diagnostics is empty exactly when its text is a
-  -- well-typed module. If no message about a document waits for the server, the latest diagnostics
-  -- are of the present text.
+  -- well-typed module. If no message of the model waits for the server, the latest diagnostics are
+  -- for the present text.
   pub holds : Holds (as_model w)
-  -- the latest diagnostics are of the present text even if asks and other messages still wait
+  -- if no notification waits for the server, the latest diagnostics are for the present text, even
+  -- if asks and messages outside the model still wait
   pub latest : notes_among (without_others w.to_server) ≡ [] → AreUpToDate w.editor w.made
-  -- once the server has taken the messages that wait for it, it has the editor's documents
+  -- the server will have the editor's documents once it has taken the messages that wait for it
   pub mirrors : Mirrors (as_model w)
   -- The publications are for the first documents that the editor announced, one for each, in order.
   -- The messages that still wait for the server announce the other documents.
@@ -159,8 +163,8 @@ WithEveryEditor =
     → MayLead (nothing_yet unit) turns w
     → HoldsWithEditor w
 
--- States that the model's editor keeps ob0's rules: turns may lead to each state to which its
--- events lead.
+-- States that the model's editor keeps ob0's rules: for each state to which a list of its events
+-- leads, some turns lead to the same state.
 abbrev pub TheModelIsOne : Type 0
 TheModelIsOne =
     (unit : Unit) (events : List Event) (end : ClientAndServer)

@@ -5,7 +5,7 @@ use Rattle.ob0_world_rules.specs.ClientAndServer.{ToServer, ToEditor, Made, Clie
 use Rattle.ob0_world_rules.specs.Editing.{Act, Done, done_by, reads}
 use Rattle.ob0_world_rules.specs.Serving.{Replies}
 
--- an event
+-- an event: the editor acts, or the server or the editor takes a message
 pub data Event : Type 0 where
   -- the editor acts
   does : Act → Event
@@ -23,7 +23,8 @@ after_act w done =
       applied = w.applied ++ done.applied;
     }
 
--- holds if the server takes the first message that waits for it, and sends its replies
+-- Holds if the server takes the first message that waits for it, and sends its replies. If none
+-- waits, nothing changes.
 abbrev pub ServerTakes : ClientAndServer → List ToServer → ClientAndServer → Type 0
 ServerTakes w [] new = new ≡ w
 ServerTakes w (message ∷ rest) new =
@@ -38,19 +39,20 @@ ServerTakes w (message ∷ rest) new =
       made = w.made ++ made;
     })
 
--- returns the state after the editor has taken the first message that waits for it
+-- returns the state after the editor has taken the first message that waits for it; unchanged if no
+-- message waits
 abbrev pub after_taking : ClientAndServer → List ToEditor → ClientAndServer
 after_taking w [] = w
 after_taking w (message ∷ rest) =
     record w { editor = reads w.editor message; to_editor = rest }
 
--- holds if this event leads from w to `new`
+-- holds if this event leads from `w` to `new`
 abbrev pub Happens : ClientAndServer → Event → ClientAndServer → Type 0
 Happens w (does act) new = new ≡ after_act w (done_by w.editor act)
 Happens w serve new = ServerTakes w w.to_server new
 Happens w take_message new = new ≡ after_taking w w.to_editor
 
--- holds if these events, one after another, lead from w to `new`
+-- holds if these events, one after another, lead from `w` to `new`
 abbrev pub Course : ClientAndServer → List Event → ClientAndServer → Type 0
 Course w [] new = new ≡ w
 Course w (event ∷ events) new =

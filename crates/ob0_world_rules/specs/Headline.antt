@@ -25,7 +25,7 @@ pub record KeepsTheRun (a : Applied) : Type 0 where
 abbrev pub IsRight : Made → Type 0
 IsRight m = IsEmptyIfCorrect m.text m.empty
 
--- returns the last publication with a version for a uri
+-- returns the last publication with a version for a uri; None if there is none
 abbrev pub last_publication : List ℕ → List Made → Option Made
 last_publication uri made =
     fold (λ last m. if bytes_eq m.uri uri then Some m else last) None made

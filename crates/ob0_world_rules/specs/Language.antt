@@ -15,7 +15,8 @@ use Rattle.ob0_language_types.specs.WellTyped.{WellTyped}
 use Rattle.ob0_language_runs.specs.EditLaws.{SameRuns}
 use Rattle.ob0_edits.specs.Texts.{utf8}
 
--- returns a lexeme as a tree spells it: white space and comments as nothing, a token as itself
+-- returns the terminals that a tree has for a lexeme: one for a token, none for white space or a
+-- comment
 abbrev pub terminals : LexemeKind → List ℕ → List (Terminal Name)
 terminals lexeme.Space text = []
 terminals lexeme.Comment text = []
@@ -38,8 +39,9 @@ pub record WellTypedText (text : List ℕ) : Type 0 where
   pub text_of : IsModuleText tree (utf8 text)
   pub well_typed : WellTyped tree
 
--- Holds if the modules of these two texts output the same and end alike. That is for every input,
--- and for all bounds on calls and on the iterations of a loop (LANGUAGE.md, Runs).
+-- Holds if the modules of these two texts output the same and end alike. Output and end are the
+-- same for every input, and for all bounds on calls and on the iterations of a loop (LANGUAGE.md,
+-- Runs).
 abbrev pub SameRun : List ℕ → List ℕ → Type 0
 SameRun a b =
     (before after : Tree Name module_text)

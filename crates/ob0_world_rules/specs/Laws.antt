@@ -18,8 +18,8 @@ use Rattle.ob0_world_rules.specs.Mirror.{Mirrors}
 
 -- ---- texts
 
--- states that a text has a given tree by its lexemes exactly if it has that tree by the parsed
--- tokens
+-- States that a text has a given tree by its lexemes (`IsModuleText`) exactly if it has that tree
+-- by the parser's tokens (`IsTextOf`).
 abbrev pub OneReading : Type 0
 OneReading =
     (tree : Tree Name module_text) (bytes : List ℕ)
@@ -27,7 +27,8 @@ OneReading =
 
 -- ---- answers
 
--- states that these edits, with positions in this unit, make a well-typed module with the same run
+-- states that these edits, with positions in this unit, turn this well-typed text into a well-typed
+-- module with the same run
 pub record EditsPreserveRun (unit : Unit) (text : List ℕ) (edits : List Replacement) : Type 0 where
   pub before_fits : WellTypedText text
   pub after : List ℕ
@@ -42,7 +43,7 @@ EditsKeepTheRun =
     → GivesEdits unit text ask edits
     → EditsPreserveRun unit text (replacements edits)
 
--- states that two answers to one ask about one text are equal
+-- states that two answers to the same ask about the same text are equal
 abbrev pub AnswersAreOne : Type 0
 AnswersAreOne =
     (unit : Unit) (text : List ℕ) (ask : Ask) (given other : List Replacement)
@@ -52,7 +53,7 @@ AnswersAreOne =
 
 -- ---- events
 
--- states that two states to which one event leads are equal
+-- states that an event leads from a state to at most one state
 abbrev pub OneStep : Type 0
 OneStep =
     (w : ClientAndServer) (event : Event) (new other : ClientAndServer)
@@ -60,8 +61,8 @@ OneStep =
     → Happens w event other
     → new ≡ other
 
--- States that two courses of one list of events end in the same state. That state includes
--- documents, queues, applied edits and publications.
+-- States that a list of events leads from a state to at most one state. The states have documents,
+-- queues, applied edits and publications.
 abbrev pub OneCourse : Type 0
 OneCourse =
     (w : ClientAndServer) (events : List Event) (end other : ClientAndServer)
@@ -69,7 +70,7 @@ OneCourse =
     → Course w events other
     → end ≡ other
 
--- holds if it can't be, for any text, that the ask has no answer
+-- Holds if the ask has an answer for each unit and text. The formula is a double negation.
 abbrev pub HasAnswers : Ask → Type 0
 HasAnswers ask =
     (unit : Unit) (text : List ℕ)
@@ -86,8 +87,8 @@ IsAnswerable (does (discard k)) = ⊤
 IsAnswerable serve = ⊤
 IsAnswerable take_message = ⊤
 
--- States that if its asks have answers, it can't be that a list of events has no course. So a law
--- about every course is about at least one.
+-- States that a list of events has a course if its asks have answers. The formula is a double
+-- negation. So a law about every course is about at least one.
 abbrev pub ACourseFits : Type 0
 ACourseFits =
     (unit : Unit) (events : List Event)

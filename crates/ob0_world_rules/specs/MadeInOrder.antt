@@ -16,12 +16,13 @@ pub record Announced : Type 0 where
   pub uri : List ℕ
   pub document : Open
 
--- returns the document with this uri in a list, or an empty list if it isn't open
+-- returns a list of this document, or an empty list for None
 abbrev pub announced_at : List ℕ → Option Open → List Announced
 announced_at uri (Some d) = record { uri = uri; document = d } ∷ []
 announced_at uri None = []
 
--- returns the editor's document whose text the message announces, or an empty list if there is none
+-- returns a list of the editor's document that the message opens or changes, or an empty list if
+-- there is none
 abbrev pub announced_by : Editor → ToServer → List Announced
 announced_by e (notifies (Opened uri version text)) = announced_at uri (open_at e uri)
 announced_by e (notifies (Changed uri version how)) = announced_at uri (open_at e uri)
@@ -29,11 +30,11 @@ announced_by e (notifies (Lost uri)) = []
 announced_by e (notifies (Closed uri)) = []
 announced_by e (requests number uri ask) = []
 
--- returns the documents that this editor announces by these messages
+-- returns the editor's documents that these messages open or change, in order
 abbrev pub announced_in : Editor → List ToServer → List Announced
 announced_in e messages = flat_map (announced_by e) messages
 
--- returns the documents that the editor announces in this event
+-- returns the documents that the editor announces by this event
 abbrev pub announced_at_event : ClientAndServer → Event → List Announced
 announced_at_event w (does act) =
     let done : Done = done_by w.editor act in announced_in done.editor done.sent
@@ -64,7 +65,8 @@ AreMadeOf (m ∷ made) (t ∷ announced) = IsMadeOf m t × AreMadeOf made announ
 AreMadeOf [] (t ∷ announced) = ⊥
 AreMadeOf (m ∷ made) [] = ⊥
 
--- returns the uri and the version of the document that a message announces
+-- returns a list of the uri and version of the document that the message opens or changes, or an
+-- empty list if there is none
 abbrev pub versions_announced : ToServer → List (List ℕ × ℤ)
 versions_announced (notifies (Opened uri version text)) = (uri, version) ∷ []
 versions_announced (notifies (Changed uri version how)) = (uri, version) ∷ []
@@ -72,7 +74,7 @@ versions_announced (notifies (Lost uri)) = []
 versions_announced (notifies (Closed uri)) = []
 versions_announced (requests number uri ask) = []
 
--- returns the uris and versions of the documents that these messages announce
+-- returns the uris and versions of the documents that these messages open or change, in order
 abbrev pub named_in : List ToServer → List (List ℕ × ℤ)
 named_in [] = []
 named_in (message ∷ queue) = versions_announced message ++ named_in queue

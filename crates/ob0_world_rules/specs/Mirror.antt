@@ -1,11 +1,11 @@
--- States that once the server has taken the messages that wait for it, it has the editor's
--- documents.
+-- States that the server will have the editor's documents once it has taken the messages that wait
+-- for it.
 -- Rule: none; a law of the model of client and server.
 use Rattle.std.specs.Prelude.{◌≡◌, ℕ, List, option_map, fold}
 use Rattle.ob0_text.specs.OpenDocuments.{OpenDocuments, Document, InStep, document_at}
 use Rattle.ob0_world_rules.specs.ClientAndServer.{Open, open_at, ClientAndServer, after_message}
 
--- returns the server's documents after it has taken the messages that wait for it
+-- returns the documents that the server will have after it has taken the messages that wait for it
 abbrev pub will_have : ClientAndServer → OpenDocuments
 will_have w = fold after_message w.held w.to_server
 

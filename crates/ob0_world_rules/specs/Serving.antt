@@ -6,8 +6,9 @@ use Rattle.ob0_world_rules.specs.Edited.{Replacement}
 use Rattle.ob0_world_rules.specs.Answers.{IsAnswer, IsEmptyIfCorrect}
 use Rattle.ob0_world_rules.specs.ClientAndServer.{ToServer, notifies, requests, ToEditor, publishes, answers, Made}
 
--- Holds if the server sends diagnostics with the version for a document in step, and sends nothing
--- for any other. `made` has the same publication, with the text that it was made for.
+-- Holds if the server sends diagnostics, with the version, for a document in step, and sends
+-- nothing for any other document. `made` has the same publication with the text for which it was
+-- made.
 abbrev pub Publishes : List ℕ → Option Document → List ToEditor → List Made → Type 0
 Publishes uri (Some (InStep version text)) sent made =
     (empty : Bool) × IsEmptyIfCorrect text empty × (sent ≡ publishes uri (Some version) empty ∷ [])
@@ -15,9 +16,9 @@ Publishes uri (Some (InStep version text)) sent made =
 Publishes uri (Some OutOfStep) sent made = (sent ≡ []) × (made ≡ [])
 Publishes uri None sent made = (sent ≡ []) × (made ≡ [])
 
--- Holds if the server replies to a notification by these messages, with these publications among
--- them. `held` are the documents that were open before. Closing an open document clears its
--- diagnostics.
+-- Holds if the server replies to a notification with these messages, and `made` are the
+-- publications with a version among them. `held` are the server's documents before the
+-- notification. If an open document is closed, its diagnostics are cleared.
 abbrev pub RepliesToNotification : OpenDocuments
     → DocumentEvent
     → List ToEditor
@@ -32,7 +33,8 @@ RepliesToNotification held (Closed uri) sent made =
     (sent ≡ (if is_some (document_at held uri) then publishes uri None true ∷ [] else []))
     × (made ≡ [])
 
--- holds if the server replies to a message by these messages, with these publications among them
+-- holds if the server replies to a message with these messages, and `made` are the publications
+-- with a version among them
 abbrev pub Replies : OpenDocuments → ToServer → List ToEditor → List Made → Type 0
 Replies held (notifies note) sent made = RepliesToNotification held note sent made
 Replies held (requests number uri ask) sent made =

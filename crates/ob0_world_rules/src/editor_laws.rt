@@ -1,7 +1,8 @@
-//! States a law of the definitions that contracts cite.
+//! Proves a law about the definitions of edited texts.
 ghost use Rattle.ob0_world_rules.specs.Edited.{EditsArePatched};
 
-/// Proves that reading the code's edits as replacements and making them gives the same text as patching with the edits.
+/// Proves that making the code's edits as replacements (`edited`) gives the same text as patching
+/// with them (`patched`).
 pub fn edits_are_patched()
     ensures { EditsArePatched }
 {}

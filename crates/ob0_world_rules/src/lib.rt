@@ -1,5 +1,5 @@
-//! Defines a client and a server with a queue of messages in each direction, and proves what every list of events
-//! keeps.
+//! Defines a client and a server with a queue of messages in each direction, and proves the
+//! guarantees that hold after every list of events.
 #![tactic(auto)]
 
 pub mod editor_laws;

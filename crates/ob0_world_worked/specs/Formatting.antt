@@ -10,7 +10,7 @@ use Rattle.ob0_world_rules.specs.Editing.{open_document, change_document, close_
 use Rattle.ob0_world_rules.specs.Happens.{Event, does, serve, take_message, Course}
 use Rattle.ob0_world_rules.specs.Laws.{HasAnswers}
 
--- states that for each text, unit and indent it can't be that nothing answers a request for formatting
+-- States that a request for formatting has an answer for each text, unit and indent (`HasAnswers`).
 abbrev pub FormattingHasAnswers : Type 0
 FormattingHasAnswers = (indent : Indent) → HasAnswers (format indent)
 

@@ -1,4 +1,4 @@
--- States a worked exchange: an editor inlines a constant everywhere.
+-- States that an example exchange exists, in which an editor inlines a constant everywhere.
 -- Rule: LSP 3.17; a worked example.
 use Rattle.std.specs.Prelude.{◌≡◌, ℕ, pos, List, [], ◌∷◌, ◌++◌, map, Some, codes}
 use Rattle.serde_json.specs.Data.{Data, array, object, string, item, no_items, member, no_members}
@@ -18,7 +18,7 @@ use Rattle.ob0_world_worked.specs.WorkedAnswers.{on_line}
 abbrev pub uri : List ℕ
 uri = codes "file:///m.mod"
 
--- the text after n is inlined everywhere
+-- the text that `worked_text` becomes if constant n is inlined everywhere
 abbrev pub inlined_text : List ℕ
 inlined_text =
     line (codes "MODULE M;")
@@ -31,7 +31,7 @@ inlined_text =
     ++ (line (codes "  Write(x)")
     ++ line (codes "END M."))))))))
 
--- the edits as changes of ranges, the later place first
+-- the edits of the inlining as changes of ranges, with the later range first
 abbrev pub changes : List TextChange
 changes =
     record { range = Some (on_line 6 7 8); text = codes "2" }
@@ -101,8 +101,9 @@ says_change =
 
 -- ---- the law
 
--- States that there is such an exchange. The session has taken these messages, the last one waits for
--- it, and the editor has applied one edit.
+-- States that `turns` lead from the beginning to an exchange in which the session has taken
+-- five messages. The notification of the change still waits for the session. The editor has applied
+-- one answer, which replaces `worked_text` by `inlined_text`.
 pub record AWorkedExchange : Type 0 where
   pub first : Exchange
   pub last : Exchange

@@ -1,13 +1,13 @@
--- The text of the worked answers.
+-- Defines the example text for which `WorkedAnswers` states answers.
 -- Rule: none; an example.
 use Rattle.std.specs.Prelude.{ℕ, List, ◌∷◌, [], ◌++◌, codes}
 use Rattle.ob0_text.specs.declared.position_types.Position.{Position}
 
--- a line, with its line feed
+-- returns the text with a line feed after it
 abbrev pub line : List ℕ → List ℕ
 line text = text ++ 10 ∷ []
 
--- the characters of the text
+-- the example text, as characters
 abbrev pub worked_text : List ℕ
 worked_text =
     line (codes "MODULE M;")
@@ -20,6 +20,6 @@ worked_text =
     ++ (line (codes "  Write(x)")
     ++ line (codes "END M."))))))))
 
--- a position: a line and a character of it, both counted from 0
+-- returns the position of a line and a character in it, both counted from 0
 abbrev pub at : ℕ → ℕ → Position
 at line character = record { line = line; character = character }

@@ -10,7 +10,8 @@ use ob0_language_types::laws::constants_are_alone;
 use ob0_layout::laws::{gaps_make_the_layout, lexemes_stay, module_stays};
 use ob0_world_rules::laws::{a_course_fits, answers_are_one};
 
-/// States that a rename of the worked text's variable has these edits as its answer, and no others.
+/// Proves that renaming variable x of `worked_text` to y is answered by three edits, and by no
+/// others.
 pub fn a_rename()
     ensures { ARename }
 {
@@ -18,14 +19,16 @@ pub fn a_rename()
     answers_are_one();
 }
 
-/// States that a rename that would capture a call is refused, with the range of the call, and has no edits.
+/// Proves that renaming x to Write is refused, because it would capture a call of Write. The
+/// refusal has the range of the call, and the answer has no edits.
 pub fn a_capture()
     ensures { ACapture }
 {
     answers_are_one();
 }
 
-/// States that inlining the worked text's constant at its use has this edit as its answer, and no other.
+/// Proves that inlining constant n of `worked_text` at its use is answered by one edit, and by no
+/// other.
 pub fn an_inlining()
     ensures { AnInlining }
 {
@@ -34,7 +37,8 @@ pub fn an_inlining()
     answers_are_one();
 }
 
-/// States that inlining the constant everywhere has these edits as its answer, and no others.
+/// Proves that inlining constant n of `worked_text` everywhere is answered by two edits, and by no
+/// others.
 pub fn an_inlining_everywhere()
     ensures { AnInliningEverywhere }
 {
@@ -43,7 +47,7 @@ pub fn an_inlining_everywhere()
     answers_are_one();
 }
 
-/// States that a request for formatting has an answer for each text.
+/// Proves that a request for formatting has an answer for each text.
 pub fn formatting_has_answers()
     ensures { FormattingHasAnswers }
 {
@@ -60,8 +64,9 @@ pub fn a_course_fits_formatting()
     a_course_fits();
 }
 
-/// States that there is an exchange in which an editor initializes a session, opens a document at version 0, sends a
-/// hover and a request for code actions in a range, of one kind, and applies the answer by two changes in one notification.
+/// Proves that the example exchange exists. An editor initializes a session and opens a document
+/// with version 0. It sends a hover request, and a request for the code actions of one kind in a
+/// range. It applies the answer to the second request by two changes in one notification.
 pub fn a_worked_exchange()
     ensures { AWorkedExchange }
 {

@@ -1,4 +1,5 @@
-//! Worked answers and a worked exchange, as laws, and a law that answers exist.
+//! Proves what the answers to four requests about an example text are, and that an example exchange
+//! exists. Also proves that a request for formatting has an answer for each text.
 #![tactic(auto)]
 
 pub mod laws;

@@ -43,9 +43,9 @@ impl<'t> Supposed<'t> {
 }
 
 impl<'t> Reporter<'t> {
-    /// Reports the faults of a block: constants, types, variables, procedures, and then the statements if they are
-    /// wanted. `own` is the token of the block's closing name. Appends the closing name of each walked body with a
-    /// fault to `faulty`.
+    /// Reports the faults of a block: constants, types, variables, procedures, and then the
+    /// statements if they are wanted. `own` is the token of the block's closing name. Appends to
+    /// `faulty` the closing name of each walked body that has a fault.
     #[cycle(blocks)]
     pub(crate) fn block(
         &mut self,
@@ -101,8 +101,8 @@ impl<'t> Reporter<'t> {
         self.block(faulty, wanted, &p.block, p.closing)
     }
 
-    /// If `wanted`, reports the faults of a body, and appends `own`, its block's closing name, to `faulty` if it has
-    /// any.
+    /// If `wanted` is true, reports the faults of a body. If the body has a fault, also appends
+    /// `own`, the closing name of the body's block, to `faulty`.
     fn body_if(
         &mut self,
         faulty: &mut Vec<usize>,

@@ -58,8 +58,9 @@ fn required_by_multiply(operator: MultiplyOperator) -> TypeId
     }
 }
 
-/// Returns the type that a relation requires of both operands. `=` and `#` compare two numbers or two truth values. If
-/// the left operand's type is unknown, they require nothing of the right operand.
+/// Returns the type that a relation requires of both operands. `=` and `#` compare two numbers or
+/// two truth values. If the left operand's type is unknown, `=` and `#` require nothing of the
+/// right operand.
 fn required_by_relation(relation: Relation, left: TypeId) -> TypeId
     ensures { result ≡ required_by_relation (known_types []) relation left }
 {
@@ -73,8 +74,8 @@ fn required_by_relation(relation: Relation, left: TypeId) -> TypeId
     }
 }
 
-/// Returns the type that `=` or `#` requires of both operands: INTEGER for a number on the left, unknown for an unknown
-/// type there, otherwise BOOLEAN.
+/// Returns the type that `=` or `#` requires of both operands. It is the left operand's type if
+/// that is INTEGER or unknown, otherwise BOOLEAN.
 fn required_by_equality(left: TypeId) -> TypeId
     ensures { result ≡ required_by_equality (known_types []) left }
 {
@@ -108,8 +109,8 @@ pub(crate) fn same_type(a: TypeId, b: TypeId) -> bool
     a == b
 }
 
-/// Returns true if a type is accepted at a place that requires the type `wanted`. An unknown type is accepted
-/// everywhere, and as a requirement it accepts every type.
+/// Returns true if a type is accepted at a place that requires the type `wanted`. The unknown type
+/// is accepted everywhere. If `wanted` is the unknown type, every type is accepted.
 fn fits(of: TypeId, wanted: TypeId) -> bool
     ensures { result ≡ fits (known_types []) of wanted }
 {
@@ -266,7 +267,7 @@ impl<'t> Supposed<'t> {
         }
     }
 
-    /// Reports the faults of a relation between two operands, and returns its operand.
+    /// Reports the faults of a relation between two operands, and returns the resulting operand.
     fn relate(
         &self,
         faults: &mut Vec<Fault>,
@@ -320,8 +321,8 @@ impl<'t> Supposed<'t> {
         Ok(left.with(right, of, value))
     }
 
-    /// Reports the fault of a sign, which requires INTEGER, and returns the signed operand. Without a sign it returns
-    /// the operand unchanged.
+    /// Returns the operand with its sign applied. If there is a sign and the operand isn't INTEGER,
+    /// reports that. Without a sign, returns the operand unchanged.
     fn sign(
         &self,
         faults: &mut Vec<Fault>,
@@ -504,8 +505,8 @@ impl<'t> Supposed<'t> {
         Ok(so_far)
     }
 
-    /// Returns the operand of a designator with one more selector, and reports this selector's faults. `base` is the
-    /// operand before it.
+    /// Returns the operand of a designator with one more selector, and reports this selector's
+    /// faults. `base` is the operand of the designator without this selector.
     #[cycle(expressions)]
     fn select(
         &self,
@@ -596,8 +597,9 @@ impl<'t> Supposed<'t> {
         Ok(base.part(of, name))
     }
 
-    /// Returns the type of the field at the token `name` in the type `base`, and reports `NotRecord` or `NoField`. The
-    /// type is then unknown.
+    /// Returns the type that the field at the token `name` has in the type `base`. Reports
+    /// `NotRecord` if `base` is known and isn't a record, and `NoField` if the record has no such
+    /// field. In both cases the type is unknown.
     fn field_type(
         &self,
         faults: &mut Vec<Fault>,

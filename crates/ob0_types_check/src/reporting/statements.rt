@@ -129,8 +129,9 @@ impl<'t> Supposed<'t> {
         self.right_side(faults, target.of, &a.value)
     }
 
-    /// Returns the type of the variable or parameter that an assignment's name refers to. A name with another meaning
-    /// is reported. Without a known meaning nothing is reported. The type is unknown in both cases.
+    /// Returns the type of the variable or parameter that an assignment's name refers to. A name
+    /// with another meaning is reported. If the name has no known meaning, nothing is reported. The
+    /// type is unknown in both cases.
     fn target_type(&self, faults: &mut Vec<Fault>, token: usize) -> Result<TypeId, AllocError>
         ensures { IfOk result (λ t. ReportsAfter faults.old.items faults.new.items t
             (target_meaning (facts_in self.now false) token)) }
@@ -165,8 +166,8 @@ impl<'t> Supposed<'t> {
         }
     }
 
-    /// Reports the faults of a call. If the name is a procedure's, its parameters decide; otherwise the arguments may
-    /// have any type.
+    /// Reports the faults of a call. The arguments of a procedure must fit its parameters. If the
+    /// name isn't a procedure's, the arguments may have any type.
     fn report_call(
         &self,
         faults: &mut Vec<Fault>,

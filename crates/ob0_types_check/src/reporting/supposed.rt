@@ -20,9 +20,9 @@ use std::alloc::{AllocError, Global};
 /// The meaning of a declared name, with its type, value or parameters.
 #[derive(Drop)]
 pub(crate) enum Meaning {
-    /// The name of this type.
+    /// The name of a type, which is this type.
     Named(TypeId),
-    /// The name of a constant with this value, or with None if its right side has a fault.
+    /// A constant with this value, or with None if its right side has a fault.
     Constant(Option<Scalar>),
     Variable(TypeId),
     Procedure(Vec<Formal>),
@@ -223,7 +223,8 @@ impl<'t> Supposed<'t> {
         }
     }
 
-    /// Records the meaning of the declaration at a token.
+    /// Records the meaning of the declaration at a token. If the token has no ordinal, nothing
+    /// changes.
     pub(crate) fn define(&mut self, token: usize, meaning: Meaning)
         ensures { so_far_in self.new ≡ define (so_far_in self.old) (known_meaning meaning) token }
     {
@@ -256,7 +257,8 @@ impl<'t> Supposed<'t> {
         }
     }
 
-    /// Returns the size of the array or record at this index of the list. A missing one counts as one scalar.
+    /// Returns the size of the array or record at this index of the list. If there is none, returns
+    /// the size of a scalar.
     fn size_made(&self, place: usize) -> Size
         ensures { size_of result ≡ size_at (so_far_in self.now).made (type.Array place) }
     {
@@ -294,8 +296,9 @@ impl<'t> Supposed<'t> {
         }
     }
 
-    /// Returns the ordinal of the next word ARRAY or RECORD, which is inside `around` such words. Returns an error if
-    /// the number doesn't fit 64 bits.
+    /// Returns the ordinal of the next word ARRAY or RECORD, that is, the number of such words
+    /// before it. The next word is inside `around` such words. Returns an error if the ordinal
+    /// doesn't fit 64 bits.
     pub(crate) fn ordinal_here(&self, around: usize) -> Result<usize, AllocError>
         ensures { MatchResult result (λ n. n ≡ ordinal_here around (so_far_in self.now))
             (λ _. 2 ^ 64 ≤ ordinal_here around (so_far_in self.now)) }
@@ -303,8 +306,9 @@ impl<'t> Supposed<'t> {
         sum(self.composites.len(), around)
     }
 
-    /// Adds an array or record whose word ARRAY or RECORD is this token, and returns its type. If it is too large, that
-    /// is reported, and the type is unknown.
+    /// Adds an array or record and returns its type. `token` is its word ARRAY or RECORD. If the
+    /// array or record is too large, reports `TypeTooLarge` at `token` and returns the unknown
+    /// type.
     pub(crate) fn make(
         &mut self,
         faults: &mut Vec<Fault>,

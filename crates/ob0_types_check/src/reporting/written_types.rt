@@ -23,7 +23,8 @@ use ob0_tree::{ArrayType, FieldGroup, Fields, Names, RecordType, WrittenType};
 use ob0_types_table::{ArrayShape, Field, FieldTable, MAX_SCALARS, RecordShape, TypeEntry, TypeId};
 use std::alloc::{AllocError, Global};
 
-/// Returns a number from 1 to 65,536 as an array's length. Returns None for any other value.
+/// Returns the length of an array whose length expression has this value. Returns None unless the
+/// value is a number from 1 to 65,536.
 fn array_length(value: Scalar) -> Option<usize>
     ensures { result ≡ array_length (scalar_value value) }
 {
@@ -74,8 +75,9 @@ impl Gathered {
     }
 }
 
-/// Returns the token of the word RECORD. It precedes the first field's name and one semicolon for each group without
-/// fields before that name.
+/// Returns the token of the word RECORD. Between this token and the first field's name there are
+/// only semicolons, one for each group without fields before that name. Returns 0 if the record has
+/// no fields.
 fn record_word(groups: &[Fields]) -> usize
     ensures { result ≡ record_word (items_of further_fields_of_group groups.now) }
 {
@@ -92,8 +94,8 @@ fn record_word(groups: &[Fields]) -> usize
 }
 
 impl<'t> Supposed<'t> {
-    /// Returns the type that a name refers to. A name with another meaning is reported. Without a known meaning nothing
-    /// is reported. The type is unknown in both cases.
+    /// Returns the type that a name refers to. A name with another meaning is reported. If the name
+    /// has no known meaning, nothing is reported. The type is unknown in both cases.
     fn type_named(&self, faults: &mut Vec<Fault>, token: usize) -> Result<TypeId, AllocError>
         ensures { IfOk result (λ t. ReportsAfter faults.old.items faults.new.items t
             (type_named (facts_in self.now false) token)) }
@@ -183,8 +185,9 @@ impl<'t> Reporter<'t> {
         self.make_array(ordinal, size, length, element)
     }
 
-    /// Makes an array type and returns it. If the length has a fault (None), the array's type is unknown, although its
-    /// element type has been checked. The word ARRAY precedes the length.
+    /// Makes an array type and returns it. If the length has a fault (None), the array's type is
+    /// unknown, although its element type has been checked. The word ARRAY is the token before the
+    /// length.
     fn make_array(
         &mut self,
         ordinal: usize,
