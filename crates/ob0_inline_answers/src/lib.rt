@@ -1,0 +1,2 @@
+//! Laws that each request to inline a constant has an answer.
+#![tactic(auto)]
