@@ -1,1 +1,5 @@
 mod ScalarConstants
+mod WrittenValues
+mod EditValues
+mod HereAnswers
+mod EverywhereAnswers
