@@ -44,6 +44,7 @@ use Rattle.ob0_world_rules.specs.Asks.{inline_all}
 use Rattle.ob0_world_rules.specs.Edited.{replacements}
 use Rattle.ob0_world_rules.specs.Language.{WellTypedText}
 use Rattle.ob0_inline_answers.specs.InlineAnswers.{InliningEverywhereHasAnswers}
+use Rattle.ob0_inline_answers.proofs.ModuleNames.{named_module}
 use Rattle.ob0_inline_answers.proofs.ScalarConstants.{constant_scalar, scalar_of}
 use Rattle.ob0_inline_answers.proofs.WrittenValues.{IsWritable, writable}
 use Rattle.ob0_inline_answers.proofs.EditValues.{as_many_values, edit_value, few_names, removal_value, values_are}
@@ -157,7 +158,8 @@ inlining_everywhere_has_answers alone keeps each position unit text none = none 
   where
     unfit : WellTypedText text → ⊥
     unfit h =
-        let found = each text h in
+        let read = each text h in
+        let found = named_module (utf8 text) read.0 read.1 in
         let offset = place_at unit text position in
         at_name alone keeps unit text found.0 found.1 offset (λ refused. none [] (inr (inl refused, refl)))
         (λ edits inlines. none (replacements edits.items) (inl (edits.items, (edits, inlines, refl), refl)))

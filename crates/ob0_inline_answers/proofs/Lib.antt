@@ -1,4 +1,5 @@
 mod ScalarConstants
+mod ModuleNames
 mod WrittenValues
 mod EditValues
 mod HereAnswers
