@@ -1,5 +1,5 @@
 -- Edits of the code that replace tokens of a text or remove a declaration, and how many they are.
-use Rattle.std.proofs.Common.{◌≡◌, ◌∙◌, ◌+◌, ◌<◌, ◌≤◌, ℕ, suc, List, [], ◌∷◌, String, map, length, refl, ap, arith}
+use Rattle.std.proofs.Common.{◌≡◌, ◌+◌, ◌≤◌, ℕ, suc, List, [], ◌∷◌, String, map, length, refl, ap, arith}
 use Rattle.std.proofs.lemmas.Str.{IsUtf8-nil}
 use Rattle.std.specs.Str.{IsUtf8}
 use Rattle.std.specs.declared.alloc.Global.{Global}

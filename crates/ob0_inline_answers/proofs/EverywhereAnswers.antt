@@ -1,13 +1,11 @@
 -- Each well-typed module has an answer to a request to inline a constant everywhere: the edits at all its uses and the
 -- removal of its declaration, or a refusal.
-use Rattle.std.proofs.Common.{◌≡◌, ◌∙◌, ◌+◌, ◌≤◌, ℕ, suc, Bool, true, false, if◌then◌else◌, nat_lt, Option, Some, None, Err, List, [], ◌∷◌, Vec, map, length, inl, inr, refl, sym, ap, subst, arith}
-use Rattle.std.specs.Str.{chars}
+use Rattle.std.proofs.Common.{◌≡◌, ◌∙◌, ◌≤◌, ℕ, suc, Bool, true, false, if◌then◌else◌, nat_lt, Option, Some, None, Err, List, [], ◌∷◌, Vec, map, length, inl, inr, refl, sym, ap, subst, arith}
 use Rattle.std.specs.declared.alloc.Global.{Global}
 use Rattle.std.proofs.lemmas.Bool.{ltb-false}
 use Rattle.ob0_scan.specs.Scanned.{Scanned, Word, max_text}
 use Rattle.ob0_scope_table.proofs.FewTokens.{few_tokens}
 use Rattle.ob0_text.specs.declared.edits.Edit.{Edit}
-use Rattle.ob0_text.specs.declared.position_types.Position.{Position}
 use Rattle.ob0_text.specs.declared.position_types.Unit.{Unit}
 use Rattle.ob0_text.specs.declared.refusals.EditRefusal.{EditRefusal}
 use Rattle.ob0_text.specs.declared.refusals.EditRefusal.TheVariants.{CommentInside, Memory, NoName, Shadowed, TooDeep, TooLong}
@@ -26,7 +24,6 @@ use Rattle.ob0_scope.specs.NamesAtPlaces.{name_on}
 use Rattle.ob0_language_types.specs.ConstantValues.{value_of_constant}
 use Rattle.ob0_language_types.specs.EditLaws.{ConstantsAreAlone, IsScalar}
 use Rattle.ob0_language_runs.specs.EditLaws.{InliningEverywhereKeepsModules}
-use Rattle.ob0_language_values.specs.declared.scalar.Scalar.{Scalar}
 use Rattle.ob0_language_values.specs.Scalars.{scalar_value}
 use Rattle.ob0_language_values.specs.Values.{Value}
 use Rattle.ob0_analysis.specs.Analysed.{IsModuleIn}
@@ -40,7 +37,6 @@ use Rattle.ob0_inline.proofs.ModuleTexts.{leaves_module}
 use Rattle.ob0_edits.specs.declared.inlining.Inlining.TheVariants.{Everywhere}
 use Rattle.ob0_edits.specs.Inlinings.{InlinesIn, IsNotInlinedIn}
 use Rattle.ob0_world_rules.specs.Answers.{place_at}
-use Rattle.ob0_world_rules.specs.Asks.{inline_all}
 use Rattle.ob0_world_rules.specs.Edited.{replacements}
 use Rattle.ob0_world_rules.specs.Language.{WellTypedText}
 use Rattle.ob0_inline_answers.specs.InlineAnswers.{InliningEverywhereHasAnswers}

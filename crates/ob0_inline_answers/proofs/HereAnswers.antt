@@ -6,13 +6,12 @@ use Rattle.std.specs.Str.{chars}
 use Rattle.std.specs.declared.alloc.Global.{Global}
 use Rattle.std.proofs.lemmas.Bool.{ltb-false}
 use Rattle.std.proofs.lemmas.Str.{chars_from_encodes}
-use Rattle.ob0_scan.specs.Scanned.{IsScan, Scanned, Word, max_text}
+use Rattle.ob0_scan.specs.Scanned.{Scanned, Word, max_text}
 use Rattle.ob0_text.specs.declared.edits.Edit.{Edit}
-use Rattle.ob0_text.specs.declared.position_types.Position.{Position}
 use Rattle.ob0_text.specs.declared.position_types.Unit.{Unit}
 use Rattle.ob0_text.specs.declared.refusals.EditRefusal.{EditRefusal}
 use Rattle.ob0_text.specs.declared.refusals.EditRefusal.TheVariants.{Memory, NoName, Shadowed, TooDeep, TooLong}
-use Rattle.ob0_tree.specs.Parsed.{Parsed, named_tree_of, tree_of}
+use Rattle.ob0_tree.specs.Parsed.{named_tree_of, tree_of}
 use Rattle.ob0_tree.specs.Tree.{Tree, module_text, nesting}
 use Rattle.ob0_tree_values.proofs.TreeValues.{vec_of}
 use Rattle.ob0_edits_tokens.specs.Changed.{at_each, changed_words, words_of}
@@ -43,10 +42,8 @@ use Rattle.ob0_edits.specs.declared.inlining.Inlining.{Inlining}
 use Rattle.ob0_edits.specs.declared.inlining.Inlining.TheVariants.{Here}
 use Rattle.ob0_edits.specs.Inlinings.{Inlines, InlinesIn, IsNotInlinedIn}
 use Rattle.ob0_world_rules.specs.Answers.{place_at}
-use Rattle.ob0_world_rules.specs.Asks.{inline_here}
 use Rattle.ob0_world_rules.specs.Edited.{replacements}
 use Rattle.ob0_world_rules.specs.Language.{WellTypedText}
-use Rattle.ob0_world_rules.specs.Laws.{HasAnswers}
 use Rattle.ob0_inline_answers.specs.InlineAnswers.{InliningHereHasAnswers}
 use Rattle.ob0_inline_answers.proofs.ModuleNames.{named_module}
 use Rattle.ob0_inline_answers.proofs.ScalarConstants.{constant_scalar, scalar_of}

@@ -1,7 +1,7 @@
 -- Each constant of a module has a scalar value: a truth value, or a number of 32 bits.
 -- The integers of a text have at most 31 bits, and each operator gives a scalar for scalars. So the environments of
 -- constants have only scalars (`AllScalar`).
-use Rattle.std.proofs.Common.{◌≡◌, ℕ, suc, ◌+◌, ◌<◌, ◌≤◌, ◌==◌, Bool, true, false, if◌then◌else◌, nat_lt, List, [], ◌∷◌, length, ℤ, pos, negsuc, ◌+ℤ◌, ◌-ℤ◌, ◌*ℤ◌, neg_ℤ, Some, None, Option, option_map, option_and_then, refl, sym, ap, ◌∙◌, subst, arith}
+use Rattle.std.proofs.Common.{◌≡◌, ℕ, suc, ◌+◌, ◌++◌, ◌≤◌, ◌==◌, Bool, true, false, if◌then◌else◌, nat_lt, List, [], ◌∷◌, length, ℤ, pos, ◌+ℤ◌, ◌-ℤ◌, ◌*ℤ◌, neg_ℤ, Some, None, Option, option_map, option_and_then, refl, sym, subst, arith}
 use Rattle.std.proofs.lemmas.Bool.{lt-ltb, ltb-false, ltb-true}
 use Rattle.ob0_scan.specs.declared.lexeme.TokenKind.TheVariants as token
 use Rattle.ob0_scan.specs.Scanned.{IsScan, Scanned}
@@ -17,7 +17,6 @@ use Rattle.ob0_tree.specs.Places.{text_at, value_at}
 use Rattle.ob0_tree.specs.Tree.{Tree, addend, adds, block, compares, constant, constants, declares, declares_constant, declares_constants, declares_procedure, designator, end, expression, factor, has_body, integer, is_module, item, items, mapped, maybe, module_text, more, multiplier, multiplies, negation, none, one, parenthesised, procedure, product, relates, simple, sum, term}
 use Rattle.ob0_language_names.specs.Names.{Name, as_names, same_name}
 use Rattle.ob0_language_names.specs.Parts.{formal_names, formal_sections, named_types, procedure_name, section_constants, section_types, section_variables, variable_names}
-use Rattle.std.proofs.Common.{◌++◌}
 use Rattle.ob0_language_names.specs.Scopes.{after_names, after_procedure, first_procedure, first_type}
 use Rattle.ob0_language_values.specs.declared.scalar.Scalar.{Scalar}
 use Rattle.ob0_language_values.specs.declared.scalar.Scalar.TheVariants as scalar
