@@ -1,4 +1,4 @@
--- Edits of the code that replace tokens of a text or remove a declaration, and how many they are.
+-- Makes the edits, as values of the code, that replace tokens of a text or remove a declaration. Counts them.
 use Rattle.std.proofs.Common.{◌≡◌, ◌+◌, ◌≤◌, ℕ, suc, List, [], ◌∷◌, String, map, length, refl, ap, arith}
 use Rattle.std.proofs.lemmas.Str.{IsUtf8-nil}
 use Rattle.std.specs.Str.{IsUtf8}
@@ -15,7 +15,7 @@ use Rattle.ob0_edits_tokens.specs.Replaced.{AreNames, edit_at, parts, span_at}
 abbrev string_of : (bytes : List ℕ) → IsUtf8 bytes → length bytes ≤ 1048576 → String Global
 string_of bytes u short = record { bytes = vec_of bytes (omega (arith, short)); ok = ∣ u ∣₁ }
 
--- Places are fewer than the tokens.
+-- There are at most as many places as tokens.
 pub few_names : (tokens : List Token) (least : ℕ) (places : List ℕ) → least ≤ length tokens → AreNames tokens least places → least + length places ≤ length tokens
 few_names tokens least [] low names = omega (arith, low)
 few_names tokens least (p ∷ ps) low names =
@@ -24,12 +24,12 @@ few_names tokens least (p ∷ ps) low names =
     omega (arith, more, names.0)
 
 module _ (unit : Unit) (text : List ℕ) (tokens : List Token) where
-  -- the edit that removes the tokens from one to another
+  -- returns the edit that removes the text from the token `first` to the token `last`
   abbrev pub removal_value : ℕ → ℕ → Edit
   removal_value first last = record { range = range_of (width_of unit) text (span_over tokens first last); text = string_of [] IsUtf8-nil (omega arith) }
 
   module _ (new : List ℕ) (good : IsUtf8 new) (short : length new ≤ 1048576) where
-    -- the edit that writes the text `new` in place of a token
+    -- returns the edit that writes the text `new` in place of a token
     abbrev pub edit_value : ℕ → Edit
     edit_value p = record { range = range_of (width_of unit) text (span_at tokens p); text = string_of new good short }
 

@@ -1,5 +1,5 @@
--- Each well-typed module has an answer to a request to inline a constant everywhere: the edits at all its uses and the
--- removal of its declaration, or a refusal.
+-- Proves that a request to inline a constant everywhere has an answer for each well-typed module: the removal of its
+-- declaration and the edits at all its uses, or a refusal.
 use Rattle.std.proofs.Common.{◌≡◌, ◌∙◌, ◌≤◌, ℕ, suc, Bool, true, false, if◌then◌else◌, nat_lt, Option, Some, None, Err, List, [], ◌∷◌, Vec, map, length, inl, inr, refl, sym, ap, subst, arith}
 use Rattle.std.specs.declared.alloc.Global.{Global}
 use Rattle.std.proofs.lemmas.Bool.{ltb-false}

@@ -1,5 +1,5 @@
--- Each well-typed module has an answer to a request to inline a constant at a place: the edit at the use there, or a
--- refusal.
+-- Proves that a request to inline a constant at a place has an answer for each well-typed module: the edit at the use
+-- there, or a refusal.
 use Rattle.std.proofs.Common.{◌≡◌, ◌∙◌, ◌≤◌, ◌==◌, ℕ, Bool, true, false, if◌then◌else◌, nat_lt, Option, Some, None, Err, List, [], ◌∷◌, Vec, map, length, inl, inr, refl, sym, ap, subst, arith}
 use Rattle.std.specs.List.{position_from}
 use Rattle.std.specs.Str.{chars}
@@ -56,7 +56,7 @@ module _ (unit : Unit) (text : List ℕ) (r : Resolution) (module_in : IsModuleI
   pub held : text ≡ chars r.module_read.source.text
   held = chars_from_encodes text r.module_read.source.text module_in.scan.scan.utf8 (sym module_in.scan.of)
 
-  -- edits that leave the text of a module with the same runs
+  -- Edits that leave the text of a module with the same runs inline the constant.
   pub inlines_in : (how : Inlining) (offset : ℕ) (edits : Vec Edit Global) (t : Tree Name module_text) → LeavesModule unit text edits.items t → WellTyped t → SameRuns t (named_tree_of r.module_read)
       → Inlines how unit text r.module_read offset (Some edits) → InlinesIn how unit text offset edits
   inlines_in how offset edits t leaves well same inlines =

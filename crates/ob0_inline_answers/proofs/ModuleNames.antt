@@ -1,4 +1,4 @@
--- The names of a module that is read from a text.
+-- Proves that the names of a module that is read from a text are bound.
 use Rattle.std.proofs.Common.{◌≡◌, ℕ, List, ◌++◌, None, length, refl, sym, replicate, subst}
 use Rattle.ob0_scan.specs.Scanned.{IsScanOf}
 use Rattle.ob0_tree.specs.Parsed.{IsParsed, Parsed, named_tree_of, tree_of}

@@ -1,4 +1,4 @@
--- Each constant of a module has a scalar value: a truth value, or a number of 32 bits.
+-- Proves that each constant of a module has a scalar value: a truth value, or a number of 32 bits.
 -- The integers of a text have at most 31 bits, and each operator gives a scalar for scalars. So the environments of
 -- constants have only scalars (`AllScalar`).
 use Rattle.std.proofs.Common.{◌≡◌, ℕ, suc, ◌++◌, ◌≤◌, ◌==◌, Bool, true, false, if◌then◌else◌, nat_lt, List, [], ◌∷◌, length, ℤ, pos, ◌+ℤ◌, ◌-ℤ◌, ◌*ℤ◌, neg_ℤ, Some, None, Option, option_map, option_and_then, refl, sym, subst, arith}
@@ -172,6 +172,7 @@ module _ (f : ℕ → Name) (g : ℕ → ℕ) (small : (i : ℕ) → g i ≤ 214
   ScalarObject (a_procedure p) = Unit {0}
   ScalarObject (a_standard p) = Unit {0}
 
+  -- holds if all constants of an environment have scalar values
   abbrev AllScalar : Known → Type 0
   AllScalar [] = Unit {0}
   AllScalar (b ∷ known) = ScalarObject b.1 × AllScalar known

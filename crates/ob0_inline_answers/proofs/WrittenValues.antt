@@ -1,4 +1,5 @@
--- The text of a scalar value can be a string of the code, and may replace any identifier.
+-- Proves that the text of a scalar value is UTF-8 and short, so that it is a string of the code, and that it may
+-- replace any identifier.
 use Rattle.std.specs.Prelude.{codes, decimal, negsuc}
 use Rattle.std.proofs.Common.{◌≡◌, ℕ, zero, suc, ℤ, pos, ◌++◌, ◌≤◌, true, false, if◌then◌else◌, nat_lt, List, [], ◌∷◌, length, refl, length-append, arith}
 use Rattle.std.specs.List.{list_all}
@@ -16,6 +17,7 @@ use Rattle.ob0_language_values.specs.Scalars.{scalar_value}
 use Rattle.ob0_language_values.specs.Values.{fits}
 use Rattle.ob0_inline.specs.Values.{value_text, value_words}
 
+-- states that the text of a value is a string of the code and may replace any identifier
 pub record IsWritable (v : Scalar) : Type 0 where
   pub utf8 : IsUtf8 (value_text v)
   pub short : length (value_text v) ≤ 1048576

@@ -13,12 +13,12 @@ use Rattle.ob0_world_rules.specs.Laws.{HasAnswers}
 abbrev pub EachIsRead : Type 0
 EachIsRead = (text : List ℕ) → WellTypedText text → (m : Parsed) × IsReadAs (utf8 text) m
 
--- States that for each text, unit and position it can't be that nothing answers a request to inline
--- a constant at a use.
+-- States that it can't be, for any text, that a request to inline a constant at a use has no
+-- answer. This rests on a parsed module for each well-typed text.
 abbrev pub InliningHereHasAnswers : Type 0
 InliningHereHasAnswers = EachIsRead → (position : Position) → HasAnswers (inline_here position)
 
--- States that for each text, unit and position it can't be that nothing answers a request to inline
--- a constant everywhere.
+-- States that it can't be, for any text, that a request to inline a constant everywhere has no
+-- answer. This rests on a parsed module for each well-typed text.
 abbrev pub InliningEverywhereHasAnswers : Type 0
 InliningEverywhereHasAnswers = EachIsRead → (position : Position) → HasAnswers (inline_all position)
