@@ -1,0 +1,2 @@
+//! Values of the code's trees.
+#![tactic(auto)]
