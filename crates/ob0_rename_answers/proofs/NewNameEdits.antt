@@ -1,5 +1,5 @@
 -- Edits that write a new name at some tokens, or the refusal of a text that would be too long.
-use Rattle.std.proofs.Common.{◌≡◌, ◌∙◌, ◌⊎◌, ◌++◌, ◌-◌, ◌<◌, ◌≤◌, ℕ, Bool, true, false, List, [], ◌∷◌, Result, Ok, Err, String, Vec, drop, get_or, length, map, take, inl, inr, refl, ap, subst, sym, arith}
+use Rattle.std.proofs.Common.{◌≡◌, ◌∙◌, ◌++◌, ◌-◌, ◌<◌, ◌≤◌, ℕ, Bool, true, false, List, [], ◌∷◌, Result, Ok, Err, String, Vec, drop, get_or, length, map, take, inl, refl, ap, subst, sym, arith}
 use Rattle.std.specs.Prelude.{IfErr, nat_lt}
 use Rattle.std.specs.Str.{IsUtf8, chars}
 use Rattle.std.specs.declared.alloc.Global.{Global}
@@ -66,6 +66,7 @@ too_long_other e = cc
 not_too_long : (edits : Vec Edit Global) → Ok edits ≡ Err refusal.TooLong → ⊥
 not_too_long edits e = cc
 
+-- edits, or the refusal of a text that would be too long, with what an answer needs to know of them
 pub record Outcome (unit : Unit) (text new : List ℕ) (s : Scanned) (places : List ℕ) : Type 0 where
   pub result : Result (Vec Edit Global) EditRefusal
   pub settles : NoMemory result

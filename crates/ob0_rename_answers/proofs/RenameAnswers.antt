@@ -1,5 +1,5 @@
 -- Each well-typed module has an answer to a request for a rename: the edits, or the refusal.
-use Rattle.std.proofs.Common.{◌≡◌, ◌∙◌, ◌⊎◌, ℕ, Bool, true, false, if◌then◌else◌, List, [], ◌∷◌, Option, Some, None, Result, Ok, Err, Vec, length, option_and_then, option_map, inl, inr, refl, ap, sym}
+use Rattle.std.proofs.Common.{◌≡◌, ◌∙◌, ℕ, Bool, true, false, if◌then◌else◌, List, [], ◌∷◌, Option, Some, None, Result, Ok, Err, Vec, length, option_and_then, option_map, inl, inr, refl, ap, sym}
 use Rattle.std.specs.Str.{chars}
 use Rattle.std.specs.declared.alloc.Global.{Global}
 use Rattle.std.proofs.lemmas.Str.{chars_from_encodes}
@@ -47,13 +47,13 @@ use Rattle.ob0_world_rules.specs.Answers.{AnswersFor}
 use Rattle.ob0_world_rules.specs.Edited.{Replacement, replacements}
 use Rattle.ob0_world_rules.specs.Language.{WellTypedText}
 use Rattle.ob0_world_rules.specs.Laws.{HasAnswers}
-use Rattle.ob0_rename_answers.specs.RenameRequests.{EachHasNames}
+use Rattle.ob0_rename_answers.specs.RenameAnswers.{EachHasNames}
 use Rattle.ob0_rename_answers.proofs.NewNameEdits.{NoMemory, Outcome, outcome}
 
 abbrev pub NamesReplaceNames : Type 0
 NamesReplaceNames = (new : List ℕ) → IsIdentifier new → ReplacesName new (name_word new ∷ [])
 
--- none of these refusals is a failed allocation
+-- ---- no refusal is a failed allocation
 
 no_name_other : refusal.NoName ≡ refusal.Memory → ⊥
 no_name_other e = cc

@@ -1,1 +1,1 @@
-pub mod RenameRequests
+pub mod RenameAnswers

@@ -1,12 +1,13 @@
-//! States a law that each request for a rename has an answer.
-ghost use Rattle.ob0_rename_answers.specs.RenameRequests.{RenamingHasAnswers};
+//! States a law that a rename has answers.
+
+ghost use Rattle.ob0_rename_answers.specs.RenameAnswers.{RenamingHasAnswers};
 
 use ob0_edits_tokens::laws::{names_replace_names, renamed_words_spell};
 use ob0_language_field_laws::laws::free_field_keeps_modules;
 use ob0_language_runs::laws::free_keeps_modules;
 use ob0_types_fields::laws::{duplicate_by_token, renamed_at_tokens};
 
-/// States that a request for a rename has an answer for each text, if the names of each well-typed module are bound.
+/// States that a request for a rename has an answer for each text, if the code has bound names for each well-typed text.
 pub fn renaming_has_answers()
     ensures { RenamingHasAnswers }
 {
