@@ -1,0 +1,2 @@
+mod NewNameEdits
+pub mod RenameAnswers
