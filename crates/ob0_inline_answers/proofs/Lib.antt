@@ -1,0 +1,6 @@
+mod ScalarConstants
+mod ModuleNames
+mod WrittenValues
+mod EditValues
+mod HereAnswers
+mod EverywhereAnswers

@@ -1,0 +1,295 @@
+-- Each constant of a module has a scalar value: a truth value, or a number of 32 bits.
+-- The integers of a text have at most 31 bits, and each operator gives a scalar for scalars. So the environments of
+-- constants have only scalars (`AllScalar`).
+use Rattle.std.proofs.Common.{◌≡◌, ℕ, suc, ◌++◌, ◌≤◌, ◌==◌, Bool, true, false, if◌then◌else◌, nat_lt, List, [], ◌∷◌, length, ℤ, pos, ◌+ℤ◌, ◌-ℤ◌, ◌*ℤ◌, neg_ℤ, Some, None, Option, option_map, option_and_then, refl, sym, subst, arith}
+use Rattle.std.proofs.lemmas.Bool.{lt-ltb, ltb-false, ltb-true}
+use Rattle.ob0_scan.specs.declared.lexeme.TokenKind.TheVariants as token
+use Rattle.ob0_scan.specs.Scanned.{IsScan, Scanned}
+use Rattle.ob0_tree.specs.declared.tree.Relation.{Relation}
+use Rattle.ob0_tree.specs.declared.tree.Relation.TheVariants as relation
+use Rattle.ob0_tree.specs.declared.tree.Sign.{Sign}
+use Rattle.ob0_tree.specs.declared.tree.Sign.TheVariants as sign
+use Rattle.ob0_tree.specs.declared.tree.AddOperator.{AddOperator}
+use Rattle.ob0_tree.specs.declared.tree.AddOperator.TheVariants as add_operator
+use Rattle.ob0_tree.specs.declared.tree.MultiplyOperator.{MultiplyOperator}
+use Rattle.ob0_tree.specs.declared.tree.MultiplyOperator.TheVariants as multiply_operator
+use Rattle.ob0_tree.specs.Places.{text_at, value_at}
+use Rattle.ob0_tree.specs.Tree.{Tree, addend, adds, block, compares, constant, constants, declares, declares_constant, declares_constants, declares_procedure, designator, end, expression, factor, has_body, integer, is_module, item, items, mapped, maybe, module_text, more, multiplier, multiplies, negation, none, one, parenthesised, procedure, product, relates, simple, sum, term}
+use Rattle.ob0_language_names.specs.Names.{Name, as_names, same_name}
+use Rattle.ob0_language_names.specs.Parts.{formal_names, formal_sections, named_types, procedure_name, section_constants, section_types, section_variables, variable_names}
+use Rattle.ob0_language_names.specs.Scopes.{after_names, after_procedure, first_procedure, first_type}
+use Rattle.ob0_language_values.specs.declared.scalar.Scalar.{Scalar}
+use Rattle.ob0_language_values.specs.declared.scalar.Scalar.TheVariants as scalar
+use Rattle.ob0_language_values.specs.Scalars.{scalar_value}
+use Rattle.ob0_language_values.specs.Values.{Outcome, Overflow, Place, Step, Value, add, add_is_settled, apply_sign, at_field, at_index, at_path, divided, divided_by, elements, ends, fits, gives, in_range, members, multiply, multiply_is_settled, negate, number, or_stuck, quotient, relate, remainder, truth, ◌>>=◌}
+use Rattle.ob0_language_types.specs.ConstantValues.{Known, no_constant, predeclared_known, value_among, value_in_block, value_in_procedure, value_in_procedures, value_of_constant}
+use Rattle.ob0_language_types.specs.Declarations.{declare_constants}
+use Rattle.ob0_language_types.specs.EditLaws.{IsScalar}
+use Rattle.ob0_language_types.specs.Environments.{from_binding, meanings, newest}
+use Rattle.ob0_language_types.specs.Expressions.{Meanings, Object, a_constant, a_procedure, a_standard, a_type, a_variable, evaluate, evaluate_addends, evaluate_factor, evaluate_multipliers, evaluate_simple, evaluate_term, follow, object_value}
+use Rattle.ob0_language_types.specs.Typing.{constant_of, constant_value, constants_only, given_value, type_of}
+use Rattle.ob0_language_types.specs.WellTyped.{bind_names}
+use Rattle.ob0_language_types.proofs.Literals.{some_inverse}
+use Rattle.ob0_language_types.proofs.TypedElsewhere.{then_some}
+use Rattle.ob0_types_table.proofs.TokenNumbers.{small_number, value_at-past, value_at-read}
+
+-- ---- operators
+
+-- holds if an evaluation gives a scalar, or ends the run
+abbrev GivesScalar : Outcome Value → Type 0
+GivesScalar (gives v) = IsScalar v
+GivesScalar (ends e) = Unit {0}
+
+scalar-then : (o : Outcome Value) (next : Value → Outcome Value) → GivesScalar o → ((v : Value) → IsScalar v → GivesScalar (next v)) → GivesScalar (o >>= next)
+scalar-then (gives v) next h each = each v h
+scalar-then (ends e) next h each = tt
+
+any-then : {A : Type 0} (o : Outcome A) (next : A → Outcome Value) → ((a : A) → GivesScalar (next a)) → GivesScalar (o >>= next)
+any-then (gives a) next each = each a
+any-then (ends e) next each = tt
+
+in_range-scalar : (n : ℤ) → GivesScalar (in_range n)
+in_range-scalar n = (elim (fits n) as (λ b. fits n ≡ b → GivesScalar (if b then gives (number n) else ends Overflow)) [ true ↦ λ e. e | false ↦ λ e. tt ]) refl
+
+divided-scalar : (result : Option ℤ) → GivesScalar (divided_by result)
+divided-scalar None = tt
+divided-scalar (Some n) = in_range-scalar n
+
+add-scalar : (o : AddOperator) (v w : Value) → GivesScalar (add o v w)
+add-scalar add_operator.Add (number a) (number b) = in_range-scalar (a +ℤ b)
+add-scalar add_operator.Subtract (number a) (number b) = in_range-scalar (a -ℤ b)
+add-scalar add_operator.Or (truth a) (truth b) = tt
+add-scalar _ _ _ = tt
+
+multiply-scalar : (o : MultiplyOperator) (v w : Value) → GivesScalar (multiply o v w)
+multiply-scalar multiply_operator.Multiply (number a) (number b) = in_range-scalar (a *ℤ b)
+multiply-scalar multiply_operator.Divide (number a) (number b) = divided-scalar (divided quotient a b)
+multiply-scalar multiply_operator.Modulo (number a) (number b) = divided-scalar (divided remainder a b)
+multiply-scalar multiply_operator.And (truth a) (truth b) = tt
+multiply-scalar _ _ _ = tt
+
+relate-scalar : (r : Relation) (v w : Value) → GivesScalar (relate r v w)
+relate-scalar r (number a) (number b) = tt
+relate-scalar relation.Equal (truth a) (truth b) = tt
+relate-scalar relation.NotEqual (truth a) (truth b) = tt
+relate-scalar _ _ _ = tt
+
+sign-scalar : (s : Option Sign) (v : Value) → IsScalar v → GivesScalar (apply_sign s v)
+sign-scalar None v h = h
+sign-scalar (Some sign.Plus) (number a) h = in_range-scalar a
+sign-scalar (Some sign.Minus) (number a) h = in_range-scalar (neg_ℤ a)
+sign-scalar (Some _) _ h = tt
+
+negate-scalar : (v : Value) → GivesScalar (negate v)
+negate-scalar (truth b) = tt
+negate-scalar _ = tt
+
+settled-scalar : (b : Bool) (x : Value) (o : Outcome Value) → IsScalar x → GivesScalar o → GivesScalar (elim b [ true ↦ gives x | false ↦ o ])
+settled-scalar true x o h k = h
+settled-scalar false x o h k = k
+
+-- A scalar has no parts.
+path-scalar : (steps : List Step) (v : Value) → IsScalar v → GivesScalar (or_stuck (at_path steps v))
+path-scalar [] v h = h
+path-scalar (at_index i ∷ steps) (number n) h = tt
+path-scalar (at_field x ∷ steps) (number n) h = tt
+path-scalar (at_index i ∷ steps) (truth b) h = tt
+path-scalar (at_field x ∷ steps) (truth b) h = tt
+path-scalar (s ∷ steps) (elements vs) h = absurd h
+path-scalar (s ∷ steps) (members k ms) h = absurd h
+
+-- ---- expressions
+
+-- holds if a name means a constant with a scalar value, or nothing
+abbrev HasScalar : Option (Object Place (Unit {0})) → Type 0
+HasScalar None = Unit {0}
+HasScalar (Some (a_constant v)) = IsScalar v
+HasScalar (Some (a_type s)) = ⊥
+HasScalar (Some (a_variable p)) = ⊥
+HasScalar (Some (a_procedure p)) = ⊥
+HasScalar (Some (a_standard p)) = ⊥
+
+object-scalar : (o : Option (Object Place (Unit {0}))) → HasScalar o → GivesScalar (object_value {P = Unit {0}} [] o)
+object-scalar None h = tt
+object-scalar (Some (a_constant v)) h = h
+object-scalar (Some (a_type s)) h = absurd h
+object-scalar (Some (a_variable p)) h = absurd h
+object-scalar (Some (a_procedure p)) h = absurd h
+object-scalar (Some (a_standard p)) h = absurd h
+
+small-scalar : (n : ℕ) → n ≤ 2147483647 → IsScalar (number (pos n))
+small-scalar n low = lt-ltb n 2147483648 (omega (arith, low))
+
+module _ (f : ℕ → Name) (g : ℕ → ℕ) (small : (i : ℕ) → g i ≤ 2147483647) where
+  module _ (meaning : Meanings Name Place (Unit {0})) (known : (x : Name) → HasScalar (meaning.object_for x)) where
+    mutual
+      unfolding evaluate
+
+      expression-scalar : (e : Tree ℕ expression) → GivesScalar (evaluate meaning [] (mapped f g e))
+      expression-scalar (compares a none) = simple-scalar a
+      expression-scalar (compares a (one (relates r b))) =
+          scalar-then (evaluate_simple meaning [] (mapped f g a)) (λ x. evaluate_simple meaning [] (mapped f g b) >>= relate r x) (simple-scalar a)
+          (λ x h. scalar-then (evaluate_simple meaning [] (mapped f g b)) (relate r x) (simple-scalar b) (λ y k. relate-scalar r x y))
+
+      simple-scalar : (a : Tree ℕ simple) → GivesScalar (evaluate_simple meaning [] (mapped f g a))
+      simple-scalar (sum s t rest) =
+          scalar-then (evaluate_term meaning [] (mapped f g t)) (λ x. apply_sign s x >>= (λ y. evaluate_addends meaning [] y (mapped f g rest))) (term-scalar t)
+          (λ x h. scalar-then (apply_sign s x) (λ y. evaluate_addends meaning [] y (mapped f g rest)) (sign-scalar s x h) (λ y k. addends-scalar y k rest))
+
+      addends-scalar : (x : Value) → IsScalar x → (a : Tree ℕ (items addend)) → GivesScalar (evaluate_addends meaning [] x (mapped f g a))
+      addends-scalar x h end = h
+      addends-scalar x h (more (adds o t) rest) =
+          scalar-then (elim (add_is_settled o x) [ true ↦ gives x | false ↦ evaluate_term meaning [] (mapped f g t) >>= add o x ]) (λ y. evaluate_addends meaning [] y (mapped f g rest))
+          (settled-scalar (add_is_settled o x) x (evaluate_term meaning [] (mapped f g t) >>= add o x) h (scalar-then (evaluate_term meaning [] (mapped f g t)) (add o x) (term-scalar t) (λ y k. add-scalar o x y)))
+          (λ y k. addends-scalar y k rest)
+
+      term-scalar : (t : Tree ℕ term) → GivesScalar (evaluate_term meaning [] (mapped f g t))
+      term-scalar (product a rest) =
+          scalar-then (evaluate_factor meaning [] (mapped f g a)) (λ x. evaluate_multipliers meaning [] x (mapped f g rest)) (factor-scalar a) (λ x h. multipliers-scalar x h rest)
+
+      multipliers-scalar : (x : Value) → IsScalar x → (a : Tree ℕ (items multiplier)) → GivesScalar (evaluate_multipliers meaning [] x (mapped f g a))
+      multipliers-scalar x h end = h
+      multipliers-scalar x h (more (multiplies o a) rest) =
+          scalar-then (elim (multiply_is_settled o x) [ true ↦ gives x | false ↦ evaluate_factor meaning [] (mapped f g a) >>= multiply o x ]) (λ y. evaluate_multipliers meaning [] y (mapped f g rest))
+          (settled-scalar (multiply_is_settled o x) x (evaluate_factor meaning [] (mapped f g a) >>= multiply o x) h (scalar-then (evaluate_factor meaning [] (mapped f g a)) (multiply o x) (factor-scalar a) (λ y k. multiply-scalar o x y)))
+          (λ y k. multipliers-scalar y k rest)
+
+      factor-scalar : (a : Tree ℕ factor) → GivesScalar (evaluate_factor meaning [] (mapped f g a))
+      factor-scalar (designator x path) =
+          scalar-then (object_value [] (meaning.object_for (f x))) (λ v. follow meaning [] v (mapped f g path) >>= (λ steps. or_stuck (at_path steps v))) (object-scalar (meaning.object_for (f x)) (known (f x)))
+          (λ v h. any-then (follow meaning [] v (mapped f g path)) (λ steps. or_stuck (at_path steps v)) (λ steps. path-scalar steps v h))
+      factor-scalar (integer n) = small-scalar (g n) (small n)
+      factor-scalar (parenthesised e) = expression-scalar e
+      factor-scalar (negation a) = scalar-then (evaluate_factor meaning [] (mapped f g a)) negate (factor-scalar a) (λ v h. negate-scalar v)
+
+  -- ---- declarations
+
+  -- holds if an object isn't a constant, or is one with a scalar value
+  abbrev ScalarObject : Object (Unit {0}) (Unit {0}) → Type 0
+  ScalarObject (a_constant v) = IsScalar v
+  ScalarObject (a_type s) = Unit {0}
+  ScalarObject (a_variable p) = Unit {0}
+  ScalarObject (a_procedure p) = Unit {0}
+  ScalarObject (a_standard p) = Unit {0}
+
+  abbrev AllScalar : Known → Type 0
+  AllScalar [] = Unit {0}
+  AllScalar (b ∷ known) = ScalarObject b.1 × AllScalar known
+
+  only-scalar : (o : Object (Unit {0}) (Unit {0})) → ScalarObject o → HasScalar (option_map a_constant (constant_of (Some o)))
+  only-scalar (a_constant v) h = h
+  only-scalar (a_type s) h = tt
+  only-scalar (a_variable p) h = tt
+  only-scalar (a_procedure p) h = tt
+  only-scalar (a_standard p) h = tt
+
+  looked-up : (known : Known) → AllScalar known → (x : Name) → HasScalar ((constants_only {W = Place} {Q = Unit {0}} (meanings as_names known)).object_for x)
+  looked-up [] h x = tt
+  looked-up (b ∷ known) h x =
+      elim (same_name x b.0) as (λ t. HasScalar (option_map a_constant (constant_of (newest (elim t [ true ↦ b ∷ known | false ↦ from_binding as_names known x ])))))
+      [ true ↦ only-scalar b.1 h.0 | false ↦ looked-up known h.1 x ]
+
+  given-scalar : (o : Outcome Value) (v : Value) → GivesScalar o → given_value o ≡ Some v → IsScalar v
+  given-scalar (gives w) v h e = subst IsScalar (some_inverse e) h
+  given-scalar (ends x) v h e = absurd (cc)
+
+  constant-scalar : (known : Known) → AllScalar known → (e : Tree ℕ expression) (v : Value) → constant_value (meanings as_names known) (mapped f g e) ≡ Some v → IsScalar v
+  unfolding constant_value
+  constant-scalar known h e v q =
+      let meaning : Meanings Name Place (Unit {0}) = constants_only (meanings as_names known) in
+      let found = then_some (type_of {P = Unit {0}} (constants_only (meanings as_names known)) (mapped f g e)) (λ s. given_value (evaluate {P = Unit {0}} (constants_only (meanings as_names known)) [] (mapped f g e))) v q in
+      given-scalar (evaluate meaning [] (mapped f g e)) v (expression-scalar meaning (looked-up known h) e) found.2
+
+  bound-scalar : (xs : List Name) (known : Known) → AllScalar known → AllScalar (bind_names xs no_constant known)
+  bound-scalar [] known h = h
+  bound-scalar (x ∷ xs) known h = bound-scalar xs ((x, no_constant) ∷ known) (tt, h)
+
+  declared-scalar : (cs : Tree ℕ (items constant)) (known inner : Known) → AllScalar known → declare_constants as_names known (mapped f g cs) ≡ Some inner → AllScalar inner
+  unfolding declare_constants
+  declared-scalar end known inner h q = subst AllScalar (some_inverse q) h
+  declared-scalar (more (declares_constant x e) cs) known inner h q =
+      let found = then_some (constant_value (meanings as_names known) (mapped f g e)) (λ v. declare_constants as_names ((f x, a_constant v) ∷ known) (mapped f g cs)) inner q in
+      declared-scalar cs ((f x, a_constant found.0) ∷ known) inner (constant-scalar known h e found.0 found.1, h) found.2
+
+  among-scalar : (cs : Tree ℕ (items constant)) (known : Known) (d k : ℕ) (w : Value) → AllScalar known → value_among known d k (mapped f g cs) ≡ Some w → IsScalar w
+  unfolding value_among
+  among-scalar end known d k w h q = absurd (cc)
+  among-scalar (more (declares_constant x e) cs) known d k w h q =
+      let found = then_some (constant_value (meanings as_names known) (mapped f g e)) (λ v. if k == d then Some v else value_among ((f x, a_constant v) ∷ known) d (suc k) (mapped f g cs)) w q in
+      let scalar_so = constant-scalar known h e found.0 found.1 in
+      (elim (k == d) as (λ b. (if b then Some found.0 else value_among ((f x, a_constant found.0) ∷ known) d (suc k) (mapped f g cs)) ≡ Some w → IsScalar w)
+      [ true ↦ λ e. subst IsScalar (some_inverse e) scalar_so | false ↦ λ e. among-scalar cs ((f x, a_constant found.0) ∷ known) d (suc k) w (scalar_so, h) e ]) found.2
+
+  section-scalar : (cs : Tree ℕ (maybe constants)) (known : Known) (d k : ℕ) (w : Value) → AllScalar known → value_among known d k (section_constants (mapped f g cs)) ≡ Some w → IsScalar w
+  section-scalar none known d k w h q = among-scalar end known d k w h q
+  section-scalar (one (declares_constants cs)) known d k w h q = among-scalar cs known d k w h q
+
+  section-declared : (cs : Tree ℕ (maybe constants)) (known inner : Known) → AllScalar known → declare_constants as_names known (section_constants (mapped f g cs)) ≡ Some inner → AllScalar inner
+  section-declared none known inner h q = declared-scalar end known inner h q
+  section-declared (one (declares_constants cs)) known inner h q = declared-scalar cs known inner h q
+
+  chosen : {A : Type 0} (b : Bool) (x y : Option A) (P : A → Type 0) (a : A) → ((a : A) → x ≡ Some a → P a) → ((a : A) → y ≡ Some a → P a) → (if b then x else y) ≡ Some a → P a
+  chosen true x y P a h k e = h a e
+  chosen false x y P a h k e = k a e
+
+  nothing : (w : Value) → None ≡ Some w → IsScalar w
+  nothing w e = absurd (cc)
+
+  mutual
+    unfolding value_in_block
+
+    block-scalar : (b : Tree ℕ block) (known : Known) (d k : ℕ) (w : Value) → AllScalar known → value_in_block known d k (mapped f g b) ≡ Some w → IsScalar w
+    block-scalar (has_body (declares cs ts vs ps) statements) known d k w h q =
+        let whole = mapped f g (has_body (declares cs ts vs ps) statements) in
+        let more_names = named_types (section_types (mapped f g ts)) ++ variable_names (section_variables (mapped f g vs)) in
+        let others = option_and_then (λ inner. value_in_procedures (bind_names more_names no_constant inner) d (first_procedure k whole) (mapped f g ps)) (declare_constants as_names known (section_constants (mapped f g cs))) in
+        chosen (nat_lt d (first_type k whole)) (value_among known d k (section_constants (mapped f g cs))) (if nat_lt d (first_procedure k whole) then None else others) IsScalar w
+        (λ v e. section-scalar cs known d k v h e)
+        (λ v e. chosen (nat_lt d (first_procedure k whole)) None others IsScalar v nothing
+        (λ u p.
+        let found = then_some (declare_constants as_names known (section_constants (mapped f g cs))) (λ inner. value_in_procedures (bind_names more_names no_constant inner) d (first_procedure k whole) (mapped f g ps)) u p in
+        procedures-scalar ps (bind_names more_names no_constant found.0) d (first_procedure k whole) u (bound-scalar more_names found.0 (section-declared cs known found.0 h found.1)) found.2)
+        e) q
+
+    procedures-scalar : (ps : Tree ℕ (items procedure)) (known : Known) (d k : ℕ) (w : Value) → AllScalar known → value_in_procedures known d k (mapped f g ps) ≡ Some w → IsScalar w
+    procedures-scalar end known d k w h q = absurd (cc)
+    procedures-scalar (more p rest) known d k w h q =
+        let inner : Known = (procedure_name (mapped f g p), no_constant) ∷ known in
+        chosen (nat_lt d (after_procedure (suc k) (mapped f g p))) (value_in_procedure inner d (suc k) (mapped f g p)) (value_in_procedures inner d (after_procedure (suc k) (mapped f g p)) (mapped f g rest)) IsScalar w
+        (λ v e. procedure-scalar p inner d (suc k) v (tt, h) e)
+        (λ v e. procedures-scalar rest inner d (after_procedure (suc k) (mapped f g p)) v (tt, h) e) q
+
+    procedure-scalar : (p : Tree ℕ (item procedure)) (known : Known) (d k : ℕ) (w : Value) → AllScalar known → value_in_procedure known d k (mapped f g p) ≡ Some w → IsScalar w
+    procedure-scalar (declares_procedure x fs b closing) known d k w h q =
+        let ns = formal_names (formal_sections (mapped f g fs)) in
+        chosen (nat_lt d (after_names k ns)) None (value_in_block (bind_names ns no_constant known) d (after_names k ns) (mapped f g b)) IsScalar w
+        nothing
+        (λ v e. block-scalar b (bind_names ns no_constant known) d (after_names k ns) v (bound-scalar ns known h) e) q
+
+  module-scalar : (m : Tree ℕ module_text) (d : ℕ) (w : Value) → value_of_constant (mapped f g m) d ≡ Some w → IsScalar w
+  unfolding value_of_constant
+  module-scalar (is_module x b closing) d w q =
+      chosen (nat_lt d 7) None (value_in_block predeclared_known d 7 (mapped f g b)) IsScalar w nothing
+      (λ v e. block-scalar b predeclared_known d 7 v (tt, (tt, (tt, (tt, (tt, (tt, (tt, tt))))))) e) q
+
+-- ---- texts
+
+value-small : (s : Scanned) → IsScan s → (i : ℕ) → value_at s i ≤ 2147483647
+value-small s scan i = go (nat_lt i (length s.tokens)) refl
+  where
+    go : (b : Bool) → nat_lt i (length s.tokens) ≡ b → value_at s i ≤ 2147483647
+    go true e =
+        let less = ltb-true i (length s.tokens) e in
+        subst (λ n. n ≤ 2147483647) (sym (value_at-read s i (record { kind = token.Identifier; span = record { start = 0; end = 0 } }) less)) (small_number s scan i (record { kind = token.Identifier; span = record { start = 0; end = 0 } }) less)
+    go false e = subst (λ n. n ≤ 2147483647) (sym (value_at-past s i (ltb-false i (length s.tokens) e))) (omega arith)
+
+-- Each constant of a text has a scalar value.
+pub constant_scalar : (s : Scanned) → IsScan s → (m : Tree ℕ module_text) (d : ℕ) (w : Value) → value_of_constant (mapped (text_at s) (value_at s) m) d ≡ Some w → IsScalar w
+constant_scalar s scan m d w e = module-scalar (text_at s) (value_at s) (value-small s scan) m d w e
+
+-- The code has a scalar for each scalar value.
+pub scalar_of : (w : Value) → IsScalar w → (v : Scalar) × (scalar_value v ≡ w)
+scalar_of (number n) h = (scalar.Number n, refl)
+scalar_of (truth b) h = (scalar.Truth b, refl)
+scalar_of (elements vs) h = absurd h
+scalar_of (members k ms) h = absurd h

@@ -1,0 +1,4 @@
+//! Laws that each request to inline a constant has an answer.
+#![tactic(auto)]
+
+pub mod laws;
