@@ -1,0 +1,2 @@
+//! Values of the code for each module.
+#![tactic(auto)]

@@ -1,0 +1,2 @@
+mod ModuleValues
+mod Answering
