@@ -1,4 +1,4 @@
-//! States a law that a rename has answers.
+//! Proves a law that a rename has answers.
 
 ghost use Rattle.ob0_rename_answers.specs.RenameAnswers.{RenamingHasAnswers};
 
@@ -7,7 +7,7 @@ use ob0_language_field_laws::laws::free_field_keeps_modules;
 use ob0_language_runs::laws::free_keeps_modules;
 use ob0_types_fields::laws::{duplicate_by_token, renamed_at_tokens};
 
-/// States that a request for a rename has an answer for each text, if the code has bound names for each well-typed text.
+/// Proves that a request for a rename has an answer for each text, if the code has bound names for each well-typed text.
 pub fn renaming_has_answers()
     ensures { RenamingHasAnswers }
 {

@@ -10,7 +10,7 @@ use Rattle.ob0_world_rules.specs.Editing.{apply, ask_about, change_document, clo
 use Rattle.ob0_world_rules.specs.Happens.{Event, does, serve, take_message}
 use Rattle.ob0_world_rules.specs.Laws.{ACourseFits, HasAnswers, IsAnswerable}
 use Rattle.ob0_world_worked.specs.Formatting.{FormattingHasAnswers}
-use Rattle.ob0_world_answers.specs.Answering.{EachAskHasAnswers, EachListHasACourse}
+use Rattle.ob0_world_answers.specs.Answering.{EachAskHasAnswers, EachEventListHasACourse}
 use Rattle.ob0_world_answers.proofs.ModuleValues.{each_has_names, each_is_read}
 
 pub each_ask_answered : OneTree → FormattingHasAnswers → RenamingHasAnswers → InliningHereHasAnswers → InliningEverywhereHasAnswers → EachAskHasAnswers
@@ -34,5 +34,5 @@ all_answered answered [] = All-nil IsAnswerable
 all_answered answered (event ∷ events) =
     All-append IsAnswerable (event ∷ []) events (All-push IsAnswerable [] event (All-nil IsAnswerable) (event_answered answered event)) (all_answered answered events)
 
-pub each_list_fits : EachAskHasAnswers → ACourseFits → EachListHasACourse
+pub each_list_fits : EachAskHasAnswers → ACourseFits → EachEventListHasACourse
 each_list_fits answered fits unit events = fits unit events (all_answered answered events)

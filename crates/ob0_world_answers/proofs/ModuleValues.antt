@@ -1,14 +1,14 @@
 -- Each well-typed text has a parsed module, and one whose names are bound.
 use Rattle.std.proofs.Common.{◌≡◌, ℕ, List, sym, subst}
 use Rattle.ob0_scan.specs.Scanned.{IsScanOf, Scanned}
-use Rattle.ob0_tree.specs.Parsed.{Parsed, named_tree_of}
+use Rattle.ob0_tree.specs.Parsed.{Parsed}
 use Rattle.ob0_tree.specs.Tree.{Tree, module_text}
 use Rattle.ob0_language_types.specs.WellTyped.{WellTyped}
 use Rattle.ob0_scope_table.specs.Resolution.{Resolution}
-use Rattle.ob0_types.specs.CheckedModules.{IsWellTyped}
 use Rattle.ob0_analysis.specs.Analysed.{IsModuleIn, IsReadAs}
 use Rattle.ob0_analysis.specs.Texts.{utf8}
-use Rattle.ob0_module_values.proofs.ModuleValues.{OneTree, parsed_of, resolution_of}
+use Rattle.ob0_module_values.proofs.ModuleValues.{OneTree, parsed_of}
+use Rattle.ob0_inline_answers.proofs.ModuleNames.{named_module}
 use Rattle.ob0_world_rules.specs.Language.{WellTypedText}
 use Rattle.ob0_world_rules.proofs.ModuleTexts.{well_typed_module}
 
@@ -24,14 +24,5 @@ each_is_read one_tree text h =
       },
     )
 
-bound : (text : List ℕ) (m : Parsed) (read : IsReadAs text m) (r : Resolution) → r.module_read ≡ m → (IsWellTyped r) → IsModuleIn text r
-bound text m read r same well = record { scan = subst (λ (x : Parsed). IsScanOf text x.source) (sym same) read.scan; well_typed = well }
-
 pub each_has_names : OneTree → (text : List ℕ) → WellTypedText text → (names : Resolution) × IsModuleIn (utf8 text) names
-each_has_names one_tree text h =
-    let m = each_is_read one_tree text h in
-    let r = resolution_of m.0 m.1.parsed in (
-      r.0,
-      bound (utf8 text) m.0 m.1 r.0 r.2
-          (record { resolved = r.1; well_typed = subst (λ (x : Parsed). WellTyped (named_tree_of x)) (sym r.2) m.1.well_typed }),
-    )
+each_has_names one_tree text h = let m = each_is_read one_tree text h in named_module (utf8 text) m.0 m.1

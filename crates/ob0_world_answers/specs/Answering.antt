@@ -13,7 +13,7 @@ EachAskHasAnswers = (ask : Ask) → HasAnswers ask
 
 -- States that it can't be that a list of events has no course. So a law about every course is about
 -- at least one.
-abbrev pub EachListHasACourse : Type 0
-EachListHasACourse =
+abbrev pub EachEventListHasACourse : Type 0
+EachEventListHasACourse =
     (unit : Unit) (events : List Event)
     → ¬ ((end : ClientAndServer) → ¬ Course (start unit) events end)

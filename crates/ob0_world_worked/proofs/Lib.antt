@@ -6,7 +6,6 @@ mod WorkedEdits
 mod LayoutEdits
 mod WorkedAnswers
 mod LayoutAnswers
-mod Courses
 mod Json
 mod WorkedMessages
 mod WorkedExchange

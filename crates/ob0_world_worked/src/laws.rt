@@ -1,5 +1,6 @@
-//! States laws about one text, its worked answers and a worked exchange; and laws that formatting has answers.
-ghost use Rattle.ob0_world_worked.specs.Formatting.{ACourseFitsFormatting, FormattingHasAnswers};
+//! Proves what the answers to four requests about an example text (`worked_text`) are, and that an
+//! example exchange exists. Also proves that a request for formatting has an answer for each text.
+ghost use Rattle.ob0_world_worked.specs.Formatting.{FormattingHasAnswers};
 ghost use Rattle.ob0_world_worked.specs.WorkedExchange.{AWorkedExchange};
 ghost use Rattle.ob0_world_worked.specs.WorkedAnswers.{ACapture, ARename, AnInlining, AnInliningEverywhere};
 
@@ -8,7 +9,7 @@ use ob0_language_runs::laws::{
 };
 use ob0_language_types::laws::constants_are_alone;
 use ob0_layout::laws::{gaps_make_the_layout, lexemes_stay, module_stays};
-use ob0_world_rules::laws::{a_course_fits, answers_are_one};
+use ob0_world_rules::laws::answers_are_one;
 
 /// Proves that renaming variable x of `worked_text` to y is answered by three edits, and by no
 /// others.
@@ -54,14 +55,6 @@ pub fn formatting_has_answers()
     module_stays();
     lexemes_stay();
     gaps_make_the_layout();
-}
-
-/// States that a list of events has a course if its renames and inlinings have answers.
-pub fn a_course_fits_formatting()
-    ensures { ACourseFitsFormatting }
-{
-    formatting_has_answers();
-    a_course_fits();
 }
 
 /// Proves that the example exchange exists. An editor initializes a session and opens a document
