@@ -1,5 +1,5 @@
 mod ScalarConstants
-mod ModuleNames
+pub mod ModuleNames
 mod WrittenValues
 mod EditValues
 mod HereAnswers

@@ -139,10 +139,9 @@ impl<T: TextStore> World<T> {
 
     /// Plays a list of events from the start, with positions in this unit.
     ///
-    /// In every interleaving of an editor and the server, each edit that the editor applies to a
-    /// well-typed document leaves a well-typed module with the same run. The same run means the
-    /// same output and end, for every input and every bound on calls and loop iterations. An open
-    /// document's latest diagnostics are empty exactly when the text they were made for is a
+    /// In every interleaving of an editor and the server, each edit that the editor applies to a well-typed document
+    /// leaves a well-typed module with the same run: the same output and end for every input and every bound on calls
+    /// and loop turns; and an open document's latest diagnostics are empty exactly when the text they were made for is a
     /// well-typed module.
     ///
     /// The editor is the model's. The law `every_exchange_holds` states the same for every
