@@ -1,4 +1,5 @@
-"""A build that is ended: nothing goes on beside it, and what was proved is kept. A command of the tests' own stands in for `rt`."""
+"""A build that is ended, or that meets a crate that isn't proved: nothing goes on beside it, and what was proved is kept. A command of
+the tests' own stands in for `rt`."""
 from __future__ import annotations
 
 import contextlib
@@ -79,3 +80,34 @@ def ended() -> None:
 @test("build: it goes on in a terminal that is closed if that signal is ignored, as `nohup` has it")
 def ignored() -> None:
     is_ended_by(signal.SIGHUP, ignored=True)
+
+
+# what proves a crate, but for the crate `bad`
+JUDGE = """#!/bin/sh
+[ "$1" = version ] && { echo a kit; exit; }
+name=$(basename "$PWD")
+mkdir -p "out/rlib/$name.rlib" && echo stamp > out/rlib/stamp
+[ "$name" != bad ] || { echo "proofs/Bad.antt:1:1: error: no proof"; echo "the last line"; exit 1; }
+echo "crate $name: modules loaded=0 checked=1"
+"""
+
+
+@test("build: `make check` goes on with the crates that don't rest on one that isn't proved, and names it; a build ends there")
+def others_are_proved() -> None:
+    with temporary() as room:
+        shutil.copytree(os.path.join(TOP, "tools"), os.path.join(room, "tools"), ignore=shutil.ignore_patterns("__pycache__"))
+        write(os.path.join(room, "crates.txt"), "bad:\nlow:\nmiddle: low\nover: bad\nob0: over middle\n")
+        for it in ("HANDLES", *(f"crates/{it}/src/lib.rt" for it in ("bad", "low", "middle", "over", "ob0"))):
+            write(os.path.join(room, it), "")
+        write(os.path.join(room, "path", "rt"), JUDGE)
+        os.chmod(os.path.join(room, "path", "rt"), 0o755)
+        own = {**os.environ, "PATH": f"{room}/path:{os.environ['PATH']}"}
+        how: dict[str, Any] = {"cwd": room, "env": own, "stdin": subprocess.DEVNULL, "stdout": subprocess.PIPE, "stderr": subprocess.STDOUT, "text": True}
+        check = subprocess.run([sys.executable, "-B", "tools/build.py", "--check"], timeout=300, check=False, **how)
+        same(check.returncode, 1, f"the status of a check that said\n{check.stdout}")
+        for line in ("proofs/Bad.antt:1:1: error: no proof\n", "] low: proved", "] middle: proved", "] NOT PROVED: bad; 3 of 5 crates are left"):
+            holds(line in check.stdout, f"{line!r} isn't in\n{check.stdout}")
+        holds("the last line" not in check.stdout and "] over:" not in check.stdout, check.stdout)
+        build = subprocess.run([sys.executable, "-B", "tools/build.py"], timeout=300, check=False, **how)
+        same(build.returncode, 1, f"the status of a build that said\n{build.stdout}")
+        holds("] bad: NOT PROVED" in build.stdout and "] NOT PROVED:" not in build.stdout, build.stdout)

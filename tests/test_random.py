@@ -98,6 +98,11 @@ def aliased_runs() -> None:
     print("    " + counted(run_of(random_texts.aliased, seed) for seed in seeds(COUNT)))
 
 
+@test("random: runs of loops that count")
+def counting_runs() -> None:
+    print("    " + counted(run_of(random_texts.counting, seed) for seed in seeds(COUNT)))
+
+
 def spread(found: Text, changes: list[Edit]) -> list[Message]:
     """Edits as the server writes them."""
     places = [(found.position(start), found.position(end), new) for start, end, new in changes]

@@ -4,7 +4,8 @@
   tools/build.py           the program's crates; builds the program too, and leaves it as bin/ob0
   tools/build.py --check   all crates and their tests; builds no program, and runs no test
 
-It says which crate is being proved, how many are left and the time so far. A program that is up to date is left as it is, and so is
+It says which crate is being proved, how many are left and the time so far. If a crate isn't proved, a build ends there; --check goes
+on with the crates that don't rest on it, shows the errors, and names the crates that weren't proved at its end. A program that is up to date is left as it is, and so is
 a crate that was proved here of the same sources, over the same crates below, by the same kit. With --check it says of each crate
 how many modules were loaded and how many proved again; a crate is left too where nothing changed that its proofs have read of those
 below: each proof that is kept says at its head which modules the checker saw for it, and each module of a library a sum over what
@@ -335,6 +336,11 @@ class Work:
         """How many of the crate's modules were loaded, and how many proved again: none where its library is up to date."""
         return modules_of(self.name, self.said())
 
+    def errors(self) -> str:
+        """The lines of its log that name errors, or the end of the log if there are none."""
+        said = self.said()
+        return "\n".join(it for it in said.split("\n") if re.search(r": error\b|\berror\[", it)) or said[-4000:]
+
     def at(self) -> str:
         """How far the check is, by its own word."""
         found = re.findall(r"^so far: (\d+ of \d+ functions) checked", self.said(), re.M)
@@ -454,6 +460,7 @@ class Plan:
 
 def prove_all(running: dict[str, Work], plan: Plan, came: list[int]) -> int:
     """Proves what a plan names, until a signal comes; returns the exit status."""
+    failed: list[str] = []
     ready, most, shown_at = plan.ready(running), lanes(), time.monotonic()
     plan.say(f"{len(plan.done)} of {len(plan.all)} crates are up to date")
     while not plan.is_done:
@@ -472,13 +479,18 @@ def prove_all(running: dict[str, Work], plan: Plan, came: list[int]) -> int:
             del running[name]
             work.leave()
             if work.process.returncode:
-                end_all(running)
-                print(work.said()[-4000:], file=sys.stderr)
-                plan.say(f"{name}: NOT PROVED; the end of crates/{name}/out/build.log is above")
-                return 1
+                failed.append(name)
+                print(work.errors() if plan.is_check else work.said()[-4000:], file=sys.stderr)
+                plan.say(f"{name}: NOT PROVED; {'its errors are' if plan.is_check else 'the end of its log is'} above, and all in crates/{name}/out/build.log")
+                if not plan.is_check:
+                    return 1
+                continue
             plan.take(name, work.modules())
             plan.say(f"{name}: proved{f', {plan.done[name]}' if plan.is_check else ''}; {plan.left()}")
-        ready = plan.ready(running)
+        ready = [it for it in plan.ready(running) if it not in failed]
+        if failed and not ready and not running:
+            plan.say(f"NOT PROVED: {', '.join(failed)}; {plan.left()}, those that rest on them among these")
+            return 1
         if time.monotonic() - shown_at > STEP and running:
             shown_at = time.monotonic()
             plan.say(f"at {'; '.join(f'{it.name}{it.at()}' for it in running.values())}; {plan.left()}")

@@ -8,6 +8,7 @@ from typing import List, Tuple
 
 import aliasing_modules
 import corpus
+import counting_modules
 from reference.scanner import SYMBOLS, WORDS
 
 LEXEME = re.compile(r"\(\*.*?\*\)|[A-Za-z][A-Za-z0-9]*|[0-9]+|:=|<=|>=|\S", re.S)
@@ -68,6 +69,13 @@ def aliased(seed: int) -> Program:
     chance = random.Random(f"run {seed}")
     given = [chance.choice([0, 1, -1, 2, 5]) for _ in range(chance.randrange(12))]
     return aliasing_modules.module(seed), given, chance.choice([0, 2, 4, 6, 9, 64, 64, 64]), chance.choice([0, 1, 2, 3, 20, 20])
+
+
+def counting(seed: int) -> Program:
+    """A module of loops that count, with its input and bounds."""
+    chance = random.Random(f"run {seed}")
+    given = [chance.choice([0, 1, -1, 3, 2147483647]) for _ in range(chance.randrange(6))]
+    return counting_modules.module(seed), given, chance.choice([0, 1, 2, 8]), chance.choice([0, 1, 2, 3, 4, 20, 20])
 
 
 def squeezed(text: str, chance: random.Random) -> str:

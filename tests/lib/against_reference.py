@@ -112,12 +112,14 @@ def counted(found: Iterable[str]) -> str:
     return "; ".join(f"{counts[name]:,} with `{name}`" for name in sorted(counts))
 
 
-def of_either(seed: int) -> str:
-    return run_of(random_texts.aliased if seed % 2 else random_texts.program, seed)
+def of_some_kind(seed: int) -> str:
+    kinds = [random_texts.program, random_texts.aliased, random_texts.counting, random_texts.aliased]
+    return run_of(kinds[seed % 4], seed)
 
 
 def many_runs(count: int, first: int, processes: int) -> str:
-    """This many runs, half of them with arrays and records that are passed and copied, by some processes. Returns a line with figures."""
+    """This many runs, half of them with arrays and records that are passed and copied, and a quarter of loops that count, by some
+    processes. Returns a line with figures."""
     with concurrent.futures.ProcessPoolExecutor(processes) as pool:
-        ends = list(pool.map(of_either, range(first, first + count), chunksize=50))
+        ends = list(pool.map(of_some_kind, range(first, first + count), chunksize=50))
     return f"{len(ends) - ends.count(LONG):,} runs; {counted(ends)}"
