@@ -82,12 +82,12 @@ def ignored() -> None:
     is_ended_by(signal.SIGHUP, ignored=True)
 
 
-# what proves a crate, but for the crate `bad`
+# stands in for `rt`: proves each crate except `bad`
 JUDGE = """#!/bin/sh
 [ "$1" = version ] && { echo a kit; exit; }
 name=$(basename "$PWD")
 mkdir -p "out/rlib/$name.rlib" && echo stamp > out/rlib/stamp
-[ "$name" != bad ] || { echo "proofs/Bad.antt:1:1: error: no proof"; echo "the last line"; exit 1; }
+[ "$name" != bad ] || { echo "proofs/Bad.antt:1:1: error: no proof"; echo "note: src/lib.rt:1:1: it is not proved"; echo "the last line"; exit 1; }
 echo "crate $name: modules loaded=0 checked=1"
 """
 
@@ -105,7 +105,7 @@ def others_are_proved() -> None:
         how: dict[str, Any] = {"cwd": room, "env": own, "stdin": subprocess.DEVNULL, "stdout": subprocess.PIPE, "stderr": subprocess.STDOUT, "text": True}
         check = subprocess.run([sys.executable, "-B", "tools/build.py", "--check"], timeout=300, check=False, **how)
         same(check.returncode, 1, f"the status of a check that said\n{check.stdout}")
-        for line in ("proofs/Bad.antt:1:1: error: no proof\n", "] low: proved", "] middle: proved", "] NOT PROVED: bad; 3 of 5 crates are left"):
+        for line in ("proofs/Bad.antt:1:1: error: no proof\n", "lib.rt:1:1: it is not proved\n", "] low: proved", "] middle: proved", "] NOT PROVED: bad; 3 of 5 crates are left"):
             holds(line in check.stdout, f"{line!r} isn't in\n{check.stdout}")
         holds("the last line" not in check.stdout and "] over:" not in check.stdout, check.stdout)
         build = subprocess.run([sys.executable, "-B", "tools/build.py"], timeout=300, check=False, **how)

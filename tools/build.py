@@ -4,12 +4,12 @@
   tools/build.py           the program's crates; builds the program too, and leaves it as bin/ob0
   tools/build.py --check   all crates and their tests; builds no program, and runs no test
 
-It says which crate is being proved, how many are left and the time so far. If a crate isn't proved, a build ends there; --check goes
-on with the crates that don't rest on it, shows the errors, and names the crates that weren't proved at its end. A program that is up to date is left as it is, and so is
-a crate that was proved here of the same sources, over the same crates below, by the same kit. With --check it says of each crate
-how many modules were loaded and how many proved again; a crate is left too where nothing changed that its proofs have read of those
-below: each proof that is kept says at its head which modules the checker saw for it, and each module of a library a sum over what
-it says, comments apart. What is kept is trusted, so this is not the gate.
+It says which crate is being proved, how many are left and the time so far. If a crate isn't proved, a build ends. With --check the
+crates that don't need it are proved, and the last line names those that weren't proved. A program that is up to date is left as it
+is, and so is a crate that was proved here of the same sources, over the same crates below, by the same kit. With --check it says of
+each crate how many modules were loaded and how many proved again; a crate is left too where nothing changed that its proofs have
+read of those below: each proof that is kept says at its head which modules the checker saw for it, and each module of a library a
+sum over what it says, comments apart. What is kept is trusted, so this is not the gate.
 
 Two runs of rt in one tree wait for each other where they depend on the same crate. So each crate is proved in a tree of
 its own, a room: a copy of its sources, and of each crate below hard links to its sources and its proved library."""
@@ -337,9 +337,9 @@ class Work:
         return modules_of(self.name, self.said())
 
     def errors(self) -> str:
-        """The lines of its log that name errors, or the end of the log if there are none."""
+        """The lines of its log that name an error or a goal that isn't proved, or the end of the log if there are none."""
         said = self.said()
-        return "\n".join(it for it in said.split("\n") if re.search(r": error\b|\berror\[", it)) or said[-4000:]
+        return "\n".join(it for it in said.split("\n") if re.search(r": error\b|\berror\[|it is not proved", it)) or said[-4000:]
 
     def at(self) -> str:
         """How far the check is, by its own word."""
@@ -481,7 +481,7 @@ def prove_all(running: dict[str, Work], plan: Plan, came: list[int]) -> int:
             if work.process.returncode:
                 failed.append(name)
                 print(work.errors() if plan.is_check else work.said()[-4000:], file=sys.stderr)
-                plan.say(f"{name}: NOT PROVED; {'its errors are' if plan.is_check else 'the end of its log is'} above, and all in crates/{name}/out/build.log")
+                plan.say(f"{name}: NOT PROVED; above are lines of crates/{name}/out/build.log")
                 if not plan.is_check:
                     return 1
                 continue
@@ -489,7 +489,7 @@ def prove_all(running: dict[str, Work], plan: Plan, came: list[int]) -> int:
             plan.say(f"{name}: proved{f', {plan.done[name]}' if plan.is_check else ''}; {plan.left()}")
         ready = [it for it in plan.ready(running) if it not in failed]
         if failed and not ready and not running:
-            plan.say(f"NOT PROVED: {', '.join(failed)}; {plan.left()}, those that rest on them among these")
+            plan.say(f"NOT PROVED: {', '.join(failed)}; {plan.left()}, with the crates that need them")
             return 1
         if time.monotonic() - shown_at > STEP and running:
             shown_at = time.monotonic()

@@ -1,7 +1,7 @@
 """Well-typed modules of WHILE loops that count: the condition compares a variable with a number or with another variable, and the
-last statement adds a number to a variable. Limits and steps are also those at which the counter overflows or the loop makes no
-iteration. A body may change the counter or the limit, itself or by a VAR parameter that is the same variable. Counters are variables
-of the module and of procedures, VAR parameters, elements and fields. Each is written before and after its loop."""
+last statement adds a number to a variable. With some limits and steps the counter overflows, or the loop makes no iteration. A
+body may change the counter or the limit, itself or by a VAR parameter that is the same variable. Counters are variables of the
+module and of procedures, VAR parameters, elements and fields. Each is written before and after its loop."""
 from __future__ import annotations
 
 import random
